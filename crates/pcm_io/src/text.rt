@@ -1,0 +1,78 @@
+// A text in memory that was reserved before.
+ghost use Rattle.std.specs.Prelude.{◌≡◌, ◌+◌, ◌≤◌, length, decimal, IfOk};
+ghost use Rattle.pcm_io.specs.Reserved.{reserved, room_in, appended};
+
+use itoa::Buffer;
+use std::alloc::{AllocError, Global};
+use std::marker::Model;
+
+/// Bytes that grow within room taken at the start, so that no later call takes memory.
+#[derive(Drop)]
+pub struct Text {
+    buffer: Vec<u8>,
+    limit: usize,
+}
+
+impl Model for Text {
+    ghost use Rattle.std.specs.Prelude.{◌≤◌, length, vec_capacity};
+    ghost use Rattle.pcm_io.specs.Reserved.{Reserved};
+
+    ghost Value = { Reserved };
+
+    ghost view = { λ text. record { bytes = text.buffer.items; limit = text.limit } };
+
+    ghost invariant = { λ text. (text.limit ≤ vec_capacity text.buffer) × (length text.buffer.items ≤ text.limit) };
+}
+
+impl Text {
+    /// An empty text with room for so many bytes.
+    pub fn new(alloc: Global, room: usize) -> Result<Text, AllocError>
+        ensures { IfOk result (λ text. text ≡ reserved room) }
+    {
+        Ok(Text {
+            buffer: Vec::with_capacity(alloc, room)?,
+            limit: room,
+        })
+    }
+
+    /// The number of bytes that still fit.
+    pub fn room(&self) -> usize
+        ensures { result ≡ room_in self.now }
+    {
+        self.limit - self.buffer.len()
+    }
+
+    /// Puts the bytes at the end.
+    pub fn push(&mut self, bytes: &[u8])
+        requires { length bytes.now ≤ room_in self.old }
+        ensures after { self.new ≡ appended self.old bytes.now }
+        ensures room { room_in self.new + length bytes.now ≡ room_in self.old }
+    {
+        let Ok(()) = self.buffer.extend_from_slice(bytes) else {
+            unreachable!()
+        };
+    }
+
+    /// Puts the decimal digits of the number at the end; they are at most 20.
+    pub fn push_number(&mut self, number: u64)
+        requires { length (decimal number) ≤ room_in self.old }
+        ensures after { self.new ≡ appended self.old (decimal number) }
+        ensures room { room_in self.new + length (decimal number) ≡ room_in self.old }
+    {
+        self.push(Buffer::new().format(number).as_bytes());
+    }
+
+    /// The bytes so far, in order.
+    pub fn bytes(&self) -> &[u8]
+        ensures { result.now ≡ self.now.bytes }
+    {
+        self.buffer.as_slice()
+    }
+
+    /// Forgets the bytes and keeps the room.
+    pub fn clear(&mut self)
+        ensures { self.new ≡ reserved self.old.limit }
+    {
+        self.buffer.clear();
+    }
+}
