@@ -1,0 +1,155 @@
+// The bytes of the results.
+ghost use Rattle.std.specs.Prelude.{◌≡◌, ◌+◌, ◌*◌, ◌≤◌, Some, length, decimal};
+ghost use Rattle.std.specs.Option.{ForSome};
+ghost use Rattle.pcm_io.specs.Reserved.{room_in, appended};
+ghost use Rattle.hex.specs.Hex.{encode_lower};
+ghost use Rattle.result_rows.specs.Outcomes.{op_of, outcome_word, tick_of, place_of, bytes_of};
+ghost use Rattle.result_rows.specs.RowText.{header_text, op_letter, line_of, decimal_or_empty, hex_or_empty, row_text};
+
+use crate::{Op, Outcome};
+use pcm_io::Text;
+
+/// The first line of the results, with its LF.
+pub fn header() -> &'static [u8]
+    ensures { result.now ≡ header_text }
+{
+    b"row,op,line,outcome,tick,place,data\n"
+}
+
+/// Appends the row of one outcome: numbers in decimal, bytes in lower-case hexadecimal digits, LF at the end.
+#[tactic(auto, using(pcm_io::proofs::DigitLemmas::six_digits))]
+pub fn print_row<const B: usize>(row: u32, op: Op, line: u32, outcome: &Outcome<B>, text: &mut Text)
+    requires size { B ≤ 128 }
+    requires room { 64 + 2 * B ≤ room_in text.old }
+    requires belongs { op_of outcome.now ≡ Some op }
+    requires row { row ≤ 400000 }
+    requires line { line ≤ 65535 }
+    requires place { ForSome (place_of outcome.now) (λ place. place ≤ 82175) }
+    ensures after { text.new ≡ appended text.old (row_text row op line outcome.now) }
+    ensures room { room_in text.old ≤ room_in text.new + (64 + 2 * B) }
+{
+    text.push_number(row as u64);
+    text.push(b",");
+    text.push(letter(op));
+    text.push(b",");
+    push_optional(line_if_any(op, line), text);
+    text.push(b",");
+    text.push(word(outcome));
+    text.push(b",");
+    push_optional(tick(outcome), text);
+    text.push(b",");
+    push_optional(place(outcome), text);
+    text.push(b",");
+    push_bytes(outcome, text);
+    text.push(b"\n");
+}
+
+fn letter(op: Op) -> &'static [u8]
+    ensures letter { result.now ≡ op_letter op }
+    ensures short { length result.now ≡ 1 }
+{
+    match op {
+        Op::Read => b"R",
+        Op::Write => b"W",
+        Op::Cut => b"C",
+    }
+}
+
+#[tactic(auto, using(pcm_io::proofs::DigitLemmas::five_digits))]
+fn line_if_any(op: Op, line: u32) -> Option<u64>
+    requires { line ≤ 65535 }
+    ensures line { result ≡ line_of op line }
+    ensures short { length (decimal_or_empty result) ≤ 5 }
+{
+    match op {
+        Op::Read | Op::Write => Some(line as u64),
+        Op::Cut => None,
+    }
+}
+
+fn word<const B: usize>(outcome: &Outcome<B>) -> &'static [u8]
+    ensures word { result.now ≡ outcome_word outcome.now }
+    ensures short { length result.now ≤ 9 }
+{
+    match outcome {
+        Outcome::Unset => b"",
+        Outcome::Stored { .. } => b"stored",
+        Outcome::Merged { .. } => b"merged",
+        Outcome::Queued { .. } => b"queued",
+        Outcome::Full { .. } => b"full",
+        Outcome::Worn { .. } => b"worn",
+        Outcome::Read { .. } => b"read",
+        Outcome::Forwarded { .. } => b"forwarded",
+        Outcome::Busy { .. } => b"busy",
+        Outcome::Lost { .. } => b"lost",
+        Outcome::Cut { .. } => b"cut",
+    }
+}
+
+#[tactic(auto, using(pcm_io::proofs::DigitLemmas::twenty_digits))]
+fn tick<const B: usize>(outcome: &Outcome<B>) -> Option<u64>
+    ensures tick { result ≡ tick_of outcome.now }
+    ensures short { length (decimal_or_empty result) ≤ 20 }
+{
+    match outcome {
+        Outcome::Unset => None,
+        Outcome::Stored { tick, .. }
+        | Outcome::Merged { tick }
+        | Outcome::Queued { tick }
+        | Outcome::Full { tick }
+        | Outcome::Worn { tick }
+        | Outcome::Read { tick, .. }
+        | Outcome::Forwarded { tick, .. }
+        | Outcome::Busy { tick }
+        | Outcome::Lost { tick }
+        | Outcome::Cut { tick } => Some(*tick),
+    }
+}
+
+#[tactic(auto, using(pcm_io::proofs::DigitLemmas::five_digits))]
+fn place<const B: usize>(outcome: &Outcome<B>) -> Option<u64>
+    requires { ForSome (place_of outcome.now) (λ place. place ≤ 82175) }
+    ensures place { result ≡ place_of outcome.now }
+    ensures short { length (decimal_or_empty result) ≤ 5 }
+{
+    match outcome {
+        Outcome::Stored { place, .. } => Some(*place as u64),
+        Outcome::Read { place, .. } => Some(*place as u64),
+        _ => None,
+    }
+}
+
+fn push_optional(number: Option<u64>, text: &mut Text)
+    requires { length (decimal_or_empty number) ≤ room_in text.old }
+    ensures after { text.new ≡ appended text.old (decimal_or_empty number) }
+    ensures room { room_in text.new + length (decimal_or_empty number) ≡ room_in text.old }
+{
+    if let Some(number) = number {
+        text.push_number(number);
+    }
+}
+
+fn push_bytes<const B: usize>(outcome: &Outcome<B>, text: &mut Text)
+    requires size { B ≤ 128 }
+    requires room { 2 * B ≤ room_in text.old }
+    ensures after { text.new ≡ appended text.old (hex_or_empty (bytes_of outcome.now)) }
+    ensures room { room_in text.old ≤ room_in text.new + 2 * B }
+{
+    match outcome {
+        Outcome::Read { bytes, .. } | Outcome::Forwarded { bytes, .. } => push_hex(bytes, text),
+        _ => {}
+    }
+}
+
+fn push_hex<const B: usize>(bytes: &[u8; B], text: &mut Text)
+    requires size { B ≤ 128 }
+    requires room { 2 * B ≤ room_in text.old }
+    ensures after { text.new ≡ appended text.old (encode_lower bytes.now) }
+    ensures room { room_in text.new + 2 * B ≡ room_in text.old }
+{
+    let mut digits = [0; 256];
+    let Ok(()) = hex::encode_to_slice(bytes.as_slice(), &mut digits[..2 * B]) else {
+        unreachable!()
+    };
+    text.push(&digits[..2 * B]);
+}
