@@ -1,0 +1,2 @@
+-- The bytes of the wear report.
+pub mod WearText
