@@ -1,0 +1,225 @@
+-- Laying bytes over others: lengths, single bytes, and what is laid over what is laid.
+use Rattle.std.proofs.Common.{◌≡◌, ℕ, ◌<◌, List, [], ◌∷◌, Bool, true, false, ◌||◌, ◌&&◌, ◌==◌, if◌then◌else◌, zero, suc, length, get_or, take, replicate, refl, ap, ◌∙◌, arith, slice_set, eqb-true}
+use Rattle.std.proofs.lemmas.List.{length-replicate}
+use Rattle.masked_bytes.specs.Masked.{laid, joined, none_given, all_given, gives_all, gives_some, zero_elsewhere, IsMasked}
+
+-- Lengths
+
+pub length-laid : (bytes : List ℕ) (given : List Bool) (under : List ℕ) → length (laid bytes given under) ≡ length under
+length-laid [] given under = refl
+length-laid (b ∷ bytes) [] under = refl
+length-laid (b ∷ bytes) (g ∷ given) [] = refl
+length-laid (b ∷ bytes) (g ∷ given) (u ∷ under) = ap suc (length-laid bytes given under)
+
+pub length-joined : (given other : List Bool) → length given ≡ length other → length (joined given other) ≡ length other
+length-joined [] other e = refl
+length-joined (g ∷ given) [] e = e
+length-joined (g ∷ given) (o ∷ other) e = ap suc (length-joined given other (omega arith))
+
+-- Single bytes
+
+pub get_or-laid : (bytes : List ℕ) (given : List Bool) (under : List ℕ) (i : ℕ) → length given ≡ length bytes → length under ≡ length bytes
+    → get_or (laid bytes given under) i 0 ≡ (if get_or given i false then get_or bytes i 0 else get_or under i 0)
+get_or-laid [] [] under i e h = refl
+get_or-laid [] (g ∷ given) under i e h = grind arith
+get_or-laid (b ∷ bytes) [] under i e h = grind arith
+get_or-laid (b ∷ bytes) (g ∷ given) [] i e h = grind arith
+get_or-laid (b ∷ bytes) (true ∷ given) (u ∷ under) zero e h = refl
+get_or-laid (b ∷ bytes) (false ∷ given) (u ∷ under) zero e h = refl
+get_or-laid (b ∷ bytes) (g ∷ given) (u ∷ under) (suc i) e h = get_or-laid bytes given under i (omega arith) (omega arith)
+
+pub get_or-joined : (given other : List Bool) (i : ℕ) → length other ≡ length given
+    → get_or (joined given other) i false ≡ (get_or given i false || get_or other i false)
+get_or-joined [] other i e = refl
+get_or-joined (g ∷ given) [] i e = grind arith
+get_or-joined (g ∷ given) (o ∷ other) zero e = refl
+get_or-joined (g ∷ given) (o ∷ other) (suc i) e = get_or-joined given other i (omega arith)
+
+-- All bytes given, and none
+
+pub laid-none_given : (n : ℕ) (bytes under : List ℕ) → laid bytes (none_given n) under ≡ under
+laid-none_given n [] under = refl
+laid-none_given zero (b ∷ bytes) under = refl
+laid-none_given (suc n) (b ∷ bytes) [] = refl
+laid-none_given (suc n) (b ∷ bytes) (u ∷ under) = ap (λ xs. u ∷ xs) (laid-none_given n bytes under)
+
+pub laid-all_given : (n : ℕ) (bytes under : List ℕ) → length bytes ≡ n → length under ≡ n → laid bytes (all_given n) under ≡ bytes
+laid-all_given n [] [] e h = refl
+laid-all_given n [] (u ∷ under) e h = grind arith
+laid-all_given zero (b ∷ bytes) under e h = grind arith
+laid-all_given (suc n) (b ∷ bytes) [] e h = grind arith
+laid-all_given (suc n) (b ∷ bytes) (u ∷ under) e h = ap (λ xs. b ∷ xs) (laid-all_given n bytes under (omega arith) (omega arith))
+
+pub joined-none_given : (n : ℕ) (other : List Bool) → length other ≡ n → joined (none_given n) other ≡ other
+joined-none_given zero other e = refl
+joined-none_given (suc n) [] e = grind arith
+joined-none_given (suc n) (o ∷ other) e = ap (λ xs. o ∷ xs) (joined-none_given n other (omega arith))
+
+pub joined-all_given : (n : ℕ) (given : List Bool) → length given ≡ n → joined given (all_given n) ≡ all_given n
+joined-all_given n [] e = refl
+joined-all_given zero (g ∷ given) e = grind arith
+joined-all_given (suc n) (true ∷ given) e = ap (λ xs. true ∷ xs) (joined-all_given n given (omega arith))
+joined-all_given (suc n) (false ∷ given) e = ap (λ xs. true ∷ xs) (joined-all_given n given (omega arith))
+
+pub gives_all-all_given : (n : ℕ) → gives_all (all_given n) ≡ true
+gives_all-all_given zero = refl
+gives_all-all_given (suc n) = gives_all-all_given n
+
+-- a set that gives every byte is the whole set
+pub all_given-gives_all : (n : ℕ) (given : List Bool) → length given ≡ n → gives_all given ≡ true → given ≡ all_given n
+all_given-gives_all zero [] e h = refl
+all_given-gives_all (suc n) [] e h = grind arith
+all_given-gives_all zero (g ∷ given) e h = grind arith
+all_given-gives_all (suc n) (true ∷ given) e h = ap (λ xs. true ∷ xs) (all_given-gives_all n given (omega arith) h)
+all_given-gives_all (suc n) (false ∷ given) e h = cc
+
+-- Several layers
+
+-- what lies over a layer over another is what lies over both
+pub laid-laid : (top : List ℕ) (given : List Bool) (bytes : List ℕ) (also : List Bool) (under : List ℕ)
+    → length given ≡ length top → length bytes ≡ length top → length also ≡ length top → length under ≡ length top
+    → laid (laid top given bytes) (joined given also) under ≡ laid top given (laid bytes also under)
+laid-laid [] [] [] also under a b c d = refl
+laid-laid [] [] (y ∷ bytes) also under a b c d = grind arith
+laid-laid [] (g ∷ given) bytes also under a b c d = grind arith
+laid-laid (t ∷ top) [] bytes also under a b c d = grind arith
+laid-laid (t ∷ top) (g ∷ given) [] also under a b c d = grind arith
+laid-laid (t ∷ top) (g ∷ given) (y ∷ bytes) [] under a b c d = grind arith
+laid-laid (t ∷ top) (g ∷ given) (y ∷ bytes) (o ∷ also) [] a b c d = grind arith
+laid-laid (t ∷ top) (true ∷ given) (y ∷ bytes) (o ∷ also) (u ∷ under) a b c d =
+    ap (λ xs. t ∷ xs) (laid-laid top given bytes also under (omega arith) (omega arith) (omega arith) (omega arith))
+laid-laid (t ∷ top) (false ∷ given) (y ∷ bytes) (o ∷ also) (u ∷ under) a b c d =
+    ap (λ xs. (if o then y else u) ∷ xs) (laid-laid top given bytes also under (omega arith) (omega arith) (omega arith) (omega arith))
+
+pub joined-joined : (given also other : List Bool) → length also ≡ length given → length other ≡ length given
+    → joined (joined given also) other ≡ joined given (joined also other)
+joined-joined [] also other a b = refl
+joined-joined (g ∷ given) [] other a b = grind arith
+joined-joined (g ∷ given) (x ∷ also) [] a b = grind arith
+joined-joined (true ∷ given) (x ∷ also) (o ∷ other) a b = ap (λ xs. true ∷ xs) (joined-joined given also other (omega arith) (omega arith))
+joined-joined (false ∷ given) (x ∷ also) (o ∷ other) a b = ap (λ xs. (x || o) ∷ xs) (joined-joined given also other (omega arith) (omega arith))
+
+-- Bytes that are not given stay 0
+
+and_left : (a b : Bool) → (a && b) ≡ true → a ≡ true
+and_left true b h = refl
+and_left false b h = h
+
+and_right : (a b : Bool) → (a && b) ≡ true → b ≡ true
+and_right true b h = h
+and_right false b h = cc
+
+both_true : (a b : Bool) → a ≡ true → b ≡ true → (a && b) ≡ true
+both_true true b h k = k
+both_true false b h k = h
+
+pub gives_some-joined : (given other : List Bool) → length other ≡ length given → gives_some given ≡ true → gives_some (joined given other) ≡ true
+gives_some-joined [] other e h = cc
+gives_some-joined (g ∷ given) [] e h = grind arith
+gives_some-joined (true ∷ given) (o ∷ other) e h = refl
+gives_some-joined (false ∷ given) (true ∷ other) e h = refl
+gives_some-joined (false ∷ given) (false ∷ other) e h = gives_some-joined given other (omega arith) h
+
+pub zero_elsewhere-laid : (bytes : List ℕ) (given : List Bool) (under : List ℕ) (also : List Bool)
+    → length given ≡ length bytes → length under ≡ length bytes → length also ≡ length bytes
+    → zero_elsewhere under also ≡ true → zero_elsewhere (laid bytes given under) (joined given also) ≡ true
+zero_elsewhere-laid [] given [] also a b c h = refl
+zero_elsewhere-laid [] given (u ∷ under) also a b c h = grind arith
+zero_elsewhere-laid (x ∷ bytes) [] under also a b c h = grind arith
+zero_elsewhere-laid (x ∷ bytes) (g ∷ given) [] also a b c h = grind arith
+zero_elsewhere-laid (x ∷ bytes) (g ∷ given) (u ∷ under) [] a b c h = grind arith
+zero_elsewhere-laid (x ∷ bytes) (true ∷ given) (u ∷ under) (true ∷ also) a b c h =
+    zero_elsewhere-laid bytes given under also (omega arith) (omega arith) (omega arith) h
+zero_elsewhere-laid (x ∷ bytes) (true ∷ given) (u ∷ under) (false ∷ also) a b c h =
+    zero_elsewhere-laid bytes given under also (omega arith) (omega arith) (omega arith) (and_right (u == 0) _ h)
+zero_elsewhere-laid (x ∷ bytes) (false ∷ given) (u ∷ under) (true ∷ also) a b c h =
+    zero_elsewhere-laid bytes given under also (omega arith) (omega arith) (omega arith) h
+zero_elsewhere-laid (x ∷ bytes) (false ∷ given) (u ∷ under) (false ∷ also) a b c h =
+    both_true (u == 0) _ (and_left (u == 0) _ h)
+    (zero_elsewhere-laid bytes given under also (omega arith) (omega arith) (omega arith) (and_right (u == 0) _ h))
+
+pub zero_elsewhere-all_given : (n : ℕ) (bytes : List ℕ) → length bytes ≡ n → zero_elsewhere bytes (all_given n) ≡ true
+zero_elsewhere-all_given n [] e = refl
+zero_elsewhere-all_given zero (b ∷ bytes) e = refl
+zero_elsewhere-all_given (suc n) (b ∷ bytes) e = zero_elsewhere-all_given n bytes (omega arith)
+
+-- over zeros a masked write stays as it is
+pub laid-zeros : (n : ℕ) (bytes : List ℕ) (given : List Bool) → length bytes ≡ n → length given ≡ n → zero_elsewhere bytes given ≡ true
+    → laid bytes given (replicate n 0) ≡ bytes
+laid-zeros zero [] given e f h = refl
+laid-zeros (suc n) [] given e f h = grind arith
+laid-zeros zero (b ∷ bytes) given e f h = grind arith
+laid-zeros (suc n) (b ∷ bytes) [] e f h = grind arith
+laid-zeros (suc n) (b ∷ bytes) (true ∷ given) e f h = ap (λ xs. b ∷ xs) (laid-zeros n bytes given (omega arith) (omega arith) h)
+laid-zeros (suc n) (b ∷ bytes) (false ∷ given) e f h =
+    two_parts b (eqb-true b 0 (and_left (b == 0) _ h)) (laid-zeros n bytes given (omega arith) (omega arith) (and_right (b == 0) _ h))
+  where
+    two_parts : {xs ys : List ℕ} (b : ℕ) → b ≡ 0 → xs ≡ ys → 0 ∷ xs ≡ b ∷ ys
+    two_parts b e f = rw (e, f)
+
+pub joined-none_right : (n : ℕ) (given : List Bool) → length given ≡ n → joined given (none_given n) ≡ given
+joined-none_right zero [] e = refl
+joined-none_right (suc n) [] e = grind arith
+joined-none_right zero (g ∷ given) e = refl
+joined-none_right (suc n) (true ∷ given) e = ap (λ xs. true ∷ xs) (joined-none_right n given (omega arith))
+joined-none_right (suc n) (false ∷ given) e = ap (λ xs. false ∷ xs) (joined-none_right n given (omega arith))
+
+-- a masked write over another is a masked write
+pub IsMasked-laid : (n : ℕ) (bytes : List ℕ) (given : List Bool) (under : List ℕ) (also : List Bool)
+    → IsMasked n bytes given → IsMasked n under also → IsMasked n (laid bytes given under) (joined given also)
+IsMasked-laid n bytes given under also top below = record {
+  bytes_len = length-laid bytes given under ∙ below.bytes_len;
+  given_len = length-joined given also (omega arith) ∙ below.given_len;
+  some = gives_some-joined given also (omega arith) top.some;
+  others = zero_elsewhere-laid bytes given under also (omega arith) (omega arith) (omega arith) below.others;
+}
+
+-- all bytes given
+pub IsMasked-all_given : (n : ℕ) (bytes : List ℕ) → 0 < n → length bytes ≡ n → IsMasked n bytes (all_given n)
+IsMasked-all_given zero bytes some e = grind arith
+IsMasked-all_given (suc n) bytes some e =
+    record { bytes_len = e; given_len = length-replicate (suc n) true; some = refl; others = zero_elsewhere-all_given (suc n) bytes e }
+
+-- Loops over the places
+
+-- one more byte that is given
+pub laid-take_given : (bytes : List ℕ) (given : List Bool) (under : List ℕ) (i : ℕ) → length given ≡ length bytes → length under ≡ length bytes → i < length bytes
+    → get_or given i false ≡ true
+    → slice_set (laid (take i bytes) (take i given) under) i (get_or bytes i 0) ≡ laid (take (suc i) bytes) (take (suc i) given) under
+laid-take_given [] given under i e h k t = grind arith
+laid-take_given (b ∷ bytes) [] under i e h k t = grind arith
+laid-take_given (b ∷ bytes) (g ∷ given) [] i e h k t = grind arith
+laid-take_given (b ∷ bytes) (true ∷ given) (u ∷ under) zero e h k t = grind arith
+laid-take_given (b ∷ bytes) (false ∷ given) (u ∷ under) zero e h k t = grind arith
+laid-take_given (b ∷ bytes) (g ∷ given) (u ∷ under) (suc i) e h k t =
+    ap (λ xs. (if g then b else u) ∷ xs) (laid-take_given bytes given under i (omega arith) (omega arith) (omega arith) t)
+
+-- one more byte that is not
+pub laid-take_kept : (bytes : List ℕ) (given : List Bool) (under : List ℕ) (i : ℕ) → length given ≡ length bytes → length under ≡ length bytes → i < length bytes
+    → get_or given i false ≡ false
+    → laid (take i bytes) (take i given) under ≡ laid (take (suc i) bytes) (take (suc i) given) under
+laid-take_kept [] given under i e h k t = grind arith
+laid-take_kept (b ∷ bytes) [] under i e h k t = grind arith
+laid-take_kept (b ∷ bytes) (g ∷ given) [] i e h k t = grind arith
+laid-take_kept (b ∷ bytes) (true ∷ given) (u ∷ under) zero e h k t = grind arith
+laid-take_kept (b ∷ bytes) (false ∷ given) (u ∷ under) zero e h k t = grind arith
+laid-take_kept (b ∷ bytes) (g ∷ given) (u ∷ under) (suc i) e h k t =
+    ap (λ xs. (if g then b else u) ∷ xs) (laid-take_kept bytes given under i (omega arith) (omega arith) (omega arith) t)
+
+-- one more byte that is given, in a joined set
+pub joined-take_given : (given other : List Bool) (i : ℕ) → length other ≡ length given → i < length given
+    → get_or given i false ≡ true → slice_set (joined (take i given) other) i true ≡ joined (take (suc i) given) other
+joined-take_given [] other i e h t = grind arith
+joined-take_given (g ∷ given) [] i e h t = grind arith
+joined-take_given (true ∷ given) (o ∷ other) zero e h t = grind arith
+joined-take_given (false ∷ given) (o ∷ other) zero e h t = grind arith
+joined-take_given (g ∷ given) (o ∷ other) (suc i) e h t = ap (λ xs. (g || o) ∷ xs) (joined-take_given given other i (omega arith) (omega arith) t)
+
+-- one more byte that is not
+pub joined-take_kept : (given other : List Bool) (i : ℕ) → length other ≡ length given → i < length given
+    → get_or given i false ≡ false → joined (take i given) other ≡ joined (take (suc i) given) other
+joined-take_kept [] other i e h t = grind arith
+joined-take_kept (g ∷ given) [] i e h t = grind arith
+joined-take_kept (true ∷ given) (o ∷ other) zero e h t = grind arith
+joined-take_kept (false ∷ given) (o ∷ other) zero e h t = grind arith
+joined-take_kept (g ∷ given) (o ∷ other) (suc i) e h t = ap (λ xs. (g || o) ∷ xs) (joined-take_kept given other i (omega arith) (omega arith) t)

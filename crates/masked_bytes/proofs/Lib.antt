@@ -1,0 +1,3 @@
+pub mod Layering
+pub mod Queueing
+pub mod Standing
