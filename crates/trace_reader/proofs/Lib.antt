@@ -1,0 +1,5 @@
+pub mod Numbers
+pub mod Pairs
+pub mod Reading
+pub mod Traces
+pub mod Lawful

@@ -1,0 +1,6 @@
+pub mod Number
+pub mod Payload
+pub mod Rows
+pub mod Records
+pub mod Trace
+pub mod Events

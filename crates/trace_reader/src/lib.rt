@@ -1,0 +1,20 @@
+//! Reads a trace: the bytes of a text of comma-separated rows become events, or the first fault with its row and kind.
+//! What a trace means is a definition over the records that `csv` finds in the bytes, and `parse` computes exactly that.
+#![tactic(auto)]
+
+mod decimal;
+mod event;
+mod fault;
+mod payload;
+mod records;
+mod row;
+mod trace;
+
+pub use decimal::number;
+pub use event::{Event, EventOp};
+pub use fault::{Kind, ParseFault, TraceFault};
+pub use row::LATEST_TICK;
+pub use trace::{MOST_ROWS, parse};
+
+#[cfg(test)]
+mod tests;

@@ -1,0 +1,64 @@
+//! The bytes that a write gives, as hexadecimal digits.
+ghost use Rattle.std.specs.Prelude.{◌≡◌, option_map};
+ghost use Rattle.std.specs.List.{list_any};
+ghost use Rattle.std.specs.Result.{result_ok};
+ghost use Rattle.trace_reader.specs.Payload.{bytes_of, pair_of, masked_of, Masked};
+
+use hex::FromHexError;
+
+/// Bytes of which some are given; the others are 0.
+#[derive(Clone, Copy)]
+pub struct MaskedBytes<const B: usize> {
+    pub bytes: [u8; B],
+    pub given: [bool; B],
+}
+
+/// The `B` bytes that a text of `2 * B` hexadecimal digits of either case writes.
+#[tactic(auto, unfolding(crate::specs::Payload::bytes_of))]
+pub fn bytes_from_digits<const B: usize>(text: &[u8]) -> Option<[u8; B]>
+    ensures { result ≡ bytes_of B text.now }
+{
+    let mut bytes = [0; B];
+    hex::decode_to_slice(text, &mut bytes).ok()?;
+    Some(bytes)
+}
+
+// What two characters say of a byte: `..` that it isn't given, two hexadecimal digits what it is.
+#[tactic(auto, unfolding(crate::specs::Payload::pair_of, hex::specs::Hex::decode_pairs))]
+fn read_pair(high: u8, low: u8) -> Result<Option<u8>, FromHexError>
+    ensures { result_ok result ≡ pair_of high low }
+{
+    if high == b'.' && low == b'.' {
+        return Ok(None);
+    }
+    let mut byte = [0; 1];
+    hex::decode_to_slice([high, low], &mut byte)?;
+    Ok(Some(byte[0]))
+}
+
+fn gives_some(given: &[bool]) -> bool
+    ensures { result ≡ list_any (λ g. g) given.now }
+{
+    given.iter().any(|g| *g)
+}
+
+/// The `B` bytes of which a text of `B` pairs gives at least one: two hexadecimal digits, or `..` for a byte that isn't given.
+pub fn bytes_from_pairs<const B: usize>(text: &[u8]) -> Option<MaskedBytes<B>>
+    ensures { option_map (λ m. record { bytes = m.bytes; given = m.given }) result ≡ masked_of B text.now }
+{
+    if text.len() % 2 != 0 || text.len() / 2 != B {
+        return None;
+    }
+    let mut bytes = [0; B];
+    let mut given = [false; B];
+    'pairs: for i in 0..B {
+        let byte = read_pair(text[2 * i], text[2 * i + 1]).ok()?;
+        bytes[i] = byte.unwrap_or(0);
+        given[i] = byte.is_some();
+    }
+    if gives_some(&given) {
+        Some(MaskedBytes { bytes, given })
+    } else {
+        None
+    }
+}

@@ -1,0 +1,93 @@
+//! One row of a trace.
+ghost use Rattle.std.specs.Prelude.{◌≡◌, ◌≤◌};
+ghost use Rattle.std.specs.Option.{ok_or};
+ghost use Rattle.csv.specs.Records.{fields_of};
+ghost use Rattle.trace_reader.specs.Rows.{text_at, line_of, op_of, event_of};
+
+use crate::decimal::number;
+use crate::event::{Event, EventOp};
+use crate::fault::Kind;
+use crate::payload::{bytes_from_digits, bytes_from_pairs};
+use csv::ByteRecord;
+
+/// The greatest tick of a trace: 2 to the power 40.
+pub const LATEST_TICK: u64 = 1_099_511_627_776;
+
+// The field at a place, empty where there is none.
+pub fn field(row: &ByteRecord, place: usize) -> &[u8]
+    ensures { result.now ≡ text_at (fields_of row.now) place }
+{
+    row.get(place).unwrap_or(b"")
+}
+
+#[tactic(auto, using(crate::proofs::Numbers::number_within))]
+fn read_line(text: &[u8], lines: u32) -> Result<u32, Kind>
+    requires { 1 ≤ lines }
+    ensures { result ≡ ok_or (line_of lines text.now) Kind.Line }
+{
+    let line = number(text, 5, u64::from(lines - 1)).ok_or(Kind::Line)?;
+    Ok(line as u32)
+}
+
+#[tactic(auto, unfolding(crate::specs::Rows::op_of, crate::specs::Rows::read_of, crate::specs::Rows::write_of, crate::specs::Rows::mask_of, crate::specs::Rows::cut_of))]
+fn read_op<const B: usize>(
+    op: &[u8],
+    line: &[u8],
+    payload: &[u8],
+    lines: u32,
+) -> Result<EventOp<B>, Kind>
+    requires { 1 ≤ lines }
+    ensures { result ≡ op_of B lines op.now line.now payload.now }
+{
+    match op {
+        b"R" => {
+            let line = read_line(line, lines)?;
+            if payload.is_empty() {
+                Ok(EventOp::Read(line))
+            } else {
+                Err(Kind::Payload)
+            }
+        }
+        b"W" => {
+            let line = read_line(line, lines)?;
+            let bytes = bytes_from_digits(payload).ok_or(Kind::Payload)?;
+            Ok(EventOp::Write(line, bytes))
+        }
+        b"M" => {
+            let line = read_line(line, lines)?;
+            let masked = bytes_from_pairs(payload).ok_or(Kind::Payload)?;
+            Ok(EventOp::Mask(line, masked.bytes, masked.given))
+        }
+        b"C" => {
+            if !line.is_empty() {
+                Err(Kind::Line)
+            } else if !payload.is_empty() {
+                Err(Kind::Payload)
+            } else {
+                Ok(EventOp::Cut)
+            }
+        }
+        _ => Err(Kind::Op),
+    }
+}
+
+/// What a record says as a row of a trace, where the row before has the tick `before`.
+#[tactic(auto, unfolding(crate::specs::Rows::event_of))]
+pub fn read_event<const B: usize>(
+    row: &ByteRecord,
+    lines: u32,
+    before: u64,
+) -> Result<Event<B>, Kind>
+    requires { 1 ≤ lines }
+    ensures { result ≡ event_of B lines before (fields_of row.now) }
+{
+    if row.len() != 4 {
+        return Err(Kind::Fields);
+    }
+    let tick = number(field(row, 0), 13, LATEST_TICK).ok_or(Kind::Tick)?;
+    if tick < before {
+        return Err(Kind::Order);
+    }
+    let op = read_op(field(row, 1), field(row, 2), field(row, 3), lines)?;
+    Ok(Event { tick, op })
+}

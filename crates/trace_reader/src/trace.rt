@@ -1,0 +1,69 @@
+//! A whole trace.
+ghost use Rattle.std.specs.Prelude.{◌≡◌, ◌≢◌, ◌≤◌, vec_len, Ok, Err, IfOk, IfErr};
+ghost use Rattle.csv.specs.Records.{fields_of};
+ghost use Rattle.trace_reader.specs.Events.{AreEventsFor};
+ghost use Rattle.trace_reader.specs.Trace.{is_header, trace_of};
+
+use crate::event::Event;
+use crate::fault::{Kind, ParseFault, TraceFault};
+use crate::records::{next_row, open};
+use crate::row::{field, read_event};
+use csv::ByteRecord;
+use std::alloc::Global;
+
+/// The greatest number of rows behind the header.
+pub const MOST_ROWS: u32 = 400_000;
+
+#[tactic(auto, unfolding(crate::specs::Trace::is_header))]
+fn is_header_row(row: &ByteRecord) -> bool
+    ensures { result ≡ is_header (fields_of row.now) }
+{
+    row.len() == 4
+        && field(row, 0) == b"tick".as_slice()
+        && field(row, 1) == b"op".as_slice()
+        && field(row, 2) == b"arg".as_slice()
+        && field(row, 3) == b"data".as_slice()
+}
+
+/// Reads a trace for a module of so many lines of `B` bytes. The bytes were read to their end where the answer is Ok.
+pub fn parse<const B: usize>(
+    alloc: Global,
+    bytes: &[u8],
+    lines: u32,
+) -> Result<Vec<Event<B>>, ParseFault>
+    requires lines { 1 ≤ lines }
+    requires small { B ≤ 128 }
+    ensures ok { IfOk result (λ v. trace_of B lines bytes.now ≡ Ok v.items) }
+    ensures events { IfOk result (λ v. AreEventsFor lines 0 v.items) }
+    ensures rows { IfOk result (λ v. vec_len v ≤ MOST_ROWS) }
+    ensures err { IfErr result (λ e. e ≢ ParseFault.NoMemory → trace_of B lines bytes.now ≡ Err e) }
+{
+    let mut reader = open(alloc, bytes);
+    let mut row = ByteRecord::new(alloc);
+    if !next_row(&mut reader, &mut row)? || !is_header_row(&row) {
+        return Err(ParseFault::Trace(TraceFault {
+            row: 0,
+            kind: Kind::Header,
+        }));
+    }
+    let mut events = Vec::new(alloc);
+    let mut before = 0;
+    'rows: for number in 1..MOST_ROWS + 1 {
+        if !next_row(&mut reader, &mut row)? {
+            return Ok(events);
+        }
+        let event = match read_event(&row, lines, before) {
+            Ok(event) => event,
+            Err(kind) => return Err(ParseFault::Trace(TraceFault { row: number, kind })),
+        };
+        before = event.tick;
+        if events.push(event).is_err() {
+            return Err(ParseFault::NoMemory);
+        }
+    }
+    if next_row(&mut reader, &mut row)? {
+        Err(ParseFault::TooMany)
+    } else {
+        Ok(events)
+    }
+}
