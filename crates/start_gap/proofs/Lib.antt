@@ -1,0 +1,4 @@
+pub mod Turning
+pub mod FullTurn
+mod Worked
+pub mod Places
