@@ -1,0 +1,14 @@
+use Rattle.std.proofs.Common.{◌<◌, length, ap, arith}
+use Rattle.spare_pool.specs.Table.{Table}
+use Rattle.spare_pool.proofs.Lines.{line-within, line-apart}
+use Rattle.spare_pool.proofs.Remap.line_of.Goals as goal
+
+pub returns-clause-within : goal.returns-clause-within
+returns-clause-within c =
+    let exists : c.args.slot < length c.self.inside.lines.items = omega (arith, ap (λ (t : Table). t.slots) c.self.view_is) in
+    rw (← c.self.view_is) (line-within _ _ _ _ _ c.self.invariant exists c.index.ensures)
+
+pub returns-clause-apart : goal.returns-clause-apart
+returns-clause-apart c =
+    let exists : c.args.slot < length c.self.inside.lines.items = omega (arith, ap (λ (t : Table). t.slots) c.self.view_is) in
+    rw (← c.self.view_is) (line-apart _ _ _ _ _ c.self.invariant exists c.index.ensures)
