@@ -1,0 +1,4 @@
+pub mod Inverse
+pub mod Located
+mod Worked
+pub mod Powers

@@ -1,0 +1,5 @@
+use Rattle.feistel_map.proofs.Inverse.{left_round-range}
+use Rattle.feistel_map.proofs.halves.Halves.change_left.Goals as goal
+
+pub returns-clause-in_range : goal.returns-clause-in_range
+returns-clause-in_range c = left_round-range c.args.bits c.overlay.result c.args.self c.requires.in_range c.overlay.ensures.below

@@ -1,0 +1,4 @@
+pub mod Network
+pub mod Words
+pub mod Addresses
+pub mod Log2
