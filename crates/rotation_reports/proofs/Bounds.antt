@@ -1,0 +1,75 @@
+-- How large the numbers of a row are.
+use Rattle.std.proofs.Common.{◌≡◌, ℕ, zero, suc, ◌+◌, ◌*◌, ◌^◌, ◌<◌, ◌≤◌, List, [], ◌∷◌, length, inl, inr, lit<, append_assoc, refl, arith}
+use Rattle.std.specs.Prelude.{codes, decimal}
+use Rattle.std.proofs.lemmas.Bool.{cases_lt}
+use Rattle.std.proofs.Math.Nat.{pow-le-pow_right}
+use Rattle.pcm_io.specs.Reserved.{Reserved, appended}
+use Rattle.start_gap.specs.declared.Move.{Move}
+use Rattle.start_gap.specs.Rotation.{place_after, move_after}
+use Rattle.start_gap.specs.Slots.{slot_at}
+use Rattle.feistel_map.specs.declared.address.Address.{Address}
+use Rattle.rotation_reports.specs.declared.line_rows.MapOptions.{MapOptions}
+use Rattle.rotation_reports.specs.Rows.{row_of}
+use Rattle.rotation_reports.specs.MapText.{map_address, map_row, array_lines_of}
+use Rattle.rotation_reports.specs.MovesText.{move_row}
+use Rattle.std.proofs.lemmas.Nat.{mul-le}
+use Rattle.std.proofs.lemmas.Fmt.{length-decimal-le}
+
+-- the slots of a bank, those of a region's lines, and the array lines of the banks before
+pub slots_few : (regions lines : ℕ) → regions ≤ 16 → lines ≤ 4096 → regions * (lines + 1) ≤ 65552
+slots_few regions lines p q = mul-le regions (lines + 1) 16 4097 p (omega arith)
+
+pub region_few : (region lines : ℕ) → region < 16 → lines ≤ 4096 → region * (lines + 1) ≤ 61455
+region_few region lines p q = mul-le region (lines + 1) 15 4097 (omega arith) (omega arith)
+
+pub bank_few : (bank array_lines : ℕ) → bank < 16 → array_lines ≤ 66576 → bank * array_lines ≤ 998640
+bank_few bank array_lines p q = mul-le bank array_lines 15 66576 (omega arith) q
+
+-- digits
+pub five_digits : (n : ℕ) → n < 10 ^ 5 → length (decimal n) ≤ 5
+five_digits n bound = length-decimal-le 5 n (lit< tt) bound (omega arith)
+
+pub twenty_digits : (n : ℕ) → n < 2 ^ 64 → length (decimal n) ≤ 20
+twenty_digits n bound = length-decimal-le 20 n (lit< tt) (omega arith) bound
+
+-- the bits of the numbers of a module's lines
+pub bits_some : (r n : ℕ) → 4 ≤ n → n < 2 * 2 ^ r → 2 ≤ r
+bits_some zero n some high = absurd (omega arith)
+bits_some (suc zero) n some high = absurd (omega arith)
+bits_some (suc (suc r)) n some high = omega arith
+
+pub bits_few : (r n : ℕ) → n ≤ 65536 → 2 ^ r ≤ n → r ≤ 16
+bits_few r n few low =
+    elim (cases_lt 16 r) [
+      | inl more ↦ absurd (omega (arith, pow-le-pow_right {n = 2} (lit< tt) {i = 17} {j = r} more))
+      | inr less ↦ less
+    ]
+
+-- a module has at least four lines
+pub lines_some : (banks regions lines : ℕ) → 1 ≤ banks → 1 ≤ regions → 4 ≤ lines → 4 ≤ banks * regions * lines
+lines_some banks regions lines p q r = mul-le 1 4 (banks * regions) lines (mul-le 1 1 banks regions p q) r
+
+-- the fields of a row, put behind a text one by one
+pub six_fields : (t : Reserved) (a b c d e f : List ℕ) →
+    appended (appended (appended (appended (appended (appended (appended (appended (appended (appended (appended (appended t a)
+    (codes ",")) b) (codes ",")) c) (codes ",")) d) (codes ",")) e) (codes ",")) f) (codes "\n")
+    ≡ appended t (row_of (a ∷ b ∷ c ∷ d ∷ e ∷ f ∷ []))
+six_fields t a b c d e f = simp append_assoc
+
+pub four_fields : (t : Reserved) (a b c d : List ℕ) →
+    appended (appended (appended (appended (appended (appended (appended (appended t a)
+    (codes ",")) b) (codes ",")) c) (codes ",")) d) (codes "\n")
+    ≡ appended t (row_of (a ∷ b ∷ c ∷ d ∷ []))
+four_fields t a b c d = simp append_assoc
+
+-- a row, by the numbers that were computed for it
+pub map_row-is : (o : MapOptions) (line : ℕ) (address : Address) (place array : ℕ) → address ≡ map_address o line
+    → place ≡ place_after o.lines address.offset o.moves
+    → array ≡ address.bank * array_lines_of o + slot_at o.lines address.region place
+    → row_of (decimal line ∷ decimal address.bank ∷ decimal address.region ∷ decimal address.offset ∷ decimal place ∷ decimal array ∷ [])
+    ≡ map_row o line
+map_row-is o line address place array a p q = rw (q, p, a) refl
+
+pub move_row-is : (n t : ℕ) (move : Move) → move ≡ move_after n t
+    → row_of (decimal t ∷ decimal move.line ∷ decimal move.from ∷ decimal move.to ∷ []) ≡ move_row n t
+move_row-is n t move m = rw m refl

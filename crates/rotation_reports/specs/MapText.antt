@@ -1,0 +1,64 @@
+-- The text of `map`: where each line of a module stands once every region made so many gap moves.
+use Rattle.std.specs.Prelude.{◌≡◌, ℕ, ◌+◌, ◌*◌, ◌^◌, ◌≤◌, List, [], ◌∷◌, ◌++◌, codes, decimal}
+use Rattle.start_gap.specs.Rotation.{Rotation, StandsFor, place_after}
+use Rattle.start_gap.specs.Slots.{slots_of, slot_at}
+use Rattle.feistel_map.specs.declared.address.Address.{Address}
+use Rattle.feistel_map.specs.Addresses.{address_of}
+use Rattle.feistel_map.specs.Log2.{log2}
+use Rattle.feistel_map.specs.Network.{Network, network_of, feistel}
+use Rattle.rotation_reports.specs.declared.line_rows.MapOptions.{MapOptions}
+use Rattle.rotation_reports.specs.Rows.{row_of, rows_from}
+
+abbrev pub map_header : List ℕ
+map_header = codes "line,bank,region,offset,place,array\n"
+
+-- how many lines the module has, and how many array lines a bank
+abbrev pub lines_of : MapOptions → ℕ
+lines_of o = o.banks * o.regions * o.lines
+
+abbrev pub array_lines_of : MapOptions → ℕ
+array_lines_of o = slots_of o.regions o.lines + o.spares
+
+-- the options are in range, and there are a power of two of lines
+pub record IsMapOptions (o : MapOptions) : Type 0 where
+  pub some_banks : 1 ≤ o.banks
+  pub few_banks : o.banks ≤ 16
+  pub some_regions : 1 ≤ o.regions
+  pub few_regions : o.regions ≤ 16
+  pub some_lines : 4 ≤ o.lines
+  pub few_lines : o.lines ≤ 4096
+  pub few_spares : o.spares ≤ 1024
+  pub few_in_all : lines_of o ≤ 65536
+  pub power_of_two : 2 ^ log2 (lines_of o) ≡ lines_of o
+
+-- the network that mixes the lines
+abbrev pub map_network : MapOptions → Network
+map_network o = network_of (log2 (lines_of o)) o.seed
+
+-- where a line stands: its address, its place in the region, and its array line
+abbrev pub map_address : MapOptions → ℕ → Address
+map_address o line = address_of o.regions o.lines (feistel (map_network o) line)
+
+abbrev pub map_place : MapOptions → ℕ → ℕ
+map_place o line = place_after o.lines (map_address o line).offset o.moves
+
+abbrev pub map_array : MapOptions → ℕ → ℕ
+map_array o line =
+    (map_address o line).bank * array_lines_of o + slot_at o.lines (map_address o line).region (map_place o line)
+
+-- the row of a line
+abbrev pub map_row : MapOptions → ℕ → List ℕ
+map_row o line = row_of
+    (decimal line ∷ decimal (map_address o line).bank ∷ decimal (map_address o line).region ∷ decimal (map_address o line).offset
+    ∷ decimal (map_place o line) ∷ decimal (map_array o line) ∷ [])
+
+-- the rows of all lines
+abbrev pub map_text : MapOptions → List ℕ
+map_text o = map_header ++ rows_from (map_row o) 0 (lines_of o)
+
+-- the network and the registers are those of the options
+pub record IsMap (o : MapOptions) (network : Network) (registers : Rotation) : Type 0 where
+  pub options : IsMapOptions o
+  pub mixes : network ≡ map_network o
+  pub rotates : registers.lines ≡ o.lines
+  pub stands : StandsFor registers o.moves
