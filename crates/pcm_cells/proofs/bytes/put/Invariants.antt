@@ -1,0 +1,10 @@
+use Rattle.std.proofs.Common.{◌≡◌, ℕ, ◌<◌, ◌≤◌, bit_and, bit_xor, slice_index}
+use Rattle.pcm_cells.proofs.bytes.put.Given as goal
+
+-- the bytes below i are done, and the others are as they were
+abbrev pub invariant-loop-i : goal.invariant-loop-i
+invariant-loop-i l = record {
+  done : (k : ℕ) → k < l.i → slice_index l.bytes k ≡ bit_xor (slice_index l.initial.bytes k) (bit_and (bit_xor (slice_index l.initial.bytes k) (slice_index l.want k)) (slice_index l.mask k));
+  kept : (k : ℕ) → l.i ≤ k → slice_index l.bytes k ≡ slice_index l.initial.bytes k;
+  small : (k : ℕ) → k < l.i → slice_index l.bytes k < 256;
+}

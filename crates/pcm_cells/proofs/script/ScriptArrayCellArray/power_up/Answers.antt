@@ -1,0 +1,19 @@
+use Rattle.std.proofs.Common.{refl}
+use Rattle.std.proofs.lemmas.List.{length-replicate}
+use Rattle.std.proofs.lemmas.Result.{on_ok_weaker}
+use Rattle.pcm_cells.specs.Cell.{line_state}
+use Rattle.pcm_cells.specs.Scripted.{blank_scripted}
+use Rattle.pcm_cells.proofs.LineLemmas.{blank_lines}
+use Rattle.pcm_cells.proofs.script.ScriptArrayCellArray.power_up.Goals as goal
+
+pub returns-clause-ok : goal.returns-clause-ok
+returns-clause-ok g c =
+    on_ok_weaker c.renew.result
+    (λ e. rw e
+    (record {
+      count = length-replicate c.args.lines (blank_scripted g.row.B g.row.M);
+      blank = blank_lines g.row.B g.row.M c.args.lines (λ row. line_state row.line) (blank_scripted g.row.B g.row.M) refl;
+      tears = refl;
+      log = λ senses told. cc;
+    }))
+    c.renew.ensures.ok

@@ -1,0 +1,92 @@
+-- What an array of cells is, and what a pulse, a tear and a sense may do to it.
+use Rattle.std.specs.Prelude.{ℕ, ◌≡◌, ◌≢◌, ◌+◌, ◌-◌, ◌^◌, ◌<◌, ◌≤◌, ◌⊎◌, min, Bool, true, false, List, [], ◌∷◌, ◌++◌, Option, Some}
+use Rattle.pcm_cells.specs.declared.row.Cells.{Cells}
+use Rattle.pcm_cells.specs.declared.array.Sense.{Sense}
+use Rattle.pcm_cells.specs.declared.array.Wear.{Wear}
+use Rattle.pcm_cells.specs.Rows.{cell}
+pub use Rattle.pcm_cells.specs.Shape.{IsShape}
+pub use Rattle.pcm_cells.specs.Pulse.{IsPulse}
+
+-- what may be asked of the wear of an array
+abbrev pub IsWear : Wear → Type 0
+IsWear wear = (1 ≤ wear.lo) × (wear.lo ≤ wear.hi) × (wear.hi ≤ 4000000000) × (wear.misses ≤ 7)
+
+-- one line: what its cells hold, which are stuck, the misses of each since its last change, and how often it was pulsed or torn
+pub record LineState (B M : ℕ) : Type 0 where
+  pub held : Cells B M
+  pub stuck : ℕ → Bool
+  pub misses : ℕ → ℕ
+  pub pulses : ℕ
+
+-- a whole array: its lines, how many there are, how often it was torn, and the log of its senses, where it is told
+pub record ArrayState (B M : ℕ) : Type 0 where
+  pub line : ℕ → LineState B M
+  pub lines : ℕ
+  pub tears : ℕ
+  pub log : Option (List (Sense B M))
+
+-- what a sense of a line shows, as a log keeps it
+abbrev pub sense_of : {B M : ℕ} → ℕ → ℕ → LineState B M → Sense B M
+sense_of number tick line = record { line = number; tick = tick; cells = line.held; pulses = line.pulses }
+
+-- one more, up to the greatest u64
+abbrev pub counted : ℕ → ℕ
+counted n = min (n + 1) (2 ^ 64 - 1)
+
+-- a cell holds what it held, as live or as stuck as before, with its misses
+pub record IsCellKept {B M : ℕ} (old new : LineState B M) (n : ℕ) : Type 0 where
+  pub value : cell new.held n ≡ cell old.held n
+  pub stuck : new.stuck n ≡ old.stuck n
+  pub misses : new.misses n ≡ old.misses n
+
+-- what a pulse may make of a live masked cell: it takes the wanted value, it misses, or it sticks
+abbrev pub CellPulsed : {B M : ℕ} → Cells B M → LineState B M → LineState B M → ℕ → Type 0
+CellPulsed want old new n =
+    ((new.stuck n ≡ false) × (cell new.held n ≡ cell want n) × (new.misses n ≡ 0))
+    ⊎ (((new.stuck n ≡ false) × (cell new.held n ≡ cell old.held n) × (new.misses n ≡ old.misses n + 1) × (new.misses n ≤ 7))
+    ⊎ (new.stuck n ≡ true))
+
+-- what a tear may make of a live masked cell: any value, live with at most seven misses, or stuck
+abbrev pub CellTorn : {B M : ℕ} → LineState B M → ℕ → Type 0
+CellTorn new n = ((new.stuck n ≡ false) × (new.misses n ≤ 7)) ⊎ (new.stuck n ≡ true)
+
+-- a line after a pulse
+pub record DeviceStep {B M : ℕ} (mask want : Cells B M) (old new : LineState B M) : Type 0 where
+  pub unmasked : (n : ℕ) → cell mask n ≡ false → IsCellKept old new n
+  pub stuck : (n : ℕ) → old.stuck n ≡ true → (new.stuck n ≡ true) × (cell new.held n ≡ cell old.held n)
+  pub live : (n : ℕ) → cell mask n ≡ true → old.stuck n ≡ false → CellPulsed want old new n
+  pub pulses : new.pulses ≡ counted old.pulses
+
+-- a line after a tear
+pub record TornStep {B M : ℕ} (mask : Cells B M) (old new : LineState B M) : Type 0 where
+  pub unmasked : (n : ℕ) → cell mask n ≡ false → IsCellKept old new n
+  pub stuck : (n : ℕ) → old.stuck n ≡ true → (new.stuck n ≡ true) × (cell new.held n ≡ cell old.held n)
+  pub live : (n : ℕ) → cell mask n ≡ true → old.stuck n ≡ false → CellTorn new n
+  pub pulses : new.pulses ≡ counted old.pulses
+
+-- only the line with this number may have changed; the array has as many lines, and its log stands
+pub record ChangesOnly {B M : ℕ} (number : ℕ) (old new : ArrayState B M) : Type 0 where
+  pub others : (n : ℕ) → n ≢ number → new.line n ≡ old.line n
+  pub lines : new.lines ≡ old.lines
+  pub log : new.log ≡ old.log
+
+-- a sense changes no line, and a log that is told was told before and has gained this sense
+pub record Senses {B M : ℕ} (sensed : Sense B M) (old new : ArrayState B M) : Type 0 where
+  pub line : (n : ℕ) → new.line n ≡ old.line n
+  pub lines : new.lines ≡ old.lines
+  pub tears : new.tears ≡ old.tears
+  pub log : (after : List (Sense B M)) → new.log ≡ Some after → (before : List (Sense B M)) × (old.log ≡ Some before) × (after ≡ before ++ sensed ∷ [])
+
+-- a line with every cell 0, none stuck, and no miss and no pulse
+pub record IsBlank {B M : ℕ} (line : LineState B M) : Type 0 where
+  pub held : (n : ℕ) → cell line.held n ≡ false
+  pub stuck : (n : ℕ) → line.stuck n ≡ false
+  pub misses : (n : ℕ) → line.misses n ≡ 0
+  pub pulses : line.pulses ≡ 0
+
+-- an array that was just powered up
+pub record IsFresh {B M : ℕ} (lines : ℕ) (array : ArrayState B M) : Type 0 where
+  pub count : array.lines ≡ lines
+  pub blank : (l : ℕ) → l < lines → IsBlank (array.line l)
+  pub tears : array.tears ≡ 0
+  pub log : (senses : List (Sense B M)) → array.log ≡ Some senses → senses ≡ []

@@ -1,0 +1,12 @@
+pub mod Rows
+pub mod Shape
+pub mod Pulse
+pub mod Plain
+pub mod Device
+pub mod Cell
+pub mod Follows
+pub mod Scripted
+pub mod Logging
+pub mod Logged
+pub mod Words
+pub mod Seeded

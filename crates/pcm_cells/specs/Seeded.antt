@@ -1,0 +1,105 @@
+-- The array whose cells wear out as a seed says.
+use Rattle.std.specs.Prelude.{ℕ, ◌≡◌, ◌≢◌, ◌+◌, ◌-◌, ◌*◌, ◌/◌, ◌%◌, ◌^◌, ◌<◌, min, Bool, true, false, ◌&&◌, nat_eq, nat_lt, nat_le, bit_xor, if◌then◌else◌, List, [], length, slice_index, slice_index_or, Option, None, Some, Vec}
+use Rattle.std.specs.Int.{bit_at}
+use Rattle.std.specs.declared.alloc.Global.{Global}
+use Rattle.pcm_cells.specs.declared.row.Cells.{Cells}
+use Rattle.pcm_cells.specs.declared.array.Wear.{Wear}
+use Rattle.pcm_cells.specs.declared.seeded.SeededCell.{SeededCell}
+use Rattle.pcm_cells.specs.Rows.{cell, zero_row}
+use Rattle.pcm_cells.specs.Device.{ArrayState, counted}
+use Rattle.pcm_cells.specs.Cell.{CellLine, line_state, cell_state, blank_line}
+use Rattle.pcm_cells.specs.Follows.{Follows}
+use Rattle.pcm_cells.specs.Words.{xoshiro_of, word_at}
+
+-- how many changes a cell with this word lives through; it sticks in the last one
+abbrev pub endurance : Wear → ℕ → ℕ
+endurance wear word = wear.lo + word % (wear.hi - wear.lo + 1)
+
+-- how often it misses before each change
+abbrev pub miss_limit : Wear → ℕ → ℕ
+miss_limit wear word = min (word / 2 ^ 32 % 8) wear.misses
+
+-- the value that it sticks at
+abbrev pub stuck_value : ℕ → Bool
+stuck_value word = nat_eq (bit_at word 63) 1
+
+-- the cell that a word makes, before any pulse
+abbrev pub fresh_cell : Wear → ℕ → SeededCell
+fresh_cell wear word = record {
+  state = record { value = false; stuck = false; misses = 0 };
+  left = endurance wear word;
+  limit = miss_limit wear word;
+  end = stuck_value word;
+}
+
+-- a live cell in a pulse that doesn't miss: the last change of its life sticks it at its own value
+abbrev pub changed : Bool → SeededCell → SeededCell
+changed want old =
+    if nat_le old.left 1
+    then record old { state = record { value = old.end; stuck = true; misses = 0 }; left = 0 }
+    else record old { state = record { value = want; stuck = false; misses = 0 }; left = old.left - 1 }
+
+-- a masked cell in a pulse: a stuck one stays, and one that hasn't missed often enough misses once more
+abbrev pub pulsed : Bool → SeededCell → SeededCell
+pulsed want old =
+    if old.state.stuck then old
+    else if nat_lt old.state.misses old.limit then record old { state = record old.state { misses = old.state.misses + 1 } }
+    else changed want old
+
+-- a masked cell in a tear or in a pulse: a tear reaches the cells of even number alone
+abbrev pub seeded : Bool → (ℕ → Bool) → ℕ → SeededCell → SeededCell
+seeded tearing want number old = if tearing && nat_eq (number % 2) 1 then old else pulsed (want number) old
+
+-- a line, with the changes that each cell has left, its misses before each change, and the value that it will stick at
+pub record LifeLine (B M : ℕ) : Type 0 where
+  pub line : CellLine B M
+  pub left : List ℕ
+  pub limits : List ℕ
+  pub ends : Cells B M
+
+abbrev pub seeded_cell : {B M : ℕ} → LifeLine B M → ℕ → SeededCell
+seeded_cell row number = record {
+  state = cell_state (line_state row.line) number;
+  left = slice_index row.left number;
+  limit = slice_index row.limits number;
+  end = cell row.ends number;
+}
+
+-- a line without cells' lives
+abbrev pub lifeless : (B M : ℕ) → LifeLine B M
+lifeless B M = record { line = blank_line B M; left = []; limits = []; ends = zero_row B M }
+
+-- a new line: word n of the generator that the seed and the line's number make belongs to cell n
+pub record IsDrawn {B M : ℕ} (wear : Wear) (number : ℕ) (row : LifeLine B M) : Type 0 where
+  pub line : row.line ≡ blank_line B M
+  pub cells : (n : ℕ) → n < 8 * (B + M) → seeded_cell row n ≡ fresh_cell wear (word_at n (xoshiro_of (bit_xor wear.seed number)))
+
+-- the lines, of which there are none before the array is powered up
+abbrev pub seeded_lines : {B M : ℕ} → Option (Vec (LifeLine B M) Global) → List (LifeLine B M)
+seeded_lines None = []
+seeded_lines (Some lines) = lines.items
+
+-- the array: its lines, and how often it was torn
+pub record SeededArray (B M : ℕ) : Type 0 where
+  pub lines : List (LifeLine B M)
+  pub tears : ℕ
+
+-- the line with this number
+abbrev pub seeded_line : {B M : ℕ} → SeededArray B M → ℕ → LifeLine B M
+seeded_line {B} {M} array number = slice_index_or array.lines number (lifeless B M)
+
+-- what a controller may know of the array; it tells no log
+abbrev pub seeded_state : {B M : ℕ} → SeededArray B M → ArrayState B M
+seeded_state array = record {
+  line = λ number. line_state (seeded_line array number).line;
+  lines = length array.lines;
+  tears = array.tears;
+  log = None;
+}
+
+-- a pulse or a tear of the line: each masked cell wears as its life says, the pulse is counted, and all else stays
+pub record Wears {B M : ℕ} (line : ℕ) (tearing : Bool) (mask want : Cells B M) (old new : SeededArray B M) : Type 0 where
+  pub cells : Follows (cell mask) (seeded tearing (cell want)) (seeded_cell (seeded_line old line)) (seeded_cell (seeded_line new line))
+  pub pulses : (seeded_line new line).line.pulses ≡ counted (seeded_line old line).line.pulses
+  pub others : (n : ℕ) → n ≢ line → seeded_line new n ≡ seeded_line old n
+  pub lines : length new.lines ≡ length old.lines

@@ -1,0 +1,19 @@
+-- The words that the generator xoshiro256++ draws from a seed.
+use Rattle.std.specs.Prelude.{ℕ, zero, suc}
+use Rattle.rand_core.specs.Stream.{Stream, next_u64}
+use Rattle.rand_core.specs.Steps.{stream_of, steps_u64_high}
+use Rattle.rand_xoshiro.specs.SplitMix64.{splitmix_seed}
+use Rattle.rand_xoshiro.specs.Xoshiro256.{plus_plus, of_seed}
+
+-- all that the generator answers, from the start on
+abbrev pub xoshiro_of : ℕ → Stream
+xoshiro_of seed = stream_of (steps_u64_high plus_plus) (of_seed (splitmix_seed 32 seed))
+
+-- what is left of a stream after n words
+unfoldable pub stream_after : ℕ → Stream → Stream
+stream_after zero s = s
+stream_after (suc n) s = (next_u64 (stream_after n s)).1
+
+-- word n of a stream, from 0
+unfoldable pub word_at : ℕ → Stream → ℕ
+word_at n s = (next_u64 (stream_after n s)).0

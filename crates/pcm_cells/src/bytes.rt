@@ -1,0 +1,79 @@
+// Bytes as runs of bits, the lowest bit of a byte first.
+ghost use Rattle.std.specs.Prelude.{◌≡◌, ◌≢◌, ℕ, ◌+◌, ◌*◌, ◌<◌, ◌≤◌, ◌&&◌, true, false, IsTrue, IsFalse, bit_and, bit_xor, length, nat_eq, if◌then◌else◌};
+ghost use Rattle.std.specs.Int.{bit_at};
+ghost use Rattle.pcm_cells.specs.Rows.{bit_of, xor};
+
+pub(crate) fn bit(bytes: &[u8], number: usize) -> bool
+    requires { number < 8 * length bytes.now }
+    ensures { result ≡ bit_of bytes.now number }
+{
+    bytes[number / 8] >> (number % 8) & 1 == 1
+}
+
+fn with_bit(byte: u8, place: usize, value: bool) -> u8
+    requires { place < 8 }
+    ensures is { nat_eq (bit_at result place) 1 ≡ value }
+    ensures kept { (i : ℕ) → i < 8 → i ≢ place → bit_at result i ≡ bit_at byte i }
+{
+    if value {
+        byte | 1 << place
+    } else {
+        byte & !(1 << place)
+    }
+}
+
+pub(crate) fn set_bit(bytes: &mut [u8], number: usize, value: bool)
+    requires { number < 8 * length bytes.old }
+    ensures { (n : ℕ) → bit_of bytes.new n ≡ (if nat_eq n number then value else bit_of bytes.old n) }
+{
+    bytes[number / 8] = with_bit(bytes[number / 8], number % 8, value);
+}
+
+pub(crate) fn xor_with(bytes: &mut [u8], other: &[u8])
+    requires { length bytes.old ≡ length other.now }
+    ensures bits { (n : ℕ) → bit_of bytes.new n ≡ xor (bit_of bytes.old n) (bit_of other.now n) }
+    ensures same { ((n : ℕ) → bit_of bytes.new n ≡ false) → bytes.old ≡ other.now }
+{
+    for i in 0..bytes.len() {
+        bytes[i] ^= other[i];
+    }
+}
+
+pub(crate) fn and_with(bytes: &mut [u8], other: &[u8])
+    requires { length bytes.old ≡ length other.now }
+    ensures { (n : ℕ) → bit_of bytes.new n ≡ bit_of bytes.old n && bit_of other.now n }
+{
+    for i in 0..bytes.len() {
+        bytes[i] &= other[i];
+    }
+}
+
+pub(crate) fn is_zero(bytes: &[u8]) -> bool
+    ensures none { IsTrue result → (n : ℕ) → bit_of bytes.now n ≡ false }
+    ensures some { IsFalse result → (n : ℕ) × (n < 8 * length bytes.now) × (bit_of bytes.now n ≡ true) }
+{
+    for byte in bytes {
+        if *byte != 0 {
+            return false;
+        }
+    }
+    true
+}
+
+fn chosen(byte: u8, mask: u8, want: u8) -> u8
+    ensures { result ≡ bit_xor byte (bit_and (bit_xor byte want) mask) }
+{
+    byte ^ (byte ^ want) & mask
+}
+
+// Lets each masked bit be as wanted, and keeps the others.
+pub(crate) fn put(bytes: &mut [u8], mask: &[u8], want: &[u8])
+    requires mask { length bytes.old ≡ length mask.now }
+    requires want { length bytes.old ≡ length want.now }
+    ensures bits { (n : ℕ) → bit_of bytes.new n ≡ (if bit_of mask.now n then bit_of want.now n else bit_of bytes.old n) }
+    ensures whole { ((n : ℕ) → bit_of mask.now n ≡ false → bit_of bytes.old n ≡ bit_of want.now n) → bytes.new ≡ want.now }
+{
+    for i in 0..bytes.len() {
+        bytes[i] = chosen(bytes[i], mask[i], want[i]);
+    }
+}

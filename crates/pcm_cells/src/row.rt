@@ -1,0 +1,117 @@
+// Rows of cells, and masks over them.
+ghost use Rattle.std.specs.Prelude.{◌≡◌, ◌≢◌, ℕ, ◌+◌, ◌*◌, ◌<◌, ◌≤◌, ◌&&◌, true, false, IsTrue, IsFalse, nat_eq, if◌then◌else◌};
+ghost use Rattle.pcm_cells.specs.Rows.{cell, zero_row, xor, members};
+ghost use Rattle.pcm_cells.specs.Shape.{IsShape};
+
+use crate::bytes::{and_with, bit, is_zero, put, set_bit, xor_with};
+
+/// A row of `8 * B` data cells and `8 * M` check cells of one bit each, or a mask over such a row.
+/// Cell `n` is bit `n % 8`, the lowest being bit 0, of byte `n / 8` of the data bytes followed by the check bytes.
+#[derive(Clone, Copy, Drop)]
+pub struct Cells<const B: usize, const M: usize> {
+    pub bits: [u8; B],
+    pub meta: [u8; M],
+}
+
+impl<const B: usize, const M: usize> Cells<B, M> {
+    /// All cells 0; as a mask, no cell.
+    pub fn zero() -> Cells<B, M>
+        ensures cells { (n : ℕ) → cell result n ≡ false }
+        ensures bytes { result ≡ zero_row B M }
+    {
+        Cells {
+            bits: [0; B],
+            meta: [0; M],
+        }
+    }
+
+    /// What the cell holds.
+    pub fn get(&self, number: u16) -> bool
+        requires { number < 8 * (B + M) }
+        ensures { result ≡ cell self.now number }
+    {
+        let place = number as usize;
+        if place / 8 < B {
+            bit(&self.bits, place)
+        } else {
+            bit(&self.meta, place - 8 * B)
+        }
+    }
+
+    /// Lets one cell hold the value.
+    pub fn set(&mut self, number: u16, value: bool)
+        requires { number < 8 * (B + M) }
+        ensures { (n : ℕ) → cell self.new n ≡ (if nat_eq n number then value else cell self.old n) }
+    {
+        let place = number as usize;
+        if place / 8 < B {
+            set_bit(&mut self.bits, place, value);
+        } else {
+            set_bit(&mut self.meta, place - 8 * B, value);
+        }
+    }
+
+    /// The mask of the cells in which the two rows differ.
+    pub fn differ(&self, other: &Cells<B, M>) -> Cells<B, M>
+        ensures cells { (n : ℕ) → cell result n ≡ xor (cell self.now n) (cell other.now n) }
+        ensures same { ((n : ℕ) → cell result n ≡ false) → self.now ≡ other.now }
+    {
+        let mut result = *self;
+        xor_with(&mut result.bits, &other.bits);
+        xor_with(&mut result.meta, &other.meta);
+        result
+    }
+
+    /// The mask of the cells that are 1 in both.
+    pub fn meet(&self, other: &Cells<B, M>) -> Cells<B, M>
+        ensures { (n : ℕ) → cell result n ≡ cell self.now n && cell other.now n }
+    {
+        let mut result = *self;
+        and_with(&mut result.bits, &other.bits);
+        and_with(&mut result.meta, &other.meta);
+        result
+    }
+
+    /// Lets each masked cell hold its wanted value.
+    pub(crate) fn put(&mut self, mask: &Cells<B, M>, want: &Cells<B, M>)
+        ensures cells { (n : ℕ) → cell self.new n ≡ (if cell mask.now n then cell want.now n else cell self.old n) }
+        ensures whole { ((n : ℕ) → cell mask.now n ≡ false → cell self.old n ≡ cell want.now n) → self.new ≡ want.now }
+    {
+        put(&mut self.bits, &mask.bits, &want.bits);
+        put(&mut self.meta, &mask.meta, &want.meta);
+    }
+
+    /// As a mask: whether no cell of this group of eight is in it.
+    pub(crate) fn is_clear(&self, group: usize) -> bool
+        requires { group < B + M }
+        ensures { IsTrue result → (n : ℕ) → 8 * group ≤ n → n < 8 * group + 8 → cell self.now n ≡ false }
+    {
+        if group < B {
+            self.bits[group] == 0
+        } else {
+            self.meta[group - B] == 0
+        }
+    }
+
+    /// As a mask: whether no cell is in it.
+    pub fn is_none(&self) -> bool
+        ensures none { IsTrue result → (n : ℕ) → cell self.now n ≡ false }
+        ensures some { IsFalse result → (n : ℕ) × (n < 8 * (B + M)) × (cell self.now n ≡ true) }
+    {
+        is_zero(&self.bits) && is_zero(&self.meta)
+    }
+
+    /// As a mask: how many cells are in it.
+    pub fn count(&self) -> u32
+        requires { IsShape B M }
+        ensures { result ≡ members (cell self.now) (8 * (B + M)) }
+    {
+        let mut total = 0;
+        for number in 0..8 * (B + M) {
+            if self.get(number as u16) {
+                total += 1;
+            }
+        }
+        total
+    }
+}

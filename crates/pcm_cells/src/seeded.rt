@@ -1,0 +1,342 @@
+// The array whose cells wear out as a seed says.
+ghost use Rattle.std.specs.Prelude.{◌≡◌, ◌≢◌, ℕ, ◌+◌, ◌-◌, ◌*◌, ◌%◌, ◌<◌, ◌≤◌, true, false, length, IfOk, OnOk, OnErr, slice_index, bit_xor};
+
+use crate::line::Line;
+use crate::{CellArray, CellState, Cells, Wear};
+use rand_core::{Rng, SeedableRng};
+use rand_xoshiro::Xoshiro256PlusPlus;
+use std::alloc::{AllocError, Global};
+use std::marker::Model;
+
+/// One cell, and what its word makes of its life.
+#[derive(Clone, Copy, Drop)]
+pub struct SeededCell {
+    pub state: CellState,
+    /// The changes that are left; the last one sticks the cell.
+    pub left: u32,
+    /// The misses before each change, 0 to 7.
+    pub limit: u8,
+    /// The value that the cell sticks at.
+    pub end: bool,
+}
+
+ghost use Rattle.pcm_cells.specs.Seeded.{endurance, miss_limit, stuck_value, changed, pulsed, seeded};
+ghost use Rattle.pcm_cells.specs.Device.{IsWear};
+
+fn endurance(wear: Wear, word: u64) -> u32
+    requires { IsWear wear }
+    ensures { result ≡ endurance wear word }
+{
+    let span = (wear.hi - wear.lo) as u64 + 1;
+    wear.lo + (word % span) as u32
+}
+
+fn miss_limit(wear: Wear, word: u64) -> u8
+    ensures is { result ≡ miss_limit wear word }
+    ensures few { result ≤ 7 }
+{
+    ((word >> 32) % 8).min(wear.misses as u64) as u8
+}
+
+fn changed(want: bool, old: SeededCell) -> SeededCell
+    ensures { result ≡ changed want old }
+{
+    if old.left <= 1 {
+        SeededCell {
+            state: CellState {
+                value: old.end,
+                stuck: true,
+                misses: 0,
+            },
+            left: 0,
+            ..old
+        }
+    } else {
+        SeededCell {
+            state: CellState {
+                value: want,
+                stuck: false,
+                misses: 0,
+            },
+            left: old.left - 1,
+            ..old
+        }
+    }
+}
+
+fn pulsed(want: bool, old: SeededCell) -> SeededCell
+    requires limit { old.limit ≤ 7 }
+    requires misses { old.state.misses ≤ 7 }
+    ensures is { result ≡ pulsed want old }
+    ensures few { result.state.misses ≤ 7 }
+{
+    if old.state.stuck {
+        old
+    } else if old.state.misses < old.limit {
+        SeededCell {
+            state: CellState {
+                misses: old.state.misses + 1,
+                ..old.state
+            },
+            ..old
+        }
+    } else {
+        changed(want, old)
+    }
+}
+
+/// The cells of one line, and the life of each.
+#[derive(Drop)]
+struct SeededLine<const B: usize, const M: usize> {
+    line: Line<B, M>,
+    left: Vec<u32>,
+    limits: Vec<u8>,
+    ends: Cells<B, M>,
+}
+
+impl<const B: usize, const M: usize> Model for SeededLine<B, M> {
+    ghost use Rattle.std.specs.Prelude.{◌≡◌, ℕ, ◌+◌, ◌*◌, ◌≤◌, slice_index, vec_len};
+    ghost use Rattle.pcm_cells.specs.Seeded.{LifeLine};
+    ghost use Rattle.pcm_cells.specs.Shape.{IsShape};
+
+    ghost Value = { LifeLine B M };
+
+    ghost view = { λ l. record { line = l.line; left = l.left.items; limits = l.limits.items; ends = l.ends } };
+
+    ghost invariant = { λ l. (vec_len l.left ≡ 8 * (B + M)) × (vec_len l.limits ≡ 8 * (B + M)) × ((n : ℕ) → slice_index l.line.misses n ≤ 7)
+        × ((n : ℕ) → slice_index l.limits.items n ≤ 7) × IsShape B M };
+}
+
+ghost use Rattle.pcm_cells.specs.Rows.{cell};
+ghost use Rattle.pcm_cells.specs.Shape.{IsShape};
+ghost use Rattle.pcm_cells.specs.Device.{counted};
+ghost use Rattle.pcm_cells.specs.Follows.{Follows, FollowsIn};
+ghost use Rattle.pcm_cells.specs.Seeded.{seeded_cell, IsDrawn};
+
+impl<const B: usize, const M: usize> SeededLine<B, M> {
+    // Word n of the generator belongs to cell n.
+    fn drawn(alloc: Global, wear: Wear, number: u32) -> Result<SeededLine<B, M>, AllocError>
+        requires wear { IsWear wear }
+        requires shape { IsShape B M }
+        ensures { IfOk result (λ row. IsDrawn wear number row) }
+    {
+        let mut words = Xoshiro256PlusPlus::seed_from_u64(wear.seed ^ number as u64);
+        let mut left = vec![in alloc; 0u32; 8 * (B + M)]?;
+        let mut limits = vec![in alloc; 0u8; 8 * (B + M)]?;
+        let mut ends = Cells::zero();
+        for cell in 0..8 * (B + M) {
+            let word = words.next_u64();
+            left[cell] = endurance(wear, word);
+            limits[cell] = miss_limit(wear, word);
+            ends.set(cell as u16, word >> 63 == 1);
+        }
+        Ok(SeededLine {
+            line: Line::blank(alloc)?,
+            left,
+            limits,
+            ends,
+        })
+    }
+
+    fn cell(&self, number: u16) -> SeededCell
+        requires { number < 8 * (B + M) }
+        ensures is { result ≡ seeded_cell self.now number }
+        ensures limit { result.limit ≤ 7 }
+        ensures misses { result.state.misses ≤ 7 }
+    {
+        SeededCell {
+            state: self.line.cell(number),
+            left: self.left[number as usize],
+            limit: self.limits[number as usize],
+            end: self.ends.get(number),
+        }
+    }
+
+    // One masked cell in a pulse or in a tear.
+    fn wear_cell(&mut self, tearing: bool, number: u16, want: &Cells<B, M>)
+        requires exists { number < 8 * (B + M) }
+        requires shape { IsShape B M }
+        ensures here { seeded_cell self.new number ≡ seeded tearing (cell want.now) number (seeded_cell self.old number) }
+        ensures others { (n : ℕ) → n ≢ number → seeded_cell self.new n ≡ seeded_cell self.old n }
+        ensures pulses { self.new.line.pulses ≡ self.old.line.pulses }
+    {
+        if tearing && number % 2 == 1 {
+            return;
+        }
+        let new = pulsed(want.get(number), self.cell(number));
+        self.line.set_cell(number, new.state);
+        self.left[number as usize] = new.left;
+    }
+
+    // The masked cells of one group of eight in a pulse or in a tear.
+    fn wear_group(&mut self, tearing: bool, group: usize, mask: &Cells<B, M>, want: &Cells<B, M>)
+        requires exists { group < B + M }
+        requires shape { IsShape B M }
+        ensures cells { FollowsIn (8 * group) (8 * group + 8) (cell mask.now) (seeded tearing (cell want.now)) (seeded_cell self.old) (seeded_cell self.new) }
+        ensures pulses { self.new.line.pulses ≡ self.old.line.pulses }
+    {
+        for number in 8 * group..8 * group + 8 {
+            let number = number as u16;
+            if mask.get(number) {
+                self.wear_cell(tearing, number, want);
+            }
+        }
+    }
+
+    // A pulse or a tear of the line.
+    fn wear(&mut self, tearing: bool, mask: &Cells<B, M>, want: &Cells<B, M>)
+        requires { IsShape B M }
+        ensures cells { Follows (cell mask.now) (seeded tearing (cell want.now)) (seeded_cell self.old) (seeded_cell self.new) }
+        ensures pulses { self.new.line.pulses ≡ counted self.old.line.pulses }
+        ensures few { (n : ℕ) → slice_index self.new.line.misses n ≤ 7 }
+        ensures limits { (n : ℕ) → slice_index self.old.limits n ≤ 7 }
+    {
+        for group in 0..B + M {
+            if !mask.is_clear(group) {
+                self.wear_group(tearing, group, mask, want);
+            }
+        }
+        self.line.count_pulse();
+    }
+}
+
+ghost use Rattle.std.specs.Prelude.{[], slice_index_or};
+ghost use Rattle.pcm_cells.specs.Seeded.{lifeless, seeded_line, seeded_state, Wears};
+
+fn drawn_lines<const B: usize, const M: usize>(
+    alloc: Global,
+    lines: u32,
+    wear: Wear,
+) -> Result<Vec<SeededLine<B, M>>, AllocError>
+    requires wear { IsWear wear }
+    requires shape { IsShape B M }
+    ensures count { IfOk result (λ rows. length rows.items ≡ lines) }
+    ensures drawn { IfOk result (λ rows. (l : ℕ) → l < lines → IsDrawn wear l (slice_index_or rows.items l (lifeless B M))) }
+{
+    let mut rows = Vec::with_capacity(alloc, lines as usize)?;
+    for number in 0..lines {
+        rows.push(SeededLine::drawn(alloc, wear, number)?)?;
+    }
+    Ok(rows)
+}
+
+/// An array whose cells miss and wear out as the words of the generator xoshiro256++ say, which `Wear::seed` and the line's number seed.
+/// A tear reaches the masked cells of even number alone. It tells no log. Contracts see it as a `SeededArray`.
+#[derive(Drop)]
+pub struct MemArray<const B: usize, const M: usize> {
+    lines: Option<Vec<SeededLine<B, M>>>,
+    tears: u64,
+}
+
+impl<const B: usize, const M: usize> Model for MemArray<B, M> {
+    ghost use Rattle.std.specs.Prelude.{◌^◌, ◌<◌, length};
+    ghost use Rattle.pcm_cells.specs.Seeded.{SeededArray, seeded_lines};
+    ghost use Rattle.pcm_cells.specs.Shape.{IsShape};
+
+    ghost Value = { SeededArray B M };
+
+    ghost view = { λ a. record { lines = seeded_lines a.lines; tears = a.tears } };
+
+    ghost invariant = { λ a. (length (seeded_lines a.lines) < 2 ^ 32) × IsShape B M };
+}
+
+impl<const B: usize, const M: usize> MemArray<B, M> {
+    /// An array without lines.
+    pub fn new() -> MemArray<B, M>
+        requires { IsShape B M }
+        ensures { result ≡ record { lines = []; tears = 0 } }
+    {
+        MemArray {
+            lines: None,
+            tears: 0,
+        }
+    }
+
+    // A pulse or a tear of a line.
+    fn wear(&mut self, line: u32, tearing: bool, mask: &Cells<B, M>, want: &Cells<B, M>)
+        requires exists { line < length self.old.lines }
+        requires shape { IsShape B M }
+        ensures wears { Wears line tearing mask.now want.now self.old self.new }
+        ensures few { (n : ℕ) → slice_index (seeded_line self.new line).line.misses n ≤ 7 }
+        ensures limits { (n : ℕ) → slice_index (seeded_line self.old line).limits n ≤ 7 }
+        ensures tears { self.new.tears ≡ self.old.tears }
+    {
+        let Some(lines) = &mut self.lines else {
+            unreachable!()
+        };
+        let row = &mut lines[line as usize];
+        row.wear(tearing, mask, want);
+    }
+}
+
+impl<const B: usize, const M: usize> CellArray<B, M> for MemArray<B, M> {
+    ghost use Rattle.pcm_cells.specs.Device.{DeviceStep, TornStep, ChangesOnly, Senses, IsFresh, sense_of};
+    ghost use Rattle.pcm_cells.specs.Pulse.{IsPulse};
+
+    ghost state = { seeded_state };
+
+    fn power_up(&mut self, alloc: Global, lines: u32, wear: Wear) -> Result<(), AllocError>
+        requires wear { IsWear wear }
+        requires shape { IsShape B M }
+        ensures ok { OnOk result (IsFresh lines (seeded_state self.new)) }
+        ensures err { OnErr result (length self.new.lines ≡ 0) }
+        ensures drawn { OnOk result ((l : ℕ) → l < lines → IsDrawn wear l (seeded_line self.new l)) }
+    {
+        self.lines = None;
+        self.tears = 0;
+        self.lines = Some(drawn_lines(alloc, lines, wear)?);
+        Ok(())
+    }
+
+    fn lines(&self) -> u32 {
+        match &self.lines {
+            Some(lines) => lines.len() as u32,
+            None => 0,
+        }
+    }
+
+    fn sense(&mut self, line: u32, tick: u64) -> Cells<B, M>
+        requires exists { line < length self.old.lines }
+        requires shape { IsShape B M }
+        ensures cells { result ≡ (seeded_line self.old line).line.held }
+        ensures step { Senses (sense_of line tick ((seeded_state self.old).line line)) (seeded_state self.old) (seeded_state self.new) }
+        ensures kept { self.new ≡ self.old }
+    {
+        let Some(lines) = &self.lines else {
+            unreachable!()
+        };
+        lines[line as usize].line.held()
+    }
+
+    fn pulse(&mut self, line: u32, mask: &Cells<B, M>, want: &Cells<B, M>, tick: u64)
+        requires exists { line < length self.old.lines }
+        requires lawful { IsPulse mask.now want.now (seeded_line self.old line).line.held }
+        requires shape { IsShape B M }
+        ensures step { DeviceStep mask.now want.now ((seeded_state self.old).line line) ((seeded_state self.new).line line) }
+        ensures others { ChangesOnly line (seeded_state self.old) (seeded_state self.new) }
+        ensures tears { self.new.tears ≡ self.old.tears }
+        ensures wears { Wears line false mask.now want.now self.old self.new }
+    {
+        self.wear(line, false, mask, want);
+    }
+
+    fn tear(&mut self, line: u32, mask: &Cells<B, M>, want: &Cells<B, M>, tick: u64)
+        requires exists { line < length self.old.lines }
+        requires lawful { IsPulse mask.now want.now (seeded_line self.old line).line.held }
+        requires shape { IsShape B M }
+        ensures step { TornStep mask.now ((seeded_state self.old).line line) ((seeded_state self.new).line line) }
+        ensures others { ChangesOnly line (seeded_state self.old) (seeded_state self.new) }
+        ensures tears { self.new.tears ≡ counted self.old.tears }
+        ensures wears { Wears line true mask.now want.now self.old self.new }
+    {
+        self.wear(line, true, mask, want);
+        self.tears = self.tears.saturating_add(1);
+    }
+
+    fn pulses(&self, line: u32) -> u64 {
+        let Some(lines) = &self.lines else {
+            unreachable!()
+        };
+        lines[line as usize].line.pulses()
+    }
+}
