@@ -1,0 +1,108 @@
+//! The sizes of one bank of the memory, and what a bank writes next.
+//!
+//! A bank rotates the lines of its regions by Start-Gap (Qureshi et al., MICRO 2009): a region of `lines` lines has
+//! `lines + 1` places, one of them the gap. The places of all regions, one region after the other, are the bank's slots.
+#![tactic(auto)]
+
+ghost use Rattle.std.specs.Prelude.{◌≡◌, ◌<◌, ◌≤◌, ◌^◌};
+ghost use Rattle.bank_shape.specs.Shape.{IsBankShape, slots_of, lines_in, slot_at};
+
+use start_gap::Move;
+
+/// The sizes of a bank.
+#[derive(Clone, Copy, Debug, PartialEq, Eq)]
+pub struct BankShape {
+    /// The first of the bank's array lines.
+    pub base: u32,
+    /// How many regions the bank has, 1 to 16.
+    pub regions: u32,
+    /// How many lines each region has, 1 to 4,096.
+    pub lines: u32,
+    /// How many spare lines stand behind the slots, 0 to 1,024.
+    pub spares: u32,
+    /// How many writes the protected queue holds, 1 to 256.
+    pub writes: u32,
+    /// How many reads may wait, 1 to 256.
+    pub reads: u32,
+    /// How many stores of a region make one gap move due, 1 to 65,535.
+    pub psi: u32,
+}
+
+/// What a bank writes next.
+#[derive(Clone, Copy, Debug, PartialEq, Eq)]
+pub enum Work {
+    /// No move is due and no write is queued, or the bank is exhausted.
+    Nothing,
+    /// The oldest queued write is due: its bank line, and the slot where that line stands.
+    Store { line: u32, slot: u32 },
+    /// A gap move of a region is due.
+    Copy { region: u32, step: Move },
+}
+
+impl BankShape {
+    /// How many slots the bank has: the places of all its regions.
+    pub fn slots(&self) -> u32
+        requires { IsBankShape self.now }
+        ensures { result ≡ slots_of self.now }
+    {
+        self.regions * (self.lines + 1)
+    }
+
+    /// How many array lines the bank owns, from `base` on: those of its slots, and then its spares.
+    pub fn array_lines(&self) -> u32
+        requires { IsBankShape self.now }
+        ensures { result ≡ lines_in self.now }
+    {
+        self.slots() + self.spares
+    }
+
+    /// The slot of a place of a region.
+    pub fn slot(&self, region: u32, place: u32) -> u32
+        requires shape { IsBankShape self.now }
+        requires region_exists { region < self.now.regions }
+        requires place_exists { place ≤ self.now.lines }
+        ensures exact { result ≡ slot_at self.now region place }
+        ensures within { result < slots_of self.now }
+    {
+        region * (self.lines + 1) + place
+    }
+}
+
+#[cfg(test)]
+mod tests {
+    use super::*;
+
+    /// Two regions of four lines and one spare: ten slots, eleven array lines.
+    #[test]
+    fn counts_slots_and_lines(rt: HostRuntime) {
+        let shape = BankShape {
+            base: 11,
+            regions: 2,
+            lines: 4,
+            spares: 1,
+            writes: 4,
+            reads: 4,
+            psi: 100,
+        };
+        assert_eq!(rt; shape.slots(), 10);
+        assert_eq!(rt; shape.array_lines(), 11);
+        assert_eq!(rt; shape.slot(0, 4), 4);
+        assert_eq!(rt; shape.slot(1, 0), 5);
+        assert_eq!(rt; shape.slot(1, 4), 9);
+    }
+
+    #[test]
+    fn tells_works_apart(rt: HostRuntime) {
+        let copy = Work::Copy {
+            region: 0,
+            step: Move {
+                line: 3,
+                from: 3,
+                to: 4,
+            },
+        };
+        assert!(rt; copy == copy);
+        assert!(rt; copy != Work::Nothing);
+        assert!(rt; Work::Store { line: 1, slot: 2 } != Work::Store { line: 1, slot: 3 });
+    }
+}
