@@ -1,0 +1,11 @@
+pub mod Altered
+pub mod Answers
+pub mod Queueing
+pub mod Room
+pub mod Rows
+pub mod Rules
+pub mod Serving
+pub mod Table
+pub mod Ticking
+pub mod Wearing
+pub mod Worked
