@@ -1,5 +1,5 @@
 -- How large the numbers of a row are.
-use Rattle.std.proofs.Common.{◌≡◌, ℕ, zero, suc, ◌+◌, ◌*◌, ◌^◌, ◌<◌, ◌≤◌, List, [], ◌∷◌, length, inl, inr, lit<, append_assoc, refl, arith}
+use Rattle.std.proofs.Common.{◌≡◌, ℕ, zero, suc, ◌+◌, ◌*◌, ◌^◌, ◌<◌, ◌≤◌, List, [], ◌∷◌, inl, inr, lit<, append_assoc, refl, arith}
 use Rattle.std.specs.Prelude.{codes, decimal}
 use Rattle.std.proofs.lemmas.Bool.{cases_lt}
 use Rattle.std.proofs.Math.Nat.{pow-le-pow_right}
@@ -13,7 +13,6 @@ use Rattle.rotation_reports.specs.Rows.{row_of}
 use Rattle.rotation_reports.specs.MapText.{map_address, map_row, array_lines_of}
 use Rattle.rotation_reports.specs.MovesText.{move_row}
 use Rattle.std.proofs.lemmas.Nat.{mul-le}
-use Rattle.std.proofs.lemmas.Fmt.{length-decimal-le}
 
 -- the slots of a bank, those of a region's lines, and the array lines of the banks before
 pub slots_few : (regions lines : ℕ) → regions ≤ 16 → lines ≤ 4096 → regions * (lines + 1) ≤ 65552
@@ -24,13 +23,6 @@ region_few region lines p q = mul-le region (lines + 1) 15 4097 (omega arith) (o
 
 pub bank_few : (bank array_lines : ℕ) → bank < 16 → array_lines ≤ 66576 → bank * array_lines ≤ 998640
 bank_few bank array_lines p q = mul-le bank array_lines 15 66576 (omega arith) q
-
--- digits
-pub five_digits : (n : ℕ) → n < 10 ^ 5 → length (decimal n) ≤ 5
-five_digits n bound = length-decimal-le 5 n (lit< tt) bound (omega arith)
-
-pub twenty_digits : (n : ℕ) → n < 2 ^ 64 → length (decimal n) ≤ 20
-twenty_digits n bound = length-decimal-le 20 n (lit< tt) (omega arith) bound
 
 -- the bits of the numbers of a module's lines
 pub bits_some : (r n : ℕ) → 4 ≤ n → n < 2 * 2 ^ r → 2 ≤ r

@@ -28,7 +28,7 @@ fn registers_after(n: u32, moves: u64) -> Registers
 }
 
 // Appends a number of at most five digits, and the byte behind it.
-#[tactic(auto, using(crate::proofs::Bounds::five_digits))]
+#[tactic(auto, using(pcm_io::proofs::DigitLemmas::five_digits))]
 fn push_short(number: u32, end: &[u8], text: &mut Text)
     requires short { number < 10 ^ 5 }
     requires one { length end.now ≡ 1 }
@@ -41,7 +41,7 @@ fn push_short(number: u32, end: &[u8], text: &mut Text)
 }
 
 // Appends a number, and the byte behind it.
-#[tactic(auto, using(crate::proofs::Bounds::twenty_digits))]
+#[tactic(auto, using(pcm_io::proofs::DigitLemmas::twenty_digits))]
 fn push_number(number: u64, end: &[u8], text: &mut Text)
     requires one { length end.now ≡ 1 }
     requires room { 21 ≤ room_in text.old }
