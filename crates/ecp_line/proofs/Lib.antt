@@ -1,0 +1,13 @@
+pub mod Counts
+pub mod Digits
+pub mod Activity
+pub mod Places
+pub mod Sources
+pub mod Inert
+pub mod Masks
+pub mod Correcting
+pub mod Wanting
+pub mod Bytes
+pub mod ReadRows
+pub mod Sizes
+pub mod Blank

@@ -1,0 +1,24 @@
+use Rattle.std.proofs.Common.{◌∙◌, sym, arith}
+use Rattle.pcm_cells.specs.Rows.{cell}
+use Rattle.ecp_line.proofs.Places.{full-lt, entries-order}
+use Rattle.ecp_line.proofs.Sources.{source-lt, source-none, source-passed, source-replaced}
+use Rattle.ecp_line.proofs.ecp.Ecp.source_below.Goals as goal
+use Rattle.ecp_line.proofs.ecp.Ecp.source_below.Goals.{then-pointer_of-bit, else-pointer_of-bit}
+
+pub loop-entry-init : goal.loop-entry-init
+loop-entry-init g c = sym (source-none g.row.B (cell c.args.cells.now) c.args.bit)
+
+pub loop-entry-preserved : goal.loop-entry-preserved
+loop-entry-preserved g c =
+    let f = cell c.args.cells.now in
+    elim c.if-pointer_of-bit.branch [
+      | then-pointer_of-bit w ↦ w.source-is ∙ w.replacement_cell-source.ensures ∙ sym (source-replaced g.row.B f c.args.bit c.loop-entry.entry (sym w.if-pointer_of-bit.true ∙ c.pointer_of.ensures.points))
+      | else-pointer_of-bit w ↦ w.source-is ∙ c.loop-entry.invariant ∙ sym (source-passed g.row.B f c.args.bit c.loop-entry.entry (λ e. w.if-pointer_of-bit.false (c.pointer_of.ensures.points ∙ sym e)))
+    ]
+
+pub returns-clause-within : goal.returns-clause-within
+returns-clause-within g c low =
+    let t = source-lt g.row.B (cell c.args.cells.now) c.args.bit c.loop-entry.entry low in
+    let room = full-lt g.row.B g.row.M g.row.E c.requires.layout in
+    let order = entries-order g.row.B c.loop-entry.entry g.row.E (let e = c.requires.exist in omega arith) in
+    let e = c.loop-entry.invariant in omega arith

@@ -1,0 +1,20 @@
+-- What a line is read as, as bytes, and when it is worn.
+use Rattle.std.specs.Prelude.{ℕ, zero, suc, ◌+◌, ◌*◌, ◌-◌, nat_lt, Bool, not, ◌&&◌, ◌||◌, List, [], ◌∷◌}
+use Rattle.pcm_cells.specs.Rows.{cell, members}
+use Rattle.pcm_cells.specs.declared.row.Cells.{Cells}
+use Rattle.ecp_line.specs.Layout.{number, decoded, full_cell, activity_cell, some_below}
+
+-- n bytes from byte k on, of these bits
+abbrev pub bytes_from : (ℕ → Bool) → ℕ → ℕ → List ℕ
+bytes_from bit k zero = []
+bytes_from bit k (suc n) = number bit (8 * k) 8 ∷ bytes_from bit (k + 1) n
+
+-- the bytes that a row of cells is read as
+unfoldable pub decode : {B M : ℕ} → ℕ → Cells B M → List ℕ
+decode {B} E row = bytes_from (decoded B E (cell row)) 0 B
+
+-- too many cells are stuck, or one that says which entries are active
+abbrev pub is_worn_line : {B M : ℕ} → ℕ → Cells B M → (ℕ → Bool) → Bool
+is_worn_line {B} {M} E row stuck =
+    nat_lt E (members stuck (8 * (B + M))) || (stuck (full_cell B E)
+    || (not (cell row (full_cell B E)) && some_below (λ i. stuck (activity_cell B E + i)) (E - 1)))
