@@ -1,0 +1,36 @@
+-- What the events of a call do to an array, besides its cells.
+use Rattle.std.specs.Prelude.{◌≡◌, ◌⊎◌, ℕ, ◌+◌, ◌<◌, ◌≤◌, true, if◌then◌else◌, List, [], ◌∷◌, ◌++◌, Some}
+use Rattle.pcm_cells.specs.declared.array.Sense.{Sense}
+use Rattle.pcm_cells.specs.Device.{ArrayState, counted}
+use Rattle.bank_shape.specs.declared.BankShape.{BankShape}
+use Rattle.bank_model.specs.Events.{Cut}
+use Rattle.bank_shape.specs.Shape.{lines_in}
+use Rattle.bank_model.specs.Timing.{Happens, Core, Timed}
+use Rattle.bank_model.specs.Sensing.{is_at}
+
+-- the senses, the oldest first
+abbrev pub senses_of : {n m : ℕ} → List (Timed n m) → List (Sense n m)
+senses_of [] = []
+senses_of (x ∷ xs) = senses_of xs ++ x.senses
+
+-- how often a line was pulsed or torn, and an array torn, counted on from a number
+abbrev pub pulses_on : {n m : ℕ} → List (Timed n m) → ℕ → ℕ → ℕ
+pulses_on [] line count = count
+pulses_on (x ∷ xs) line count = if is_at x.pulsed line then counted (pulses_on xs line count) else pulses_on xs line count
+
+abbrev pub torn_by : {n : ℕ} → Happens n → ℕ → ℕ
+torn_by (Core (Cut true)) count = counted count
+torn_by happens count = count
+
+abbrev pub tears_on : {n m : ℕ} → List (Timed n m) → ℕ → ℕ
+tears_on [] count = count
+tears_on (x ∷ xs) count = torn_by x.happens (tears_on xs count)
+
+-- the events of a call, the newest first, over the array before and after it
+pub record Adds {n m : ℕ} (shape : BankShape) (added : List (Timed n m)) (old new : ArrayState n m) : Type 0 where
+  pub lines : new.lines ≡ old.lines
+  pub others : (line : ℕ) → ((line < shape.base) ⊎ (shape.base + lines_in shape ≤ line)) → new.line line ≡ old.line line
+  pub pulses : (line : ℕ) → (new.line line).pulses ≡ pulses_on added line (old.line line).pulses
+  pub tears : new.tears ≡ tears_on added old.tears
+  pub log : (after : List (Sense n m)) → new.log ≡ Some after
+      → (before : List (Sense n m)) × (old.log ≡ Some before) × (after ≡ before ++ senses_of added)

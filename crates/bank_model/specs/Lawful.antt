@@ -1,0 +1,90 @@
+-- Which timed histories a bank may have.
+use Rattle.std.specs.Prelude.{◌≡◌, ℕ, ◌<◌, ◌≤◌, ◌&&◌, nat_lt, Bool, IsTrue, IsFalse, List, [], ◌∷◌, map, Option, Some, None, IfSome, All}
+use Rattle.bank_shape.specs.Pausing.{Pausing, is_cancelling, most_cancels}
+use Rattle.bank_shape.specs.declared.BankShape.{BankShape}
+use Rattle.bank_model.specs.declared.answer.ReadAnswer.{ReadAnswer}
+use Rattle.bank_model.specs.declared.answer.ReadAnswer.TheVariants as came
+use Rattle.bank_model.specs.declared.clock.Doing.{Doing}
+use Rattle.bank_model.specs.declared.clock.Doing.TheVariants.{Serving, Beginning, Iterating}
+use Rattle.bank_model.specs.declared.clock.Action.{Action}
+use Rattle.bank_model.specs.Events.{Event, Write, Read, Serve, Begin, Iterate, Cut, RowsBelow}
+use Rattle.bank_model.specs.History.{waits}
+use Rattle.bank_model.specs.Answers.{MayHappen}
+use Rattle.bank_model.specs.Timing.{Pacing, Happens, Core, Timed, ends, is_doing, is_writing, is_empty, core, last_tick}
+use Rattle.bank_model.specs.Running.{chosen_after, running, running_at, cancels_after}
+use Rattle.bank_model.specs.Sensing.{most_steps, pulses_of, sensed_by, pulsed_by, IsReadRight}
+
+-- a read was answered at once, from the queue
+abbrev pub IsForwarded : {n : ℕ} → ReadAnswer n → Type 0
+IsForwarded (came.Forwarded bytes) = Unit {0}
+IsForwarded came.Waiting = ⊥
+IsForwarded came.Busy = ⊥
+
+module _ {n : ℕ} (shape : BankShape) (h : List (Event n)) where
+  -- a read would cancel: an action of a write runs, no read waits, and there were few cancels
+  abbrev pub would_cancel : Pausing → Option Action → ℕ → Bool
+  would_cancel policy action count =
+      is_cancelling policy && (is_writing action && (is_empty (waits shape h) && nat_lt count most_cancels))
+
+-- an event ends the action that runs as it comes: it has the action's first tick, and its end as its tick
+abbrev pub IsEnd : {n m : ℕ} → Pacing → Doing → Option Action → Timed n m → Type 0
+IsEnd pace doing action x =
+    (action ≡ Some (record { doing = doing; first = x.first })) × (x.tick ≡ ends pace (record { doing = doing; first = x.first }))
+
+-- an event arrives: not before the last one, and before the action that runs has ended
+abbrev pub IsArrival : {n m : ℕ} → Pacing → Option Action → ℕ → Timed n m → Type 0
+IsArrival pace action last x = (x.first ≡ x.tick) × (last ≤ x.tick) × IfSome action (λ a. x.tick < ends pace a)
+
+-- an event is a read that begins to wait, at this tick
+abbrev pub IsRead : {n : ℕ} → ℕ → ℕ → Event n → Type 0
+IsRead tick at (Read row line came.Waiting) = at ≡ tick
+IsRead tick at event = ⊥
+
+-- the row of a write or a read is above all rows before
+abbrev pub IsAsked : {n : ℕ} → List (Event n) → Event n → Type 0
+IsAsked h (Write row line bytes given answer) = RowsBelow h row
+IsAsked h (Read row line answer) = RowsBelow h row
+IsAsked h event = Unit {0}
+
+module _ {n m : ℕ} (shape : BankShape) (pace : Pacing) where
+  -- an event comes when it may, while this action runs. A cut tears exactly where an iteration runs; a read that would cancel comes behind its cancel
+  abbrev pub IsOnTime : Option Action → List (Timed n m) → Timed n m → Event n → Type 0
+  IsOnTime action xs x (Write row line bytes given answer) = IsArrival pace action (last_tick xs) x × IsFalse x.cancels
+  IsOnTime action xs x (Read row line answer) =
+      IsArrival pace action (last_tick xs) x × IsFalse x.cancels
+      × ((IsForwarded answer → ⊥) → IsFalse (would_cancel shape (core xs) pace.policy action (cancels_after xs)))
+  IsOnTime action xs x (Serve answer) = IsEnd pace Serving action x × IsFalse x.cancels
+  IsOnTime action xs x (Begin answer) = IsEnd pace Beginning action x × IsFalse x.cancels
+  IsOnTime action xs x (Iterate answer) = IsEnd pace Iterating action x × IsFalse x.cancels
+  IsOnTime action xs x (Cut tearing) =
+      IsArrival pace action (last_tick xs) x × (tearing ≡ is_doing Iterating action)
+      × (IsTrue x.cancels → IsTrue (would_cancel shape (core xs) pace.policy action (cancels_after xs)))
+
+  -- behind a cancel comes the read that made it, at the cancel's tick
+  abbrev pub FollowsCancel : List (Timed n m) → ℕ → Event n → Type 0
+  FollowsCancel [] at event = Unit {0}
+  FollowsCancel (y ∷ ys) at event = IsTrue y.cancels → IsRead y.tick at event
+
+  -- an event may come next: its row is new, the bank may answer so, at this tick, with these senses and this pulse
+  pub record IsNext (e : ℕ) (xs : List (Timed n m)) (x : Timed n m) (event : Event n) : Type 0 where
+    pub asked : IsAsked (core xs) event
+    pub may : MayHappen shape (core xs) (most_steps e) event
+    pub on_time : IsOnTime (running_at shape pace xs x.tick) xs x event
+    pub behind : FollowsCancel xs x.tick event
+    pub lines : map (λ s. s.line) x.senses ≡ sensed_by shape (core xs) event
+    pub senses : All (λ s. (s.tick ≡ x.tick) × (s.pulses ≡ pulses_of (x ∷ xs) s.line)) x.senses
+    pub pulsed : x.pulsed ≡ pulsed_by shape (core xs) event
+    pub right : IsReadRight e shape xs event x.senses
+
+  abbrev pub MayCome : ℕ → List (Timed n m) → Timed n m → Happens n → Type 0
+  MayCome e xs x (Core event) = IsNext e xs x event
+
+  -- each event may come after those before it
+  abbrev pub Lawful : ℕ → List (Timed n m) → Type 0
+  Lawful e [] = Unit {0}
+  Lawful e (x ∷ xs) = MayCome e xs x x.happens × Lawful e xs
+
+  -- no action runs, and none would be chosen
+  pub record IsIdle (xs : List (Timed n m)) : Type 0 where
+    pub runs : running shape pace xs ≡ None
+    pub chosen : chosen_after shape pace xs ≡ None

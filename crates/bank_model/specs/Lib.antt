@@ -1,0 +1,12 @@
+pub mod Adding
+pub mod After
+pub mod Altered
+pub mod Answers
+pub mod Events
+pub mod History
+pub mod Lawful
+pub mod Running
+pub mod Sensing
+pub mod Timing
+pub mod Told
+pub mod Worked

@@ -1,0 +1,94 @@
+-- Which action runs after a timed history, and which is chosen next.
+use Rattle.std.specs.Prelude.{ℕ, ◌+◌, ◌&&◌, not, nat_lt, Bool, true, false, if◌then◌else◌, List, [], ◌∷◌, Option, Some, None}
+use Rattle.bank_shape.specs.Pausing.{Pausing, Pause, Plain, Cancel}
+use Rattle.bank_shape.specs.declared.BankShape.{BankShape}
+use Rattle.bank_model.specs.declared.answer.Step.TheVariants as did
+use Rattle.bank_model.specs.declared.answer.ReadAnswer.TheVariants as came
+use Rattle.bank_model.specs.declared.clock.Doing.{Doing}
+use Rattle.bank_model.specs.declared.clock.Doing.TheVariants.{Serving, Beginning, Iterating}
+use Rattle.bank_model.specs.declared.clock.Action.{Action}
+use Rattle.bank_model.specs.Events.{Event, Write, Read, Serve, Begin, Iterate, Cut}
+use Rattle.bank_model.specs.History.{waits, in_progress}
+use Rattle.bank_model.specs.After.{work_after, may_begin_after, is_store_of}
+use Rattle.bank_model.specs.Timing.{Pacing, Happens, Core, Timed, is_doing, is_empty, core, last_tick}
+
+-- whether a line write gives way to a read between two iterations
+abbrev pub gives_way : Pausing → Bool
+gives_way Pause = true
+gives_way Plain = false
+gives_way Cancel = true
+
+-- a line write: whether it is in progress, and how it goes on; else whether one may be begun, and how
+pub record Choice : Type 0 where
+  pub busy : Bool
+  pub going_on : Doing
+  pub ready : Bool
+  pub beginning : Doing
+
+-- the line write of a bank's own work
+abbrev pub choice : Bool → Bool → Choice
+choice busy ready = record { busy = busy; going_on = Iterating; ready = ready; beginning = Beginning }
+
+-- the action that is chosen where none runs: a serve if a read waits and the write gives way; else the next step of a line
+-- write in progress; else a serve if a read waits; else the begin of a line write
+abbrev pub chosen_by : Bool → Bool → Choice → Option Doing
+chosen_by gives_way reads c =
+    if gives_way && reads then Some Serving
+    else (if c.busy then Some c.going_on else (if reads then Some Serving else (if c.ready then Some c.beginning else None)))
+
+-- the action that runs at a later tick: that which ran, or else the one that was chosen
+abbrev pub started : Option Action → Option Doing → ℕ → ℕ → Option Action
+started (Some action) doing last tick = Some action
+started None None last tick = None
+started None (Some doing) last tick = if nat_lt last tick then Some (record { doing = doing; first = last }) else None
+
+module _ {n : ℕ} (shape : BankShape) where
+  -- the action that runs after an event: one that has ended runs no more, and a cut drops it.
+  -- A read that waits on the line of a store that is being begun drops the begin
+  abbrev pub left : List (Event n) → Event n → Option Action → Option Action
+  left h (Write row line bytes given answer) action = action
+  left h (Read row line came.Waiting) action =
+      if is_doing Beginning action && is_store_of line (work_after shape h) then None else action
+  left h (Read row line answer) action = action
+  left h (Serve answer) action = None
+  left h (Begin answer) action = None
+  left h (Iterate answer) action = None
+  left h (Cut tearing) action = None
+
+  abbrev pub left_by : List (Event n) → Happens n → Option Action → Option Action
+  left_by h (Core event) action = left h event action
+
+module _ {n m : ℕ} (shape : BankShape) (pace : Pacing) where
+  -- the line write that a list leaves
+  abbrev pub choice_after : List (Timed n m) → Choice
+  choice_after xs = choice (in_progress (core xs)) (may_begin_after shape (core xs))
+
+  -- the action that is chosen after a list
+  abbrev pub chosen_after : List (Timed n m) → Option Doing
+  chosen_after xs = chosen_by (gives_way pace.policy) (not (is_empty (waits shape (core xs)))) (choice_after xs)
+
+  -- the action that runs after the last event, before one is chosen at its tick
+  abbrev pub running : List (Timed n m) → Option Action
+  running [] = None
+  running (x ∷ xs) = left_by shape (core xs) x.happens (started (running xs) (chosen_after xs) (last_tick xs) x.tick)
+
+  -- the action that runs at a tick after the list, before one is chosen at that tick
+  abbrev pub running_at : List (Timed n m) → ℕ → Option Action
+  running_at xs tick = started (running xs) (chosen_after xs) (last_tick xs) tick
+
+-- how often the present work was cancelled
+abbrev pub cancels_by : {n : ℕ} → Event n → Bool → ℕ → ℕ
+cancels_by (Cut tearing) true count = count + 1
+cancels_by (Cut tearing) false count = 0
+cancels_by (Begin did.More) cancels count = count
+cancels_by (Begin answer) cancels count = 0
+cancels_by (Iterate did.More) cancels count = count
+cancels_by (Iterate answer) cancels count = 0
+cancels_by _ cancels count = count
+
+abbrev pub cancels_with : {n : ℕ} → Happens n → Bool → ℕ → ℕ
+cancels_with (Core event) cancels count = cancels_by event cancels count
+
+abbrev pub cancels_after : {n m : ℕ} → List (Timed n m) → ℕ
+cancels_after [] = 0
+cancels_after (x ∷ xs) = cancels_with x.happens x.cancels (cancels_after xs)

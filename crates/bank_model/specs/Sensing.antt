@@ -1,0 +1,71 @@
+-- Which array lines an event senses and pulses, and what the cells that it sensed are read as.
+use Rattle.std.specs.Prelude.{◌≡◌, ℕ, ◌+◌, ◌*◌, ◌==◌, Bool, true, false, if◌then◌else◌, List, [], ◌∷◌, ◌++◌, Option, Some, None, IsSomeAnd}
+use Rattle.pcm_cells.specs.declared.array.Sense.{Sense}
+use Rattle.pcm_cells.specs.declared.row.Cells.{Cells}
+use Rattle.pcm_cells.specs.Device.{counted}
+use Rattle.ecp_line.specs.Reading.{decode}
+use Rattle.masked_bytes.specs.Masked.{laid}
+use Rattle.bank_shape.specs.declared.BankShape.{BankShape}
+use Rattle.bank_model.specs.declared.answer.Step.TheVariants as did
+use Rattle.bank_model.specs.Events.{Event, Serve, Begin, Iterate, Cut, newest, up_to, line_of_row}
+use Rattle.bank_model.specs.History.{Awaited, waits}
+use Rattle.bank_model.specs.After.{work_after, target_after, sources_of, stands_at_after}
+use Rattle.bank_model.specs.Timing.{Happens, Core, Timed, core}
+
+-- a line, if there is one, is this one
+abbrev pub is_at : Option ℕ → ℕ → Bool
+is_at None line = false
+is_at (Some at) line = at == line
+
+-- how many iterations a line write with e entries takes at most
+abbrev pub most_steps : ℕ → ℕ
+most_steps e = 8 * (3 * e + 2)
+
+-- how often a line was pulsed or torn, up to the greatest u64
+abbrev pub pulses_of : {n m : ℕ} → List (Timed n m) → ℕ → ℕ
+pulses_of [] line = 0
+pulses_of (x ∷ xs) line = if is_at x.pulsed line then counted (pulses_of xs line) else pulses_of xs line
+
+module _ {n : ℕ} (shape : BankShape) (h : List (Event n)) where
+  -- the array line where the line of the first of these reads stands
+  abbrev pub stand_of : List Awaited → List ℕ
+  stand_of [] = []
+  stand_of (w ∷ ws) = stands_at_after shape h w.line ∷ []
+
+  -- the array lines that an event senses, in this order: a copy's begin its source and then its target
+  abbrev pub sensed_by : Event n → List ℕ
+  sensed_by (Serve answer) = stand_of (waits shape h)
+  sensed_by (Begin answer) = sources_of shape h (work_after shape h) ++ target_after shape h ∷ []
+  sensed_by (Iterate answer) = target_after shape h ∷ []
+  sensed_by _ = []
+
+  -- the one that it pulses or tears
+  abbrev pub pulsed_by : Event n → Option ℕ
+  pulsed_by (Iterate answer) = Some (target_after shape h)
+  pulsed_by (Cut true) = Some (target_after shape h)
+  pulsed_by _ = None
+
+-- the bytes are those kept with the first read, over what these cells are read as
+abbrev pub IsLaid : {n m : ℕ} → ℕ → List Awaited → List ℕ → Cells n m → Type 0
+IsLaid e [] bytes cells = ⊥
+IsLaid e (w ∷ ws) bytes cells = bytes ≡ laid w.kept w.given (decode e cells)
+
+-- the first cells that a begin sensed; else what an older one did
+abbrev pub begun_with : {n m : ℕ} → Happens n → List (Sense n m) → Option (Cells n m) → Option (Cells n m)
+begun_with (Core (Begin answer)) (s ∷ rest) older = Some s.cells
+begun_with happens senses older = older
+
+-- the first cells that the last begin sensed: for a copy, those of its source
+abbrev pub copied : {n m : ℕ} → List (Timed n m) → Option (Cells n m)
+copied [] = None
+copied (x ∷ xs) = begun_with x.happens x.senses (copied xs)
+
+-- what an event sensed is read right. At a serve it gives the answer's bytes, those kept with the read laid over it; where a
+-- write is stored it gives the newest bytes of the line as of that write; where a gap move is done it gives the copied line's bytes
+abbrev pub IsReadRight : {n m : ℕ} → ℕ → BankShape → List (Timed n m) → Event n → List (Sense n m) → Type 0
+IsReadRight e shape xs (Serve answer) (s ∷ []) = IsLaid e (waits shape (core xs)) answer.bytes s.cells
+IsReadRight e shape xs (Begin (did.Stored row place)) (s ∷ []) = decode e s.cells ≡ newest (up_to row (core xs)) (line_of_row row (core xs))
+IsReadRight e shape xs (Iterate (did.Stored row place)) (s ∷ []) = decode e s.cells ≡ newest (up_to row (core xs)) (line_of_row row (core xs))
+IsReadRight e shape xs (Begin (did.Moved step)) (source ∷ s ∷ []) = decode e s.cells ≡ decode e source.cells
+IsReadRight e shape xs (Iterate (did.Moved step)) (s ∷ []) = IsSomeAnd (copied xs) (λ source. decode e s.cells ≡ decode e source)
+IsReadRight e shape xs event senses = Unit {0}

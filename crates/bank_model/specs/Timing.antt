@@ -1,0 +1,73 @@
+-- Events with their times, the newest first, and the actions of a bank.
+use Rattle.std.specs.Prelude.{ℕ, ◌+◌, ◌||◌, Bool, true, false, List, [], ◌∷◌, Option, Some, None}
+use Rattle.pcm_cells.specs.declared.array.Sense.{Sense}
+use Rattle.bank_shape.specs.Pausing.{Pausing}
+use Rattle.bank_model.specs.declared.clock.Doing.{Doing}
+use Rattle.bank_model.specs.declared.clock.Doing.TheVariants.{Serving, Beginning, Iterating}
+use Rattle.bank_model.specs.declared.clock.Action.{Action}
+use Rattle.bank_model.specs.Events.{Event}
+use Rattle.bank_model.specs.History.{Awaited}
+
+-- how many ticks a sense and an iteration take, and when a line write gives way to a read
+pub record Pacing : Type 0 where
+  pub read : ℕ
+  pub iter : ℕ
+  pub policy : Pausing
+
+-- what happens at a bank
+pub data Happens (n : ℕ) : Type 0 where
+  Core : (event : Event n) → Happens n
+
+-- an event with its tick, the first tick of its action, the array lines that it sensed, the one that it pulsed or tore, and whether it is a cut that a read made
+pub record Timed (n m : ℕ) : Type 0 where
+  pub happens : Happens n
+  pub tick : ℕ
+  pub first : ℕ
+  pub senses : List (Sense n m)
+  pub pulsed : Option ℕ
+  pub cancels : Bool
+
+-- how many ticks an action lasts, where a sense and an iteration take so many
+abbrev pub lasts : ℕ → ℕ → Doing → ℕ
+lasts read iter Serving = read
+lasts read iter Beginning = read
+lasts read iter Iterating = iter
+
+abbrev pub ends_with : ℕ → ℕ → Action → ℕ
+ends_with read iter action = action.first + lasts read iter action.doing
+
+-- the tick at which an action ends
+abbrev pub ends : Pacing → Action → ℕ
+ends pace action = ends_with pace.read pace.iter action
+
+abbrev pub same_doing : Doing → Doing → Bool
+same_doing Serving Serving = true
+same_doing Beginning Beginning = true
+same_doing Iterating Iterating = true
+same_doing _ _ = false
+
+abbrev pub is_doing : Doing → Option Action → Bool
+is_doing doing None = false
+is_doing doing (Some action) = same_doing doing action.doing
+
+-- an action of a line write
+abbrev pub is_writing : Option Action → Bool
+is_writing action = is_doing Beginning action || is_doing Iterating action
+
+abbrev pub is_empty : List Awaited → Bool
+is_empty [] = true
+is_empty (w ∷ ws) = false
+
+-- the core events, with this one
+abbrev pub core_of : {n : ℕ} → Happens n → List (Event n) → List (Event n)
+core_of (Core event) h = event ∷ h
+
+module _ {n m : ℕ} where
+  -- the core events
+  abbrev pub core : List (Timed n m) → List (Event n)
+  core [] = []
+  core (x ∷ xs) = core_of x.happens (core xs)
+
+  abbrev pub last_tick : List (Timed n m) → ℕ
+  last_tick [] = 0
+  last_tick (x ∷ xs) = x.tick

@@ -1,0 +1,106 @@
+-- Worked histories of a small bank with lines of two bytes and one check byte, the newest event first.
+-- A sense takes 5 ticks and an iteration 10; bank line 3 stands in array line 3.
+use Rattle.std.specs.Prelude.{ℕ, List, [], ◌∷◌, Bool, true, false, Some, None}
+use Rattle.pcm_cells.specs.declared.array.Sense.{Sense}
+use Rattle.bank_shape.specs.declared.BankShape.{BankShape}
+use Rattle.bank_shape.specs.Pausing.{Pausing}
+use Rattle.bank_model.specs.declared.answer.WriteAnswer.TheVariants.{Accepted, Merged}
+use Rattle.bank_model.specs.declared.answer.ReadAnswer.TheVariants.{Waiting, Forwarded}
+use Rattle.bank_model.specs.declared.answer.Step.TheVariants.{More, Stored, Moved}
+use Rattle.bank_model.specs.Events.{Event, Write, Read, Serve, Begin, Iterate, Cut}
+use Rattle.bank_model.specs.Timing.{Pacing, Timed, Core}
+
+-- four lines, two spares, and a gap move after so many stores
+abbrev pub moving : ℕ → BankShape
+moving psi = record { base = 0; regions = 1; lines = 4; spares = 2; writes = 4; reads = 4; psi = psi }
+
+abbrev pub small : BankShape
+small = moving 100
+
+abbrev pub pace : Pausing → Pacing
+pace policy = record { read = 5; iter = 10; policy = policy }
+
+abbrev pub whole : ℕ → List ℕ
+whole b = b ∷ b ∷ []
+
+abbrev pub both : List Bool
+both = true ∷ true ∷ []
+
+abbrev pub first : List Bool
+first = true ∷ false ∷ []
+
+-- an arrival at a tick
+abbrev pub at : ℕ → Event 2 → Timed 2 1
+at tick event = record { happens = Core event; tick = tick; first = tick; senses = []; pulsed = None; cancels = false }
+
+-- the end of a sense, and of an iteration of an array line
+abbrev pub sensed : ℕ → ℕ → Event 2 → List (Sense 2 1) → Timed 2 1
+sensed from tick event senses =
+    record { happens = Core event; tick = tick; first = from; senses = senses; pulsed = None; cancels = false }
+
+abbrev pub pulsed : ℕ → ℕ → Event 2 → ℕ → List (Sense 2 1) → Timed 2 1
+pulsed from tick event line senses =
+    record { happens = Core event; tick = tick; first = from; senses = senses; pulsed = Some line; cancels = false }
+
+-- a cut that tears an array line; and a cancel that does
+abbrev pub torn : ℕ → ℕ → Timed 2 1
+torn tick line = record { happens = Core (Cut true); tick = tick; first = tick; senses = []; pulsed = Some line; cancels = false }
+
+abbrev pub cancel : ℕ → ℕ → Timed 2 1
+cancel tick line = record { happens = Core (Cut true); tick = tick; first = tick; senses = []; pulsed = Some line; cancels = true }
+
+-- a sense of a line that holds two bytes, after so many pulses
+abbrev pub holds : ℕ → ℕ → List ℕ → ℕ → Sense 2 1
+holds tick line bytes pulses = record { line = line; tick = tick; cells = record { bits = bytes; meta = 0 ∷ [] }; pulses = pulses }
+
+-- a write of line 3 that is begun
+abbrev pub begun : ℕ → List (Timed 2 1)
+begun b = sensed 0 5 (Begin More) (holds 5 3 (whole 0) 0 ∷ []) ∷ at 0 (Write 1 3 (whole b) both Accepted) ∷ []
+
+-- a read of line 1 comes in its first iteration
+abbrev pub in_flight : List (Timed 2 1)
+in_flight = at 7 (Read 2 1 Waiting) ∷ begun 0xff
+
+abbrev pub zeros : ℕ → ℕ → Event 2
+zeros row place = Serve (record { row = row; place = place; bytes = whole 0 })
+
+-- under Pause it is served between the iterations; under Plain behind them
+abbrev pub paused : List (Timed 2 1)
+paused =
+    pulsed 20 30 (Iterate (Stored 1 3)) 3 (holds 30 3 (whole 0xff) 2 ∷ []) ∷ sensed 15 20 (zeros 2 1) (holds 20 1 (whole 0) 0 ∷ [])
+    ∷ pulsed 5 15 (Iterate More) 3 (holds 15 3 (0xfe ∷ 0xff ∷ []) 1 ∷ []) ∷ in_flight
+
+abbrev pub not_paused : List (Timed 2 1)
+not_paused =
+    sensed 25 30 (zeros 2 1) (holds 30 1 (whole 0) 0 ∷ []) ∷ pulsed 15 25 (Iterate (Stored 1 3)) 3 (holds 25 3 (whole 0xff) 2 ∷ [])
+    ∷ pulsed 5 15 (Iterate More) 3 (holds 15 3 (0xfe ∷ 0xff ∷ []) 1 ∷ []) ∷ in_flight
+
+-- under Cancel it tears the iteration
+abbrev pub cancelled : List (Timed 2 1)
+cancelled =
+    pulsed 17 27 (Iterate (Stored 1 3)) 3 (holds 27 3 (whole 0xff) 2 ∷ []) ∷ sensed 12 17 (Begin More) (holds 17 3 (0xab ∷ 0xff ∷ []) 1 ∷ [])
+    ∷ sensed 7 12 (zeros 2 1) (holds 12 1 (whole 0) 0 ∷ []) ∷ at 7 (Read 2 1 Waiting) ∷ cancel 7 3 ∷ begun 0xff
+
+-- two entries of one line stand after a cut, and the newer one is merged into. The torn line already holds the older one's bytes
+abbrev pub two_entries : List (Timed 2 1)
+two_entries =
+    pulsed 20 30 (Iterate (Stored 4 3)) 3 (holds 30 3 (whole 0x33) 2 ∷ []) ∷ sensed 15 20 (Begin More) (holds 20 3 (whole 0x11) 1 ∷ [])
+    ∷ sensed 10 15 (Begin (Stored 1 3)) (holds 15 3 (whole 0x11) 1 ∷ []) ∷ at 10 (Read 5 3 (Forwarded (whole 0x33)))
+    ∷ at 10 (Write 4 3 (whole 0x33) both (Merged 2)) ∷ torn 10 3 ∷ at 6 (Write 2 3 (whole 0x22) both Accepted) ∷ begun 0x11
+
+-- a write of line 3 is stored
+abbrev pub stored : List (Timed 2 1)
+stored = pulsed 5 15 (Iterate (Stored 1 3)) 3 (holds 15 3 (whole 0x11) 1 ∷ []) ∷ begun 0x11
+
+-- a write of the first byte is being begun as a read comes, which waits on the same line and drops the begin
+abbrev pub dropped_begin : List (Timed 2 1)
+dropped_begin =
+    pulsed 112 122 (Iterate (Stored 2 3)) 3 (holds 122 3 (0xee ∷ 0x11 ∷ []) 2 ∷ []) ∷ sensed 107 112 (Begin More) (holds 112 3 (whole 0x11) 1 ∷ [])
+    ∷ sensed 102 107 (Serve (record { row = 3; place = 3; bytes = 0xee ∷ 0x11 ∷ [] })) (holds 107 3 (whole 0x11) 1 ∷ [])
+    ∷ at 102 (Read 3 3 Waiting) ∷ at 100 (Write 2 3 (0xee ∷ 0 ∷ []) first Accepted) ∷ stored
+
+-- a store makes a gap move due: line 3 goes from place 3 to the gap, place 4
+abbrev pub copied_as : List ℕ → List (Timed 2 1)
+copied_as bytes =
+    pulsed 20 30 (Iterate (Moved (record { line = 3; from = 3; to = 4 }))) 4 (holds 30 4 bytes 1 ∷ [])
+    ∷ sensed 15 20 (Begin More) (holds 20 3 (whole 0x11) 1 ∷ holds 20 4 (whole 0) 0 ∷ []) ∷ stored
