@@ -1,0 +1,87 @@
+-- The laws of a bank, over a lawful history at whose end the bank has no work.
+use Rattle.std.specs.Prelude.{◌≡◌, ◌≢◌, ◌&&◌, nat_le, nat_lt, length, ℕ, ◌+◌, ◌<◌, ◌≤◌, Bool, IsTrue, List, [], filter, ◌++◌, All}
+use Rattle.pcm_cells.specs.Device.{ArrayState}
+use Rattle.pcm_cells.specs.declared.array.Sense.{Sense}
+use Rattle.ecp_line.specs.Reading.{decode, is_worn_line}
+use Rattle.row_laws.specs.declared.Row.{Row}
+use Rattle.row_laws.specs.Rows.{each_row}
+use Rattle.row_laws.specs.Rules.{Rules}
+use Rattle.row_laws.specs.Table.{KeepsRows}
+use Rattle.bank_shape.specs.declared.BankShape.{BankShape}
+use Rattle.spare_pool.specs.Table.{line_from}
+use Rattle.bank_shape.specs.Shape.{slots_of, controls_of, lines_in}
+use Rattle.bank_model.specs.After.{array_line_after, slot_of_work, due_work}
+use Rattle.bank_model.specs.History.{retired, has_exhausted, due_after, queue}
+use Rattle.bank_model.specs.Timing.{Pacing, Timed, core}
+use Rattle.bank_model.specs.Sensing.{pulses_of, most_steps}
+use Rattle.bank_model.specs.Adding.{senses_of}
+use Rattle.bank_model.specs.Lawful.{Lawful, IsIdle}
+use Rattle.bank_laws.specs.Outcomes.{table_of}
+use Rattle.bank_laws.specs.Places.{is_placed, is_wear_true, is_taken, most_pulses, pulses_among}
+use Rattle.bank_laws.specs.Logs.{has_sense, is_line_fair}
+
+-- the rules of a bank. A line write takes at most `8 * (3 * e + 2)` steps
+abbrev pub rules_of : ℕ → BankShape → Pacing → Rules
+rules_of e shape pace =
+    record { writes = shape.writes; reads = shape.reads; spares = shape.spares; read = pace.read; iter = pace.iter; steps = most_steps e; policy = pace.policy; twice = nat_lt 0 (controls_of shape) }
+
+-- whether an array line is worn
+abbrev pub is_worn_at : {n m : ℕ} → ℕ → ArrayState n m → ℕ → Bool
+is_worn_at e array line = is_worn_line e (array.line line).held (array.line line).stuck
+
+module _ {n m : ℕ} (e : ℕ) (shape : BankShape) (array : ArrayState n m) where
+  -- what the rows of a bank's table, the newest first, are to the array in the end. No control line is worn before there are any
+  pub record KeepsPlaces (rules : Rules) (rows : List (Row n)) : Type 0 where
+    pub worn : IsTrue (each_row (is_wear_true shape (is_worn_at e array)) rows [])
+    pub pulses : pulses_among (λ line. (array.line line).pulses) shape.base (lines_in shape) ≤ most_pulses rules rows
+    pub placed : IsTrue (each_row (is_placed shape (is_worn_at e array)) rows [])
+    pub taken : IsTrue (each_row (is_taken rules shape (is_worn_at e array)) rows [])
+
+  -- what the log shows of the rows and of the bank's lines
+  pub record KeepsLog (rules : Rules) (rows : List (Row n)) (log : List (Sense n m)) : Type 0 where
+    pub sensed : IsTrue (each_row (has_sense (decode e) log) rows [])
+    pub lines : (line : ℕ) → shape.base ≤ line → line < shape.base + lines_in shape
+        → IsTrue (is_line_fair rules rows log (nat_lt line (shape.base + slots_of shape + shape.spares)) line (array.line line).pulses)
+
+-- what holds of the array in the end: each line has the pulses of the history, and the lines that were retired, and the target that found no spare, are worn
+pub record LeavesArray {n m : ℕ} (e : ℕ) (shape : BankShape) (xs : List (Timed n m)) (array : ArrayState n m) : Type 0 where
+  pub pulses : (line : ℕ) → line < lines_in shape → (array.line (shape.base + line)).pulses ≡ pulses_of xs (shape.base + line)
+  pub retired : (line : ℕ) → line < slots_of shape + length (retired (core xs))
+      → ((slot : ℕ) → slot < slots_of shape → line_from (slots_of shape) slot (retired (core xs)) slot ≢ line)
+      → IsTrue (is_worn_at e array (shape.base + line))
+  pub exhausted : IsTrue (has_exhausted (core xs))
+      → IsTrue (is_worn_at e array (array_line_after shape (core xs) (slot_of_work shape (core xs) (due_work shape (core xs) (due_after shape (core xs)) (queue shape (core xs))))))
+
+-- the sizes of a bank, and its times
+pub record IsSized (shape : BankShape) (pace : Pacing) : Type 0 where
+  pub regions : 1 ≤ shape.regions
+  pub lines : 1 ≤ shape.lines
+  pub writes : 1 ≤ shape.writes
+  pub reads : 1 ≤ shape.reads
+  pub psi : 1 ≤ shape.psi
+  pub read : 1 ≤ pace.read
+  pub iter : 1 ≤ pace.iter
+
+-- the law of the rows
+abbrev pub TableLaw : (n m : ℕ) → Type 0
+TableLaw n m =
+    (e : ℕ) (shape : BankShape) (pace : Pacing) (xs : List (Timed n m))
+    → IsSized shape pace → Lawful shape pace e xs → IsIdle shape pace xs → KeepsRows (rules_of e shape pace) (table_of shape xs)
+
+-- the law of the places and of wear
+abbrev pub PlaceLaw : (n m : ℕ) → Type 0
+PlaceLaw n m =
+    (e : ℕ) (shape : BankShape) (pace : Pacing) (xs : List (Timed n m)) (array : ArrayState n m)
+    → IsSized shape pace → Lawful shape pace e xs → IsIdle shape pace xs → LeavesArray e shape xs array
+    → KeepsPlaces e shape array (rules_of e shape pace) (table_of shape xs)
+
+-- the senses of a bank's lines in a log
+abbrev pub log_of : {n m : ℕ} → BankShape → List (Sense n m) → List (Sense n m)
+log_of shape log = filter (λ s. nat_le shape.base s.line && nat_lt s.line (shape.base + lines_in shape)) log
+
+-- the law of the log, to which senses may have been added in the end
+abbrev pub LogLaw : (n m : ℕ) → Type 0
+LogLaw n m =
+    (e : ℕ) (shape : BankShape) (pace : Pacing) (xs : List (Timed n m)) (array : ArrayState n m) (log extra : List (Sense n m))
+    → IsSized shape pace → Lawful shape pace e xs → IsIdle shape pace xs → LeavesArray e shape xs array → log_of shape log ≡ senses_of xs ++ extra → All (λ s. s.pulses ≡ (array.line s.line).pulses) extra
+    → KeepsLog e shape array (rules_of e shape pace) (table_of shape xs) log

@@ -1,0 +1,12 @@
+pub mod Bounds
+pub mod Laws
+pub mod Logs
+pub mod Outcomes
+pub mod Pairs
+pub mod Places
+pub mod Room
+pub mod RowLaws
+pub mod Settling
+pub mod Standing
+pub mod Ticks
+pub mod Worked

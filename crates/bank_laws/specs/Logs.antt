@@ -1,0 +1,57 @@
+-- What the senses of a log show of a bank's rows and of its lines.
+use Rattle.std.specs.Prelude.{ℕ, ◌+◌, ◌==◌, ◌&&◌, ◌||◌, not, nat_lt, nat_le, Bool, true, List, [], ◌∷◌, filter}
+use Rattle.std.specs.List.{list_any}
+use Rattle.pcm_cells.specs.declared.row.Cells.{Cells}
+use Rattle.pcm_cells.specs.declared.array.Sense.{Sense}
+use Rattle.masked_bytes.specs.Masked.{laid}
+use Rattle.bank_shape.specs.Pausing.{is_cancelling}
+use Rattle.result_rows.specs.declared.Outcome.{Outcome}
+use Rattle.result_rows.specs.declared.Outcome.TheVariants as out
+use Rattle.row_laws.specs.declared.Row.{Row}
+use Rattle.row_laws.specs.Rows.{RowTest, line_of, asks_read, is_cut, newest}
+use Rattle.row_laws.specs.Serving.{same_bytes}
+use Rattle.row_laws.specs.Rules.{Rules}
+use Rattle.row_laws.specs.Queueing.{cover}
+use Rattle.row_laws.specs.Wearing.{worn_row}
+
+module _ {n m : ℕ} (read_as : Cells n m → List ℕ) (log : List (Sense n m)) where
+  -- a sense of the place at the tick, whose cells give these bytes
+  abbrev pub is_sensed : ℕ → ℕ → (List ℕ → Bool) → Bool
+  is_sensed place tick gives = list_any (λ s. s.line == place && (s.tick == tick && gives (read_as s.cells))) log
+
+  abbrev pub outcome_sensed : List (Row n) → Row n → List (Row n) → Outcome n → Bool
+  outcome_sensed before r after (out.Stored tick place) =
+      is_sensed place tick (same_bytes (newest (r ∷ before) (line_of r.asks)))
+  outcome_sensed before r after (out.Read tick place bytes) =
+      is_sensed place tick (λ under. same_bytes bytes (laid (newest before (line_of r.asks)) (cover r.tick (line_of r.asks) before after) under))
+  outcome_sensed before r after outcome = true
+
+  -- a row that was read or stored has a sense in the log
+  abbrev pub has_sense : RowTest n
+  has_sense before r after = outcome_sensed before r after r.outcome
+
+-- a cut, or under Cancel a read, from the first tick to the second
+abbrev pub is_broken : {n : ℕ} → Rules → List (Row n) → ℕ → ℕ → Bool
+is_broken rules rows from to =
+    list_any (λ r. (is_cut r || (is_cancelling rules.policy && asks_read r.asks)) && (nat_le from r.tick && nat_le r.tick to)) rows
+
+module _ {n m : ℕ} (rules : Rules) (rows : List (Row n)) where
+  -- two senses of one line, one after the other: at most one pulse between them, and that an iteration, or broken off.
+  -- Where an exhausted line is no longer pulsed, none behind a worn row
+  abbrev pub follows : Bool → Sense n m → Sense n m → Bool
+  follows wears s t =
+      s.pulses == t.pulses
+      || (s.pulses + 1 == t.pulses && ((nat_le (s.tick + rules.iter) t.tick || is_broken rules rows s.tick t.tick)
+      && not (wears && list_any (λ r. worn_row r && nat_lt r.tick t.tick) rows)))
+
+  abbrev pub follow_on : Bool → ℕ → Sense n m → List (Sense n m) → Bool
+  follow_on wears pulses s [] = s.pulses == pulses
+  follow_on wears pulses s (t ∷ ts) = follows wears s t && follow_on wears pulses t ts
+
+  -- the senses of one line, with its pulses in the end
+  abbrev pub begins_unpulsed : Bool → ℕ → List (Sense n m) → Bool
+  begins_unpulsed wears pulses [] = pulses == 0
+  begins_unpulsed wears pulses (s ∷ ss) = s.pulses == 0 && follow_on wears pulses s ss
+
+  abbrev pub is_line_fair : List (Sense n m) → Bool → ℕ → ℕ → Bool
+  is_line_fair log wears line pulses = begins_unpulsed wears pulses (filter (λ s. s.line == line) log)
