@@ -1,5 +1,6 @@
 -- The tables that the worked histories leave, the oldest row first. The lines are those of the bank.
-use Rattle.std.specs.Prelude.{List, [], ◌∷◌, reverse}
+use Rattle.std.specs.Prelude.{ℕ, Bool, false, List, [], ◌∷◌, reverse}
+use Rattle.pcm_cells.specs.declared.row.Cells.{Cells}
 use Rattle.result_rows.specs.declared.Outcome.TheVariants as out
 use Rattle.row_laws.specs.declared.Row.{Row}
 use Rattle.row_laws.specs.Worked.{W, M, R, C, whole, laid_over}
@@ -27,3 +28,19 @@ two_entries_rows =
 
 abbrev pub dropped_begin_rows : List (Row 2)
 dropped_begin_rows = W 0 3 0x11 (out.Stored 15 3) ∷ M 100 3 0xee (out.Stored 122 3) ∷ R 102 3 (out.Read 107 3 laid_over) ∷ []
+
+-- the bytes of cells of which no entry is active
+abbrev pub plain_bytes : Cells 2 1 → List ℕ
+plain_bytes cells = cells.bits
+
+-- no line is worn
+abbrev pub none_worn : ℕ → Bool
+none_worn line = false
+
+-- line 1 was read from array line 2, where it doesn't stand
+abbrev pub read_elsewhere : List (Row 2)
+read_elsewhere = R 7 1 (out.Read 20 2 (whole 0)) ∷ []
+
+-- a write waits for ever in a bank that isn't worn out
+abbrev pub left_undone : List (Row 2)
+left_undone = W 0 3 0xff (out.Queued 0) ∷ []

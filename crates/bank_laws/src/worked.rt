@@ -1,12 +1,17 @@
 //! The worked histories leave the worked tables, and these keep every law. Each clause is computed from the definitions;
 //! there is nothing to run.
 
-ghost use Rattle.std.specs.Prelude.{◌≡◌, None};
+ghost use Rattle.std.specs.Prelude.{◌≡◌, None, [], true, false};
 ghost use Rattle.bank_shape.specs.Pausing.{Pause, Plain, Cancel};
+ghost use Rattle.row_laws.specs.Rows.{each_row};
 ghost use Rattle.row_laws.specs.Table.{first_fault};
+ghost use Rattle.bank_model.specs.Adding.{senses_of};
 ghost use Rattle.bank_model.specs.Worked.{small, pace, paused, not_paused, cancelled, two_entries, dropped_begin};
 ghost use Rattle.bank_laws.specs.Laws.{rules_of};
-ghost use Rattle.bank_laws.specs.Worked.{table, paused_rows, not_paused_rows, cancelled_rows, two_entries_rows, dropped_begin_rows};
+ghost use Rattle.bank_laws.specs.Logs.{has_sense, is_line_fair};
+ghost use Rattle.bank_laws.specs.Outcomes.{table_of};
+ghost use Rattle.bank_laws.specs.Places.{is_placed, is_taken};
+ghost use Rattle.bank_laws.specs.Worked.{table, paused_rows, not_paused_rows, cancelled_rows, two_entries_rows, dropped_begin_rows, plain_bytes, none_worn, read_elsewhere, left_undone};
 
 use crate::first::{
     banks_hold_few, outcomes_stay, pairs_are_in_flight, rows_stand_apart, standing_rows_are_open,
@@ -43,8 +48,26 @@ fn laws_hold_of_every_history() {
     wearing_out_is_final();
 }
 
+fn worked_rows_are_placed()
+    ensures paused { each_row (is_placed small none_worn) (table_of small paused) [] ≡ true }
+    ensures two_entries { each_row (is_placed small none_worn) (table_of small two_entries) [] ≡ true }
+    ensures elsewhere { each_row (is_placed small none_worn) read_elsewhere [] ≡ false }
+    ensures taken { each_row (is_taken (rules_of 1 small (pace Pause)) small none_worn) (table_of small paused) [] ≡ true }
+    ensures not_taken { each_row (is_taken (rules_of 1 small (pace Pause)) small none_worn) left_undone [] ≡ false }
+{}
+
+fn worked_rows_have_their_senses()
+    ensures paused { each_row (has_sense plain_bytes (senses_of paused)) (table_of small paused) [] ≡ true }
+    ensures dropped_begin { each_row (has_sense plain_bytes (senses_of dropped_begin)) (table_of small dropped_begin) [] ≡ true }
+    ensures unsensed { each_row (has_sense plain_bytes []) (table_of small paused) [] ≡ false }
+    ensures fair { is_line_fair (rules_of 1 small (pace Pause)) (table_of small paused) (senses_of paused) true 3 2 ≡ true }
+    ensures unseen_pulse { is_line_fair (rules_of 1 small (pace Pause)) (table_of small paused) (senses_of paused) true 3 3 ≡ false }
+{}
+
 #[test]
 fn worked_histories_keep_the_laws() {
+    worked_rows_are_placed();
+    worked_rows_have_their_senses();
     worked_histories_leave_worked_tables();
     worked_tables_keep_the_laws_of_their_bank();
 }
