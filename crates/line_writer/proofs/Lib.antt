@@ -1,0 +1,7 @@
+pub mod Leaving
+pub mod Keeping
+pub mod Making
+pub mod Settling
+pub mod Going
+pub mod Rounds
+pub mod Fresh

@@ -1,0 +1,37 @@
+use Rattle.std.proofs.Common.{sym, ◌∙◌}
+use Rattle.pcm_cells.specs.Rows.{cell}
+use Rattle.line_writer.proofs.Settling.{pointed}
+use Rattle.line_writer.proofs.Going.{going-on, done, none-wrong, wrong-held, point-phase}
+use Rattle.line_writer.proofs.writer.LineWriter.advance.Goals as goal
+
+pub returns-in_default-clause-line : goal.returns-in_default-clause-line
+returns-in_default-clause-line g c line h status left = going-on c.args.self.now line c.args.turn.now c.in_default.not-Settled h status
+
+pub returns-in-Clear-clause-line : goal.returns-in-Clear-clause-line
+returns-in-Clear-clause-line g c line h status left =
+    let (all, mask) = done c.args.self.now line c.args.turn.now c.in-Settled.wrong c.in-Settled.is h status left in c.cleared.ensures.line line all mask
+
+pub returns-in-Clear-clause-begun : goal.returns-in-Clear-clause-begun
+returns-in-Clear-clause-begun g c line h status left phase zero =
+    let (all, mask) = done c.args.self.now line c.args.turn.now c.in-Settled.wrong c.in-Settled.is h status left in
+    c.cleared.ensures.begun line all mask (none-wrong c.args.self.now.prog zero all.settled)
+
+pub returns-in-Fill-clause-line : goal.returns-in-Fill-clause-line
+returns-in-Fill-clause-line g c line h status left =
+    let (all, mask) = done c.args.self.now line c.args.turn.now c.in-Settled.wrong c.in-Settled.is h status left in c.filled.ensures.line line all
+
+pub returns-in-Point-clause-line : goal.returns-in-Point-clause-line
+returns-in-Point-clause-line g c line h status left =
+    let self = c.args.self.now in
+    let (all, mask) = done self line c.args.turn.now c.in-Settled.wrong c.in-Settled.is h status left in
+    let phase = point-phase self line c.in-Point.is h in
+    c.switch.ensures.line line (record {
+      seen = h.prog.seen;
+      charged = pointed g.row.B g.row.M g.row.E self.entries self.bytes _ _ (cell line.held) line.stuck c.requires.layout phase
+          (λ n q. all.stuck n (sym (wrong-held self.prog line h.prog n) ∙ q)) h.charged;
+      ready = phase.ready;
+    })
+
+pub returns-in-Switch-clause-line : goal.returns-in-Switch-clause-line
+returns-in-Switch-clause-line g c line h status left =
+    let (all, mask) = done c.args.self.now line c.args.turn.now c.in-Settled.wrong c.in-Settled.is h status left in c.switched.ensures.line line all

@@ -1,0 +1,22 @@
+use Rattle.std.proofs.Common.{sym, ◌∙◌, subst}
+use Rattle.pcm_cells.specs.Rows.{cell}
+use Rattle.program_verify.specs.declared.prog.Prog.{Prog}
+use Rattle.line_writer.specs.Phases.{IsPointing}
+use Rattle.line_writer.proofs.Making.{pointing-made}
+use Rattle.line_writer.proofs.Settling.{pointed}
+use Rattle.line_writer.proofs.Going.{wrong-held}
+use Rattle.line_writer.proofs.writer.LineWriter.point.Goals as goal
+
+pub returns-in-Settled-clause-line : goal.returns-in-Settled-clause-line
+returns-in-Settled-clause-line g c line h =
+    let w = c.args.self.now.entries in
+    let programs = c.new-self.ensures.programs line (h.seen ∙ sym c.seen-2.ensures) in
+    let phase = subst (λ (p : Prog g.row.B g.row.M). IsPointing g.row.B g.row.E w c.args.self.now.bytes (cell p.want) (cell p.which) (cell line.held) line.stuck) (sym c.new-self.ensures.made)
+    (pointing-made g.row.B g.row.E w c.args.bit c.args.self.now.bytes (cell c.pointer-want.result.0) (cell c.pointer-want.result.1) (cell line.held) line.stuck
+    h.ready c.pointer-want.ensures.points c.pointer-want.ensures.mask h.wrong h.lower h.stuck) in
+    c.switch.ensures.line line (record {
+      seen = programs.seen;
+      charged = pointed g.row.B g.row.M g.row.E w c.args.self.now.bytes _ _ (cell line.held) line.stuck c.requires.layout phase
+          (λ n q. c.in-Settled.ensures.stuck line programs n (c.in-Settled.ensures.status.0 n ∙ sym (wrong-held c.new-self.result line programs n) ∙ q)) h.charged;
+      ready = h.ready;
+    })
