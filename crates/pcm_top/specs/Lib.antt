@@ -1,0 +1,8 @@
+pub mod Newest
+pub mod Serving
+pub mod ResultText
+pub mod Flushing
+pub mod Words
+pub mod FaultLines
+pub mod Reading
+pub mod Running

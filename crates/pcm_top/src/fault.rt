@@ -1,0 +1,103 @@
+// Why a call ends without its work done, and what it says then.
+ghost use Rattle.std.specs.Prelude.{◌≡◌, ◌≤◌, OnOk, OnErr, length, decimal};
+ghost use Rattle.std.specs.Io.KnownBytes.{Appends};
+ghost use Rattle.pcm_io.specs.Faults.{Rose};
+ghost use Rattle.pcm_io.specs.Giving.{AppendsPrefix};
+ghost use Rattle.pcm_top.specs.FaultLines.{kind_word, fault_line, status_of, joined};
+
+use itoa::Buffer;
+use pcm_io::{Sink, WriteFault, write_all};
+use trace_reader::{Kind, TraceFault};
+
+/// Why a call of the program ends without its work done.
+#[derive(Clone, Copy, Debug, PartialEq)]
+pub enum Fault {
+    /// The words name no command.
+    Usage,
+    /// The trace has a fault.
+    Trace(TraceFault),
+    /// The trace couldn't be read.
+    Read,
+    /// The output couldn't be written.
+    Write,
+    /// The trace has too many bytes or too many rows.
+    TooLong,
+    /// Memory ran out.
+    NoMemory,
+}
+
+/// The status of the program for a fault.
+pub fn status(fault: Fault) -> u8
+    ensures { result ≡ status_of fault }
+{
+    match fault {
+        Fault::Usage => 2,
+        Fault::Trace(_) => 3,
+        Fault::Read => 4,
+        Fault::Write => 5,
+        Fault::TooLong => 6,
+        Fault::NoMemory => 7,
+    }
+}
+
+fn word(kind: Kind) -> &'static [u8]
+    ensures { result.now ≡ kind_word kind }
+{
+    match kind {
+        Kind::Header => b"header",
+        Kind::Fields => b"fields",
+        Kind::Tick => b"tick",
+        Kind::Order => b"order",
+        Kind::Op => b"op",
+        Kind::Line => b"line",
+        Kind::Payload => b"payload",
+    }
+}
+
+// Writes texts one after the other.
+fn write_parts<F: Sink>(parts: &[&[u8]], err: &mut F) -> Result<(), WriteFault>
+    ensures ok { OnOk result (Appends (F.written err.old) (F.written err.new) (joined parts.now)) }
+    ensures prefix { OnErr result (AppendsPrefix (F.written err.old) (F.written err.new) (joined parts.now)) }
+    ensures fault { OnErr result (Rose (F.faults err.old) (F.faults err.new)) }
+    ensures never_falls { F.faults err.old ≤ F.faults err.new }
+{
+    for part in parts {
+        write_all(err, part)?;
+    }
+    Ok(())
+}
+
+fn tell_trace<F: Sink>(fault: TraceFault, err: &mut F) -> Result<(), WriteFault>
+    ensures ok { OnOk result (Appends (F.written err.old) (F.written err.new) (fault_line (Fault.Trace fault))) }
+    ensures prefix { OnErr result (AppendsPrefix (F.written err.old) (F.written err.new) (fault_line (Fault.Trace fault))) }
+    ensures fault { OnErr result (Rose (F.faults err.old) (F.faults err.new)) }
+    ensures never_falls { F.faults err.old ≤ F.faults err.new }
+{
+    let mut digits = Buffer::new();
+    let row = digits.format(fault.row).as_bytes();
+    let parts = [
+        b"trace row ".as_slice(),
+        row,
+        b": ".as_slice(),
+        word(fault.kind),
+        b"\n".as_slice(),
+    ];
+    write_parts(&parts, err)
+}
+
+/// Writes the line of a fault.
+pub fn tell<F: Sink>(fault: Fault, err: &mut F) -> Result<(), WriteFault>
+    ensures ok { OnOk result (Appends (F.written err.old) (F.written err.new) (fault_line fault)) }
+    ensures prefix { OnErr result (AppendsPrefix (F.written err.old) (F.written err.new) (fault_line fault)) }
+    ensures fault { OnErr result (Rose (F.faults err.old) (F.faults err.new)) }
+    ensures never_falls { F.faults err.old ≤ F.faults err.new }
+{
+    match fault {
+        Fault::Usage => write_all(err, b"usage: pcm run|gen|map|moves [options]\n"),
+        Fault::Trace(fault) => tell_trace(fault, err),
+        Fault::Read => write_all(err, b"read fault\n"),
+        Fault::Write => write_all(err, b"write fault\n"),
+        Fault::TooLong => write_all(err, b"trace too long\n"),
+        Fault::NoMemory => write_all(err, b"out of memory\n"),
+    }
+}

@@ -1,0 +1,106 @@
+// The reports on rotation: `map` and `moves`.
+ghost use Rattle.std.specs.Prelude.{◌≡◌, ◌≢◌, ◌≤◌, Err, IfErr, OnOk, OnErr};
+ghost use Rattle.std.specs.Io.KnownBytes.{Appends};
+ghost use Rattle.pcm_io.specs.Faults.{Rose};
+ghost use Rattle.pcm_io.specs.Giving.{AppendsPrefix};
+ghost use Rattle.pcm_io.specs.Reserved.{reserved};
+ghost use Rattle.rotation_reports.specs.MapText.{IsMapOptions, map_text};
+ghost use Rattle.rotation_reports.specs.MovesText.{moves_text};
+ghost use Rattle.pcm_top.specs.Words.{most_moves};
+
+use crate::fault::Fault;
+use crate::print::{TEXT_ROOM, make_room};
+use pcm_io::{Sink, Text, WriteFault, write_all};
+use rotation_reports::{Map, MapOptions, print_map_header, print_move_row, print_moves_header};
+use std::alloc::Global;
+
+// Writes where every line of the module stands.
+fn print_map<K: Sink>(options: MapOptions, text: &mut Text, out: &mut K) -> Result<(), WriteFault>
+    requires room { text.old ≡ reserved TEXT_ROOM }
+    requires in_range { IsMapOptions options }
+    ensures ok { OnOk result (Appends (K.written out.old) (K.written out.new) (map_text options)) }
+    ensures prefix { OnErr result (AppendsPrefix (K.written out.old) (K.written out.new) (map_text options)) }
+    ensures fault { OnErr result (Rose (K.faults out.old) (K.faults out.new)) }
+    ensures never_falls { K.faults out.old ≤ K.faults out.new }
+{
+    let map = Map::new(options);
+    print_map_header(text);
+    for line in 0..options.banks * options.regions * options.lines {
+        make_room(text, out)?;
+        map.print_row(line, text);
+    }
+    let last = text.bytes();
+    write_all(out, last)
+}
+
+// Writes the gap moves of a full turn, from the move after `first` moves on.
+fn print_moves<K: Sink>(
+    lines: u32,
+    first: u64,
+    text: &mut Text,
+    out: &mut K,
+) -> Result<(), WriteFault>
+    requires room { text.old ≡ reserved TEXT_ROOM }
+    requires lines { (4 ≤ lines) × (lines ≤ 256) }
+    requires first { first ≤ most_moves }
+    ensures ok { OnOk result (Appends (K.written out.old) (K.written out.new) (moves_text lines first)) }
+    ensures prefix { OnErr result (AppendsPrefix (K.written out.old) (K.written out.new) (moves_text lines first)) }
+    ensures fault { OnErr result (Rose (K.faults out.old) (K.faults out.new)) }
+    ensures never_falls { K.faults out.old ≤ K.faults out.new }
+{
+    print_moves_header(text);
+    for row in 0..lines * (lines + 1) {
+        make_room(text, out)?;
+        print_move_row(lines, first + u64::from(row), text);
+    }
+    let rest = text.bytes();
+    write_all(out, rest)
+}
+
+/// Writes the report `map`.
+pub fn report_map<K: Sink>(alloc: Global, options: MapOptions, out: &mut K) -> Result<(), Fault>
+    requires { IsMapOptions options }
+    ensures done { OnOk result (Appends (K.written out.old) (K.written out.new) (map_text options)) }
+
+    // Only a fault of writing comes after the first byte was written.
+    ensures write { result ≡ Err Fault.Write → AppendsPrefix (K.written out.old) (K.written out.new) (map_text options)
+        × Rose (K.faults out.old) (K.faults out.new) }
+    ensures memory { IfErr result (λ fault. fault ≢ Fault.Write → (fault ≡ Fault.NoMemory) × (out.new ≡ out.old)) }
+    ensures never_falls { K.faults out.old ≤ K.faults out.new }
+{
+    let mut text = match Text::new(alloc, TEXT_ROOM) {
+        Ok(text) => text,
+        Err(_) => return Err(Fault::NoMemory),
+    };
+    match print_map(options, &mut text, out) {
+        Ok(()) => Ok(()),
+        Err(_) => Err(Fault::Write),
+    }
+}
+
+/// Writes the report `moves`.
+pub fn report_moves<K: Sink>(
+    alloc: Global,
+    lines: u32,
+    first: u64,
+    out: &mut K,
+) -> Result<(), Fault>
+    requires lines { (4 ≤ lines) × (lines ≤ 256) }
+    requires first { first ≤ most_moves }
+    ensures done { OnOk result (Appends (K.written out.old) (K.written out.new) (moves_text lines first)) }
+
+    // Only a fault of writing comes after the first byte was written.
+    ensures write { result ≡ Err Fault.Write → AppendsPrefix (K.written out.old) (K.written out.new) (moves_text lines first)
+        × Rose (K.faults out.old) (K.faults out.new) }
+    ensures memory { IfErr result (λ fault. fault ≢ Fault.Write → (fault ≡ Fault.NoMemory) × (out.new ≡ out.old)) }
+    ensures never_falls { K.faults out.old ≤ K.faults out.new }
+{
+    let mut text = match Text::new(alloc, TEXT_ROOM) {
+        Ok(text) => text,
+        Err(_) => return Err(Fault::NoMemory),
+    };
+    match print_moves(lines, first, &mut text, out) {
+        Ok(()) => Ok(()),
+        Err(_) => Err(Fault::Write),
+    }
+}
