@@ -1,0 +1,12 @@
+pub mod Quiet
+pub mod Targets
+pub mod Tearing
+pub mod Iterating
+pub mod Taking
+pub mod Agreeing
+pub mod Awaiting
+pub mod Retiring
+pub mod Naming
+pub mod Finishing
+pub mod Turned
+pub mod Starting

@@ -1,0 +1,52 @@
+-- How a line write begins, and that the invariant is kept.
+use Rattle.std.specs.Prelude.{◌≡◌, ℕ, ◌≤◌, ◌⊎◌, List, [], ◌∷◌, Some, IsTrue, IsSomeAnd, slice_get}
+use Rattle.masked_bytes.specs.Masked.{laid, gives_all}
+use Rattle.masked_bytes.specs.Entries.{no_layer, layer_of}
+use Rattle.masked_bytes.specs.declared.entry.Entry.{Entry}
+use Rattle.pcm_cells.specs.Device.{ArrayState}
+use Rattle.start_gap.specs.declared.Move.{Move}
+use Rattle.bank_shape.specs.declared.Work.TheVariants.{Store, Copy}
+use Rattle.bank_shape.specs.Shape.{slot_at}
+use Rattle.line_writer.specs.Writing.{steps_left, most_steps}
+use Rattle.power_recovery.specs.Kept.{KeptState, array_line, next_work}
+use Rattle.power_recovery.specs.Events.{completed_kept}
+use Rattle.bank_model.specs.declared.answer.Step.TheVariants as did
+use Rattle.bank_model.specs.Events.{Event, Begin}
+use Rattle.bank_invariant.specs.State.{BankState, Operation, may_begin, target_of}
+use Rattle.bank_invariant.specs.Tied.{decoded, IsUnderWay}
+use Rattle.bank_invariant.specs.Holds.{Holds}
+
+module _ {n m e : ℕ} where
+  -- the bank that keeps this, with this line write in progress
+  abbrev pub begun_with : KeptState n → Operation n m e → BankState n m e → BankState n m e
+  begun_with kept op bank = record { kept = kept; running = Some op; waiting = bank.waiting; lost = bank.lost; rows_below = bank.rows_below }
+
+-- a head that doesn't give each byte of its line is the only entry of its line
+abbrev pub IsHeadAlone : {n : ℕ} → List (Entry n) → Type 0
+IsHeadAlone [] = Unit {0}
+IsHeadAlone {n} (head ∷ rest) = IsTrue (gives_all head.given) ⊎ (layer_of rest head.line ≡ no_layer n)
+
+-- a begin of a store that goes on keeps the invariant: the head is completed from what its line is read as, and those bytes are
+-- written. Each line is as it was; that a step is left, and not too many, is what the line writer ensures.
+-- That a head which isn't complete is alone follows from the history, and is a law of its own: here a premise
+abbrev pub BegunStoreLaw : Type 0
+BegunStoreLaw =
+    (n m e line slot : ℕ) (h : List (Event n)) (bank : BankState n m e) (old new : ArrayState n m) (op : Operation n m e)
+    → Holds h bank old → IsTrue (may_begin bank) → next_work bank.kept ≡ Store line slot → IsHeadAlone bank.kept.entries
+    → new.lines ≡ old.lines → ((at : ℕ) → new.line at ≡ old.line at)
+    → op.work ≡ Store line slot → op.target ≡ array_line bank.kept slot
+    → let under = decoded e old (array_line bank.kept slot) in
+    IsSomeAnd (slice_get bank.kept.entries 0) (λ head. op.writer.bytes ≡ laid head.bytes head.given under)
+    → IsUnderWay op.writer (new.line op.target) → steps_left op.writer ≤ most_steps e
+    → Holds (Begin did.More ∷ h) (begun_with (completed_kept under bank.kept) op bank) new
+
+-- so does a begin of a copy that goes on, which writes what the line below the gap is read as
+abbrev pub BegunCopyLaw : Type 0
+BegunCopyLaw =
+    (n m e region : ℕ) (step : Move) (h : List (Event n)) (bank : BankState n m e) (old new : ArrayState n m) (op : Operation n m e)
+    → Holds h bank old → IsTrue (may_begin bank) → next_work bank.kept ≡ Copy region step
+    → new.lines ≡ old.lines → ((at : ℕ) → new.line at ≡ old.line at)
+    → op.work ≡ Copy region step → op.target ≡ target_of bank.kept op.work
+    → op.writer.bytes ≡ decoded e old (array_line bank.kept (slot_at bank.kept.shape region step.from))
+    → IsUnderWay op.writer (new.line op.target) → steps_left op.writer ≤ most_steps e
+    → Holds (Begin did.More ∷ h) (begun_with bank.kept op bank) new

@@ -1,0 +1,13 @@
+pub mod State
+pub mod Tied
+pub mod Holds
+pub mod Steps
+pub mod Tearing
+pub mod Iterating
+pub mod Writes
+pub mod Bridge
+pub mod Serving
+pub mod Retiring
+pub mod Storing
+pub mod Moving
+pub mod Beginning
