@@ -10,3 +10,5 @@ pub mod Naming
 pub mod Finishing
 pub mod Turned
 pub mod Starting
+pub mod Alone
+pub mod Arriving

@@ -10,6 +10,7 @@ use Rattle.masked_bytes.proofs.Layering.{length-laid, laid-none_given, gives_all
 use Rattle.masked_bytes.proofs.Standing.{layer_of-head, layer_of-completed, layer_of-completed_other}
 use Rattle.pcm_cells.specs.Device.{ArrayState, LineState}
 use Rattle.ecp_line.specs.Reading.{decode}
+use Rattle.line_writer.specs.Writing.{most_steps}
 use Rattle.bank_shape.specs.declared.Work.{Work}
 use Rattle.bank_shape.specs.declared.Work.TheVariants.{Store}
 use Rattle.bank_shape.specs.Shape.{slot_at}
@@ -24,9 +25,10 @@ use Rattle.bank_invariant.specs.declared.Waiting.{Waiting}
 use Rattle.bank_invariant.specs.State.{target_of, is_free}
 use Rattle.bank_invariant.specs.Tied.{decoded, AreSound, IsOf}
 use Rattle.bank_invariant.specs.Holds.{Holds}
-use Rattle.bank_invariant.specs.Beginning.{IsHeadAlone, BegunStoreLaw, BegunCopyLaw}
+use Rattle.bank_invariant.specs.Beginning.{BegunStoreLaw, BegunCopyLaw}
 use Rattle.bank_invariant.proofs.Targets.{length-decode, next_store-slot, next_copy-region}
 use Rattle.bank_invariant.proofs.Agreeing.{agree_law}
+use Rattle.bank_invariant.proofs.Alone.{IsHeadAlone, head-alone}
 use Rattle.bank_invariant.proofs.Awaiting.{sensed_law}
 use Rattle.bank_invariant.proofs.Finishing.{whole-laid, next_store-line}
 
@@ -102,7 +104,7 @@ AreSound-completed : {n m : ℕ} (e : ℕ) (kept : KeptState n) (under : List �
 AreSound-completed e kept under array sound = record { apart = sound.apart; slots = sound.slots; spares = sound.spares; worn = sound.worn }
 
 pub begun_store_law : BegunStoreLaw
-begun_store_law n m e line slot h bank old new op holds may next alone many same work target bytes under_way few =
+begun_store_law n m e line slot h bank old new op holds may next many same work target bytes under_way few =
     let now : Holds h bank new = sensed_law n m e h bank old new holds many same in
     let kept : KeptState n = bank.kept in
     let under : List ℕ = decoded e old (array_line kept slot) in
@@ -121,6 +123,8 @@ begun_store_law n m e line slot h bank old new op holds may next alone many same
     (place ∙ ap (λ l. slot_of kept l) (sym at_head))
     ∙ holds.newest (head_line kept.entries) (subst (λ (l : ℕ). l < bank_lines kept.shape) (sym at_head) known) in
     let none : due_region kept ≡ None = some.1 in
+    let alone : IsHeadAlone kept.entries =
+    subst (λ (es : List (Entry n)). IsHeadAlone es) (sym holds.entries) (head-alone kept.shape (most_steps e) h holds.past) in
     record {
       past = ((sym agrees.ready ∙ may, tt), now.past);
       newest = λ at below.

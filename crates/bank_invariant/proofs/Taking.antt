@@ -72,7 +72,7 @@ exhausted_write_law n m e row line bytes given h bank array holds above may = re
 
 -- What an answer says of the bank
 
-answer_accepted : {n : ℕ} (shape : BankShape) (h : List (Event n)) (worn : Bool) (found : Option ℕ)
+pub answer_accepted : {n : ℕ} (shape : BankShape) (h : List (Event n)) (worn : Bool) (found : Option ℕ)
     → wrote.Accepted ≡ (if worn then wrote.Exhausted else accept_answer shape h found)
     → (worn ≡ false) × (found ≡ None) × ((length (queue shape h) == shape.writes) ≡ false)
 answer_accepted shape h true found e = cc
@@ -139,7 +139,7 @@ module _ {n : ℕ} where
       by None at = refl
       by (Some i) at = let some : candidate busy es line ≡ Some (row_at es i) = at i refl in cc
 
-  some_place : (busy : Bool) (es : List (Entry n)) (line old : ℕ) → candidate busy es line ≡ Some old
+  pub some_place : (busy : Bool) (es : List (Entry n)) (line old : ℕ) → candidate busy es line ≡ Some old
       → (i : ℕ) × (candidate_place busy es line ≡ Some i) × (row_at es i ≡ old)
   some_place busy es line old some = by (candidate_place busy es line) (λ i. candidate-place busy es line i) (candidate-none busy es line)
     where

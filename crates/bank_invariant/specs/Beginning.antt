@@ -1,8 +1,6 @@
 -- How a line write begins, and that the invariant is kept.
-use Rattle.std.specs.Prelude.{◌≡◌, ℕ, ◌≤◌, ◌⊎◌, List, [], ◌∷◌, Some, IsTrue, IsSomeAnd, slice_get}
-use Rattle.masked_bytes.specs.Masked.{laid, gives_all}
-use Rattle.masked_bytes.specs.Entries.{no_layer, layer_of}
-use Rattle.masked_bytes.specs.declared.entry.Entry.{Entry}
+use Rattle.std.specs.Prelude.{◌≡◌, ℕ, ◌≤◌, List, ◌∷◌, Some, IsTrue, IsSomeAnd, slice_get}
+use Rattle.masked_bytes.specs.Masked.{laid}
 use Rattle.pcm_cells.specs.Device.{ArrayState}
 use Rattle.start_gap.specs.declared.Move.{Move}
 use Rattle.bank_shape.specs.declared.Work.TheVariants.{Store, Copy}
@@ -21,18 +19,12 @@ module _ {n m e : ℕ} where
   abbrev pub begun_with : KeptState n → Operation n m e → BankState n m e → BankState n m e
   begun_with kept op bank = record { kept = kept; running = Some op; waiting = bank.waiting; lost = bank.lost; rows_below = bank.rows_below }
 
--- a head that doesn't give each byte of its line is the only entry of its line
-abbrev pub IsHeadAlone : {n : ℕ} → List (Entry n) → Type 0
-IsHeadAlone [] = Unit {0}
-IsHeadAlone {n} (head ∷ rest) = IsTrue (gives_all head.given) ⊎ (layer_of rest head.line ≡ no_layer n)
-
 -- a begin of a store that goes on keeps the invariant: the head is completed from what its line is read as, and those bytes are
--- written. Each line is as it was; that a step is left, and not too many, is what the line writer ensures.
--- That a head which isn't complete is alone follows from the history, and is a law of its own: here a premise
+-- written. Each line is as it was; that a step is left, and not too many, is what the line writer ensures
 abbrev pub BegunStoreLaw : Type 0
 BegunStoreLaw =
     (n m e line slot : ℕ) (h : List (Event n)) (bank : BankState n m e) (old new : ArrayState n m) (op : Operation n m e)
-    → Holds h bank old → IsTrue (may_begin bank) → next_work bank.kept ≡ Store line slot → IsHeadAlone bank.kept.entries
+    → Holds h bank old → IsTrue (may_begin bank) → next_work bank.kept ≡ Store line slot
     → new.lines ≡ old.lines → ((at : ℕ) → new.line at ≡ old.line at)
     → op.work ≡ Store line slot → op.target ≡ array_line bank.kept slot
     → let under = decoded e old (array_line bank.kept slot) in

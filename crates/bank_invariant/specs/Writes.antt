@@ -55,3 +55,17 @@ MergedLaw =
     → Holds h bank array → bank.rows_below ≤ row → MayHappen bank.kept.shape h (most_steps e) (Write row line bytes given (wrote.Merged old))
     → busy ≡ is_storing bank.running → busy ≡ head_busy_after bank.kept.shape h → RowsApart (queue bank.kept.shape h)
     → Holds (Write row line bytes given (wrote.Merged old) ∷ h) (taken busy (record { row = row; line = line; bytes = bytes; given = given }) bank) array
+
+-- so a write that is accepted keeps the invariant
+abbrev pub AcceptedWriteLaw : Type 0
+AcceptedWriteLaw =
+    (n m e row line : ℕ) (bytes : List ℕ) (given : List Bool) (h : List (Event n)) (bank : BankState n m e) (array : ArrayState n m)
+    → Holds h bank array → bank.rows_below ≤ row → MayHappen bank.kept.shape h (most_steps e) (Write row line bytes given wrote.Accepted)
+    → Holds (Write row line bytes given wrote.Accepted ∷ h) (taken (is_storing bank.running) (record { row = row; line = line; bytes = bytes; given = given }) bank) array
+
+-- and so does one that is merged
+abbrev pub MergedWriteLaw : Type 0
+MergedWriteLaw =
+    (n m e row line old : ℕ) (bytes : List ℕ) (given : List Bool) (h : List (Event n)) (bank : BankState n m e) (array : ArrayState n m)
+    → Holds h bank array → bank.rows_below ≤ row → MayHappen bank.kept.shape h (most_steps e) (Write row line bytes given (wrote.Merged old))
+    → Holds (Write row line bytes given (wrote.Merged old) ∷ h) (taken (is_storing bank.running) (record { row = row; line = line; bytes = bytes; given = given }) bank) array

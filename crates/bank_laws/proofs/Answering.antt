@@ -40,7 +40,7 @@ module _ {n : ℕ} where
   head-gone [] row a h = absurd h
   head-gone (e ∷ es) row a h = subst (λ r. has_row es r ≡ false) (sym h) a.0
 
-  newest_row-there : (es : List (Entry n)) (line at : ℕ) → newest_row es line ≡ Some at → has_row es at ≡ true
+  pub newest_row-there : (es : List (Entry n)) (line at : ℕ) → newest_row es line ≡ Some at → has_row es at ≡ true
   newest_row-there [] line at h = absurd (cc)
   newest_row-there (e ∷ es) line at h = by (newest_row es line) (λ is. newest_row-there es line at is) refl h
     where
@@ -52,7 +52,7 @@ module _ {n : ℕ} where
       by (Some row) rest is h = or_second (e.row == at) _ (rest (is ∙ h))
       by None rest is h = own (eqb e.line line) h
 
-  candidate-there : (busy : Bool) (es : List (Entry n)) (line at : ℕ) → candidate busy es line ≡ Some at → has_row es at ≡ true
+  pub candidate-there : (busy : Bool) (es : List (Entry n)) (line at : ℕ) → candidate busy es line ≡ Some at → has_row es at ≡ true
   candidate-there busy [] line at h = absurd (cc)
   candidate-there busy (e ∷ es) line at h = by (newest_row es line) refl h
     where

@@ -49,7 +49,7 @@ IsOutcome tick wrote.Full outcome = outcome ≡ out.Full tick
 IsOutcome tick wrote.Exhausted outcome = outcome ≡ out.Worn tick
 
 module _ {n : ℕ} where
-  own_row : (row : ℕ) (t o : Outcome n) → unwrap_or (on_row row row t) o ≡ t
+  pub own_row : (row : ℕ) (t o : Outcome n) → unwrap_or (on_row row row t) o ≡ t
   own_row row t o = subst (λ b. unwrap_or (cond b (Some t) None) o ≡ t) (sym (eqb-same row)) refl
 
   left-ended : (tick : ℕ) (o : Outcome n) → IsLeft o → ended tick o ≡ o

@@ -11,3 +11,8 @@ mod Serves
 mod Wears
 mod Quiet
 mod Holding
+mod Lines
+mod Merging
+mod Counting
+mod Waiting
+mod Pending

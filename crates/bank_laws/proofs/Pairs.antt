@@ -69,7 +69,7 @@ module _ {n : ℕ} where
   long-push [] x l h = (h, tt)
   long-push (e ∷ es) x l h = (l.0, long-push es x l.1 h)
 
-  no_candidate-rest : (es : List (Entry n)) (line : ℕ) (other : Option ℕ) → or_this (newest_row es line) other ≡ None → has_line es line ≡ false
+  pub no_candidate-rest : (es : List (Entry n)) (line : ℕ) (other : Option ℕ) → or_this (newest_row es line) other ≡ None → has_line es line ≡ false
   no_candidate-rest [] line other h = refl
   no_candidate-rest (e ∷ es) line other h = by (newest_row es line) (no_candidate-rest es line None) h
     where
@@ -108,7 +108,7 @@ module _ {n : ℕ} where
 
   -- Merged entries
 
-  line-merged : (old row : ℕ) (bytes : List ℕ) (given : List Bool) (es : List (Entry n)) (line : ℕ) → has_line (merged old row bytes given es) line ≡ has_line es line
+  pub line-merged : (old row : ℕ) (bytes : List ℕ) (given : List Bool) (es : List (Entry n)) (line : ℕ) → has_line (merged old row bytes given es) line ≡ has_line es line
   line-merged old row bytes given [] line = refl
   line-merged old row bytes given (e ∷ es) line =
       elim (eqb e.row old) as (λ b. has_line (cond b (laid_on row bytes given e ∷ es) (e ∷ merged old row bytes given es)) line ≡ has_line (e ∷ es) line) [

@@ -23,7 +23,7 @@ module _ {n m : ℕ} (shape : BankShape) (all : List (Timed n m)) where
   rows_after [] = []
   rows_after (x ∷ later) = rows_after later ++ row_with shape all x.happens x.tick x.cancels
 
-  rows_after-more : (later : List (Timed n m)) (x : Timed n m) → rows_after (later ++ x ∷ []) ≡ row_with shape all x.happens x.tick x.cancels ++ rows_after later
+  pub rows_after-more : (later : List (Timed n m)) (x : Timed n m) → rows_after (later ++ x ∷ []) ≡ row_with shape all x.happens x.tick x.cancels ++ rows_after later
   rows_after-more [] x = sym (append-nil (row_with shape all x.happens x.tick x.cancels))
   rows_after-more (y ∷ later) x =
       ap (λ rows. rows ++ row_with shape all y.happens y.tick y.cancels) (rows_after-more later x)

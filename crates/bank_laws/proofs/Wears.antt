@@ -58,11 +58,11 @@ module _ {n : ℕ} where
   lost_not_stored true tick o u p s = absurd (cc)
   lost_not_stored false tick o u p s = s
 
-  stored_tick : (at row tick place : ℕ) (o : Outcome n) (u p : ℕ) → unwrap_or (on_row at row (out.Stored tick place)) o ≡ out.Stored u p → (u ≡ tick) ⊎ (o ≡ out.Stored u p)
+  stored_tick : (at row tick place : ℕ) (o : Outcome n) (u p : ℕ) → unwrap_or (on_row at row (out.Stored tick place)) o ≡ out.Stored u p → ((true ≡ true) × (u ≡ tick)) ⊎ (o ≡ out.Stored u p)
   stored_tick at row tick place o u p s = by (eqb at row) s
     where
-      by : (b : Bool) → unwrap_or (cond b (Some (out.Stored tick place)) None) o ≡ out.Stored u p → (u ≡ tick) ⊎ (o ≡ out.Stored u p)
-      by true s = inl (cc)
+      by : (b : Bool) → unwrap_or (cond b (Some (out.Stored tick place)) None) o ≡ out.Stored u p → ((true ≡ true) × (u ≡ tick)) ⊎ (o ≡ out.Stored u p)
+      by true s = inl (refl, cc)
       by false s = inr s
 
   -- an accepted outcome is not worn
@@ -129,8 +129,8 @@ module _ {n : ℕ} where
 
 module _ {n m : ℕ} (shape : BankShape) (pace : Pacing) (e : ℕ) where
   -- what an event leaves stored was stored before, or is stored at its tick
-  stored_by : (zs : List (Timed n m)) (x : Timed n m) (h : Happens n) (row u p : ℕ) → unwrap_or (outcome_with shape zs h x.tick row) (outcome_of shape zs row) ≡ out.Stored u p
-      → (u ≡ x.tick) ⊎ (outcome_of shape zs row ≡ out.Stored u p)
+  pub stored_by : (zs : List (Timed n m)) (x : Timed n m) (h : Happens n) (row u p : ℕ) → unwrap_or (outcome_with shape zs h x.tick row) (outcome_of shape zs row) ≡ out.Stored u p
+      → ((ends_action h ≡ true) × (u ≡ x.tick)) ⊎ (outcome_of shape zs row ≡ out.Stored u p)
   stored_by zs x (Core (Write at line bytes given wrote.Accepted)) row u p s = inr s
   stored_by zs x (Core (Write at line bytes given (wrote.Merged old))) row u p s = inr (not_stored old row _ _ u p (λ is. absurd (cc)) s)
   stored_by zs x (Core (Write at line bytes given wrote.Full)) row u p s = inr (not_stored at row _ _ u p (λ is. absurd (cc)) s)
@@ -156,8 +156,8 @@ module _ {n m : ℕ} (shape : BankShape) (pace : Pacing) (e : ℕ) where
   stored_up_to [] row u p r i l s = absurd (cc)
   stored_up_to (x ∷ zs) row u p r i l s = by (stored_by zs x x.happens row u p s) (stored_up_to zs row u p r i l.1) (last_tick-rises shape pace e zs x r i l)
     where
-      by : (u ≡ x.tick) ⊎ (outcome_of shape zs row ≡ out.Stored u p) → (outcome_of shape zs row ≡ out.Stored u p → u ≤ last_tick zs) → last_tick zs ≤ x.tick → u ≤ x.tick
-      by (inl is) before rises = omega (arith, is)
+      by : ((ends_action x.happens ≡ true) × (u ≡ x.tick)) ⊎ (outcome_of shape zs row ≡ out.Stored u p) → (outcome_of shape zs row ≡ out.Stored u p → u ≤ last_tick zs) → last_tick zs ≤ x.tick → u ≤ x.tick
+      by (inl is) before rises = omega (arith, is.1)
       by (inr s) before rises = omega (arith, before s, rises)
 
   -- an exhausted bank's event stores nothing

@@ -1,6 +1,9 @@
 -- The laws of a bank's rows, one by one: those of a whole table, as far as they are proved.
-use Rattle.std.specs.Prelude.{ℕ, IsTrue, List, []}
-use Rattle.row_laws.specs.Rows.{each_row}
+use Rattle.std.specs.Prelude.{ℕ, Bool, not, ◌&&◌, ◌||◌, ◌==◌, nat_le, if◌then◌else◌, length, IsTrue, List, []}
+use Rattle.result_rows.specs.declared.Outcome.{Outcome}
+use Rattle.row_laws.specs.Answers.{is_answered, is_busy, is_forwarded, is_full, is_lost}
+use Rattle.row_laws.specs.Rows.{RowTest, each_row, asks_read, asks_write, line_of}
+use Rattle.row_laws.specs.Queueing.{merge_fits, pending, waiting}
 use Rattle.row_laws.specs.Serving.{is_served}
 use Rattle.row_laws.specs.Wearing.{is_wear_final, is_wear_earned}
 use Rattle.bank_shape.specs.declared.BankShape.{BankShape}
@@ -25,3 +28,39 @@ abbrev pub WearLaw : Type 0
 WearLaw =
     (n m e : ℕ) (shape : BankShape) (pace : Pacing) (xs : List (Timed n m)) → IsSized shape pace → Lawful shape pace e xs
     → KeepsWear shape xs
+
+-- a write that is merged has an accepted write of its line behind it, and carries the tick of the next such one
+abbrev pub is_merge_fair : {n : ℕ} → RowTest n
+is_merge_fair before r after = not (asks_write r.asks) || merge_fits (line_of r.asks) r.outcome after
+
+abbrev pub MergeLaw : Type 0
+MergeLaw =
+    (n m e : ℕ) (shape : BankShape) (pace : Pacing) (xs : List (Timed n m)) → Lawful shape pace e xs
+    → IsTrue (each_row is_merge_fair (table_of shape xs) [])
+
+-- a read that isn't forwarded is busy exactly where as many reads wait as may, and else it is read or lost
+abbrev pub waits_fit : {n : ℕ} → ℕ → ℕ → Outcome n → Bool
+waits_fit reads count outcome =
+    is_forwarded outcome || (if count == reads then is_busy outcome else is_answered outcome || is_lost outcome)
+
+-- at each row no more reads wait than may, and a read's own outcome is the one that follows
+abbrev pub is_wait_fair : {n : ℕ} → ℕ → RowTest n
+is_wait_fair reads before r after =
+    nat_le (length (waiting r.tick [] before)) reads
+    && (not (asks_read r.asks) || waits_fit reads (length (waiting r.tick [] before)) r.outcome)
+
+abbrev pub WaitLaw : Type 0
+WaitLaw =
+    (n m e : ℕ) (shape : BankShape) (pace : Pacing) (xs : List (Timed n m)) → IsSized shape pace → Lawful shape pace e xs
+    → IsIdle shape pace xs → IsTrue (each_row (is_wait_fair shape.reads) (table_of shape xs) [])
+
+-- at each row the queue holds no more writes than it may, and a write that is refused as full finds exactly as many
+abbrev pub is_room_fair : {n : ℕ} → ℕ → RowTest n
+is_room_fair writes before r after =
+    nat_le (length (pending r.tick [] before)) writes
+    && (not (asks_write r.asks && is_full r.outcome) || length (pending r.tick [] before) == writes)
+
+abbrev pub QueueLaw : Type 0
+QueueLaw =
+    (n m e : ℕ) (shape : BankShape) (pace : Pacing) (xs : List (Timed n m)) → IsSized shape pace → Lawful shape pace e xs
+    → IsTrue (each_row (is_room_fair shape.writes) (table_of shape xs) [])

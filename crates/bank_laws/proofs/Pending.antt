@@ -1,0 +1,370 @@
+-- The writes that stand in the queue, by the rows and by the events.
+use Rattle.std.proofs.Common.{◌≡◌, ◌≢◌, ℕ, ◌<◌, ◌≤◌, ◌==◌, ◌&&◌, ◌||◌, ◌⊎◌, inl, inr, not, Bool, true, false, List, [], ◌∷◌, ◌++◌, Option, Some, None, drop, length, refl, sym, ap, ◌∙◌, subst, arith, cond, eqb, append_assoc}
+use Rattle.std.specs.Prelude.{unwrap_or, nat_lt, nat_le}
+use Rattle.std.specs.List.{list_any}
+use Rattle.std.proofs.lemmas.Bool.{lt-ltb, le-ltb, le-leb}
+use Rattle.result_rows.specs.declared.Outcome.{Outcome}
+use Rattle.result_rows.specs.declared.Outcome.TheVariants as out
+use Rattle.masked_bytes.specs.Entries.{has_row, candidate}
+use Rattle.row_laws.specs.declared.Row.{Row}
+use Rattle.row_laws.specs.Answers.{accepts, is_full, is_merged, is_queued, stored_after}
+use Rattle.row_laws.specs.Rows.{accepted_of}
+use Rattle.row_laws.specs.Queueing.{merges_at, pending}
+use Rattle.bank_shape.specs.declared.BankShape.{BankShape}
+use Rattle.bank_model.specs.declared.answer.WriteAnswer.{WriteAnswer}
+use Rattle.bank_model.specs.declared.answer.WriteAnswer.TheVariants as wrote
+use Rattle.bank_model.specs.declared.answer.Step.TheVariants as did
+use Rattle.bank_model.specs.Events.{Event, Write, Read, Serve, Begin, Iterate, Cut, RowsBelow, newest}
+use Rattle.bank_model.specs.History.{queue, due_after, has_exhausted}
+use Rattle.bank_model.specs.Answers.{head_busy_after, accept_answer, write_answer}
+use Rattle.bank_model.specs.Sensing.{most_steps}
+use Rattle.bank_model.specs.Timing.{Pacing, Happens, Core, Timed, core, core_of, last_tick}
+use Rattle.bank_model.specs.Lawful.{Lawful, MayCome}
+use Rattle.bank_laws.specs.Outcomes.{outcome_with, outcome_of, ended, row_with, rows_from}
+use Rattle.bank_laws.specs.Ticks.{ends_action}
+use Rattle.bank_laws.specs.RowLaws.{is_room_fair, QueueLaw}
+use Rattle.bank_laws.proofs.Entries.{either, lacks-push, lacks-drop, lacks-merged, row-begun}
+use Rattle.bank_laws.proofs.Standing.{stand_apart}
+use Rattle.bank_laws.proofs.Ticks.{last_tick-rises, last-below}
+use Rattle.bank_laws.proofs.Settling.{opens, above_all, lawful_before, step_stays, stays}
+use Rattle.bank_laws.proofs.Fates.{IsLeft, WriteFate, write_fate}
+use Rattle.bank_laws.proofs.Walking.{Passes, walk, rows_after, rows_after-more, and_both}
+use Rattle.bank_laws.proofs.Ending.{Onwards, IsOutcome, accepting, own_row, write_outcome, outcome-accepts}
+use Rattle.bank_laws.proofs.Serves.{may_at, onwards_at}
+use Rattle.bank_laws.proofs.Wears.{stored_by, stored_up_to}
+use Rattle.bank_laws.proofs.Holding.{bound_law}
+use Rattle.bank_laws.proofs.Lines.{Covered, covered-stands, stands-row}
+use Rattle.bank_laws.proofs.Merging.{Fate, covered-kept, stays_there, spares_covered, FateBy, fate, fate_new}
+use Rattle.bank_laws.proofs.Counting.{among, Falling, falling-more, hits, entries-counted}
+use Rattle.bank_laws.proofs.Waiting.{may_all, cond_length}
+
+or_on_right : (a b : Bool) → b ≡ true → (a || b) ≡ true
+or_on_right true b h = refl
+or_on_right false b h = h
+
+or_on_left : (a b : Bool) → a ≡ true → (a || b) ≡ true
+or_on_left true b h = refl
+or_on_left false b h = absurd (cc)
+
+module _ {n : ℕ} where
+  -- whether a write with this outcome stands at tick t, where an accepted write of its line came since, or none
+  abbrev stands_by : ℕ → ℕ → Bool → Outcome n → Bool
+  stands_by t tick any o = accepts (ended tick o) && (stored_after t (ended tick o) || (is_queued (ended tick o) || (is_merged (ended tick o) && not any)))
+
+  by_refused : (t tick : ℕ) (any : Bool) (o : Outcome n) → accepts (ended tick o) ≡ false → stands_by t tick any o ≡ false
+  by_refused t tick any o isnt = subst (λ b. (b && (stored_after t (ended tick o) || (is_queued (ended tick o) || (is_merged (ended tick o) && not any)))) ≡ false) (sym isnt) refl
+
+  any_merges : (line tick : ℕ) (rows : List (Row n)) → merges_at line tick rows ≡ true → list_any (accepted_of line) rows ≡ true
+  any_merges line tick [] h = absurd (cc)
+  any_merges line tick (r ∷ rows) h = by (accepted_of line r) (λ k. any_merges line tick rows k) h
+    where
+      by : (b : Bool) → (merges_at line tick rows ≡ true → list_any (accepted_of line) rows ≡ true) → cond b (r.tick == tick) (merges_at line tick rows) ≡ true → (b || list_any (accepted_of line) rows) ≡ true
+      by true go h = refl
+      by false go h = go h
+
+  full_outcome : (tick : ℕ) (answer : WriteAnswer) (o : Outcome n) → IsOutcome tick answer o → is_full o ≡ true → answer ≡ wrote.Full
+  full_outcome tick answer out.Unset is f = absurd (cc)
+  full_outcome tick answer (out.Stored at place) is f = absurd (cc)
+  full_outcome tick answer (out.Merged at) is f = absurd (cc)
+  full_outcome tick answer (out.Queued at) is f = absurd (cc)
+  full_outcome tick wrote.Accepted (out.Full at) (inl left) f = absurd left
+  full_outcome tick wrote.Accepted (out.Full at) (inr is) f = absurd (cc)
+  full_outcome tick (wrote.Merged old) (out.Full at) (inl left) f = absurd left
+  full_outcome tick (wrote.Merged old) (out.Full at) (inr is) f = absurd (cc)
+  full_outcome tick wrote.Full (out.Full at) is f = refl
+  full_outcome tick wrote.Exhausted (out.Full at) is f = absurd (cc)
+  full_outcome tick answer (out.Worn at) is f = absurd (cc)
+  full_outcome tick answer (out.Read at place bytes) is f = absurd (cc)
+  full_outcome tick answer (out.Forwarded at bytes) is f = absurd (cc)
+  full_outcome tick answer (out.Busy at) is f = absurd (cc)
+  full_outcome tick answer (out.Lost at) is f = absurd (cc)
+  full_outcome tick answer (out.Cut at) is f = absurd (cc)
+
+  full-room : (shape : BankShape) (h : List (Event n)) (line : ℕ) → wrote.Full ≡ write_answer shape h line → (length (queue shape h) == shape.writes) ≡ true
+  full-room shape h line a = by (has_exhausted h) (candidate (head_busy_after shape h) (queue shape h) line) a
+    where
+      room : (b : Bool) → wrote.Full ≡ cond b wrote.Full wrote.Accepted → b ≡ true
+      room true a = refl
+      room false a = absurd (cc)
+
+      by : (b : Bool) (c : Option ℕ) → wrote.Full ≡ cond b wrote.Exhausted (accept_answer shape h c) → eqb (length (queue shape h)) shape.writes ≡ true
+      by true c a = absurd (cc)
+      by false (Some at) a = absurd (cc)
+      by false None a = room (eqb (length (queue shape h)) shape.writes) a
+
+by_stored_later : (n t tick : ℕ) (any : Bool) (u p : ℕ) → t < u → stands_by {n = n} t tick any (out.Stored u p) ≡ true
+by_stored_later n t tick any u p lt = or_on_left (nat_lt t u) false (lt-ltb t u lt)
+
+by_stored_before : (n t tick : ℕ) (any : Bool) (u p : ℕ) → u ≤ t → stands_by {n = n} t tick any (out.Stored u p) ≡ false
+by_stored_before n t tick any u p le = subst (λ b. (b || false) ≡ false) (sym (le-ltb t u le)) refl
+
+-- the rows of the writes, the newest first
+abbrev pub write_rows : {n : ℕ} → Happens n → List ℕ
+write_rows (Core (Write row line bytes given answer)) = row ∷ []
+write_rows _ = []
+
+abbrev pub writes_in : {n m : ℕ} → List (Timed n m) → List ℕ
+writes_in [] = []
+writes_in (x ∷ xs) = write_rows x.happens ++ writes_in xs
+
+writes-fall : {n m : ℕ} (zs : List (Timed n m)) (bound : ℕ) → RowsBelow (core zs) bound → Falling (writes_in zs) bound
+writes-fall [] bound b = tt
+writes-fall {n} {m} (z ∷ zs) bound b = by z.happens (λ bound b. writes-fall zs bound b) b
+  where
+    by : (h : Happens n) → ((bound : ℕ) → RowsBelow (core zs) bound → Falling (writes_in zs) bound) → RowsBelow (core_of h (core zs)) bound → Falling (write_rows h ++ writes_in zs) bound
+    by (Core (Write at line bytes given answer)) go b = (b.0, go at b.1)
+    by (Core (Read at line answer)) go b = falling-more (writes_in zs) at bound (omega (arith, b.0)) (go at b.1)
+    by (Core (Serve answer)) go b = go bound b
+    by (Core (Begin answer)) go b = go bound b
+    by (Core (Iterate answer)) go b = go bound b
+    by (Core (Cut tearing)) go b = go bound b
+
+queue-asked : {n m : ℕ} (shape : BankShape) (zs : List (Timed n m)) (r : ℕ) → has_row (queue shape (core zs)) r ≡ true → among (writes_in zs) r ≡ true
+queue-asked shape [] r there = absurd (cc)
+queue-asked {n} {m} shape (z ∷ zs) r there = by z.happens (λ t. queue-asked shape zs r t) there
+  where
+    begun_there : (b : Bool) → b ≡ has_row (queue shape (core zs)) r → (has_row (queue shape (core zs)) r ≡ true → among (writes_in zs) r ≡ true) → b ≡ true → among (writes_in zs) r ≡ true
+    begun_there b same go there = go (sym same ∙ there)
+
+    dropped : (has_row (queue shape (core zs)) r ≡ true → among (writes_in zs) r ≡ true) → has_row (drop 1 (queue shape (core zs))) r ≡ true → among (writes_in zs) r ≡ true
+    dropped go there = either (has_row (queue shape (core zs)) r) go (λ f. absurd (cc (lacks-drop (queue shape (core zs)) r f, there)))
+
+    by : (h : Happens n) → (has_row (queue shape (core zs)) r ≡ true → among (writes_in zs) r ≡ true) → has_row (queue shape (core_of h (core zs))) r ≡ true → among (write_rows h ++ writes_in zs) r ≡ true
+    by (Core (Write at line bytes given wrote.Accepted)) go there =
+        either (has_row (queue shape (core zs)) r) (λ t. or_on_right (at == r) _ (go t))
+        (λ f. either (eqb at r) (λ is. or_on_left (at == r) _ is)
+        (λ ne. absurd (cc (lacks-push (queue shape (core zs)) (record { row = at; line = line; bytes = bytes; given = given }) r f ne, there))))
+    by (Core (Write at line bytes given (wrote.Merged old))) go there =
+        either (has_row (queue shape (core zs)) r) (λ t. or_on_right (at == r) _ (go t))
+        (λ f. either (eqb at r) (λ is. or_on_left (at == r) _ is) (λ ne. absurd (cc (lacks-merged old at bytes given (queue shape (core zs)) r f ne, there))))
+    by (Core (Write at line bytes given wrote.Full)) go there = or_on_right (at == r) _ (go there)
+    by (Core (Write at line bytes given wrote.Exhausted)) go there = or_on_right (at == r) _ (go there)
+    by (Core (Read at line answer)) go there = go there
+    by (Core (Serve answer)) go there = go there
+    by (Core (Begin (did.Stored at place))) go there = dropped go there
+    by (Core (Begin did.More)) go there = go (sym (row-begun (due_after shape (core zs)) (newest (core zs)) (queue shape (core zs)) r) ∙ there)
+    by (Core (Begin (did.Moved step))) go there = go (sym (row-begun (due_after shape (core zs)) (newest (core zs)) (queue shape (core zs)) r) ∙ there)
+    by (Core (Begin (did.Retired slot line))) go there = go (sym (row-begun (due_after shape (core zs)) (newest (core zs)) (queue shape (core zs)) r) ∙ there)
+    by (Core (Begin did.Exhausted)) go there = go (sym (row-begun (due_after shape (core zs)) (newest (core zs)) (queue shape (core zs)) r) ∙ there)
+    by (Core (Iterate (did.Stored at place))) go there = dropped go there
+    by (Core (Iterate did.More)) go there = go there
+    by (Core (Iterate (did.Moved step))) go there = go there
+    by (Core (Iterate (did.Retired slot line))) go there = go there
+    by (Core (Iterate did.Exhausted)) go there = go there
+    by (Core (Cut tearing)) go there = go there
+
+-- a refused write has its outcome at once
+refused_set : {n m : ℕ} (shape : BankShape) (ys : List (Timed n m)) (tick at line : ℕ) (bytes : List ℕ) (given : List Bool) (answer : WriteAnswer) → accepting answer ≡ false
+    → unwrap_or (outcome_with shape ys (Core (Write at line bytes given answer)) tick at) (outcome_of shape ys at) ≢ out.Unset
+refused_set shape ys tick at line bytes given wrote.Accepted ref un = absurd (cc)
+refused_set shape ys tick at line bytes given (wrote.Merged old) ref un = absurd (cc)
+refused_set {n} shape ys tick at line bytes given wrote.Full ref un = let both : ◌≡◌ {A = Outcome n} (out.Full tick) out.Unset = sym (own_row at (out.Full tick) (outcome_of shape ys at)) ∙ un in absurd (cc)
+refused_set {n} shape ys tick at line bytes given wrote.Exhausted ref un = let both : ◌≡◌ {A = Outcome n} (out.Worn tick) out.Unset = sym (own_row at (out.Worn tick) (outcome_of shape ys at)) ∙ un in absurd (cc)
+
+module _ {n m : ℕ} (shape : BankShape) (pace : Pacing) (e : ℕ) where
+  last-later : (later zs : List (Timed n m)) → 1 ≤ pace.read → 1 ≤ pace.iter → Lawful shape pace e (later ++ zs) → last_tick zs ≤ last_tick (later ++ zs)
+  last-later [] zs r i l = omega arith
+  last-later (y ∷ later) zs r i l =
+      let before : last_tick zs ≤ last_tick (later ++ zs) = last-later later zs r i l.1 in
+      let rises : last_tick (later ++ zs) ≤ y.tick = last_tick-rises shape pace e (later ++ zs) y r i l in
+      omega (arith, before, rises)
+
+  -- what is stored by later events is stored above the last tick
+  stored_above : (later zs : List (Timed n m)) (row u p : ℕ) → 1 ≤ pace.read → 1 ≤ pace.iter → Lawful shape pace e (later ++ zs) → (outcome_of shape zs row ≡ out.Stored u p → ⊥)
+      → outcome_of shape (later ++ zs) row ≡ out.Stored u p → last_tick zs < u
+  stored_above [] zs row u p r i l isnt s = absurd (isnt s)
+  stored_above (y ∷ later) zs row u p r i l isnt s =
+      by (stored_by shape pace e (later ++ zs) y y.happens row u p s) (λ s. stored_above later zs row u p r i l.1 isnt s)
+    where
+      by : ((ends_action y.happens ≡ true) × (u ≡ y.tick)) ⊎ (outcome_of shape (later ++ zs) row ≡ out.Stored u p) → (outcome_of shape (later ++ zs) row ≡ out.Stored u p → last_tick zs < u) → last_tick zs < u
+      by (inl now) go =
+          let up : last_tick zs ≤ last_tick (later ++ zs) = last-later later zs r i l.1 in
+          let lt : last_tick (later ++ zs) < y.tick = last-below shape pace e (later ++ zs) y r i l now.0 in
+          omega (arith, up, lt, now.1)
+      by (inr s) go = go s
+
+  abbrev CoveredOn : List (Timed n m) → ℕ → ℕ → Type 0
+  CoveredOn zs row line = Covered (queue shape (core zs)) row line ⊎ ((u : ℕ) × (p : ℕ) × (outcome_of shape zs row ≡ out.Stored u p))
+
+  -- a row with one of its line behind it stands until it is stored
+  covered_on : (later zs : List (Timed n m)) (row line : ℕ) → Lawful shape pace e (later ++ zs) → Covered (queue shape (core zs)) row line → CoveredOn (later ++ zs) row line
+  covered_on [] zs row line l c = inl c
+  covered_on (y ∷ later) zs row line l c = by (covered_on later zs row line l.1 c)
+    where
+      by : CoveredOn (later ++ zs) row line → CoveredOn (y ∷ later ++ zs) row line
+      by (inl c) =
+          let b = above_all shape pace e (later ++ zs) l.1 in
+          stays_there shape pace e (λ es. Covered es row line) row (covered-kept row line) (later ++ zs) y y.happens l.0
+          (spares_covered shape pace e (later ++ zs) y y.happens row line l.0 (stand_apart shape (core (later ++ zs)) b.0 b.1).queued_apart c) c
+      by (inr stored) =
+          inr (stored.0, stored.1, step_stays shape pace e (later ++ zs) y y.happens row l.1 (opens shape pace e (later ++ zs) l.1) l.0 (λ un. let k : ◌≡◌ {A = Outcome n} (out.Stored stored.0 stored.1) out.Unset = sym stored.2 ∙ un in absurd (cc)) ∙ stored.2)
+
+module _ {n m : ℕ} (shape : BankShape) (pace : Pacing) (e : ℕ) (all : List (Timed n m)) where
+  left_by : (t tick : ℕ) (o : Outcome n) → IsLeft o → ((u p : ℕ) → o ≡ out.Stored u p → t < u) → stands_by t tick false o ≡ true
+  left_by t tick out.Unset left above = absurd left
+  left_by t tick (out.Stored at place) left above = by_stored_later n t tick false at place (above at place refl)
+  left_by t tick (out.Merged at) left above = refl
+  left_by t tick (out.Queued at) left above = absurd left
+  left_by t tick (out.Full at) left above = absurd left
+  left_by t tick (out.Worn at) left above = absurd left
+  left_by t tick (out.Read at place bytes) left above = absurd left
+  left_by t tick (out.Forwarded at bytes) left above = absurd left
+  left_by t tick (out.Busy at) left above = absurd left
+  left_by t tick (out.Lost at) left above = absurd left
+  left_by t tick (out.Cut at) left above = absurd left
+
+  module _ (later : List (Timed n m)) (x : Timed n m) (now : List (Timed n m)) (r : 1 ≤ pace.read) (i : 1 ≤ pace.iter) (l : Lawful shape pace e all) (same : all ≡ later ++ x ∷ now) (arrives : ends_action x.happens ≡ false) where
+    whole : Lawful shape pace e (later ++ x ∷ now)
+    whole = subst (λ (xs : List (Timed n m)). Lawful shape pace e xs) same l
+
+    here : Lawful shape pace e (x ∷ now)
+    here = lawful_before shape pace e later (x ∷ now) whole
+
+    split : (later ++ x ∷ []) ++ now ≡ all
+    split = append_assoc later (x ∷ []) now ∙ sym same
+
+    over : Lawful shape pace e ((later ++ x ∷ []) ++ now)
+    over = subst (λ (xs : List (Timed n m)). Lawful shape pace e xs) (sym split) l
+
+    -- an outcome that is set by now stays to the end
+    kept : (row : ℕ) (o : Outcome n) → o ≢ out.Unset → outcome_of shape now row ≡ o → outcome_of shape all row ≡ o
+    kept row o set is = sym (ap (λ xs. outcome_of shape xs row) split) ∙ stays shape pace e (later ++ x ∷ []) now row over (λ un. set (sym is ∙ un)) ∙ is
+
+    gone : (row : ℕ) (o : Outcome n) → o ≢ out.Unset → outcome_of shape now row ≡ o → has_row (queue shape (core now)) row ≡ false
+    gone row o set is = either (has_row (queue shape (core now)) row) (λ there. absurd (set (sym is ∙ (opens shape pace e now here.1).queued row there))) (λ f. f)
+
+    -- what stands now is stored above this tick
+    above : (row u p : ℕ) → has_row (queue shape (core now)) row ≡ true → outcome_of shape all row ≡ out.Stored u p → x.tick < u
+    above row u p there s =
+        stored_above shape pace e later (x ∷ now) row u p r i whole (λ k. not_yet (stored_by shape pace e now x x.happens row u p k)) (sym (ap (λ xs. outcome_of shape xs row) same) ∙ s)
+      where
+        unset : outcome_of shape now row ≡ out.Unset
+        unset = (opens shape pace e now here.1).queued row there
+
+        not_yet : ((ends_action x.happens ≡ true) × (u ≡ x.tick)) ⊎ (outcome_of shape now row ≡ out.Stored u p) → ⊥
+        not_yet (inl ends) = absurd (cc (arrives, ends.0))
+        not_yet (inr k) = let both : ◌≡◌ {A = Outcome n} (out.Stored u p) out.Unset = sym k ∙ unset in absurd (cc)
+
+    -- a write stands by the rows exactly where it stands by the events
+    stands_same : (row line tick : ℕ) (between : List (Row n)) → Fate shape now between row line
+        → stands_by x.tick tick (list_any (accepted_of line) between) (outcome_of shape all row) ≡ has_row (queue shape (core now)) row
+    stands_same row line tick between (inl alone) = subst (λ b. stands_by x.tick tick b (outcome_of shape all row) ≡ true) (sym alone.1) (by last) ∙ sym there
+      where
+        there : has_row (queue shape (core now)) row ≡ true
+        there = stands-row (queue shape (core now)) row line alone.0
+
+        last : WriteFate shape all row
+        last = subst (λ (xs : List (Timed n m)). WriteFate shape xs row) split (write_fate shape pace e (later ++ x ∷ []) now row over (inl there))
+
+        by : WriteFate shape all row → stands_by x.tick tick false (outcome_of shape all row) ≡ true
+        by (inl end) = ap (stands_by x.tick tick false) ((opens shape pace e all l).queued row end)
+        by (inr left) = left_by x.tick tick (outcome_of shape all row) left (λ u p s. above row u p there s)
+    stands_same row line tick between (inr (inl covered)) = by last ∙ sym there
+      where
+        there : has_row (queue shape (core now)) row ≡ true
+        there = stands-row (queue shape (core now)) row line (covered-stands (queue shape (core now)) row line covered.0)
+
+        last : CoveredOn shape pace e all row line
+        last = subst (λ (xs : List (Timed n m)). CoveredOn shape pace e xs row line) split (covered_on shape pace e (later ++ x ∷ []) now row line over covered.0)
+
+        by : CoveredOn shape pace e all row line → stands_by x.tick tick (list_any (accepted_of line) between) (outcome_of shape all row) ≡ true
+        by (inl c) = ap (stands_by x.tick tick (list_any (accepted_of line) between)) ((opens shape pace e all l).queued row (stands-row (queue shape (core all)) row line (covered-stands (queue shape (core all)) row line c)))
+        by (inr s) = ap (stands_by x.tick tick (list_any (accepted_of line) between)) s.2 ∙ by_stored_later n x.tick tick (list_any (accepted_of line) between) s.0 s.1 (above row s.0 s.1 there s.2)
+    stands_same row line tick between (inr (inr (inl s))) =
+        let up : s.0 ≤ last_tick now = stored_up_to shape pace e now row s.0 s.1 r i here.1 s.2 in
+        let rises : last_tick now ≤ x.tick = last_tick-rises shape pace e now x r i here in
+        ap (stands_by x.tick tick (list_any (accepted_of line) between)) (kept row (out.Stored s.0 s.1) (λ un. absurd (cc)) s.2)
+        ∙ by_stored_before n x.tick tick (list_any (accepted_of line) between) s.0 s.1 (omega (arith, up, rises)) ∙ sym (gone row (out.Stored s.0 s.1) (λ un. absurd (cc)) s.2)
+    stands_same row line tick between (inr (inr (inr into))) =
+        ap (stands_by x.tick tick (list_any (accepted_of line) between)) (kept row (out.Merged into.0) (λ un. absurd (cc)) into.1)
+        ∙ ap not (any_merges line into.0 between into.2) ∙ sym (gone row (out.Merged into.0) (λ un. absurd (cc)) into.1)
+
+    -- a refused one does not
+    refused_same : (row tick : ℕ) (any : Bool) → accepts (ended tick (outcome_of shape all row)) ≡ false → outcome_of shape now row ≢ out.Unset
+        → stands_by x.tick tick any (outcome_of shape all row) ≡ has_row (queue shape (core now)) row
+    refused_same row tick any isnt set = by_refused x.tick tick any (outcome_of shape all row) isnt ∙ sym (gone row (outcome_of shape now row) set refl)
+
+    queue_among : (mid ys : List (Timed n m)) → now ≡ mid ++ ys → length (pending x.tick (rows_after shape all mid) (rows_from shape all ys)) ≡ hits (λ r. has_row (queue shape (core now)) r) (writes_in ys)
+    queue_among mid [] at_split = refl
+    queue_among mid (z ∷ ys) at_split =
+        by z.happens z.cancels before.0 (onwards_at shape pace e all (later ++ x ∷ mid) z ys l in_all)
+        (λ row line f. stands_same row line z.tick (rows_after shape all mid)
+        (subst (λ (xs : List (Timed n m)). Fate shape xs (rows_after shape all mid) row line) (sym at_split) (fate shape pace e all (later ++ x ∷ []) mid (z ∷ ys) row line l (opens shape pace e all l) in_split f)))
+        (λ row set. subst (λ (xs : List (Timed n m)). outcome_of shape xs row ≢ out.Unset) (sym at_split)
+        (λ un. set (sym (stays shape pace e mid (z ∷ ys) row there set) ∙ un)))
+        (subst (λ (rows : List (Row n)). length (pending x.tick rows (rows_from shape all ys)) ≡ hits (λ r. has_row (queue shape (core now)) r) (writes_in ys)) (rows_after-more shape all mid z)
+        (queue_among (mid ++ z ∷ []) ys (at_split ∙ sym (append_assoc mid (z ∷ []) ys))))
+      where
+        there : Lawful shape pace e (mid ++ z ∷ ys)
+        there = subst (λ (xs : List (Timed n m)). Lawful shape pace e xs) at_split here.1
+
+        before : Lawful shape pace e (z ∷ ys)
+        before = lawful_before shape pace e mid (z ∷ ys) there
+
+        in_split : all ≡ (later ++ x ∷ []) ++ (mid ++ z ∷ ys)
+        in_split = sym split ∙ ap (λ xs. (later ++ x ∷ []) ++ xs) at_split
+
+        in_all : all ≡ (later ++ x ∷ mid) ++ z ∷ ys
+        in_all = same ∙ ap (λ xs. later ++ x ∷ xs) at_split ∙ sym (append_assoc later (x ∷ mid) (z ∷ ys))
+
+        by : (h : Happens n) (cancels : Bool) → MayCome shape pace e ys z h → Onwards shape all ys z.tick h
+            → ((row line : ℕ) → FateBy shape ys z.tick h [] row line → stands_by x.tick z.tick (list_any (accepted_of line) (rows_after shape all mid)) (outcome_of shape all row) ≡ has_row (queue shape (core now)) row)
+            → ((row : ℕ) → unwrap_or (outcome_with shape ys h z.tick row) (outcome_of shape ys row) ≢ out.Unset → outcome_of shape now row ≢ out.Unset)
+            → length (pending x.tick (row_with shape all h z.tick cancels ++ rows_after shape all mid) (rows_from shape all ys)) ≡ hits (λ r. has_row (queue shape (core now)) r) (writes_in ys)
+            → length (pending x.tick (rows_after shape all mid) (row_with shape all h z.tick cancels ++ rows_from shape all ys)) ≡ hits (λ r. has_row (queue shape (core now)) r) (write_rows h ++ writes_in ys)
+        by (Core (Write at line bytes given answer)) cancels may on f g ih = cond_length _ _ _ _ _ (kind (accepting answer) refl) ih
+          where
+            agrees : accepts (ended z.tick (outcome_of shape all at)) ≡ accepting answer
+            agrees = outcome-accepts z.tick answer (ended z.tick (outcome_of shape all at)) (write_outcome shape pace e all ys z at line bytes given answer (opens shape pace e all l) may on)
+
+            kind : (b : Bool) → accepting answer ≡ b → stands_by x.tick z.tick (list_any (accepted_of line) (rows_after shape all mid)) (outcome_of shape all at) ≡ has_row (queue shape (core now)) at
+            kind true acc = f at line (inl (fate_new shape pace e all ys z at line bytes given answer before.1 may acc, refl))
+            kind false ref = refused_same at z.tick (list_any (accepted_of line) (rows_after shape all mid)) (agrees ∙ ref) (g at (refused_set shape ys z.tick at line bytes given answer ref))
+        by (Core (Read at line answer)) cancels may on f g ih = ih
+        by (Core (Serve answer)) cancels may on f g ih = ih
+        by (Core (Begin answer)) cancels may on f g ih = ih
+        by (Core (Iterate answer)) cancels may on f g ih = ih
+        by (Core (Cut tearing)) true may on f g ih = ih
+        by (Core (Cut tearing)) false may on f g ih = ih
+
+    -- as many writes stand by the rows as by the events
+    pub queue_length : length (pending x.tick [] (rows_from shape all now)) ≡ length (queue shape (core now))
+    queue_length =
+        let b = above_all shape pace e now here.1 in
+        queue_among [] now refl ∙ entries-counted (queue shape (core now)) (writes_in now) b.0 (stand_apart shape (core now) b.0 b.1).queued_apart (writes-fall now b.0 b.1) (queue-asked shape now)
+
+  room_at : 1 ≤ pace.read → 1 ≤ pace.iter → Lawful shape pace e all → (later : List (Timed n m)) (x : Timed n m) (ys : List (Timed n m)) → all ≡ later ++ x ∷ ys
+      → Passes (is_room_fair shape.writes) (rows_from shape all ys) (row_with shape all x.happens x.tick x.cancels) (rows_after shape all later)
+  room_at r i l later x ys same =
+      by x.happens x.cancels (may_at shape pace e all later x ys l same) (onwards_at shape pace e all later x ys l same) (λ arrives. queue_length later x ys r i l same arrives)
+    where
+      here : Lawful shape pace e (x ∷ ys)
+      here = lawful_before shape pace e later (x ∷ ys) (subst (λ (xs : List (Timed n m)). Lawful shape pace e xs) same l)
+
+      few : length (pending x.tick [] (rows_from shape all ys)) ≡ length (queue shape (core ys)) → nat_le (length (pending x.tick [] (rows_from shape all ys))) shape.writes ≡ true
+      few count =
+          let bound : length (queue shape (core ys)) ≤ shape.writes = (bound_law n (most_steps e) shape (core ys) (may_all shape pace e ys here.1)).writes in
+          le-leb (length (pending x.tick [] (rows_from shape all ys))) shape.writes (omega (arith, count, bound))
+
+      or_full : (a b : Bool) → (a ≡ true → b ≡ true) → (not a || b) ≡ true
+      or_full true b h = h refl
+      or_full false b h = refl
+
+      by : (h : Happens n) (cancels : Bool) → MayCome shape pace e ys x h → Onwards shape all ys x.tick h
+          → (ends_action h ≡ false → length (pending x.tick [] (rows_from shape all ys)) ≡ length (queue shape (core ys)))
+          → Passes (is_room_fair shape.writes) (rows_from shape all ys) (row_with shape all h x.tick cancels) (rows_after shape all later)
+      by (Core (Write row line bytes given answer)) cancels may on count =
+          and_both _ _ (few (count refl))
+          (or_full (is_full (ended x.tick (outcome_of shape all row))) _ (λ full.
+          let was : answer ≡ wrote.Full =
+          full_outcome x.tick answer (ended x.tick (outcome_of shape all row)) (write_outcome shape pace e all ys x row line bytes given answer (opens shape pace e all l) may on) full in
+          ap (λ k. k == shape.writes) (count refl) ∙ full-room shape (core ys) line (sym was ∙ may.may.2)))
+      by (Core (Read row line answer)) cancels may on count = and_both _ _ (few (count refl)) refl
+      by (Core (Serve answer)) cancels may on count = tt
+      by (Core (Begin answer)) cancels may on count = tt
+      by (Core (Iterate answer)) cancels may on count = tt
+      by (Core (Cut tearing)) true may on count = tt
+      by (Core (Cut tearing)) false may on count = and_both _ _ (few (count refl)) refl
+
+pub queue_law : QueueLaw
+queue_law n m e shape pace xs sized l = walk shape xs (is_room_fair shape.writes) [] xs refl (room_at shape pace e xs sized.read sized.iter l)
