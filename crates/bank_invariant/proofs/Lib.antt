@@ -12,3 +12,4 @@ pub mod Turned
 pub mod Starting
 pub mod Alone
 pub mod Arriving
+pub mod Answering

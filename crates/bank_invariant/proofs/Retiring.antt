@@ -32,13 +32,13 @@ use Rattle.bank_invariant.proofs.Iterating.{under_way-steps, waits-off, served-d
 
 -- Exhaustion
 
-unmarked : (mark : Bool) (work : Work) → (IsTrue mark → ⊥) → cond mark Nothing work ≡ work
+pub unmarked : (mark : Bool) (work : Work) → (IsTrue mark → ⊥) → cond mark Nothing work ≡ work
 unmarked true work off = absurd (off refl)
 unmarked false work off = refl
 
 module _ {n : ℕ} where
   -- the mark leaves the line that what is due would write
-  marked-target : (kept : KeptState n) (due : Option ℕ) (es : List (Entry n))
+  pub marked-target : (kept : KeptState n) (due : Option ℕ) (es : List (Entry n))
       → target_of (exhausted_kept kept) (due_work due (exhausted_kept kept) es) ≡ target_of kept (due_work due kept es)
   marked-target kept (Some region) es = refl
   marked-target kept None [] = refl
@@ -64,7 +64,7 @@ module _ {n m e : ℕ} where
       (run.next ∙ unmarked bank.kept.exhausted (due_work (due_region bank.kept) bank.kept bank.kept.entries) (not_exhausted_of h bank array op holds is))
       ∙ sym (marked-target bank.kept (due_region bank.kept) bank.kept.entries)
 
-  retired-count : (h : List (Event n)) (bank : BankState n m e) (array : ArrayState n m) → Holds h bank array
+  pub retired-count : (h : List (Event n)) (bank : BankState n m e) (array : ArrayState n m) → Holds h bank array
       → (length (retired h) ≡ used_by bank.kept.table) × (bank.kept.table.spares ≡ bank.kept.shape.spares)
   retired-count h bank array holds = (ap (λ (t : Table). used_by t) (sym holds.table), holds.kept.spares)
 
@@ -154,7 +154,7 @@ module _ {n m : ℕ} where
         | inr off ↦ subst (λ (line : ℕ). IsSoundLine e (array.line line)) (sym (retired-other kept slot at off)) (sound.slots at below)
       ]
 
-  AreSound-retired : (e : ℕ) (kept : KeptState n) (slot : ℕ) (array : ArrayState n m) → IsKept kept → AreSound e kept array
+  pub AreSound-retired : (e : ℕ) (kept : KeptState n) (slot : ℕ) (array : ArrayState n m) → IsKept kept → AreSound e kept array
       → IsWornLine e (array.line (array_line kept slot)) → slot < slots_of kept.shape → used_by kept.table < kept.table.spares
       → AreSound e (retired_kept slot kept) array
   AreSound-retired e kept slot array range sound worn exists left = record {

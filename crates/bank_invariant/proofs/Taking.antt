@@ -132,7 +132,7 @@ stands_over {n} line at bytes given es after under before masked all len lies ol
 -- The queue
 
 module _ {n : ℕ} where
-  no_place : (busy : Bool) (es : List (Entry n)) (line : ℕ) → candidate busy es line ≡ None → candidate_place busy es line ≡ None
+  pub no_place : (busy : Bool) (es : List (Entry n)) (line : ℕ) → candidate busy es line ≡ None → candidate_place busy es line ≡ None
   no_place busy es line none = by (candidate_place busy es line) (λ i. candidate-place busy es line i)
     where
       by : (p : Option ℕ) → ((i : ℕ) → p ≡ Some i → candidate busy es line ≡ Some (row_at es i)) → p ≡ None
@@ -231,7 +231,7 @@ module _ {n m : ℕ} where
   }
 
   -- a bank that isn't exhausted stays tied to its array
-  tied-taken : {e : ℕ} (kept : KeptState n) (array : ArrayState n m) (waiting : List (Waiting n)) (busy : Bool) (entry : Entry n) (running : Option (Operation n m e))
+  pub tied-taken : {e : ℕ} (kept : KeptState n) (array : ArrayState n m) (waiting : List (Waiting n)) (busy : Bool) (entry : Entry n) (running : Option (Operation n m e))
       → busy ≡ is_storing running → kept.exhausted ≡ false → AreTied kept running waiting array → AreTied (accepted_kept busy entry kept) running waiting array
   tied-taken {e} kept array waiting busy entry running is going tied = record {
     lines = tied.lines;

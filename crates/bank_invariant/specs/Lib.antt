@@ -5,6 +5,7 @@ pub mod Steps
 pub mod Tearing
 pub mod Iterating
 pub mod Writes
+pub mod WriteAnswers
 pub mod Bridge
 pub mod Serving
 pub mod Retiring

@@ -1,0 +1,96 @@
+-- That a cut keeps the tie and the invariant.
+use Rattle.std.proofs.Common.{◌≡◌, ℕ, ◌+◌, ◌<◌, ◌≤◌, refl, sym, ap, subst, ◌∙◌, arith, Bool, true, false, List, [], ◌∷◌, ◌++◌, length, map, Option, Some, None, is_some}
+use Rattle.std.specs.Prelude.{IfSome, IsTrue, IsFalse}
+use Rattle.pcm_cells.specs.Device.{ArrayState}
+use Rattle.power_recovery.specs.Kept.{IsKept, target_slot}
+use Rattle.bank_model.specs.Events.{Event, Cut}
+use Rattle.bank_invariant.specs.State.{BankState, Operation}
+use Rattle.bank_invariant.specs.Tied.{IsTied, IsRunning, IsUnderWay}
+use Rattle.bank_invariant.specs.Holds.{Holds}
+use Rattle.bank_invariant.specs.Steps.{cut_off}
+use Rattle.bank_invariant.specs.Tearing.{DiffersAt}
+use Rattle.bank_invariant.proofs.Targets.{IsTargetOf, running-target, AreSound-differs, DiffersAt-tear, target-exists}
+use Rattle.bank_invariant.proofs.Quiet.{cut_law}
+use Rattle.bank_invariant.proofs.Tearing.{torn_law}
+use Rattle.bank_core.specs.Cutting.{IsTorn, stopped, reads_lost}
+
+no-rows : (xs : List ℕ) → length xs ≡ 0 → xs ≡ []
+no-rows [] none = refl
+no-rows (x ∷ xs) none = let no : ⊥ = omega (arith, none) in absurd no
+
+module _ {n m e : ℕ} where
+  -- a bank that stops and loses its reads is cut off
+  pub cut-is : (bank : BankState n m e) → length bank.lost ≡ 0 → reads_lost (stopped bank) ≡ cut_off bank
+  cut-is bank none =
+      ap (λ (xs : List ℕ). with-lost bank xs) (no-rows bank.lost none)
+    where
+      with-lost : BankState n m e → List ℕ → BankState n m e
+      with-lost b xs = record { kept = b.kept; running = None; waiting = []; lost = xs ++ map (λ w. w.row) b.waiting; rows_below = b.rows_below }
+
+  running-is : (bank : BankState n m e) (array : ArrayState n m) (op : Operation n m e)
+      → IsTied bank array → bank.running ≡ Some op → IsRunning bank.kept array bank.waiting op
+  running-is bank array op tied is = subst (λ (r : Option (Operation n m e)). IfSome r (IsRunning bank.kept array bank.waiting)) is tied.operation
+
+  target-is : (bank : BankState n m e) (array : ArrayState n m) (op : Operation n m e)
+      → IsKept bank.kept → IsTied bank array → bank.running ≡ Some op → IsTargetOf bank.kept bank.waiting op.target (target_slot bank.kept op.work)
+  target-is bank array op range tied is =
+      let run = running-is bank array op tied is in
+      running-target e bank.kept array bank.waiting op.writer.bytes op.work op.target range run.next run.target run.of
+
+  -- what a tear asks for
+  pub record IsTearable (op : Operation n m e) (array : ArrayState n m) : Type 0 where
+    pub exists : op.target < array.lines
+    pub writing : IsUnderWay op.writer (array.line op.target)
+
+  pub tearable : (bank view : BankState n m e) (array : ArrayState n m) (op : Operation n m e)
+      → bank ≡ view → IsKept view.kept → IsTied bank array → view.running ≡ Some op → IsTearable op array
+  tearable bank view array op same range tied is =
+      let there : IsTied view array = subst (λ (b : BankState n m e). IsTied b array) same tied in
+      record {
+        exists = target-exists view.kept view.waiting op.target (target_slot view.kept op.work) array range there.lines (target-is view array op range there is);
+        writing = (running-is view array op there is).writing;
+      }
+
+  some_op : (r : Option (Operation n m e)) → IsTrue (is_some r) → (op : Operation n m e) × (r ≡ Some op)
+  some_op None some = cc
+  some_op (Some op) some = (op, refl)
+
+  torn-op : (bank : BankState n m e) (before after : ArrayState n m) (op : Operation n m e) → bank.running ≡ Some op
+      → IfSome bank.running (λ op. IsTorn op before after) → DiffersAt e op.target before after
+  torn-op bank before after op is torn =
+      let by : IsTorn op before after = subst (λ (r : Option (Operation n m e)). IfSome r (λ op. IsTorn op before after)) is torn in
+      DiffersAt-tear e op.target op.writer.prog before after by.tear by.sound
+
+  pub cut_holds : (tearing : Bool) (bank : BankState n m e) (before after : ArrayState n m)
+      → (IsTrue tearing → IsTrue (is_some bank.running)) → (IsFalse tearing → after ≡ before)
+      → (IsTrue tearing → IfSome bank.running (λ op. IsTorn op before after))
+      → (h : List (Event n)) → Holds h bank before → Holds (Cut tearing ∷ h) (cut_off bank) after
+  cut_holds false bank before after runs quiet torn h holds =
+      subst (λ (a : ArrayState n m). Holds (Cut false ∷ h) (cut_off bank) a) (sym (quiet refl)) (cut_law n m e h bank before holds)
+  cut_holds true bank before after runs quiet torn h holds =
+      let some = some_op bank.running (runs refl) in
+      torn_law n m e h bank before after some.0 holds some.1 (torn-op bank before after some.0 some.1 (torn refl))
+
+  quiet_tied : (bank : BankState n m e) (array : ArrayState n m) → IsTied bank array → IsTied (cut_off bank) array
+  quiet_tied bank array tied = record {
+    lines = tied.lines;
+    sound = tied.sound;
+    operation = tt;
+    exhausted = λ mark. record { all_used = (tied.exhausted mark).all_used; idle = refl; worn = (tied.exhausted mark).worn };
+  }
+
+  pub cut_tied : (tearing : Bool) (bank : BankState n m e) (before after : ArrayState n m)
+      → IsKept bank.kept → (IsTrue tearing → IsTrue (is_some bank.running)) → (IsFalse tearing → after ≡ before)
+      → (IsTrue tearing → IfSome bank.running (λ op. IsTorn op before after)) → IsTied bank before → IsTied (cut_off bank) after
+  cut_tied false bank before after range runs quiet torn tied =
+      subst (λ (a : ArrayState n m). IsTied (cut_off bank) a) (sym (quiet refl)) (quiet_tied bank before tied)
+  cut_tied true bank before after range runs quiet torn tied =
+      let some = some_op bank.running (runs refl) in
+      let op = some.0 in
+      let differs = torn-op bank before after op some.1 (torn refl) in
+      record {
+        lines = omega (arith, tied.lines, differs.lines);
+        sound = AreSound-differs e bank.kept bank.waiting op.target (target_slot bank.kept op.work) before after range tied.sound (target-is bank before op range tied some.1) differs;
+        operation = tt;
+        exhausted = λ mark. let none : None ≡ Some op = sym (tied.exhausted mark).idle ∙ some.1 in cc;
+      }

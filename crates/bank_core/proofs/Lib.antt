@@ -1,0 +1,6 @@
+pub mod Answering
+pub mod Fresh
+pub mod Keeping
+pub mod Writing
+pub mod Cuts
+pub mod Losing

@@ -1,0 +1,22 @@
+use Rattle.std.proofs.Common.{◌≡◌, ◌∷◌, ap, sym, subst, ◌∙◌}
+use Rattle.bank_model.specs.Events.{Cut}
+use Rattle.bank_invariant.specs.State.{BankState}
+use Rattle.bank_invariant.specs.Holds.{Holds}
+use Rattle.bank_invariant.specs.Steps.{cut_off}
+use Rattle.bank_core.specs.Cutting.{reads_lost}
+use Rattle.bank_core.proofs.Cuts.{cut_holds, cut_tied, cut-is}
+use Rattle.bank_core.proofs.bank.Bank.cut.Goals as goal
+
+pub returns-clause-tied : goal.returns-clause-tied
+returns-clause-tied g c =
+    rw (c.lose_reads.ensures, c.stop.ensures.bank)
+    (cut_tied c.args.tearing c.args.self.now (g.A.CellArray.state c.args.array.now) (g.A.CellArray.state c.stop.new.array)
+    c.stop.ensures.in_range c.requires.runs c.stop.ensures.quiet c.stop.ensures.torn c.requires.tied)
+
+pub returns-clause-holds : goal.returns-clause-holds
+returns-clause-holds g c =
+    let same : c.lose_reads.new.self ≡ cut_off c.args.self.now =
+    c.lose_reads.ensures ∙ ap (λ (b : BankState g.row.B g.row.M g.row.E). reads_lost b) c.stop.ensures.bank ∙ cut-is c.args.self.now c.requires.taken in
+    λ h holds. subst (λ (b : BankState g.row.B g.row.M g.row.E). Holds (Cut c.args.tearing ∷ h) b (g.A.CellArray.state c.stop.new.array)) (sym same)
+    (cut_holds c.args.tearing c.args.self.now (g.A.CellArray.state c.args.array.now) (g.A.CellArray.state c.stop.new.array)
+    c.requires.runs c.stop.ensures.quiet c.stop.ensures.torn h holds)

@@ -1,0 +1,69 @@
+use Rattle.std.proofs.Common.{◌≡◌, true, false}
+use Rattle.masked_bytes.specs.declared.entry.Entry.{Entry}
+use Rattle.bank_model.specs.declared.answer.WriteAnswer.TheVariants as wrote
+use Rattle.bank_invariant.specs.State.{BankState}
+use Rattle.bank_core.specs.Running.{operation_of}
+use Rattle.bank_core.proofs.Writing.{write_law, write_worn, taken_law, taken_holds, taken_tied}
+use Rattle.bank_core.proofs.bank.Bank.write.Goals as goal
+
+pub returns-then-exhausted-clause-holds : goal.returns-then-exhausted-clause-holds
+returns-then-exhausted-clause-holds g c =
+    let bank : BankState g.row.B g.row.M g.row.E = record {
+      kept = c.self.inside.kept;
+      running = operation_of c.self.inside.running;
+      waiting = c.self.inside.waiting.items;
+      lost = c.self.inside.lost.items;
+      rows_below = c.self.inside.rows_below;
+    } in
+    let exists = rw (← c.self.view_is) at c.requires.exists in
+    let rises = rw (← c.self.view_is) at c.requires.rises in
+    let is = c.exhausted.ensures.mark in
+    let yes = c.if-exhausted.true in
+    let worn : c.self.inside.kept.exhausted ≡ true = cc in
+    rw (← c.self.view_is)
+    (λ h array holds. write_law c.args.row c.args.line c.args.bytes c.args.given h bank array wrote.Exhausted (write_worn bank c.args.line worn) exists rises c.requires.masked holds)
+
+pub returns-clause-bank : goal.returns-clause-bank
+returns-clause-bank g c =
+    let bank : BankState g.row.B g.row.M g.row.E = record {
+      kept = c.self.inside.kept;
+      running = operation_of c.self.inside.running;
+      waiting = c.self.inside.waiting.items;
+      lost = c.self.inside.lost.items;
+      rows_below = c.self.inside.rows_below;
+    } in
+    let entry : Entry g.row.B = record { row = c.args.row; line = c.args.line; bytes = c.args.bytes; given = c.args.given } in
+    rw (← c.self.view_is, c.answer_to.ensures, c.accept.ensures.answer, c.accept.ensures.kept, c.storing-busy.ensures) (taken_law bank entry)
+
+pub returns-clause-tied : goal.returns-clause-tied
+returns-clause-tied g c =
+    let bank : BankState g.row.B g.row.M g.row.E = record {
+      kept = c.self.inside.kept;
+      running = operation_of c.self.inside.running;
+      waiting = c.self.inside.waiting.items;
+      lost = c.self.inside.lost.items;
+      rows_below = c.self.inside.rows_below;
+    } in
+    let entry : Entry g.row.B = record { row = c.args.row; line = c.args.line; bytes = c.args.bytes; given = c.args.given } in
+    let is = c.exhausted.ensures.mark in
+    let no = c.if-exhausted.false in
+    let going : c.self.inside.kept.exhausted ≡ false = cc in
+    rw (← c.self.view_is, c.accept.ensures.kept, c.storing-busy.ensures) (λ array tied. taken_tied entry bank array going tied)
+
+pub returns-clause-holds : goal.returns-clause-holds
+returns-clause-holds g c =
+    let bank : BankState g.row.B g.row.M g.row.E = record {
+      kept = c.self.inside.kept;
+      running = operation_of c.self.inside.running;
+      waiting = c.self.inside.waiting.items;
+      lost = c.self.inside.lost.items;
+      rows_below = c.self.inside.rows_below;
+    } in
+    let entry : Entry g.row.B = record { row = c.args.row; line = c.args.line; bytes = c.args.bytes; given = c.args.given } in
+    let exists = rw (← c.self.view_is) at c.requires.exists in
+    let rises = rw (← c.self.view_is) at c.requires.rises in
+    let is = c.exhausted.ensures.mark in
+    let no = c.if-exhausted.false in
+    let going : c.self.inside.kept.exhausted ≡ false = cc in
+    rw (← c.self.view_is, c.answer_to.ensures, c.accept.ensures.answer, c.accept.ensures.kept, c.storing-busy.ensures)
+    (λ h array holds. taken_holds entry h bank array going exists rises c.requires.masked holds)

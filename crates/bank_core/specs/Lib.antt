@@ -1,0 +1,5 @@
+pub mod Running
+pub mod Bank
+pub mod Steps
+pub mod Stepping
+pub mod Cutting

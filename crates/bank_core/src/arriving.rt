@@ -1,0 +1,67 @@
+//! How a bank takes a write.
+ghost use Rattle.std.specs.Prelude.{◌≡◌, ◌<◌, ◌≤◌, List, ◌∷◌};
+ghost use Rattle.masked_bytes.specs.Masked.{IsMasked};
+ghost use Rattle.pcm_cells.specs.Device.{ArrayState};
+ghost use Rattle.power_recovery.specs.Slots.{bank_lines};
+ghost use Rattle.bank_model.specs.Events.{Event, Write};
+ghost use Rattle.bank_invariant.specs.State.{is_storing};
+ghost use Rattle.bank_invariant.specs.Tied.{IsTied};
+ghost use Rattle.bank_invariant.specs.Holds.{Holds};
+ghost use Rattle.bank_invariant.specs.WriteAnswers.{written};
+ghost use Rattle.bank_core.specs.Steps.{write_from, after_write};
+
+use crate::bank::Bank;
+use bank_model::answer::WriteAnswer;
+use bank_shape::Work;
+use masked_bytes::entry::Entry;
+use protected_queue::accept::Accept;
+
+impl<const B: usize, const M: usize, const E: usize> Bank<B, M, E> {
+    /// A write of a bank line arrives, with the number of its row, above those of all before it. A byte that isn't given is 0.
+    pub fn write(&mut self, row: u32, line: u32, bytes: [u8; B], given: [bool; B]) -> WriteAnswer
+        requires exists { line < bank_lines self.old.kept.shape }
+        requires rises { self.old.rows_below ≤ row }
+        requires masked { IsMasked B bytes given }
+        ensures answer { result ≡ write_from self.old line }
+        ensures bank { self.new ≡ after_write self.old (record { row = row; line = line; bytes = bytes.entry; given = given.entry }) result }
+        ensures tied { (array : ArrayState B M) → IsTied self.old array → IsTied self.new array }
+        ensures holds { (h : List (Event B)) (array : ArrayState B M) → Holds h self.old array → Holds (Write row line bytes.entry given.entry result ∷ h) self.new array }
+    {
+        self.rows_below = row as u64 + 1;
+        if self.kept.exhausted() {
+            return WriteAnswer::Exhausted;
+        }
+        let busy = self.storing();
+        let entry = Entry {
+            row,
+            line,
+            bytes,
+            given,
+        };
+        answer_to(self.kept.accept(entry, busy))
+    }
+
+    // Whether the head of the queue is being stored.
+    fn storing(&self) -> bool
+        ensures { result ≡ is_storing self.now.running }
+    {
+        match &self.running {
+            None => false,
+            Some(running) => match running.work {
+                Work::Store { .. } => true,
+                _ => false,
+            },
+        }
+    }
+}
+
+// What a write is answered that the queue took so.
+fn answer_to(taken: Accept) -> WriteAnswer
+    ensures { result ≡ written taken }
+{
+    match taken {
+        Accept::Pushed => WriteAnswer::Accepted,
+        Accept::Merged(old) => WriteAnswer::Merged(old),
+        Accept::Full => WriteAnswer::Full,
+    }
+}

@@ -1,0 +1,10 @@
+//! One bank of the memory: its writes and reads, its line writes, and its power cuts, each of them one event.
+//! Each line stands for the newest bytes that were accepted for it, whatever the cells do and wherever a cut falls.
+#![tactic(auto)]
+
+mod arriving;
+pub mod bank;
+mod cutting;
+mod stepping;
+#[cfg(test)]
+mod tests;

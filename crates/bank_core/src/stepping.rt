@@ -1,0 +1,113 @@
+// The line write in progress.
+ghost use Rattle.std.specs.Prelude.{◌≡◌, ℕ, ◌<◌, List, ◌∷◌, IfSome, IsTrue, is_some};
+ghost use Rattle.pcm_cells.specs.Device.{ArrayState};
+ghost use Rattle.ecp_line.specs.Layout.{IsLayout};
+ghost use Rattle.bank_shape.specs.Shape.{slots_of};
+ghost use Rattle.line_writer.specs.Writing.{Writes};
+ghost use Rattle.power_recovery.specs.Kept.{IsKept, target_slot, next_work};
+ghost use Rattle.bank_model.specs.Events.{Event, Iterate};
+ghost use Rattle.bank_invariant.specs.Tied.{IsTied};
+ghost use Rattle.bank_invariant.specs.Holds.{Holds};
+ghost use Rattle.bank_core.specs.Running.{running_of};
+ghost use Rattle.bank_core.specs.Steps.{is_some_work};
+ghost use Rattle.bank_core.specs.Stepping.{done_from, done_kept, worn_from, worn_kept, with_kept, IsWriterStep, IsIteration};
+
+use crate::bank::{Bank, Running};
+use bank_model::answer::Step;
+use bank_shape::Work;
+use line_writer::Progress;
+use pcm_cells::CellArray;
+
+impl<const B: usize, const M: usize, const E: usize> Running<B, M, E> {
+    // One step of the writer, on the target.
+    fn step<A: CellArray<B, M>>(&mut self, array: &mut A, tick: u64) -> Progress
+        requires layout { IsLayout B M E }
+        requires exists { self.old.target < (A.state array.old).lines }
+        requires more { self.old.writer.progress ≡ Progress.More }
+        requires writes { Writes self.old.writer ((A.state array.old).line self.old.target) }
+        ensures is { result ≡ self.new.writer.progress }
+        ensures step { IsWriterStep tick (running_of self.old) (running_of self.new) (A.state array.old) (A.state array.new) }
+    {
+        self.writer.step(array, self.target, tick)
+    }
+}
+
+impl<const B: usize, const M: usize, const E: usize> Bank<B, M, E> {
+    /// One step of the line write in progress: one pulse and one sense of its line. Only after `More` is it still in progress.
+    pub fn iterate<A: CellArray<B, M>>(&mut self, array: &mut A, tick: u64) -> Step
+        requires runs { IsTrue (is_some self.old.running) }
+        requires tied { IsTied self.old (A.state array.old) }
+        ensures step { IfSome self.old.running (λ op. IsIteration tick op self.old self.new result (A.state array.old) (A.state array.new)) }
+        ensures tied { IsTied self.new (A.state array.new) }
+        ensures holds { (h : List (Event B)) → Holds h self.old (A.state array.old) → Holds (Iterate result ∷ h) self.new (A.state array.new) }
+    {
+        self.advance(array, tick)
+    }
+
+    // The same, without what it keeps.
+    fn advance<A: CellArray<B, M>>(&mut self, array: &mut A, tick: u64) -> Step
+        requires runs { IsTrue (is_some self.old.running) }
+        requires tied { IsTied self.old (A.state array.old) }
+        ensures in_range { IsKept self.old.kept }
+        ensures step { IfSome self.old.running (λ op. IsIteration tick op self.old self.new result (A.state array.old) (A.state array.new)) }
+    {
+        match self.running.take() {
+            Some(mut running) => match running.step(array, tick) {
+                Progress::More => {
+                    self.running = Some(running);
+                    Step::More
+                }
+                Progress::Stored => self.done(running.work, running.target),
+                Progress::Worn(_) => {
+                    let slot = self.slot_written(running.work);
+                    self.worn(slot)
+                }
+            },
+            None => unreachable!(),
+        }
+    }
+
+    // The slot whose array line a work writes.
+    fn slot_written(&self, work: Work) -> u32
+        requires next { work ≡ next_work self.now.kept }
+        ensures { result ≡ target_slot self.now.kept work }
+    {
+        match work {
+            Work::Nothing => 0,
+            Work::Store { slot, .. } => slot,
+            Work::Copy { region, step } => self.kept.shape().slot(region, step.to),
+        }
+    }
+
+    // Ends a work that is done, whose array line was this.
+    fn done(&mut self, work: Work, place: u32) -> Step
+        requires some { IsTrue (is_some_work work) }
+        requires next { work ≡ next_work self.old.kept }
+        ensures answer { result ≡ done_from self.old.kept work place }
+        ensures bank { self.new ≡ with_kept self.old (done_kept self.old.kept work) }
+    {
+        match work {
+            Work::Nothing => unreachable!(),
+            Work::Store { .. } => Step::Stored {
+                row: self.kept.stored(),
+                place,
+            },
+            Work::Copy { step, .. } => {
+                self.kept.moved();
+                Step::Moved(step)
+            }
+        }
+    }
+
+    // Retires the array line of a slot, which is worn.
+    fn worn(&mut self, slot: u32) -> Step
+        requires { slot < slots_of self.old.kept.shape }
+        ensures answer { result ≡ worn_from self.old.kept slot }
+        ensures bank { self.new ≡ with_kept self.old (worn_kept self.old.kept slot) }
+    {
+        match self.kept.retire(slot) {
+            Ok(line) => Step::Retired { slot, line },
+            Err(_) => Step::Exhausted,
+        }
+    }
+}
