@@ -10,3 +10,4 @@ pub mod Sensing
 pub mod Timing
 pub mod Told
 pub mod Worked
+pub mod Touching
