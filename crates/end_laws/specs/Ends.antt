@@ -1,0 +1,67 @@
+-- Where each line's newest bytes are in the end.
+use Rattle.std.specs.Prelude.{◌≡◌, ◌⊎◌, ℕ, ◌+◌, ◌*◌, ◌/◌, ◌<◌, ◌≤◌, ◌==◌, ◌&&◌, ◌||◌, nat_lt, nat_le, Bool, true, false, IsTrue, List, [], ◌∷◌, ◌++◌, Option, Some, None}
+use Rattle.std.specs.List.{list_any}
+use Rattle.masked_bytes.specs.Masked.{laid}
+use Rattle.result_rows.specs.declared.Outcome.{Outcome}
+use Rattle.result_rows.specs.declared.Outcome.TheVariants as out
+use Rattle.row_laws.specs.declared.Row.{Row}
+use Rattle.row_laws.specs.Answers.{is_stored, is_queued, stored_before}
+use Rattle.row_laws.specs.Rows.{RowTest, each_row, line_of, write_of, newest}
+use Rattle.row_laws.specs.Queueing.{unstored}
+use Rattle.row_laws.specs.Serving.{same_bytes}
+use Rattle.bank_shape.specs.declared.BankShape.{BankShape}
+use Rattle.bank_shape.specs.Shape.{slots_of, slot_moved}
+use Rattle.bank_laws.specs.Places.{region_stores, is_moved}
+
+-- an array line for each slot of a bank, no two the same: its own, or a spare where its own is worn
+pub record IsRemapped (shape : BankShape) (worn : ℕ → Bool) (table : ℕ → ℕ) : Type 0 where
+  pub apart : (slot other : ℕ) → slot < slots_of shape → other < slots_of shape → table slot ≡ table other → slot ≡ other
+  pub lines : (slot : ℕ) → slot < slots_of shape
+      → (table slot ≡ shape.base + slot)
+      ⊎ ((shape.base + slots_of shape ≤ table slot) × (table slot < shape.base + slots_of shape + shape.spares) × IsTrue (worn (shape.base + slot)))
+
+-- the array line where a bank line stands, by the moves of each region and the table
+abbrev pub place_by_table : BankShape → (ℕ → ℕ) → (ℕ → ℕ) → ℕ → ℕ
+place_by_table shape moves table line = table (slot_moved shape line (moves (line / shape.lines)))
+
+-- the newest bytes of a line, where some may still stand in the queue: those of the array with the unstored ones laid over
+abbrev pub is_kept_line : {n : ℕ} → List (Row n) → ℕ → List ℕ → Bool
+is_kept_line rows line held = same_bytes (laid (newest rows line) (unstored is_stored line rows) held) (newest rows line)
+
+-- a stored row's slot has its place, or a spare of a greater number, and then the place is worn
+abbrev pub has_place : ℕ → (ℕ → Bool) → ℕ → ℕ → Bool
+has_place spares_from worn now place = now == place || (nat_lt place now && (nat_le spares_from now && worn place))
+
+abbrev pub outcome_ends : {n : ℕ} → BankShape → (ℕ → Bool) → (ℕ → ℕ) → ℕ → List (Row n) → Outcome n → Bool
+outcome_ends shape worn table line all (out.Stored tick place) =
+    has_place (shape.base + slots_of shape) worn
+      (table (slot_moved shape line (region_stores (stored_before tick) shape (line / shape.lines) all / shape.psi))) place
+outcome_ends shape worn table line all outcome = true
+
+abbrev pub is_still_there : {n : ℕ} → BankShape → (ℕ → Bool) → (ℕ → ℕ) → RowTest n
+is_still_there shape worn table before r after = outcome_ends shape worn table (line_of r.asks) (before ++ r ∷ after) r.outcome
+
+-- the line that is excepted, if there is one; it has a write that is still queued
+abbrev pub is_excepted : Option ℕ → ℕ → Bool
+is_excepted None line = false
+is_excepted (Some at) line = at == line
+
+abbrev pub is_excused : {n : ℕ} → Option ℕ → List (Row n) → Bool
+is_excused None rows = true
+is_excused (Some at) rows = list_any (λ r. write_of at r && is_queued r.outcome) rows
+
+-- what the end of a bank is: an array line of each slot, the moves of each region, and the line that is excepted
+pub record BankEnd : Type 0 where
+  pub table : ℕ → ℕ
+  pub moves : ℕ → ℕ
+  pub excepted : Option ℕ
+
+-- a bank in the end, over its table of rows, the newest first: by one table of lines and the moves of its regions each line's
+-- newest bytes are in the array or still in the queue, with at most one line excepted
+pub record EndsWith {n : ℕ} (shape : BankShape) (worn : ℕ → Bool) (held : ℕ → List ℕ) (rows : List (Row n)) (end : BankEnd) : Type 0 where
+  pub lines : IsRemapped shape worn end.table
+  pub moved : (region : ℕ) → region < shape.regions → IsTrue (is_moved shape worn rows region (end.moves region))
+  pub kept : (line : ℕ) → line < shape.regions * shape.lines
+      → IsTrue (is_excepted end.excepted line || is_kept_line rows line (held (place_by_table shape end.moves end.table line)))
+  pub queued : IsTrue (is_excused end.excepted rows)
+  pub stored : IsTrue (each_row (is_still_there shape worn end.table) rows [])
