@@ -1,2 +1,5 @@
 mod Asked
 mod Counts
+mod Working
+mod Moves
+mod Storing
