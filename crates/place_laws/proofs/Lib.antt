@@ -3,3 +3,5 @@ mod Counts
 mod Working
 mod Moves
 mod Storing
+mod Tables
+mod Slots
