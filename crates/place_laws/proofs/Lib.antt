@@ -5,3 +5,5 @@ mod Moves
 mod Storing
 mod Tables
 mod Slots
+mod Splits
+mod Placed

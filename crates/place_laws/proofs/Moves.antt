@@ -10,7 +10,7 @@ use Rattle.bank_model.specs.Answers.{MayAll}
 use Rattle.place_laws.proofs.Counts.{one_if}
 use Rattle.place_laws.proofs.Working.{IsStoreOf, done-store, IsMoveOf, done-move}
 
-next_product : (psi k : ℕ) → psi * (k + 1) ≡ psi * k + psi
+pub next_product : (psi k : ℕ) → psi * (k + 1) ≡ psi * k + psi
 next_product psi k = grind arith
 
 -- the bounds of one region after a store, whether it is of this region or not
