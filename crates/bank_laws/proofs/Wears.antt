@@ -186,7 +186,7 @@ module _ {n m : ℕ} (shape : BankShape) (pace : Pacing) (e : ℕ) where
   exhausted_on : (h : Happens n) (zs : List (Timed n m)) → has_exhausted (core zs) ≡ true → has_exhausted (core_of h (core zs)) ≡ true
   exhausted_on (Core event) zs ex = exhausted-more event (core zs) ex
 
-  exhausted_later : (later zs : List (Timed n m)) → has_exhausted (core zs) ≡ true → has_exhausted (core (later ++ zs)) ≡ true
+  pub exhausted_later : (later zs : List (Timed n m)) → has_exhausted (core zs) ≡ true → has_exhausted (core (later ++ zs)) ≡ true
   exhausted_later [] zs ex = ex
   exhausted_later (x ∷ later) zs ex = exhausted_on x.happens (later ++ zs) (exhausted_later later zs ex)
 

@@ -7,3 +7,5 @@ mod Tables
 mod Slots
 mod Splits
 mod Placed
+mod Owners
+mod WornOut
