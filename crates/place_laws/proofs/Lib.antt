@@ -9,3 +9,4 @@ mod Splits
 mod Placed
 mod Owners
 mod WornOut
+mod Taken
