@@ -10,3 +10,4 @@ mod Placed
 mod Owners
 mod WornOut
 mod Taken
+mod Pulsing

@@ -15,7 +15,7 @@ owners_among f k from zero = 0
 owners_among f k from (suc n) = owners f from k + owners_among f k (from + 1) n
 
 -- whether a line is one of n from one on
-abbrev once : ℕ → ℕ → ℕ → ℕ
+abbrev pub once : ℕ → ℕ → ℕ → ℕ
 once line from zero = 0
 once line from (suc n) = one_if (line == from) + once line (from + 1) n
 
@@ -24,7 +24,7 @@ once-below line from zero below = refl
 once-below line from (suc n) below =
     omega (arith, ap one_if (ne_eqb line from (λ is. omega (arith, below, is))), once-below line (from + 1) n (omega (arith, below)))
 
-once-few : (line from n : ℕ) → once line from n ≤ 1
+pub once-few : (line from n : ℕ) → once line from n ≤ 1
 once-few line from zero = omega arith
 once-few line from (suc n) =
     elim (cases_eq line from) [
