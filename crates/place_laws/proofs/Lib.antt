@@ -11,3 +11,7 @@ mod Owners
 mod WornOut
 mod Taken
 mod Pulsing
+mod Trying
+mod Cancels
+mod Pulses
+mod Places

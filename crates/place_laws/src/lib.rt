@@ -3,7 +3,9 @@
 //! they run.
 #![tactic(auto)]
 
-ghost use Rattle.place_laws.specs.PlaceLaws.{PlacedLaw, TakenLaw, WornLaw};
+ghost use Rattle.std.specs.Prelude.{ℕ};
+ghost use Rattle.bank_laws.specs.Laws.{PlaceLaw};
+ghost use Rattle.place_laws.specs.PlaceLaws.{PlacedLaw, PulseLaw, TakenLaw, WornLaw};
 
 /// Each row carries the array line where its line stood at its tick, by the closed form of the rotation at the moves that
 /// the stores so far give; or a spare, where that line is worn in the end.
@@ -21,3 +23,25 @@ pub fn worn_rows_tell_of_worn_lines()
 pub fn room_is_taken()
     ensures { TakenLaw }
 {}
+
+/// All pulses of a bank's lines together are at most those that a line write may take, for each of two line writes a store,
+/// each spare, one more, and each cut; and five times as many where reads cancel line writes.
+pub fn pulses_are_few()
+    ensures { PulseLaw }
+{}
+
+/// All of these: the law of the places and of wear.
+pub fn places_keep_their_law()
+    ensures { (n : ℕ) (m : ℕ) → PlaceLaw n m }
+{}
+
+/// The laws are facts, and cost nothing to ask for.
+#[cfg(test)]
+#[test]
+fn laws_hold_of_every_history() {
+    rows_are_placed();
+    worn_rows_tell_of_worn_lines();
+    room_is_taken();
+    pulses_are_few();
+    places_keep_their_law();
+}
