@@ -14,4 +14,5 @@ mod Pulsing
 mod Trying
 mod Cancels
 mod Pulses
+mod Moved
 mod Places

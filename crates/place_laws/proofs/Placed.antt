@@ -36,23 +36,23 @@ use Rattle.place_laws.proofs.Tables.{region-counted, between}
 use Rattle.place_laws.proofs.Slots.{slot_moved-within, retired-few, IsAway, away-later}
 use Rattle.place_laws.proofs.Splits.{IsStoredAt, stored-at, IsReadAt, read-at}
 
-or_one : (a b : Bool) → a ≡ true → (a || b) ≡ true
+pub or_one : (a b : Bool) → a ≡ true → (a || b) ≡ true
 or_one true b h = refl
 or_one false b h = absurd (cc)
 
-or_other : (a b : Bool) → b ≡ true → (a || b) ≡ true
+pub or_other : (a b : Bool) → b ≡ true → (a || b) ≡ true
 or_other true b h = refl
 or_other false b h = h
 
 -- a number from a product up to the next has the quotient
-between_products : (psi k s : ℕ) → psi * k ≤ s → s < psi * (k + 1) → s / psi ≡ k
+pub between_products : (psi k s : ℕ) → psi * k ≤ s → s < psi * (k + 1) → s / psi ≡ k
 between_products psi k s le lt =
     let next : psi * (k + 1) ≡ psi * k + psi = next_product psi k in
     let swap : k * psi ≡ psi * k = grind arith in
     let sum : s ≡ k * psi + (s - psi * k) = omega (arith, le, swap) in
     ap (λ s. s / psi) sum ∙ div-mul-add k psi (s - psi * k) (omega (arith, le, lt, next))
 
-at_product : (psi k : ℕ) → 1 ≤ psi → (psi * (k + 1) % psi ≡ 0) × (psi * (k + 1) / psi ≡ k + 1)
+pub at_product : (psi k : ℕ) → 1 ≤ psi → (psi * (k + 1) % psi ≡ 0) × (psi * (k + 1) / psi ≡ k + 1)
 at_product psi k some =
     let sum : psi * (k + 1) ≡ (k + 1) * psi + 0 = grind arith in
     (ap (λ s. s % psi) sum ∙ mod-mul-add (k + 1) psi 0 (omega (arith, some)), ap (λ s. s / psi) sum ∙ div-mul-add (k + 1) psi 0 (omega (arith, some)))

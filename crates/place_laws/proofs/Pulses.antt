@@ -95,7 +95,7 @@ module _ {n m : ℕ} (shape : BankShape) (pace : Pacing) (e : ℕ) (all : List (
       let tried : ends_in all + cancels_in all ≤ tries pace.policy * (known + 1) =
       tries-few pace.policy (has_exhausted (core all)) (ends_in all) (cancels_in all) (cancels_after all) known (ends-few shape pace e all l) k.few k.most k.calm k.plain in
       let whole : known + 1
-        ≤ 2 * sum_by (λ (q : Row n). one_if (asks_write q.asks && is_stored q.outcome)) (table_of shape all) + shape.spares + 1 + sum_by (λ (r : Row n). one_if (is_cut r)) (table_of shape all) =
+      ≤ 2 * sum_by (λ (q : Row n). one_if (asks_write q.asks && is_stored q.outcome)) (table_of shape all) + shape.spares + 1 + sum_by (λ (r : Row n). one_if (is_cut r)) (table_of shape all) =
       omega (arith, stores, cuts, moves, spares) in
       omega (arith, tried, mul-le-mul_left (tries pace.policy) whole)
 

@@ -97,7 +97,7 @@ module _ {n m : ℕ} (shape : BankShape) (pace : Pacing) (e : ℕ) where
       let b = above_all shape pace e zs l in
       let w = queue-wrote shape (most_steps e) (core zs) b.0 row store.line (may_all shape pace e zs l) b.1 store.stands in
       let more : writes_with keep (λ r. is_stored (unwrap_or (on_row row r (out.Stored tick place)) (outcome_of shape zs r))) (core zs)
-        ≡ writes_with keep (λ r. is_stored (outcome_of shape zs r)) (core zs) + one_if (keep store.line) =
+      ≡ writes_with keep (λ r. is_stored (outcome_of shape zs r)) (core zs) + one_if (keep store.line) =
       writes-more keep (λ r. is_stored (outcome_of shape zs r)) (λ r. is_stored (unwrap_or (on_row row r (out.Stored tick place)) (outcome_of shape zs r))) (core zs) b.0 row store.line b.1 w
       (ap is_stored ((opens shape pace e zs l).queued row (stands-row (queue shape (core zs)) row store.line store.stands)))
       (ap is_stored (own_row row (out.Stored tick place) (outcome_of shape zs row)))

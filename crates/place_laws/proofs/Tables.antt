@@ -62,6 +62,16 @@ module _ {n m : ℕ} (shape : BankShape) (all : List (Timed n m)) where
         cuts = λ tick o. refl;
       }) all
 
+  -- those of a region in the end
+  pub region-all : (region : ℕ) → sum_by (λ (q : Row n). one_if (asks_write q.asks && (line_of q.asks / shape.lines == region && is_stored q.outcome))) (table_of shape all)
+      ≡ writes_with (λ line. line / shape.lines == region) (λ row. is_stored (outcome_of shape all row)) (core all)
+  region-all region =
+      rows-counted (λ q. asks_write q.asks && (line_of q.asks / shape.lines == region && is_stored q.outcome)) (λ line. line / shape.lines == region) is_stored (record {
+        writes = λ tick line bytes given o. ap (λ b. line / shape.lines == region && b) (ended-stored tick o);
+        reads = λ tick line o. refl;
+        cuts = λ tick o. refl;
+      }) all
+
   -- all stores
   pub all-counted : sum_by (λ (q : Row n). one_if (asks_write q.asks && is_stored q.outcome)) (table_of shape all) ≡ writes_with (λ line. true) (λ row. is_stored (outcome_of shape all row)) (core all)
   all-counted =
@@ -74,10 +84,14 @@ module _ {n m : ℕ} (shape : BankShape) (all : List (Timed n m)) where
   in_order : (f : Row n → ℕ) (later ys : List (Timed n m)) → sum_by f (rows_from shape all ys ++ rows_after shape all later) ≡ sum_by f (rows_from shape all (later ++ ys))
   in_order f [] ys = omega (arith, sum_by-append f (rows_from shape all ys) [])
   in_order f (x ∷ later) ys =
-      omega (arith, sum_by-append f (rows_from shape all ys) (rows_after shape all later ++ row_with shape all x.happens x.tick x.cancels),
-      sum_by-append f (rows_after shape all later) (row_with shape all x.happens x.tick x.cancels),
-      sum_by-append f (rows_from shape all ys) (rows_after shape all later),
-      sum_by-append f (row_with shape all x.happens x.tick x.cancels) (rows_from shape all (later ++ ys)), in_order f later ys)
+      omega (
+        arith,
+        sum_by-append f (rows_from shape all ys) (rows_after shape all later ++ row_with shape all x.happens x.tick x.cancels),
+        sum_by-append f (rows_after shape all later) (row_with shape all x.happens x.tick x.cancels),
+        sum_by-append f (rows_from shape all ys) (rows_after shape all later),
+        sum_by-append f (row_with shape all x.happens x.tick x.cancels) (rows_from shape all (later ++ ys)),
+        in_order f later ys,
+      )
 
   -- the rows before a row, it and those after it sum up to the table's
   pub between : (f : Row n → ℕ) (later : List (Timed n m)) (x : Timed n m) (ys : List (Timed n m)) → all ≡ later ++ x ∷ ys

@@ -84,7 +84,7 @@ module _ {n : ℕ} where
       (each-of one two three test pass rows (x ∷ after) (both_second _ _ p) (both_second _ _ q) (both_second _ _ r))
 
 module _ {n m : ℕ} (shape : BankShape) (pace : Pacing) (e : ℕ) (all : List (Timed n m)) (array : ArrayState n m) (sized : IsSized shape pace) (l : Lawful shape pace e all) (idle : IsIdle shape pace all) (leaves : LeavesArray e shape all array) where
-  leaves_work : has_exhausted (core all) ≡ true → may_leave shape (is_worn_at e array) ≡ true
+  pub leaves_work : has_exhausted (core all) ≡ true → may_leave shape (is_worn_at e array) ≡ true
   leaves_work ex = or_left_true _ _ (worn_out shape pace e all array sized l leaves ex)
 
   -- an accepted write that is queued in the end

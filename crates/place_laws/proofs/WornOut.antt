@@ -130,6 +130,20 @@ idle-exhausted {n} shape pace xs row idle there =
     by false false None (e ∷ es) [] idle empty ready there = absurd (cc)
     by false false None (e ∷ es) (w ∷ ws) idle empty ready there = absurd (cc)
 
+-- and so is one where a move is due
+pub idle-due : {n m : ℕ} (shape : BankShape) (pace : Pacing) (xs : List (Timed n m)) (region : ℕ) → IsIdle shape pace xs → due_after shape (core xs) ≡ Some region → has_exhausted (core xs) ≡ true
+idle-due {n} shape pace xs region idle due =
+    by (in_progress (core xs)) (has_exhausted (core xs)) (due_after shape (core xs)) none.0 due none.1
+  where
+    none : (in_progress (core xs) ≡ false) × (may_begin_after shape (core xs) ≡ false)
+    none = none-ready (gives_way pace.policy) (not (is_empty (waits shape (core xs)))) (choice_after shape pace xs) idle.chosen
+
+    by : (busy ex : Bool) (due : Option ℕ) → busy ≡ false → due ≡ Some region → (not busy && is_ready (waits shape (core xs)) (cond ex Nothing (due_work shape (core xs) due (queue shape (core xs))))) ≡ false → ex ≡ true
+    by true ex due idle is ready = absurd (cc)
+    by false true due idle is ready = refl
+    by false false None idle is ready = absurd (cc)
+    by false false (Some at) idle is ready = absurd (cc)
+
 module _ {n m : ℕ} (shape : BankShape) (pace : Pacing) (e : ℕ) (all : List (Timed n m)) (array : ArrayState n m) (sized : IsSized shape pace) (l : Lawful shape pace e all) (leaves : LeavesArray e shape all array) where
   -- an exhausted bank is worn out
   pub worn_out : has_exhausted (core all) ≡ true → is_worn_out shape (is_worn_at e array) ≡ true

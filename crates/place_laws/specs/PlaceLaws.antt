@@ -4,10 +4,11 @@ use Rattle.pcm_cells.specs.Device.{ArrayState}
 use Rattle.row_laws.specs.Rows.{each_row}
 use Rattle.bank_shape.specs.declared.BankShape.{BankShape}
 use Rattle.bank_shape.specs.Shape.{lines_in}
-use Rattle.bank_model.specs.Timing.{Pacing, Timed}
+use Rattle.bank_model.specs.History.{moved_in}
+use Rattle.bank_model.specs.Timing.{Pacing, Timed, core}
 use Rattle.bank_model.specs.Lawful.{Lawful, IsIdle}
 use Rattle.bank_laws.specs.Outcomes.{table_of}
-use Rattle.bank_laws.specs.Places.{is_placed, is_wear_true, is_taken, most_pulses, pulses_among}
+use Rattle.bank_laws.specs.Places.{is_placed, is_moved, is_wear_true, is_taken, most_pulses, pulses_among}
 use Rattle.bank_laws.specs.Laws.{IsSized, LeavesArray, is_worn_at, rules_of}
 
 -- each row carries the array line where its line stood at its tick, or a spare where that line is worn in the end
@@ -37,3 +38,10 @@ PulseLaw =
     (n m e : ℕ) (shape : BankShape) (pace : Pacing) (xs : List (Timed n m)) (array : ArrayState n m)
     → IsSized shape pace → Lawful shape pace e xs → IsIdle shape pace xs → LeavesArray e shape xs array
     → pulses_among (λ line. (array.line line).pulses) shape.base (lines_in shape) ≤ most_pulses (rules_of e shape pace) (table_of shape xs)
+
+-- each region's gap has moved once for so many stores; or once less, where the bank is worn out before a move that is due
+abbrev pub MovedLaw : Type 0
+MovedLaw =
+    (n m e : ℕ) (shape : BankShape) (pace : Pacing) (xs : List (Timed n m)) (array : ArrayState n m) (region : ℕ)
+    → IsSized shape pace → Lawful shape pace e xs → IsIdle shape pace xs → LeavesArray e shape xs array
+    → IsTrue (is_moved shape (is_worn_at e array) (table_of shape xs) region (moved_in shape.lines (core xs) region))

@@ -5,7 +5,7 @@
 
 ghost use Rattle.std.specs.Prelude.{ℕ};
 ghost use Rattle.bank_laws.specs.Laws.{PlaceLaw};
-ghost use Rattle.place_laws.specs.PlaceLaws.{PlacedLaw, PulseLaw, TakenLaw, WornLaw};
+ghost use Rattle.place_laws.specs.PlaceLaws.{MovedLaw, PlacedLaw, PulseLaw, TakenLaw, WornLaw};
 
 /// Each row carries the array line where its line stood at its tick, by the closed form of the rotation at the moves that
 /// the stores so far give; or a spare, where that line is worn in the end.
@@ -30,7 +30,13 @@ pub fn pulses_are_few()
     ensures { PulseLaw }
 {}
 
-/// All of these: the law of the places and of wear.
+/// In the end each region's gap has moved once for each so many of its stores; or once less, where one more move is due and
+/// the bank was worn out before it.
+pub fn gaps_move_with_stores()
+    ensures { MovedLaw }
+{}
+
+/// The law of the places and of wear: the first four of these together.
 pub fn places_keep_their_law()
     ensures { (n : ℕ) (m : ℕ) → PlaceLaw n m }
 {}
@@ -43,5 +49,6 @@ fn laws_hold_of_every_history() {
     worn_rows_tell_of_worn_lines();
     room_is_taken();
     pulses_are_few();
+    gaps_move_with_stores();
     places_keep_their_law();
 }
