@@ -1,16 +1,13 @@
 -- The moves of a region in the end, by the rows.
-use Rattle.std.proofs.Common.{◌≡◌, ℕ, ◌+◌, ◌*◌, ◌/◌, ◌%◌, ◌<◌, ◌≤◌, ◌==◌, inl, inr, List, Option, Some, None, refl, sym, ap, ◌∙◌, subst, arith, true}
+use Rattle.std.proofs.Common.{◌≡◌, ℕ, ◌+◌, ◌*◌, ◌/◌, ◌%◌, ◌≤◌, ◌==◌, inl, inr, Option, Some, None, refl, sym, ap, ◌∙◌, arith, true}
 use Rattle.std.proofs.lemmas.Bool.{eq-eqb, cases_lt}
-use Rattle.pcm_cells.specs.Device.{ArrayState}
 use Rattle.row_laws.specs.Answers.{is_stored}
-use Rattle.bank_shape.specs.declared.BankShape.{BankShape}
 use Rattle.bank_model.specs.History.{moved_in, stored_in, due_after}
 use Rattle.bank_model.specs.Sensing.{most_steps}
-use Rattle.bank_model.specs.Timing.{Pacing, Timed, core}
-use Rattle.bank_model.specs.Lawful.{Lawful, IsIdle}
-use Rattle.bank_laws.specs.Laws.{IsSized, LeavesArray, is_worn_at}
+use Rattle.bank_model.specs.Timing.{core}
+use Rattle.bank_laws.specs.Laws.{is_worn_at}
 use Rattle.bank_laws.specs.Outcomes.{table_of}
-use Rattle.bank_laws.specs.Places.{region_stores, may_leave, is_moved}
+use Rattle.bank_laws.specs.Places.{region_stores, may_leave}
 use Rattle.bank_laws.proofs.Walking.{and_both}
 use Rattle.bank_laws.proofs.Waiting.{may_all}
 use Rattle.place_laws.specs.PlaceLaws.{MovedLaw}

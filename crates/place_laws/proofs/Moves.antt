@@ -8,7 +8,7 @@ use Rattle.bank_model.specs.Events.{Event, Write, Read, Serve, Begin, Iterate, C
 use Rattle.bank_model.specs.History.{first_or, stores, stored_in, moved_in, due_after}
 use Rattle.bank_model.specs.Answers.{MayAll}
 use Rattle.place_laws.proofs.Counts.{one_if}
-use Rattle.place_laws.proofs.Working.{IsStoreOf, done-store, IsMoveOf, done-move}
+use Rattle.place_laws.proofs.Working.{IsStoreOf, done-store, done-move}
 
 pub next_product : (psi k : ℕ) → psi * (k + 1) ≡ psi * k + psi
 next_product psi k = grind arith

@@ -1,6 +1,5 @@
 -- Each row carries the array line where its line stood.
 use Rattle.std.proofs.Common.{◌≡◌, ℕ, ◌+◌, ◌*◌, ◌/◌, ◌%◌, ◌-◌, ◌<◌, ◌≤◌, ◌==◌, ◌&&◌, ◌||◌, ◌⊎◌, inl, inr, not, Bool, true, false, List, [], ◌∷◌, ◌++◌, length, refl, sym, ap, ◌∙◌, subst, arith, sum_by, append_assoc}
-use Rattle.std.specs.Prelude.{nat_lt, nat_le}
 use Rattle.std.proofs.lemmas.Bool.{eq-eqb, ne_eqb, lt-ltb, le-leb, cases_lt}
 use Rattle.std.proofs.lemmas.Nat.{div-mul-add, mod-mul-add}
 use Rattle.result_rows.specs.declared.Outcome.{Outcome}
@@ -12,7 +11,7 @@ use Rattle.row_laws.specs.declared.Row.{Row}
 use Rattle.row_laws.specs.Answers.{stored_before}
 use Rattle.row_laws.specs.Rows.{asks_write, line_of}
 use Rattle.bank_shape.specs.declared.BankShape.{BankShape}
-use Rattle.bank_shape.specs.Shape.{slots_of, slot_moved}
+use Rattle.bank_shape.specs.Shape.{slots_of}
 use Rattle.bank_model.specs.Events.{Write, Read, Serve, Begin, Iterate, Cut}
 use Rattle.bank_model.specs.History.{retired, moved_in, stored_in}
 use Rattle.bank_model.specs.After.{slot_after, stands_at_after}
@@ -23,7 +22,6 @@ use Rattle.bank_laws.specs.Laws.{IsSized, LeavesArray, is_worn_at}
 use Rattle.bank_laws.specs.Outcomes.{outcome_of, ended, row_with, rows_from, table_of}
 use Rattle.bank_laws.specs.Ticks.{ends_action}
 use Rattle.bank_laws.specs.Places.{region_stores, is_place_after, is_place_about, outcome_placed, is_placed}
-use Rattle.bank_laws.proofs.Fates.{eqb-same}
 use Rattle.bank_laws.proofs.Settling.{lawful_before, above_all}
 use Rattle.bank_laws.proofs.Waiting.{may_all}
 use Rattle.bank_laws.proofs.Walking.{Passes, walk, rows_after, and_both}

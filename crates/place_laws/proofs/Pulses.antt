@@ -1,7 +1,6 @@
 -- All pulses of a bank, by its rows.
-use Rattle.std.proofs.Common.{◌≡◌, ℕ, zero, suc, ◌+◌, ◌*◌, ◌<◌, ◌≤◌, ◌&&◌, not, Bool, true, false, List, [], ◌∷◌, ◌++◌, refl, sym, ap, ◌∙◌, subst, arith, sum_by, length, cond}
+use Rattle.std.proofs.Common.{◌≡◌, ℕ, zero, suc, ◌+◌, ◌*◌, ◌<◌, ◌≤◌, ◌&&◌, not, Bool, true, false, List, [], ◌∷◌, ◌++◌, refl, ap, ◌∙◌, arith, sum_by, length, cond}
 use Rattle.std.proofs.Math.Nat.{mul-le-mul_left}
-use Rattle.pcm_cells.specs.Device.{ArrayState}
 use Rattle.row_laws.specs.declared.Asks.TheVariants.{Reads, Writes, Cuts}
 use Rattle.row_laws.specs.declared.Row.{Row}
 use Rattle.row_laws.specs.Answers.{is_stored}
@@ -12,13 +11,13 @@ use Rattle.std.proofs.lemmas.List.Sums.{sum_by-cons}
 use Rattle.bank_shape.specs.declared.BankShape.{BankShape}
 use Rattle.bank_shape.specs.Pausing.{Pausing, Pause, Plain, Cancel, is_cancelling}
 use Rattle.bank_shape.specs.Shape.{lines_in}
-use Rattle.bank_model.specs.Events.{Event, Write, Read, Serve, Begin, Iterate, Cut}
-use Rattle.bank_model.specs.History.{has_exhausted, retired, waits, in_progress, iterated, due_after}
+use Rattle.bank_model.specs.Events.{Write, Read, Serve, Begin, Iterate, Cut}
+use Rattle.bank_model.specs.History.{has_exhausted, retired, waits, iterated, due_after}
 use Rattle.bank_model.specs.Running.{gives_way, choice_after, cancels_after}
 use Rattle.bank_model.specs.Sensing.{most_steps, pulses_of}
 use Rattle.bank_model.specs.Timing.{Pacing, Happens, Core, Timed, core, is_empty}
 use Rattle.bank_model.specs.Lawful.{Lawful, IsIdle}
-use Rattle.bank_laws.specs.Laws.{IsSized, LeavesArray, rules_of}
+use Rattle.bank_laws.specs.Laws.{IsSized, rules_of}
 use Rattle.bank_laws.specs.Outcomes.{outcome_of, ended, row_with, rows_from, table_of}
 use Rattle.bank_laws.specs.Places.{pulses_among, most_pulses}
 use Rattle.bank_laws.proofs.Waiting.{may_all}
@@ -28,9 +27,9 @@ use Rattle.place_laws.proofs.Storing.{stored-counted}
 use Rattle.place_laws.proofs.Tables.{all-counted}
 use Rattle.place_laws.proofs.Slots.{retired-few}
 use Rattle.place_laws.proofs.WornOut.{none-ready}
-use Rattle.place_laws.proofs.Pulsing.{ends_in, cancels_in, pulses_in, pulses-kept, held, KeepsPulses}
-use Rattle.place_laws.proofs.Trying.{all_stores, all_moves, cuts_power, cuts_in, due_one, moves-few, causes, ends-few}
-use Rattle.place_laws.proofs.Cancels.{KeepsCancels, cancels-kept}
+use Rattle.place_laws.proofs.Pulsing.{ends_in, cancels_in, pulses_in, pulses-kept, held}
+use Rattle.place_laws.proofs.Trying.{all_stores, all_moves, cuts_power, cuts_in, due_one, moves-few, ends-few}
+use Rattle.place_laws.proofs.Cancels.{cancels-kept}
 
 -- the same pulses of lines counted from a base
 pulses-same : (f g : ℕ → ℕ) (base from n : ℕ) → ((line : ℕ) → line < from + n → f (base + line) ≡ g (base + line)) → pulses_among f (base + from) n ≡ pulses_among g (base + from) n

@@ -1,5 +1,5 @@
 -- One event pulses one line or none, and a line write takes no more pulses than it may.
-use Rattle.std.proofs.Common.{◌≡◌, ℕ, zero, suc, ◌+◌, ◌*◌, ◌<◌, ◌≤◌, ◌==◌, ◌&&◌, ◌||◌, not, inl, inr, Bool, true, false, List, [], ◌∷◌, Option, Some, None, min, refl, sym, ap, ◌∙◌, subst, arith, cond, eqb}
+use Rattle.std.proofs.Common.{◌≡◌, ℕ, zero, suc, ◌+◌, ◌*◌, ◌<◌, ◌≤◌, ◌==◌, ◌&&◌, ◌||◌, not, Bool, true, false, List, [], ◌∷◌, Option, Some, None, refl, ap, ◌∙◌, subst, arith, cond}
 use Rattle.std.proofs.Math.Nat.{min-le_left}
 use Rattle.pcm_cells.specs.Device.{counted}
 use Rattle.bank_shape.specs.declared.BankShape.{BankShape}

@@ -1,5 +1,5 @@
 -- The slots of a bank's lines and moves are the bank's, and a slot that was given a spare keeps one.
-use Rattle.std.proofs.Common.{◌≡◌, ℕ, ◌+◌, ◌*◌, ◌/◌, ◌%◌, ◌-◌, ◌<◌, ◌≤◌, ◌==◌, Bool, true, false, List, [], ◌∷◌, ◌++◌, length, length-append, refl, sym, ap, ◌∙◌, subst, arith, cond}
+use Rattle.std.proofs.Common.{ℕ, ◌+◌, ◌*◌, ◌/◌, ◌%◌, ◌<◌, ◌≤◌, ◌==◌, Bool, true, false, List, [], ◌∷◌, ◌++◌, length, length-append, sym, subst, arith, cond}
 use Rattle.std.proofs.lemmas.Nat.{mul-add-lt, mod_below, div_below}
 use Rattle.start_gap.specs.Rotation.{place_after, gap_after}
 use Rattle.spare_pool.specs.Table.{line_from}
@@ -8,7 +8,6 @@ use Rattle.bank_shape.specs.declared.BankShape.{BankShape}
 use Rattle.bank_shape.specs.declared.Work.{Work}
 use Rattle.bank_shape.specs.declared.Work.TheVariants.{Nothing, Store, Copy}
 use Rattle.bank_shape.specs.Shape.{slots_of, slot_at, slot_moved}
-use Rattle.bank_model.specs.declared.answer.Step.{Step}
 use Rattle.bank_model.specs.declared.answer.Step.TheVariants as did
 use Rattle.bank_model.specs.Events.{Event, Write, Read, Serve, Begin, Iterate, Cut}
 use Rattle.bank_model.specs.History.{retired}

@@ -1,16 +1,15 @@
 -- What refused and queued writes say of worn lines, and when a write is taken.
-use Rattle.std.proofs.Common.{◌≡◌, ◌≢◌, ℕ, ◌<◌, ◌==◌, ◌&&◌, ◌||◌, not, ◌⊎◌, inl, inr, Bool, true, false, List, [], ◌∷◌, ◌++◌, length, refl, sym, ap, ◌∙◌, subst, append_assoc, arith}
+use Rattle.std.proofs.Common.{◌≡◌, ℕ, ◌<◌, ◌==◌, ◌&&◌, ◌||◌, not, inl, inr, Bool, true, false, List, [], ◌∷◌, ◌++◌, length, refl, sym, ap, ◌∙◌, subst, append_assoc, arith}
 use Rattle.std.specs.Prelude.{nat_lt}
 use Rattle.std.proofs.lemmas.Bool.{ltb-true, eqb-true}
 use Rattle.result_rows.specs.declared.Outcome.{Outcome}
 use Rattle.result_rows.specs.declared.Outcome.TheVariants as out
-use Rattle.masked_bytes.specs.Entries.{has_row}
 use Rattle.pcm_cells.specs.Device.{ArrayState}
 use Rattle.row_laws.specs.declared.Asks.{Asks}
 use Rattle.row_laws.specs.declared.Asks.TheVariants.{Reads, Writes, Cuts}
 use Rattle.row_laws.specs.declared.Row.{Row}
 use Rattle.row_laws.specs.Answers.{accepts, is_worn, is_queued, is_full}
-use Rattle.row_laws.specs.Rows.{RowTest, each_row, asks_write}
+use Rattle.row_laws.specs.Rows.{RowTest, each_row}
 use Rattle.row_laws.specs.Queueing.{pending}
 use Rattle.row_laws.specs.Serving.{may_have, is_served}
 use Rattle.bank_shape.specs.declared.BankShape.{BankShape}
@@ -25,7 +24,6 @@ use Rattle.bank_laws.specs.Outcomes.{outcome_of, ended, row_with, rows_from, tab
 use Rattle.bank_laws.specs.Places.{is_worn_out, may_leave, is_wear_true, is_taken}
 use Rattle.bank_laws.specs.RowLaws.{is_room_fair}
 use Rattle.bank_laws.proofs.Answering.{merged-there}
-use Rattle.bank_laws.proofs.Entries.{either}
 use Rattle.bank_laws.proofs.Settling.{opens}
 use Rattle.bank_laws.proofs.Fates.{IsLeft, WriteFate, new-push, new-merged}
 use Rattle.bank_laws.proofs.Walking.{Passes, walk, rows_after, and_both}

@@ -1,32 +1,29 @@
 -- How many line writes end, and how many are cancelled.
-use Rattle.std.proofs.Common.{◌≡◌, ℕ, ◌+◌, ◌*◌, ◌<◌, ◌≤◌, ◌==◌, ◌&&◌, ◌||◌, not, inl, inr, Bool, true, false, List, [], ◌∷◌, ◌++◌, Option, Some, None, length, length-append, refl, sym, ap, ◌∙◌, subst, arith, cond}
+use Rattle.std.proofs.Common.{◌≡◌, ℕ, ◌+◌, ◌*◌, ◌≤◌, ◌==◌, ◌&&◌, not, Bool, true, false, List, [], ◌∷◌, Option, Some, None, length, length-append, refl, ap, arith, cond}
 use Rattle.std.specs.Prelude.{nat_lt, nat_le}
-use Rattle.std.proofs.lemmas.Bool.{ltb-true, lt-leb, eq-eqb}
+use Rattle.std.proofs.lemmas.Bool.{lt-leb}
 use Rattle.bank_shape.specs.declared.BankShape.{BankShape}
 use Rattle.bank_shape.specs.declared.Work.TheVariants.{Nothing}
-use Rattle.bank_shape.specs.Pausing.{Pausing, is_cancelling, most_cancels}
 use Rattle.bank_model.specs.declared.answer.ReadAnswer.TheVariants as came
-use Rattle.bank_model.specs.declared.answer.Step.{Step}
 use Rattle.bank_model.specs.declared.answer.Step.TheVariants as did
 use Rattle.bank_model.specs.declared.clock.Doing.{Doing}
 use Rattle.bank_model.specs.declared.clock.Doing.TheVariants as doing
 use Rattle.bank_model.specs.declared.clock.Action.{Action}
 use Rattle.bank_model.specs.Events.{Event, Write, Read, Serve, Begin, Iterate, Cut}
-use Rattle.bank_model.specs.History.{Awaited, goes_on, moved_in, stored_in, retired, has_exhausted, due_after, queue, waits, in_progress}
+use Rattle.bank_model.specs.History.{moved_in, stored_in, retired, has_exhausted, due_after, queue, waits, in_progress}
 use Rattle.bank_model.specs.After.{due_work, work_after, is_ready, is_store_of, may_begin_after}
 use Rattle.bank_model.specs.Answers.{MayAll}
-use Rattle.bank_model.specs.Running.{Choice, choice, chosen_by, gives_way, started, left_by, running, running_at, chosen_after, cancels_with, cancels_after}
+use Rattle.bank_model.specs.Running.{choice, chosen_by, gives_way, started, left_by, running, running_at, chosen_after}
 use Rattle.bank_model.specs.Sensing.{most_steps}
 use Rattle.bank_model.specs.Timing.{Pacing, Happens, Core, Timed, is_doing, is_writing, is_empty, core, core_of, last_tick}
-use Rattle.bank_model.specs.Lawful.{Lawful, MayCome, would_cancel}
+use Rattle.bank_model.specs.Lawful.{Lawful, MayCome}
 use Rattle.bank_laws.proofs.Waiting.{may_all}
-use Rattle.bank_laws.proofs.Entries.{either}
 use Rattle.bank_laws.proofs.Fates.{eqb-same}
 use Rattle.place_laws.proofs.Counts.{one_if, stores_with}
-use Rattle.place_laws.proofs.Working.{IsStoreOf, done-store, IsMoveOf, done-move}
+use Rattle.place_laws.proofs.Working.{done-move}
 use Rattle.place_laws.proofs.Moves.{next_product, last_region, KeepsMoves, keeps}
 use Rattle.place_laws.proofs.Slots.{begin-retires_none, begin-exhausts_none}
-use Rattle.place_laws.proofs.Pulsing.{ends_work, cancels_work, ends_in, cancels_in, begins-idle}
+use Rattle.place_laws.proofs.Pulsing.{ends_work, ends_in}
 
 module _ {n : ℕ} where
   -- all stores, all moves

@@ -4,13 +4,12 @@ use Rattle.masked_bytes.specs.declared.entry.Entry.{Entry}
 use Rattle.masked_bytes.specs.Entries.{head_row}
 use Rattle.bank_shape.specs.declared.BankShape.{BankShape}
 use Rattle.bank_shape.specs.declared.Work.TheVariants.{Nothing}
-use Rattle.bank_model.specs.declared.answer.Step.{Step}
 use Rattle.bank_model.specs.declared.answer.Step.TheVariants as did
 use Rattle.start_gap.specs.declared.Move.{Move}
 use Rattle.bank_model.specs.Events.{Event}
 use Rattle.bank_model.specs.History.{queue, due_after, has_exhausted}
 use Rattle.bank_model.specs.After.{work_after, due_work, stands_at_after}
-use Rattle.bank_model.specs.Answers.{IsDone, IsIterated}
+use Rattle.bank_model.specs.Answers.{IsDone}
 use Rattle.bank_laws.proofs.Lines.{Stands}
 
 module _ {n : ℕ} (shape : BankShape) (h : List (Event n)) where

@@ -1,5 +1,5 @@
 -- A bank that is exhausted has more worn lines than spares.
-use Rattle.std.proofs.Common.{◌≡◌, ◌≢◌, ℕ, zero, suc, ◌+◌, ◌*◌, ◌/◌, ◌<◌, ◌≤◌, ◌==◌, ◌&&◌, not, ◌⊎◌, inl, inr, Bool, true, false, List, [], ◌∷◌, ◌++◌, Option, Some, None, length, refl, sym, ap, ◌∙◌, subst, arith, cond, eqb, eqb-true}
+use Rattle.std.proofs.Common.{◌≡◌, ℕ, zero, suc, ◌+◌, ◌*◌, ◌/◌, ◌<◌, ◌≤◌, ◌==◌, ◌&&◌, not, inl, inr, Bool, true, false, List, [], ◌∷◌, Option, Some, None, length, refl, sym, ap, subst, arith, cond}
 use Rattle.std.proofs.lemmas.Bool.{eq-eqb, ne_eqb, le-leb, cases_eq}
 use Rattle.std.proofs.lemmas.Nat.{div_below}
 use Rattle.masked_bytes.specs.declared.entry.Entry.{Entry}
@@ -14,9 +14,8 @@ use Rattle.bank_shape.specs.Shape.{slots_of}
 use Rattle.bank_model.specs.declared.answer.Step.TheVariants as did
 use Rattle.bank_model.specs.Events.{Event, Write, Read, Serve, Begin, Iterate, Cut, RowsBelow, line_of_row}
 use Rattle.bank_model.specs.History.{Awaited, first_or, stores, moved_in, retired, has_exhausted, due_after, queue, waits, in_progress}
-use Rattle.bank_model.specs.After.{slot_after, due_work, work_after, slot_of_work, is_ready, may_begin_after}
+use Rattle.bank_model.specs.After.{due_work, work_after, slot_of_work, is_ready, may_begin_after}
 use Rattle.bank_model.specs.Answers.{MayAll}
-use Rattle.bank_model.specs.declared.clock.Doing.{Doing}
 use Rattle.bank_model.specs.declared.clock.Doing.TheVariants as doing
 use Rattle.bank_model.specs.Running.{Choice, chosen_by, gives_way, choice_after}
 use Rattle.bank_model.specs.Sensing.{most_steps}
@@ -25,7 +24,7 @@ use Rattle.bank_model.specs.Lawful.{Lawful, IsIdle}
 use Rattle.bank_laws.specs.Laws.{IsSized, LeavesArray, is_worn_at}
 use Rattle.bank_laws.specs.Places.{worn_among, is_worn_out}
 use Rattle.bank_laws.proofs.Settling.{above_all}
-use Rattle.bank_laws.proofs.Serves.{none-waits, idle-waits}
+use Rattle.bank_laws.proofs.Serves.{idle-waits}
 use Rattle.bank_laws.proofs.Lines.{Stands}
 use Rattle.bank_laws.proofs.Waiting.{may_all}
 use Rattle.place_laws.proofs.Asked.{asked-within, wrote-asked, wrote-line, queue-wrote}
