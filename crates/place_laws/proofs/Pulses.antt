@@ -21,7 +21,7 @@ use Rattle.bank_laws.specs.Laws.{IsSized, rules_of}
 use Rattle.bank_laws.specs.Outcomes.{outcome_of, ended, row_with, rows_from, table_of}
 use Rattle.bank_laws.specs.Places.{pulses_among, most_pulses}
 use Rattle.bank_laws.proofs.Waiting.{may_all}
-use Rattle.place_laws.specs.PlaceLaws.{PulseLaw}
+use Rattle.place_laws.specs.PlaceLaws.{PulsesLaw}
 use Rattle.place_laws.proofs.Counts.{one_if}
 use Rattle.place_laws.proofs.Storing.{stored-counted}
 use Rattle.place_laws.proofs.Tables.{all-counted}
@@ -114,7 +114,7 @@ module _ {n m : ℕ} (shape : BankShape) (pace : Pacing) (e : ℕ) (all : List (
       omega (arith, k.few, held_none, bound, form) in
       few
 
-pub pulse_law : PulseLaw
+pub pulse_law : PulsesLaw
 pulse_law n m e shape pace xs array sized l idle leaves =
     let same : pulses_among (λ line. (array.line line).pulses) (shape.base + 0) (lines_in shape) ≡ pulses_among (λ line. pulses_of xs line) (shape.base + 0) (lines_in shape) =
     pulses-same (λ line. (array.line line).pulses) (λ line. pulses_of xs line) shape.base 0 (lines_in shape) (λ line lt. leaves.pulses line (omega (arith, lt))) in

@@ -33,8 +33,8 @@ TakenLaw =
     → IsTrue (each_row (is_taken (rules_of e shape pace) shape (is_worn_at e array)) (table_of shape xs) [])
 
 -- the lines of a bank have no more pulses than its stores, gap moves, retirements and cuts account for
-abbrev pub PulseLaw : Type 0
-PulseLaw =
+abbrev pub PulsesLaw : Type 0
+PulsesLaw =
     (n m e : ℕ) (shape : BankShape) (pace : Pacing) (xs : List (Timed n m)) (array : ArrayState n m)
     → IsSized shape pace → Lawful shape pace e xs → IsIdle shape pace xs → LeavesArray e shape xs array
     → pulses_among (λ line. (array.line line).pulses) shape.base (lines_in shape) ≤ most_pulses (rules_of e shape pace) (table_of shape xs)

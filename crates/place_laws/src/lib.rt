@@ -5,7 +5,7 @@
 
 ghost use Rattle.std.specs.Prelude.{ℕ};
 ghost use Rattle.bank_laws.specs.Laws.{PlaceLaw};
-ghost use Rattle.place_laws.specs.PlaceLaws.{MovedLaw, PlacedLaw, PulseLaw, TakenLaw, WornLaw};
+ghost use Rattle.place_laws.specs.PlaceLaws.{MovedLaw, PlacedLaw, PulsesLaw, TakenLaw, WornLaw};
 
 /// Each row carries the array line where its line stood at its tick, by the closed form of the rotation at the moves that
 /// the stores so far give; or a spare, where that line is worn in the end.
@@ -27,7 +27,7 @@ pub fn room_is_taken()
 /// All pulses of a bank's lines together are at most those that a line write may take, for each of two line writes a store,
 /// each spare, one more, and each cut; and five times as many where reads cancel line writes.
 pub fn pulses_are_few()
-    ensures { PulseLaw }
+    ensures { PulsesLaw }
 {}
 
 /// In the end each region's gap has moved once for each so many of its stores; or once less, where one more move is due and
