@@ -65,7 +65,7 @@ module _ {n : ℕ} where
           let other : f row ≡ g row = same row (or_on_right (e.row == row) _ (stands-row es row e.line s)) in
           (k.0, omega (arith, k.1, own, other))
 
-  stands-pushed : (es : List (Entry n)) (x : Entry n) (row line : ℕ) → Stands (es ++ x ∷ []) row line → Stands es row line ⊎ ((x.row ≡ row) × (x.line ≡ line))
+  pub stands-pushed : (es : List (Entry n)) (x : Entry n) (row line : ℕ) → Stands (es ++ x ∷ []) row line → Stands es row line ⊎ ((x.row ≡ row) × (x.line ≡ line))
   stands-pushed [] x row line (inl s) = inr s
   stands-pushed [] x row line (inr s) = absurd s
   stands-pushed (e ∷ es) x row line (inl s) = inl (inl s)
@@ -75,7 +75,7 @@ module _ {n : ℕ} where
       by (inl s) = inl (inr s)
       by (inr s) = inr s
 
-  stands-was : (old new : ℕ) (bytes : List ℕ) (given : List Bool) (es : List (Entry n)) (row line : ℕ) → Stands (merged old new bytes given es) row line → Stands es row line ⊎ ((new ≡ row) × Stands es old line)
+  pub stands-was : (old new : ℕ) (bytes : List ℕ) (given : List Bool) (es : List (Entry n)) (row line : ℕ) → Stands (merged old new bytes given es) row line → Stands es row line ⊎ ((new ≡ row) × Stands es old line)
   stands-was old new bytes given [] row line s = absurd s
   stands-was old new bytes given (e ∷ es) row line s = by (eqb e.row old) refl (λ t. stands-was old new bytes given es row line t) s
     where
@@ -103,10 +103,10 @@ module _ {n : ℕ} where
   -- Merged entries
 
   -- where a write merges: into an entry behind the head, or into the head
-  abbrev MergesInto : Bool → Entry n → List (Entry n) → ℕ → ℕ → Type 0
+  abbrev pub MergesInto : Bool → Entry n → List (Entry n) → ℕ → ℕ → Type 0
   MergesInto busy e es line old = (newest_row es line ≡ Some old) ⊎ ((newest_row es line ≡ None) × (e.row ≡ old) × (e.line ≡ line) × (busy ≡ false))
 
-  merges_into : (busy : Bool) (e : Entry n) (es : List (Entry n)) (line old : ℕ) → candidate busy (e ∷ es) line ≡ Some old → MergesInto busy e es line old
+  pub merges_into : (busy : Bool) (e : Entry n) (es : List (Entry n)) (line old : ℕ) → candidate busy (e ∷ es) line ≡ Some old → MergesInto busy e es line old
   merges_into busy e es line old c = by (newest_row es line) refl c
     where
       own : (busy b : Bool) → newest_row es line ≡ None → eqb e.line line ≡ b → cond (not busy && b) (Some e.row) None ≡ Some old → MergesInto busy e es line old
@@ -119,7 +119,7 @@ module _ {n : ℕ} where
       by None is h = own busy (eqb e.line line) is refl h
 
   -- the head stays where a write merges into an entry behind it
-  behind : (e : Entry n) (es : List (Entry n)) (line old : ℕ) → RowsApart (e ∷ es) → newest_row es line ≡ Some old → (e.row == old) ≡ false
+  pub behind : (e : Entry n) (es : List (Entry n)) (line old : ℕ) → RowsApart (e ∷ es) → newest_row es line ≡ Some old → (e.row == old) ≡ false
   behind e es line old apart new = either (e.row == old) (λ is. absurd (cc (subst (λ r. has_row es r ≡ false) (eqb-true e.row old is) apart.0, newest_row-there es line old new))) (λ ne. ne)
 
   leads-merged : (f : ℕ → ℕ) (busy : Bool) (old new line : ℕ) (bytes : List ℕ) (given : List Bool) (es : List (Entry n)) → RowsApart es → candidate busy es line ≡ Some old
