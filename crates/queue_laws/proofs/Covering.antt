@@ -40,7 +40,7 @@ use Rattle.queue_laws.proofs.Showing.{Front, Tails, front-same, tails-same, fron
 use Rattle.queue_laws.proofs.Floors.{since, floor_of, Asked, asked-one, since-none, since-joins, since-other, floor-bound, floor-agree, floor-above, floor-own, floor-new, stored-agree}
 
 module _ {n : ℕ} where
-  stands-was_begun : (due : Option ℕ) (fill : ℕ → List ℕ) (es : List (Entry n)) (row line : ℕ) → Stands (begun due fill es) row line → Stands es row line
+  pub stands-was_begun : (due : Option ℕ) (fill : ℕ → List ℕ) (es : List (Entry n)) (row line : ℕ) → Stands (begun due fill es) row line → Stands es row line
   stands-was_begun (Some region) fill es row line s = s
   stands-was_begun None fill [] row line s = s
   stands-was_begun None fill (e ∷ es) row line s = s
@@ -66,7 +66,7 @@ module _ {n m : ℕ} (shape : BankShape) where
     asked : (row line : ℕ) → Stands (queue shape (core_of h (core zs))) row line → Asked (core_of h (core zs)) row line
 
 module _ {n m : ℕ} (shape : BankShape) (pace : Pacing) (e : ℕ) where
-  none_new : (zs : List (Timed n m)) (x : Timed n m) (h : Happens n) (row u p : ℕ) → Storeless h → unwrap_or (outcome_with shape zs h x.tick row) (outcome_of shape zs row) ≡ out.Stored u p → outcome_of shape zs row ≡ out.Stored u p
+  pub none_new : (zs : List (Timed n m)) (x : Timed n m) (h : Happens n) (row u p : ℕ) → Storeless h → unwrap_or (outcome_with shape zs h x.tick row) (outcome_of shape zs row) ≡ out.Stored u p → outcome_of shape zs row ≡ out.Stored u p
   none_new zs x (Core (Write at line bytes given wrote.Accepted)) row u p less s = s
   none_new zs x (Core (Write at line bytes given (wrote.Merged old))) row u p less s = not_stored old row (out.Merged x.tick) (outcome_of shape zs row) u p (λ is. absurd (cc)) s
   none_new zs x (Core (Write at line bytes given wrote.Full)) row u p less s = not_stored at row (out.Full x.tick) (outcome_of shape zs row) u p (λ is. absurd (cc)) s
@@ -296,7 +296,8 @@ module _ {n m : ℕ} (shape : BankShape) (pace : Pacing) (e : ℕ) where
           clash row k a own same =
               let mine : Asked (core zs) row f.line = subst (λ q. Asked (core zs) q f.line) (sym head ∙ same) (c.asked f.row f.line (stands_front f.line refl)) in
               let one : f.line ≡ k = asked-one (core zs) bound.0 row f.line k bound.1 mine a in
-              absurd (cc (ne, eq-eqb f.line line (one ∙ eqb-true k line own)))
+              let his : (f.line == line) ≡ true = eq-eqb f.line line (one ∙ eqb-true k line own) in
+              absurd (cc)
 
       fronts_at : (line : ℕ) → Front (λ g. since (core zs) line g) (floor_of (outcome_of shape zs) (core zs) line) line (f ∷ rest)
       fronts_at line = subst (λ (es : List (Entry n)). Front (λ g. since (core zs) line g) (floor_of (outcome_of shape zs) (core zs) line) line es) is (c.front line)

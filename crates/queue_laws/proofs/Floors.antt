@@ -11,11 +11,11 @@ use Rattle.bank_model.specs.Events.{Event, Write, Read, Serve, Begin, Iterate, C
 use Rattle.bank_laws.proofs.Entries.{either}
 use Rattle.bank_laws.proofs.Ending.{accepting}
 
-and_none : (a b : Bool) → b ≡ false → (a && b) ≡ false
+pub and_none : (a b : Bool) → b ≡ false → (a && b) ≡ false
 and_none true b h = h
 and_none false b h = refl
 
-and_first : (a b : Bool) → a ≡ false → (a && b) ≡ false
+pub and_first : (a b : Bool) → a ≡ false → (a && b) ≡ false
 and_first true b h = absurd (cc)
 and_first false b h = refl
 
@@ -23,7 +23,7 @@ since-skip : (b : Bool) (given rest : List Bool) → b ≡ false → cond b (joi
 since-skip true given rest h = absurd (cc)
 since-skip false given rest h = refl
 
-floor-skip : (b : Bool) (row rest : ℕ) → b ≡ false → cond b (suc row) rest ≡ rest
+pub floor-skip : (b : Bool) (row rest : ℕ) → b ≡ false → cond b (suc row) rest ≡ rest
 floor-skip true row rest h = absurd (cc)
 floor-skip false row rest h = refl
 
@@ -168,7 +168,7 @@ module _ {n : ℕ} where
 
   -- Stored or not
 
-  stored_case : (o : Outcome n) → ((u : ℕ) × (p : ℕ) × (o ≡ out.Stored u p)) ⊎ (is_stored o ≡ false)
+  pub stored_case : (o : Outcome n) → ((u : ℕ) × (p : ℕ) × (o ≡ out.Stored u p)) ⊎ (is_stored o ≡ false)
   stored_case out.Unset = inr refl
   stored_case (out.Stored at place) = inl (at, place, refl)
   stored_case (out.Merged at) = inr refl

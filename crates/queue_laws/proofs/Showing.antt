@@ -25,6 +25,11 @@ module _ {n : ℕ} where
   Tails s line [] = Unit {0}
   Tails s line (e ∷ es) = ((e.line == line) ≡ true → spread es line ≡ s (suc e.row)) × Tails s line es
 
+  -- the head has a line
+  abbrev pub HasHead : ℕ → List (Entry n) → Type 0
+  HasHead line [] = ⊥
+  HasHead line (e ∷ es) = e.line ≡ line
+
   -- where the writes are others, but give the same
   own-same : (s t : List Bool) (e : Entry n) → t ≡ s → (e.given ≡ s) ⊎ (gives_all e.given ≡ true) → (e.given ≡ t) ⊎ (gives_all e.given ≡ true)
   own-same s t e same (inl is) = inl (is ∙ sym same)
@@ -178,11 +183,6 @@ module _ {n : ℕ} where
 
     -- What follows: where the writes from the floor on give all bytes the queue does, and else only a head of the line does
 
-    -- the head has the line
-    abbrev pub HasHead : List (Entry n) → Type 0
-    HasHead [] = ⊥
-    HasHead (e ∷ es) = e.line ≡ line
-
     pub front-covers : (floor : ℕ) (es : List (Entry n)) → AllLong es → Front s floor line es → gives_all (s floor) ≡ true → gives_all (spread es line) ≡ true
     front-covers floor [] l f all = subst (λ k. gives_all k ≡ true) f all
     front-covers floor (e ∷ es) l f all = by (eqb e.line line) refl
@@ -195,7 +195,7 @@ module _ {n : ℕ} where
         by true is = gives_all-joined (spread es line) e.given (spread-length es line l.1 ∙ sym l.0) (own (f.1 is))
         by false is = subst (λ k. gives_all k ≡ true) (sym (f.0 is)) all
 
-    pub front-head : (floor : ℕ) (es : List (Entry n)) → Front s floor line es → gives_all (s floor) ≡ false → gives_all (spread es line) ≡ true → HasHead es
+    pub front-head : (floor : ℕ) (es : List (Entry n)) → Front s floor line es → gives_all (s floor) ≡ false → gives_all (spread es line) ≡ true → HasHead line es
     front-head floor [] f not_all all = absurd (cc (subst (λ k. gives_all k ≡ false) f not_all, all))
     front-head floor (e ∷ es) f not_all all = by (eqb e.line line) refl all
       where
