@@ -65,7 +65,7 @@ module _ {n : ℕ} where
   head_one [] a b h k = absurd h
   head_one (e ∷ es) a b h k = h ∙ sym k
 
-  not_stored_ended : (tick : ℕ) (o : Outcome n) → ((u p : ℕ) → o ≡ out.Stored u p → ⊥) → not (is_stored (ended tick o)) ≡ true
+  pub not_stored_ended : (tick : ℕ) (o : Outcome n) → ((u p : ℕ) → o ≡ out.Stored u p → ⊥) → not (is_stored (ended tick o)) ≡ true
   not_stored_ended tick out.Unset h = refl
   not_stored_ended tick (out.Stored at place) h = absurd (h at place refl)
   not_stored_ended tick (out.Merged at) h = refl
@@ -78,7 +78,7 @@ module _ {n : ℕ} where
   not_stored_ended tick (out.Lost at) h = refl
   not_stored_ended tick (out.Cut at) h = refl
 
-  not_before_ended : (tick v : ℕ) (o : Outcome n) → ((u p : ℕ) → o ≡ out.Stored u p → v ≤ u) → not (stored_before v (ended tick o)) ≡ true
+  pub not_before_ended : (tick v : ℕ) (o : Outcome n) → ((u p : ℕ) → o ≡ out.Stored u p → v ≤ u) → not (stored_before v (ended tick o)) ≡ true
   not_before_ended tick v out.Unset h = refl
   not_before_ended tick v (out.Stored at place) h = ap not (le-ltb at v (h at place refl))
   not_before_ended tick v (out.Merged at) h = refl
@@ -101,7 +101,7 @@ pub record StandsWell {n m : ℕ} (shape : BankShape) (all now : List (Timed n m
   pub covered : (row line : ℕ) → Covered (queue shape (core now)) row line → Covered (queue shape (core all)) row line ⊎ ((u : ℕ) × (p : ℕ) × (outcome_of shape all row ≡ out.Stored u p))
 
 module _ {n m : ℕ} (shape : BankShape) (all now : List (Timed n m)) (k : StandsWell shape all now) where
-  entry_unset : (w : Written n) → IsEntry shape all now w → outcome_of shape now w.row ≡ out.Unset
+  pub entry_unset : (w : Written n) → IsEntry shape all now w → outcome_of shape now w.row ≡ out.Unset
   entry_unset w is = k.open_now.queued w.row (stands-row (queue shape (core now)) w.row w.line is.there)
 
   none_stored : (ws : List (Written n)) → Each (λ w. IsEntry shape all now w) ws → NoneStored shape now (outcome_of shape all) → list_all (λ (q : Row n). not (is_stored q.outcome)) (items ws) ≡ true
