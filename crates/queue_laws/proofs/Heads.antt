@@ -74,12 +74,12 @@ module _ {n : ℕ} where
   HasStore line u [] = ⊥
   HasStore line u (q ∷ rows) = ((write_of line q ≡ true) × (p : ℕ) × (q.outcome ≡ out.Stored u p)) ⊎ HasStore line u rows
 
-  store-left : (line u : ℕ) (xs ys : List (Row n)) → HasStore line u xs → HasStore line u (xs ++ ys)
+  pub store-left : (line u : ℕ) (xs ys : List (Row n)) → HasStore line u xs → HasStore line u (xs ++ ys)
   store-left line u [] ys s = absurd s
   store-left line u (x ∷ xs) ys (inl s) = inl s
   store-left line u (x ∷ xs) ys (inr s) = inr (store-left line u xs ys s)
 
-  store-right : (line u : ℕ) (xs ys : List (Row n)) → HasStore line u ys → HasStore line u (xs ++ ys)
+  pub store-right : (line u : ℕ) (xs ys : List (Row n)) → HasStore line u ys → HasStore line u (xs ++ ys)
   store-right line u [] ys s = s
   store-right line u (x ∷ xs) ys s = inr (store-right line u xs ys s)
 

@@ -114,7 +114,7 @@ module _ {n m : ℕ} (shape : BankShape) (pace : Pacing) (e : ℕ) where
 
   -- At a row
 
-  behind : (all later : List (Timed n m)) (x : Timed n m) (ys : List (Timed n m)) → all ≡ later ++ x ∷ ys → all ≡ (later ++ x ∷ []) ++ ys
+  pub behind : (all later : List (Timed n m)) (x : Timed n m) (ys : List (Timed n m)) → all ≡ later ++ x ∷ ys → all ≡ (later ++ x ∷ []) ++ ys
   behind all later x ys same = same ∙ sym (append_assoc later (x ∷ []) ys)
 
   module _ (all later : List (Timed n m)) (x : Timed n m) (ys : List (Timed n m)) (r : 1 ≤ pace.read) (i : 1 ≤ pace.iter) (l : Lawful shape pace e all) (same : all ≡ later ++ x ∷ ys) where

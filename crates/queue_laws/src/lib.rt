@@ -4,7 +4,7 @@
 
 ghost use Rattle.std.specs.Prelude.{ℕ};
 ghost use Rattle.bank_laws.specs.Room.{RoomLaw};
-ghost use Rattle.queue_laws.specs.QueueLaws.{PairsFewLaw, RefusalLaw};
+ghost use Rattle.queue_laws.specs.QueueLaws.{ForwardLaw, PairsFewLaw, QueueFairLaw, RefusalLaw};
 
 /// At each row at most two writes of one line stand in the queue, and two only where the older one came at an earlier tick, is
 /// at the head, and is stored or left there, never merged.
@@ -22,4 +22,16 @@ pub fn refused_writes_find_at_most_one()
 /// one line.
 pub fn banks_have_room()
     ensures { (n m : ℕ) → RoomLaw n m }
+{}
+
+/// A read is forwarded where the accepted writes of its line that are not stored give all its bytes, and otherwise only where
+/// an entry of its line is at the head of the queue. A read that isn't forwarded is busy exactly where as many reads wait as
+/// may, and else it is read or lost.
+pub fn reads_are_forwarded_exactly()
+    ensures { ForwardLaw }
+{}
+
+/// Each row finds a bank that holds no more than it may, and its own answer is the one that follows from what it finds.
+pub fn rows_are_fair_to_the_queue()
+    ensures { QueueFairLaw }
 {}
