@@ -47,18 +47,18 @@ or_rest false b h k = k
 
 module _ {n : ℕ} where
   -- another outcome than a store leaves a store as it was
-  not_stored : (at row : ℕ) (t o : Outcome n) (u p : ℕ) → t ≢ out.Stored u p → unwrap_or (on_row at row t) o ≡ out.Stored u p → o ≡ out.Stored u p
+  pub not_stored : (at row : ℕ) (t o : Outcome n) (u p : ℕ) → t ≢ out.Stored u p → unwrap_or (on_row at row t) o ≡ out.Stored u p → o ≡ out.Stored u p
   not_stored at row t o u p ne s = by (eqb at row) s
     where
       by : (b : Bool) → unwrap_or (cond b (Some t) None) o ≡ out.Stored u p → o ≡ out.Stored u p
       by true s = absurd (ne s)
       by false s = s
 
-  lost_not_stored : (b : Bool) (tick : ℕ) (o : Outcome n) (u p : ℕ) → unwrap_or (cond b (Some (out.Lost tick)) None) o ≡ out.Stored u p → o ≡ out.Stored u p
+  pub lost_not_stored : (b : Bool) (tick : ℕ) (o : Outcome n) (u p : ℕ) → unwrap_or (cond b (Some (out.Lost tick)) None) o ≡ out.Stored u p → o ≡ out.Stored u p
   lost_not_stored true tick o u p s = absurd (cc)
   lost_not_stored false tick o u p s = s
 
-  stored_tick : (at row tick place : ℕ) (o : Outcome n) (u p : ℕ) → unwrap_or (on_row at row (out.Stored tick place)) o ≡ out.Stored u p → ((true ≡ true) × (u ≡ tick)) ⊎ (o ≡ out.Stored u p)
+  pub stored_tick : (at row tick place : ℕ) (o : Outcome n) (u p : ℕ) → unwrap_or (on_row at row (out.Stored tick place)) o ≡ out.Stored u p → ((true ≡ true) × (u ≡ tick)) ⊎ (o ≡ out.Stored u p)
   stored_tick at row tick place o u p s = by (eqb at row) s
     where
       by : (b : Bool) → unwrap_or (cond b (Some (out.Stored tick place)) None) o ≡ out.Stored u p → ((true ≡ true) × (u ≡ tick)) ⊎ (o ≡ out.Stored u p)
