@@ -17,11 +17,11 @@ use Rattle.bank_model.specs.Answers.{head_busy_after, accept_answer, write_answe
 use Rattle.bank_laws.specs.Pairs.{has_line, LinesApart, ArePaired, PairLaw}
 use Rattle.bank_laws.proofs.Entries.{or_none, or_left, or_right, differ_sym, either}
 
-and_left : (a b : Bool) → (a && b) ≡ true → a ≡ true
+pub and_left : (a b : Bool) → (a && b) ≡ true → a ≡ true
 and_left true b h = refl
 and_left false b h = h
 
-and_right : (a b : Bool) → (a && b) ≡ true → b ≡ true
+pub and_right : (a b : Bool) → (a && b) ≡ true → b ≡ true
 and_right true b h = h
 and_right false b h = cc
 
@@ -202,7 +202,7 @@ module _ {n : ℕ} (shape : BankShape) where
   busy-full h false None es w s = w
 
   -- a write that is accepted as a new entry merges into none
-  accepted-none : (h : List (Event n)) (line : ℕ) → wrote.Accepted ≡ write_answer shape h line → candidate (head_busy_after shape h) (queue shape h) line ≡ None
+  pub accepted-none : (h : List (Event n)) (line : ℕ) → wrote.Accepted ≡ write_answer shape h line → candidate (head_busy_after shape h) (queue shape h) line ≡ None
   accepted-none h line a = by (has_exhausted h) (candidate (head_busy_after shape h) (queue shape h) line) a
     where
       by : (b : Bool) (c : Option ℕ) → wrote.Accepted ≡ cond b wrote.Exhausted (accept_answer shape h c) → c ≡ None
@@ -210,7 +210,7 @@ module _ {n : ℕ} (shape : BankShape) where
       by false (Some at) a = absurd (cc)
       by false None a = refl
 
-  new_entry : (h : List (Event n)) (line : ℕ) → KeepsPairs h → candidate (head_busy_after shape h) (queue shape h) line ≡ None
+  pub new_entry : (h : List (Event n)) (line : ℕ) → KeepsPairs h → candidate (head_busy_after shape h) (queue shape h) line ≡ None
       → (e : Entry n) (rest : List (Entry n)) → queue shape h ≡ e ∷ rest → (has_line rest line ≡ false) × ((line == e.line) ≡ true → gives_all e.given ≡ true)
   new_entry h line k c e rest is =
       let found : candidate (head_busy_after shape h) (e ∷ rest) line ≡ None = subst (λ (q : List (Entry n)). candidate (head_busy_after shape h) q line ≡ None) is c in (
@@ -222,7 +222,7 @@ module _ {n : ℕ} (shape : BankShape) where
             subst (λ (q : List (Entry n)). HeadFull q) is full,
       )
 
-  keeps_pairs : (most : ℕ) (h : List (Event n)) → MayAll shape most h → KeepsPairs h
+  pub keeps_pairs : (most : ℕ) (h : List (Event n)) → MayAll shape most h → KeepsPairs h
   keeps_pairs most [] m = record { paired = tt; long = tt; working = λ p. absurd (cc) }
   keeps_pairs most (Write row line bytes given wrote.Accepted ∷ h) m =
       let k = keeps_pairs most h m.1 in

@@ -33,28 +33,28 @@ use Rattle.bank_laws.proofs.Walking.{rows_after}
 use Rattle.bank_laws.proofs.Ending.{Onwards, IsOutcome, write_outcome, outcome-accepts}
 use Rattle.bank_laws.proofs.Serves.{may_at, onwards_at}
 
-and_first : (a b : Bool) → a ≡ false → (a && b) ≡ false
+pub and_first : (a b : Bool) → a ≡ false → (a && b) ≡ false
 and_first true b h = absurd (cc)
 and_first false b h = refl
 
-and_second : (a b : Bool) → b ≡ false → (a && b) ≡ false
+pub and_second : (a b : Bool) → b ≡ false → (a && b) ≡ false
 and_second true b h = h
 and_second false b h = refl
 
-or_rest : (a b : Bool) → a ≡ false → (a || b) ≡ true → b ≡ true
+pub or_rest : (a b : Bool) → a ≡ false → (a || b) ≡ true → b ≡ true
 or_rest true b h k = absurd (cc)
 or_rest false b h k = k
 
 module _ {n : ℕ} where
   -- another outcome than a store leaves a store as it was
-  not_stored : (at row : ℕ) (t o : Outcome n) (u p : ℕ) → t ≢ out.Stored u p → unwrap_or (on_row at row t) o ≡ out.Stored u p → o ≡ out.Stored u p
+  pub not_stored : (at row : ℕ) (t o : Outcome n) (u p : ℕ) → t ≢ out.Stored u p → unwrap_or (on_row at row t) o ≡ out.Stored u p → o ≡ out.Stored u p
   not_stored at row t o u p ne s = by (eqb at row) s
     where
       by : (b : Bool) → unwrap_or (cond b (Some t) None) o ≡ out.Stored u p → o ≡ out.Stored u p
       by true s = absurd (ne s)
       by false s = s
 
-  lost_not_stored : (b : Bool) (tick : ℕ) (o : Outcome n) (u p : ℕ) → unwrap_or (cond b (Some (out.Lost tick)) None) o ≡ out.Stored u p → o ≡ out.Stored u p
+  pub lost_not_stored : (b : Bool) (tick : ℕ) (o : Outcome n) (u p : ℕ) → unwrap_or (cond b (Some (out.Lost tick)) None) o ≡ out.Stored u p → o ≡ out.Stored u p
   lost_not_stored true tick o u p s = absurd (cc)
   lost_not_stored false tick o u p s = s
 
@@ -94,7 +94,7 @@ module _ {n : ℕ} where
       by true ex d = d
       by false ex d = absurd (cc)
 
-  exhausted-more : (event : Event n) (h : List (Event n)) → has_exhausted h ≡ true → has_exhausted (event ∷ h) ≡ true
+  pub exhausted-more : (event : Event n) (h : List (Event n)) → has_exhausted h ≡ true → has_exhausted (event ∷ h) ≡ true
   exhausted-more (Write row line bytes given answer) h ex = ex
   exhausted-more (Read row line answer) h ex = ex
   exhausted-more (Serve answer) h ex = ex
@@ -183,10 +183,10 @@ module _ {n m : ℕ} (shape : BankShape) (pace : Pacing) (e : ℕ) where
   kept_by zs x (Core (Iterate did.Exhausted)) row u p may ex s = s
   kept_by zs x (Core (Cut tearing)) row u p may ex s = lost_not_stored (has_wait (waits shape (core zs)) row) x.tick _ u p s
 
-  exhausted_on : (h : Happens n) (zs : List (Timed n m)) → has_exhausted (core zs) ≡ true → has_exhausted (core_of h (core zs)) ≡ true
+  pub exhausted_on : (h : Happens n) (zs : List (Timed n m)) → has_exhausted (core zs) ≡ true → has_exhausted (core_of h (core zs)) ≡ true
   exhausted_on (Core event) zs ex = exhausted-more event (core zs) ex
 
-  exhausted_later : (later zs : List (Timed n m)) → has_exhausted (core zs) ≡ true → has_exhausted (core (later ++ zs)) ≡ true
+  pub exhausted_later : (later zs : List (Timed n m)) → has_exhausted (core zs) ≡ true → has_exhausted (core (later ++ zs)) ≡ true
   exhausted_later [] zs ex = ex
   exhausted_later (x ∷ later) zs ex = exhausted_on x.happens (later ++ zs) (exhausted_later later zs ex)
 
