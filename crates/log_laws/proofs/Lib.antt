@@ -1,0 +1,10 @@
+mod Chains
+mod Targets
+mod Unworn
+mod Firsts
+mod Breaking
+mod Owning
+mod Counted
+mod Pulsing
+mod Stepping
+mod Fair
