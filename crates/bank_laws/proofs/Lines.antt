@@ -147,10 +147,10 @@ module _ {n : ℕ} where
 
   -- Which entry a write merges into
 
-  newest-line : (es : List (Entry n)) (line : ℕ) → newest_row es line ≡ None → has_line es line ≡ false
+  pub newest-line : (es : List (Entry n)) (line : ℕ) → newest_row es line ≡ None → has_line es line ≡ false
   newest-line es line none = no_candidate-rest es line None (ap (λ o. or_this o None) none)
 
-  newest-stands : (es : List (Entry n)) (line at : ℕ) → newest_row es line ≡ Some at → Stands es at line
+  pub newest-stands : (es : List (Entry n)) (line at : ℕ) → newest_row es line ≡ Some at → Stands es at line
   newest-stands [] line at h = absurd (cc)
   newest-stands (e ∷ es) line at h = by (newest_row es line) (λ is. newest-stands es line at is) refl h
     where
@@ -162,7 +162,7 @@ module _ {n : ℕ} where
       by (Some row) rest is h = inr (rest (is ∙ h))
       by None rest is h = own (eqb e.line line) refl h
 
-  candidate-stands : (busy : Bool) (es : List (Entry n)) (line at : ℕ) → candidate busy es line ≡ Some at → Stands es at line
+  pub candidate-stands : (busy : Bool) (es : List (Entry n)) (line at : ℕ) → candidate busy es line ≡ Some at → Stands es at line
   candidate-stands busy [] line at h = absurd (cc)
   candidate-stands busy (e ∷ es) line at h = by (newest_row es line) refl h
     where
@@ -234,7 +234,7 @@ module _ {n : ℕ} where
 
   -- Of the answer to a write
 
-  merged-candidate : (shape : BankShape) (h : List (Event n)) (line old : ℕ) → wrote.Merged old ≡ write_answer shape h line → candidate (head_busy_after shape h) (queue shape h) line ≡ Some old
+  pub merged-candidate : (shape : BankShape) (h : List (Event n)) (line old : ℕ) → wrote.Merged old ≡ write_answer shape h line → candidate (head_busy_after shape h) (queue shape h) line ≡ Some old
   merged-candidate shape h line old m = by (has_exhausted h) (candidate (head_busy_after shape h) (queue shape h) line) m
     where
       full : (b : Bool) (c : Option ℕ) → wrote.Merged old ≡ cond b wrote.Full wrote.Accepted → c ≡ Some old

@@ -8,3 +8,5 @@ mod Counted
 mod Pulsing
 mod Stepping
 mod Fair
+mod Given
+mod Fitting

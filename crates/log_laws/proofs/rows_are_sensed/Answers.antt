@@ -1,0 +1,6 @@
+use Rattle.log_laws.proofs.Fitting.{fits-given}
+use Rattle.log_laws.proofs.Given.{given-merged_other}
+use Rattle.log_laws.proofs.rows_are_sensed.Goals as goal
+
+pub returns : goal.returns
+returns c = ?
