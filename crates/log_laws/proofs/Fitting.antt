@@ -15,15 +15,15 @@ use Rattle.log_laws.proofs.Given.{given_of, length-given, given-lacks, given-pus
 abbrev pub out_with : Bool → (ℕ → Bool) → ℕ → ℕ → Bool
 out_with b out row = cond b (λ x. out x || row == x) out
 
-out_with-not : (b : Bool) (out : ℕ → Bool) (row r : ℕ) → out r ≡ false → (row == r) ≡ false → out_with b out row r ≡ false
+pub out_with-not : (b : Bool) (out : ℕ → Bool) (row r : ℕ) → out r ≡ false → (row == r) ≡ false → out_with b out row r ≡ false
 out_with-not true out row r h k = or_none (out r) (row == r) h k
 out_with-not false out row r h k = h
 
-out_with-kept : (b : Bool) (out : ℕ → Bool) (row r : ℕ) → out r ≡ true → out_with b out row r ≡ true
+pub out_with-kept : (b : Bool) (out : ℕ → Bool) (row r : ℕ) → out r ≡ true → out_with b out row r ≡ true
 out_with-kept true out row r h = or_first (out r) (row == r) h
 out_with-kept false out row r h = h
 
-out_with-new : (b : Bool) (out : ℕ → Bool) (row : ℕ) → b ≡ true → out_with b out row row ≡ true
+pub out_with-new : (b : Bool) (out : ℕ → Bool) (row : ℕ) → b ≡ true → out_with b out row row ≡ true
 out_with-new true out row is = or_second (out row) (row == row) (eqb-same row)
 out_with-new false out row is = absurd (cc)
 

@@ -10,3 +10,5 @@ mod Stepping
 mod Fair
 mod Given
 mod Fitting
+mod Naming
+mod Covering
