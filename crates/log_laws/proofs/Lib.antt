@@ -12,3 +12,4 @@ mod Given
 mod Fitting
 mod Naming
 mod Covering
+mod Outing

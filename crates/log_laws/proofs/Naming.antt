@@ -82,3 +82,13 @@ module _ {n : ℕ} where
   up_to-kept (Begin how ∷ pre) row line bytes given answer h bound below = up_to-kept pre row line bytes given answer h bound below
   up_to-kept (Iterate how ∷ pre) row line bytes given answer h bound below = up_to-kept pre row line bytes given answer h bound below
   up_to-kept (Cut how ∷ pre) row line bytes given answer h bound below = up_to-kept pre row line bytes given answer h bound below
+
+  -- the rows of older events are below those of newer ones
+  pub rows_below-end : (pre h : List (Event n)) (bound : ℕ) → RowsBelow (pre ++ h) bound → (low : ℕ) × RowsBelow h low × (low ≤ bound)
+  rows_below-end [] h bound below = (bound, below, omega arith)
+  rows_below-end (Write at to some which how ∷ pre) h bound below = let k = rows_below-end pre h at below.1 in (k.0, k.1, let up : at < bound = below.0 in let le : k.0 ≤ at = k.2 in omega (arith, up, le))
+  rows_below-end (Read at to how ∷ pre) h bound below = let k = rows_below-end pre h at below.1 in (k.0, k.1, let up : at < bound = below.0 in let le : k.0 ≤ at = k.2 in omega (arith, up, le))
+  rows_below-end (Serve how ∷ pre) h bound below = rows_below-end pre h bound below
+  rows_below-end (Begin how ∷ pre) h bound below = rows_below-end pre h bound below
+  rows_below-end (Iterate how ∷ pre) h bound below = rows_below-end pre h bound below
+  rows_below-end (Cut how ∷ pre) h bound below = rows_below-end pre h bound below
