@@ -13,3 +13,4 @@ mod Fitting
 mod Naming
 mod Covering
 mod Outing
+mod Uncovering

@@ -1,3 +1,4 @@
+use Rattle.log_laws.proofs.Uncovering.{cover-same}
 use Rattle.log_laws.proofs.Outing.{out-same}
 use Rattle.log_laws.proofs.Covering.{fits-after}
 use Rattle.log_laws.proofs.Fitting.{fits-given}
