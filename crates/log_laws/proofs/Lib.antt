@@ -14,3 +14,5 @@ mod Naming
 mod Covering
 mod Outing
 mod Uncovering
+mod Storing
+mod Reading

@@ -1,3 +1,5 @@
+use Rattle.log_laws.proofs.Reading.{read-sensed}
+use Rattle.log_laws.proofs.Storing.{stored-sensed}
 use Rattle.log_laws.proofs.Uncovering.{cover-same}
 use Rattle.log_laws.proofs.Outing.{out-same}
 use Rattle.log_laws.proofs.Covering.{fits-after}
