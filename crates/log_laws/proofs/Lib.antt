@@ -16,3 +16,5 @@ mod Outing
 mod Uncovering
 mod Storing
 mod Reading
+mod Sensed
+mod Whole
