@@ -210,7 +210,7 @@ module _ {n : ℕ} (shape : BankShape) where
       by false (Some at) a = absurd (cc)
       by false None a = refl
 
-  new_entry : (h : List (Event n)) (line : ℕ) → KeepsPairs h → candidate (head_busy_after shape h) (queue shape h) line ≡ None
+  pub new_entry : (h : List (Event n)) (line : ℕ) → KeepsPairs h → candidate (head_busy_after shape h) (queue shape h) line ≡ None
       → (e : Entry n) (rest : List (Entry n)) → queue shape h ≡ e ∷ rest → (has_line rest line ≡ false) × ((line == e.line) ≡ true → gives_all e.given ≡ true)
   new_entry h line k c e rest is =
       let found : candidate (head_busy_after shape h) (e ∷ rest) line ≡ None = subst (λ (q : List (Entry n)). candidate (head_busy_after shape h) q line ≡ None) is c in (

@@ -29,7 +29,7 @@ use Rattle.bank_laws.proofs.Fates.{Awaits, IsSettled, ReadFate, awaits-new, eqb-
 use Rattle.bank_laws.proofs.Walking.{Passes, walk, rows_after, and_both}
 use Rattle.bank_laws.proofs.Ending.{Onwards, onwards, accepting, outcome-accepts, outcome-may, own_answer, write_outcome}
 
-same_bytes-same : (xs ys : List ℕ) → xs ≡ ys → same_bytes xs ys ≡ true
+pub same_bytes-same : (xs ys : List ℕ) → xs ≡ ys → same_bytes xs ys ≡ true
 same_bytes-same xs ys e = subst (λ ys. same_bytes xs ys ≡ true) e (itself xs)
   where
     itself : (xs : List ℕ) → same_bytes xs xs ≡ true
@@ -46,14 +46,14 @@ none-waits false true c is = by c.busy is
     by true is = absurd (cc)
     by false is = absurd (cc)
 
-empty-waits : (ws : List Awaited) → not (is_empty ws) ≡ false → ws ≡ []
+pub empty-waits : (ws : List Awaited) → not (is_empty ws) ≡ false → ws ≡ []
 empty-waits [] h = refl
 empty-waits (w ∷ ws) h = absurd (cc)
 
 pub idle-waits : {n m : ℕ} (shape : BankShape) (pace : Pacing) (xs : List (Timed n m)) → IsIdle shape pace xs → waits shape (core xs) ≡ []
 idle-waits shape pace xs idle = empty-waits (waits shape (core xs)) (none-waits (gives_way pace.policy) (not (is_empty (waits shape (core xs)))) (choice_after shape pace xs) idle.chosen)
 
-lay_taken : (a b : Bool) (xs ys : List ℕ) → b ≡ true → cond (a && b) xs ys ≡ cond a xs ys
+pub lay_taken : (a b : Bool) (xs ys : List ℕ) → b ≡ true → cond (a && b) xs ys ≡ cond a xs ys
 lay_taken true true xs ys h = refl
 lay_taken true false xs ys h = absurd (cc)
 lay_taken false b xs ys h = refl
