@@ -107,7 +107,7 @@ abbrev pub writes_in : {n m : ℕ} → List (Timed n m) → List ℕ
 writes_in [] = []
 writes_in (x ∷ xs) = write_rows x.happens ++ writes_in xs
 
-writes-fall : {n m : ℕ} (zs : List (Timed n m)) (bound : ℕ) → RowsBelow (core zs) bound → Falling (writes_in zs) bound
+pub writes-fall : {n m : ℕ} (zs : List (Timed n m)) (bound : ℕ) → RowsBelow (core zs) bound → Falling (writes_in zs) bound
 writes-fall [] bound b = tt
 writes-fall {n} {m} (z ∷ zs) bound b = by z.happens (λ bound b. writes-fall zs bound b) b
   where
@@ -119,7 +119,7 @@ writes-fall {n} {m} (z ∷ zs) bound b = by z.happens (λ bound b. writes-fall z
     by (Core (Iterate answer)) go b = go bound b
     by (Core (Cut tearing)) go b = go bound b
 
-queue-asked : {n m : ℕ} (shape : BankShape) (zs : List (Timed n m)) (r : ℕ) → has_row (queue shape (core zs)) r ≡ true → among (writes_in zs) r ≡ true
+pub queue-asked : {n m : ℕ} (shape : BankShape) (zs : List (Timed n m)) (r : ℕ) → has_row (queue shape (core zs)) r ≡ true → among (writes_in zs) r ≡ true
 queue-asked shape [] r there = absurd (cc)
 queue-asked {n} {m} shape (z ∷ zs) r there = by z.happens (λ t. queue-asked shape zs r t) there
   where
@@ -162,7 +162,7 @@ refused_set {n} shape ys tick at line bytes given wrote.Full ref un = let both :
 refused_set {n} shape ys tick at line bytes given wrote.Exhausted ref un = let both : ◌≡◌ {A = Outcome n} (out.Worn tick) out.Unset = sym (own_row at (out.Worn tick) (outcome_of shape ys at)) ∙ un in absurd (cc)
 
 module _ {n m : ℕ} (shape : BankShape) (pace : Pacing) (e : ℕ) where
-  last-later : (later zs : List (Timed n m)) → 1 ≤ pace.read → 1 ≤ pace.iter → Lawful shape pace e (later ++ zs) → last_tick zs ≤ last_tick (later ++ zs)
+  pub last-later : (later zs : List (Timed n m)) → 1 ≤ pace.read → 1 ≤ pace.iter → Lawful shape pace e (later ++ zs) → last_tick zs ≤ last_tick (later ++ zs)
   last-later [] zs r i l = omega arith
   last-later (y ∷ later) zs r i l =
       let before : last_tick zs ≤ last_tick (later ++ zs) = last-later later zs r i l.1 in

@@ -247,7 +247,7 @@ abbrev pub reads_in : {n m : ℕ} → List (Timed n m) → List ℕ
 reads_in [] = []
 reads_in (x ∷ xs) = read_rows x.happens ++ reads_in xs
 
-reads-fall : {n m : ℕ} (zs : List (Timed n m)) (bound : ℕ) → RowsBelow (core zs) bound → Falling (reads_in zs) bound
+pub reads-fall : {n m : ℕ} (zs : List (Timed n m)) (bound : ℕ) → RowsBelow (core zs) bound → Falling (reads_in zs) bound
 reads-fall [] bound b = tt
 reads-fall {n} {m} (z ∷ zs) bound b = by z.happens (λ bound b. reads-fall zs bound b) b
   where
@@ -259,7 +259,7 @@ reads-fall {n} {m} (z ∷ zs) bound b = by z.happens (λ bound b. reads-fall zs 
     by (Core (Iterate answer)) go b = go bound b
     by (Core (Cut tearing)) go b = go bound b
 
-waits-asked : {n m : ℕ} (shape : BankShape) (zs : List (Timed n m)) (r : ℕ) → has_wait (waits shape (core zs)) r ≡ true → among (reads_in zs) r ≡ true
+pub waits-asked : {n m : ℕ} (shape : BankShape) (zs : List (Timed n m)) (r : ℕ) → has_wait (waits shape (core zs)) r ≡ true → among (reads_in zs) r ≡ true
 waits-asked shape [] r there = absurd (cc)
 waits-asked {n} {m} shape (z ∷ zs) r there = by z.happens (λ t. waits-asked shape zs r t) there
   where

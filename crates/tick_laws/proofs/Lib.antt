@@ -1,0 +1,3 @@
+mod Actions
+mod Spacing
+mod Apart

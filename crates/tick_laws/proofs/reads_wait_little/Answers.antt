@@ -1,0 +1,4 @@
+use Rattle.tick_laws.proofs.reads_wait_little.Goals as goal
+
+pub returns : goal.returns
+returns c = ?
