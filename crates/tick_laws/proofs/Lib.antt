@@ -1,3 +1,6 @@
 mod Actions
 mod Spacing
 mod Apart
+mod Settings
+mod Turns
+mod Waits
