@@ -4,3 +4,5 @@ mod Apart
 mod Settings
 mod Turns
 mod Waits
+mod Afterwards
+mod ReadTimes

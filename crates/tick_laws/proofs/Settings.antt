@@ -40,23 +40,23 @@ module _ {n : ℕ} where
       by false is = absurd (cc)
 
 module _ {n m : ℕ} (shape : BankShape) where
-  -- the event s sets the outcome o of a row, behind the events `mid` over zs
-  pub record SetAt (all zs : List (Timed n m)) (row : ℕ) (o : Outcome n) : Type 0 where
+  -- the event s sets the outcome o of a row, behind the events `mid` over zs and before the events `late`
+  pub record SetAt (later zs : List (Timed n m)) (row : ℕ) (o : Outcome n) : Type 0 where
     pub late : List (Timed n m)
     pub event : Timed n m
     pub mid : List (Timed n m)
-    pub split : all ≡ late ++ event ∷ (mid ++ zs)
+    pub split : later ≡ late ++ event ∷ mid
     pub unset : outcome_of shape (mid ++ zs) row ≡ out.Unset
     pub sets : outcome_with shape (mid ++ zs) event.happens event.tick row ≡ Some o
 
 module _ {n m : ℕ} (shape : BankShape) (pace : Pacing) (e : ℕ) where
   pub setting : (later zs : List (Timed n m)) (row : ℕ) (o : Outcome n) → Lawful shape pace e (later ++ zs) → outcome_of shape zs row ≡ out.Unset → o ≢ out.Unset
-      → outcome_of shape (later ++ zs) row ≡ o → SetAt shape (later ++ zs) zs row o
+      → outcome_of shape (later ++ zs) row ≡ o → SetAt shape later zs row o
   setting [] zs row o l un set is = absurd (set (sym is ∙ un))
   setting (y ∷ later) zs row o l un set is = by (open_or_set (outcome_of shape (later ++ zs) row)) (λ k. setting later zs row o l.1 un set k)
     where
-      by : (outcome_of shape (later ++ zs) row ≡ out.Unset) ⊎ (outcome_of shape (later ++ zs) row ≢ out.Unset) → (outcome_of shape (later ++ zs) row ≡ o → SetAt shape (later ++ zs) zs row o)
-          → SetAt shape (y ∷ later ++ zs) zs row o
+      by : (outcome_of shape (later ++ zs) row ≡ out.Unset) ⊎ (outcome_of shape (later ++ zs) row ≢ out.Unset) → (outcome_of shape (later ++ zs) row ≡ o → SetAt shape later zs row o)
+          → SetAt shape (y ∷ later) zs row o
       by (inl k) go = record {
         late = [];
         event = y;

@@ -57,13 +57,13 @@ module _ (read iter work bound : ℕ) where
   after_drop true false count first tick t idle lt h = omega arith
   after_drop false false count first tick t idle lt h = omega arith
 
-  at_end : (way busy : Bool) (count first t : ℕ) → (way ≡ false → busy ≡ false) → read ≤ t → first + 0 + t ≤ bound + paid iter way busy count → first + read ≤ bound
+  pub at_end : (way busy : Bool) (count first t : ℕ) → (way ≡ false → busy ≡ false) → read ≤ t → first + 0 + t ≤ bound + paid iter way busy count → first + read ≤ bound
   at_end true busy count first t idle some h = omega arith
   at_end false true count first t idle some h = let k : true ≡ false = idle refl in absurd (cc)
   at_end false false count first t idle some h = omega arith
 
   -- a cut comes below the bound, where a read waits
-  at_cut : (way busy reads : Bool) (count tick t : ℕ) (r : Option Action) → 1 ≤ read → read ≤ t → (busy ≡ true → count * iter + iter ≤ work) → IfSome r (λ a. Fits way busy reads a.doing)
+  pub at_cut : (way busy reads : Bool) (count tick t : ℕ) (r : Option Action) → 1 ≤ read → read ≤ t → (busy ≡ true → count * iter + iter ≤ work) → IfSome r (λ a. Fits way busy reads a.doing)
       → IfSome r (λ a. tick < ends_with read iter a)
       → since r tick + owes read iter work way busy r + t ≤ bound + paid iter way busy count → tick < bound
   at_cut true busy reads count tick t None some turn few f end h = omega arith
@@ -108,14 +108,14 @@ module _ {n m : ℕ} (shape : BankShape) (pace : Pacing) (e : ℕ) where
       HasTurn pace.read pace.iter (work_time pace e) (gives_way pace.policy) a bound row (since_of shape pace zs) (running shape pace zs) (in_progress (core zs)) (iterated (core zs)) (waits shape (core zs))
 
   -- the same at the tick of the next event, before that
-  abbrev TurnAt : ℕ → ℕ → ℕ → List (Timed n m) → ℕ → Option Action → Type 0
+  abbrev pub TurnAt : ℕ → ℕ → ℕ → List (Timed n m) → ℕ → Option Action → Type 0
   TurnAt a bound row zs tick r =
       HasTurn pace.read pace.iter (work_time pace e) (gives_way pace.policy) a bound row (since r tick) r (in_progress (core zs)) (iterated (core zs)) (waits shape (core zs))
 
-  few_times : (zs : List (Timed n m)) → Lawful shape pace e zs → in_progress (core zs) ≡ true → iterated (core zs) * pace.iter + pace.iter ≤ (work_time pace e)
+  pub few_times : (zs : List (Timed n m)) → Lawful shape pace e zs → in_progress (core zs) ≡ true → iterated (core zs) * pace.iter + pace.iter ≤ (work_time pace e)
   few_times zs l busy = times_few (iterated (core zs)) (most_steps e) pace.iter (iterated-few shape pace e zs l busy)
 
-  turn_at : (a bound row : ℕ) (zs : List (Timed n m)) (tick : ℕ) → last_tick zs ≤ tick → a ≤ last_tick zs → has_wait (waits shape (core zs)) row ≡ true → Turn a bound row zs
+  pub turn_at : (a bound row : ℕ) (zs : List (Timed n m)) (tick : ℕ) → last_tick zs ≤ tick → a ≤ last_tick zs → has_wait (waits shape (core zs)) row ≡ true → Turn a bound row zs
       → TurnAt a bound row zs tick (running_at shape pace zs tick)
   turn_at a bound row zs tick rises up there t =
       subst (λ d. TurnAt a bound row zs tick (started (running shape pace zs) d (last_tick zs) tick)) (sym chosen) (record {
@@ -136,16 +136,16 @@ module _ {n m : ℕ} (shape : BankShape) (pace : Pacing) (e : ℕ) where
           ∙ chosen-reads (gives_way pace.policy) (in_progress (core zs)) (may_begin_after shape (core zs))
 
   module _ (a bound row : ℕ) (zs : List (Timed n m)) (y : Timed n m) (l : Lawful shape pace e (y ∷ zs)) where
-    abbrev TurnBy : Happens n → Option Action → Type 0
+    abbrev pub TurnBy : Happens n → Option Action → Type 0
     TurnBy h r =
         HasTurn pace.read pace.iter (work_time pace e) (gives_way pace.policy) a bound row (since r y.tick) r (in_progress (core_of h (core zs))) (iterated (core_of h (core zs))) (waits shape (core_of h (core zs)))
 
     -- the action that ends
-    ending : (doing : Doing) → running_at shape pace zs y.tick ≡ Some (record { doing = doing; first = y.first }) → TurnAt a bound row zs y.tick (running_at shape pace zs y.tick)
+    pub ending : (doing : Doing) → running_at shape pace zs y.tick ≡ Some (record { doing = doing; first = y.first }) → TurnAt a bound row zs y.tick (running_at shape pace zs y.tick)
         → TurnAt a bound row zs y.tick (Some (record { doing = doing; first = y.first }))
     ending doing is t = subst (λ r. TurnAt a bound row zs y.tick r) is t
 
-    fits_ending : (doing : Doing) → running_at shape pace zs y.tick ≡ Some (record { doing = doing; first = y.first }) → Fits (gives_way pace.policy) (in_progress (core zs)) (reads_of shape pace zs) doing
+    pub fits_ending : (doing : Doing) → running_at shape pace zs y.tick ≡ Some (record { doing = doing; first = y.first }) → Fits (gives_way pace.policy) (in_progress (core zs)) (reads_of shape pace zs) doing
     fits_ending doing is = subst (λ r. FitsAll shape pace zs r) is (running_at-fits shape pace e zs y.tick)
 
     at_read : (line : ℕ) (b : Bool) (r : Option Action) (v : Awaited) → (b ≡ true → is_doing Beginning r ≡ true) → IfSome r (λ a. y.tick < ends pace a) → FitsAll shape pace zs r → has_wait (waits shape (core zs)) row ≡ true
@@ -183,7 +183,7 @@ module _ {n m : ℕ} (shape : BankShape) (pace : Pacing) (e : ℕ) where
         (after_serve pace.read pace.iter (work_time pace e) bound (gives_way pace.policy) (in_progress (core zs)) (iterated (core zs)) first (turn pace.read row ws) idle
         (subst (λ k. first + 0 + k ≤ bound + paid pace.iter (gives_way pace.policy) (in_progress (core zs)) (iterated (core zs))) (turn-served pace.read row w ws apart there) h))
 
-    step : (h : Happens n) → MayCome shape pace e zs y h → has_wait (waits shape (core zs)) row ≡ true → has_wait (waits shape (core_of h (core zs))) row ≡ true
+    pub step : (h : Happens n) → MayCome shape pace e zs y h → has_wait (waits shape (core zs)) row ≡ true → has_wait (waits shape (core_of h (core zs))) row ≡ true
         → TurnAt a bound row zs y.tick (running_at shape pace zs y.tick) → TurnBy h (left_by shape (core zs) h (running_at shape pace zs y.tick))
     step (Core (Write at line bytes given answer)) may there still t = record { low = t.low; high = t.high }
     step (Core (Read at line came.Waiting)) may there still t =
