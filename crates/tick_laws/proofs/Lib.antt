@@ -6,3 +6,5 @@ mod Turns
 mod Waits
 mod Afterwards
 mod ReadTimes
+mod Tallies
+mod Moves
