@@ -8,3 +8,5 @@ mod Afterwards
 mod ReadTimes
 mod Tallies
 mod Moves
+mod Holdups
+mod Delays

@@ -92,7 +92,7 @@ pub some-reads : (ws : List Awaited) (row : ℕ) → has_wait ws row ≡ true �
 some-reads [] row there = absurd (cc)
 some-reads (w ∷ ws) row there = refl
 
-times_more : (k x : ℕ) → (k + 1) * x ≡ k * x + x
+pub times_more : (k x : ℕ) → (k + 1) * x ≡ k * x + x
 times_more k x = grind arith
 
 times_few : (k w x : ℕ) → k < w → k * x + x ≤ w * x
