@@ -10,3 +10,5 @@ mod Tallies
 mod Moves
 mod Holdups
 mod Delays
+mod Counts
+mod StoreTimes
