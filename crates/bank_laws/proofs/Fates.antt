@@ -125,7 +125,7 @@ pub awaits-new : (ws : List Awaited) (w : Awaited) → Awaits (ws ++ w ∷ []) w
 awaits-new [] w = inl (refl, refl)
 awaits-new (v ∷ ws) w = inr (awaits-new ws w)
 
-awaits-has : (ws : List Awaited) (row : ℕ) (owed : List ℕ) → Awaits ws row owed → has_wait ws row ≡ true
+pub awaits-has : (ws : List Awaited) (row : ℕ) (owed : List ℕ) → Awaits ws row owed → has_wait ws row ≡ true
 awaits-has [] row owed a = absurd a
 awaits-has (w ∷ ws) row owed (inl a) = or_first (w.row == row) _ (eq-eqb w.row row a.0)
 awaits-has (w ∷ ws) row owed (inr a) = or_second (w.row == row) _ (awaits-has ws row owed a)

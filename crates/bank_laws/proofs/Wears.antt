@@ -87,7 +87,7 @@ module _ {n : ℕ} where
   worn_outcome tick wrote.Exhausted o is w = refl
 
   -- an exhausted bank stores nothing
-  exhausted-stores_none : (shape : BankShape) (h : List (Event n)) (row place : ℕ) → has_exhausted h ≡ true → IsDone shape h (work_after shape h) (did.Stored row place) → ⊥
+  pub exhausted-stores_none : (shape : BankShape) (h : List (Event n)) (row place : ℕ) → has_exhausted h ≡ true → IsDone shape h (work_after shape h) (did.Stored row place) → ⊥
   exhausted-stores_none shape h row place ex d = by (has_exhausted h) ex d
     where
       by : (b : Bool) → b ≡ true → IsDone shape h (cond b Nothing (due_work shape h (due_after shape h) (queue shape h))) (did.Stored row place) → ⊥

@@ -1,0 +1,1 @@
+-- A write that is stored is stored in time.

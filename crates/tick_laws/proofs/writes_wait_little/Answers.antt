@@ -1,0 +1,4 @@
+use Rattle.tick_laws.proofs.writes_wait_little.Goals as goal
+
+pub returns : goal.returns
+returns c = ?
