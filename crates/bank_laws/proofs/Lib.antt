@@ -9,10 +9,10 @@ pub mod Walking
 pub mod Ending
 pub mod Serves
 pub mod Wears
-pub mod Quiet
-pub mod Holding
+mod Quiet
+mod Holding
 pub mod Lines
-pub mod Merging
-pub mod Counting
+mod Merging
+mod Counting
 pub mod Waiting
 pub mod Pending

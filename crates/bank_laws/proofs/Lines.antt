@@ -150,7 +150,7 @@ module _ {n : ℕ} where
   pub newest-line : (es : List (Entry n)) (line : ℕ) → newest_row es line ≡ None → has_line es line ≡ false
   newest-line es line none = no_candidate-rest es line None (ap (λ o. or_this o None) none)
 
-  pub newest-stands : (es : List (Entry n)) (line at : ℕ) → newest_row es line ≡ Some at → Stands es at line
+  newest-stands : (es : List (Entry n)) (line at : ℕ) → newest_row es line ≡ Some at → Stands es at line
   newest-stands [] line at h = absurd (cc)
   newest-stands (e ∷ es) line at h = by (newest_row es line) (λ is. newest-stands es line at is) refl h
     where
@@ -162,7 +162,7 @@ module _ {n : ℕ} where
       by (Some row) rest is h = inr (rest (is ∙ h))
       by None rest is h = own (eqb e.line line) refl h
 
-  pub candidate-stands : (busy : Bool) (es : List (Entry n)) (line at : ℕ) → candidate busy es line ≡ Some at → Stands es at line
+  candidate-stands : (busy : Bool) (es : List (Entry n)) (line at : ℕ) → candidate busy es line ≡ Some at → Stands es at line
   candidate-stands busy [] line at h = absurd (cc)
   candidate-stands busy (e ∷ es) line at h = by (newest_row es line) refl h
     where

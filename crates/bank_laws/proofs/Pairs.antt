@@ -202,7 +202,7 @@ module _ {n : ℕ} (shape : BankShape) where
   busy-full h false None es w s = w
 
   -- a write that is accepted as a new entry merges into none
-  pub accepted-none : (h : List (Event n)) (line : ℕ) → wrote.Accepted ≡ write_answer shape h line → candidate (head_busy_after shape h) (queue shape h) line ≡ None
+  accepted-none : (h : List (Event n)) (line : ℕ) → wrote.Accepted ≡ write_answer shape h line → candidate (head_busy_after shape h) (queue shape h) line ≡ None
   accepted-none h line a = by (has_exhausted h) (candidate (head_busy_after shape h) (queue shape h) line) a
     where
       by : (b : Bool) (c : Option ℕ) → wrote.Accepted ≡ cond b wrote.Exhausted (accept_answer shape h c) → c ≡ None
@@ -210,7 +210,7 @@ module _ {n : ℕ} (shape : BankShape) where
       by false (Some at) a = absurd (cc)
       by false None a = refl
 
-  pub new_entry : (h : List (Event n)) (line : ℕ) → KeepsPairs h → candidate (head_busy_after shape h) (queue shape h) line ≡ None
+  new_entry : (h : List (Event n)) (line : ℕ) → KeepsPairs h → candidate (head_busy_after shape h) (queue shape h) line ≡ None
       → (e : Entry n) (rest : List (Entry n)) → queue shape h ≡ e ∷ rest → (has_line rest line ≡ false) × ((line == e.line) ≡ true → gives_all e.given ≡ true)
   new_entry h line k c e rest is =
       let found : candidate (head_busy_after shape h) (e ∷ rest) line ≡ None = subst (λ (q : List (Entry n)). candidate (head_busy_after shape h) q line ≡ None) is c in (

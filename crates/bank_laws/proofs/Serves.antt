@@ -46,14 +46,14 @@ none-waits false true c is = by c.busy is
     by true is = absurd (cc)
     by false is = absurd (cc)
 
-pub empty-waits : (ws : List Awaited) → not (is_empty ws) ≡ false → ws ≡ []
+empty-waits : (ws : List Awaited) → not (is_empty ws) ≡ false → ws ≡ []
 empty-waits [] h = refl
 empty-waits (w ∷ ws) h = absurd (cc)
 
 pub idle-waits : {n m : ℕ} (shape : BankShape) (pace : Pacing) (xs : List (Timed n m)) → IsIdle shape pace xs → waits shape (core xs) ≡ []
 idle-waits shape pace xs idle = empty-waits (waits shape (core xs)) (none-waits (gives_way pace.policy) (not (is_empty (waits shape (core xs)))) (choice_after shape pace xs) idle.chosen)
 
-pub lay_taken : (a b : Bool) (xs ys : List ℕ) → b ≡ true → cond (a && b) xs ys ≡ cond a xs ys
+lay_taken : (a b : Bool) (xs ys : List ℕ) → b ≡ true → cond (a && b) xs ys ≡ cond a xs ys
 lay_taken true true xs ys h = refl
 lay_taken true false xs ys h = absurd (cc)
 lay_taken false b xs ys h = refl

@@ -20,7 +20,7 @@ lasts_some read iter Beginning r i = r
 lasts_some read iter Iterating r i = i
 
 -- an action that is chosen at a tick ends above it
-pub started-above : (pace : Pacing) (r : Option Action) (d : Option Doing) (last tick : ℕ) (a : Action) → 1 ≤ pace.read → 1 ≤ pace.iter
+started-above : (pace : Pacing) (r : Option Action) (d : Option Doing) (last tick : ℕ) (a : Action) → 1 ≤ pace.read → 1 ≤ pace.iter
     → IfSome r (λ a. last < ends pace a) → started r d last tick ≡ Some a → last < ends pace a
 started-above pace (Some action) d last tick a r i above e = let same : action ≡ a = cc in subst (λ a. last < ends pace a) same above
 started-above pace None None last tick a r i above e = absurd (cc)
@@ -36,7 +36,7 @@ started-above pace None (Some doing) last tick a r i above e = by (nat_lt last t
 
 module _ {n m : ℕ} (shape : BankShape) (pace : Pacing) (e : ℕ) where
   -- what runs after an event ends above it
-  pub running-above : (xs : List (Timed n m)) → Lawful shape pace e xs → IfSome (running shape pace xs) (λ a. last_tick xs < ends pace a)
+  running-above : (xs : List (Timed n m)) → Lawful shape pace e xs → IfSome (running shape pace xs) (λ a. last_tick xs < ends pace a)
   running-above [] l = tt
   running-above (x ∷ xs) l = by x.happens l.0
     where
@@ -55,7 +55,7 @@ module _ {n m : ℕ} (shape : BankShape) (pace : Pacing) (e : ℕ) where
       by (Core (Cut tearing)) may = tt
 
   -- the action that ends at an event ends above the last one
-  pub ends-after : (xs : List (Timed n m)) (x : Timed n m) (doing : Doing) → 1 ≤ pace.read → 1 ≤ pace.iter → Lawful shape pace e xs
+  ends-after : (xs : List (Timed n m)) (x : Timed n m) (doing : Doing) → 1 ≤ pace.read → 1 ≤ pace.iter → Lawful shape pace e xs
       → running_at shape pace xs x.tick ≡ Some (record { doing = doing; first = x.first }) → x.tick ≡ ends pace (record { doing = doing; first = x.first })
       → last_tick xs < x.tick
   ends-after xs x doing r i l runs at =

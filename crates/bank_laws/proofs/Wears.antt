@@ -33,7 +33,7 @@ use Rattle.bank_laws.proofs.Walking.{rows_after}
 use Rattle.bank_laws.proofs.Ending.{Onwards, IsOutcome, write_outcome, outcome-accepts}
 use Rattle.bank_laws.proofs.Serves.{may_at, onwards_at}
 
-pub and_first : (a b : Bool) → a ≡ false → (a && b) ≡ false
+and_first : (a b : Bool) → a ≡ false → (a && b) ≡ false
 and_first true b h = absurd (cc)
 and_first false b h = refl
 
@@ -41,7 +41,7 @@ pub and_second : (a b : Bool) → b ≡ false → (a && b) ≡ false
 and_second true b h = h
 and_second false b h = refl
 
-pub or_rest : (a b : Bool) → a ≡ false → (a || b) ≡ true → b ≡ true
+or_rest : (a b : Bool) → a ≡ false → (a || b) ≡ true → b ≡ true
 or_rest true b h k = absurd (cc)
 or_rest false b h k = k
 
@@ -94,7 +94,7 @@ module _ {n : ℕ} where
       by true ex d = d
       by false ex d = absurd (cc)
 
-  pub exhausted-more : (event : Event n) (h : List (Event n)) → has_exhausted h ≡ true → has_exhausted (event ∷ h) ≡ true
+  exhausted-more : (event : Event n) (h : List (Event n)) → has_exhausted h ≡ true → has_exhausted (event ∷ h) ≡ true
   exhausted-more (Write row line bytes given answer) h ex = ex
   exhausted-more (Read row line answer) h ex = ex
   exhausted-more (Serve answer) h ex = ex
@@ -183,10 +183,10 @@ module _ {n m : ℕ} (shape : BankShape) (pace : Pacing) (e : ℕ) where
   kept_by zs x (Core (Iterate did.Exhausted)) row u p may ex s = s
   kept_by zs x (Core (Cut tearing)) row u p may ex s = lost_not_stored (has_wait (waits shape (core zs)) row) x.tick _ u p s
 
-  pub exhausted_on : (h : Happens n) (zs : List (Timed n m)) → has_exhausted (core zs) ≡ true → has_exhausted (core_of h (core zs)) ≡ true
+  exhausted_on : (h : Happens n) (zs : List (Timed n m)) → has_exhausted (core zs) ≡ true → has_exhausted (core_of h (core zs)) ≡ true
   exhausted_on (Core event) zs ex = exhausted-more event (core zs) ex
 
-  pub exhausted_later : (later zs : List (Timed n m)) → has_exhausted (core zs) ≡ true → has_exhausted (core (later ++ zs)) ≡ true
+  exhausted_later : (later zs : List (Timed n m)) → has_exhausted (core zs) ≡ true → has_exhausted (core (later ++ zs)) ≡ true
   exhausted_later [] zs ex = ex
   exhausted_later (x ∷ later) zs ex = exhausted_on x.happens (later ++ zs) (exhausted_later later zs ex)
 

@@ -1,23 +1,19 @@
 -- A cut, or the read that cancels, is a row between the senses before and behind it.
-use Rattle.std.proofs.Common.{◌≡◌, ℕ, ◌≤◌, ◌&&◌, ◌||◌, Bool, true, false, List, [], ◌∷◌, ◌++◌, refl, sym, ap, ◌∙◌, subst, arith}
+use Rattle.std.proofs.Common.{◌≡◌, ℕ, ◌≤◌, ◌&&◌, Bool, true, false, List, [], ◌∷◌, ◌++◌, refl, sym, ap, ◌∙◌, subst, arith}
 use Rattle.std.specs.Prelude.{IsTrue, nat_le}
-use Rattle.std.specs.List.{list_any}
 use Rattle.std.proofs.lemmas.Bool.{le-leb}
 use Rattle.std.proofs.lemmas.List.Folds.{list_any-append}
-use Rattle.row_laws.specs.declared.Row.{Row}
 use Rattle.row_laws.specs.Rules.{Rules}
 use Rattle.bank_shape.specs.Pausing.{is_cancelling}
 use Rattle.bank_shape.specs.declared.BankShape.{BankShape}
 use Rattle.bank_model.specs.declared.answer.ReadAnswer.TheVariants as came
 use Rattle.bank_model.specs.Events.{Event, Write, Read, Serve, Begin, Iterate, Cut}
-use Rattle.bank_model.specs.Timing.{Pacing, Happens, Core, Timed, core}
-use Rattle.bank_model.specs.Lawful.{Lawful, MayCome, FollowsCancel, would_cancel, IsRead}
-use Rattle.bank_model.specs.Running.{running_at, cancels_after}
-use Rattle.bank_laws.specs.Outcomes.{outcome_of, row_with, rows_from}
+use Rattle.bank_model.specs.Timing.{Pacing, Happens, Core, Timed}
+use Rattle.bank_model.specs.Lawful.{Lawful, MayCome, IsRead}
+use Rattle.bank_laws.specs.Outcomes.{row_with, rows_from}
 use Rattle.bank_laws.specs.Logs.{is_broken}
 use Rattle.bank_laws.proofs.Fates.{or_first, or_second}
 use Rattle.bank_laws.proofs.Walking.{and_both}
-use Rattle.bank_laws.proofs.Pairs.{and_left}
 use Rattle.bank_laws.proofs.Settling.{lawful_before}
 
 between : (from at to : ℕ) → from ≤ at → at ≤ to → (nat_le from at && nat_le at to) ≡ true

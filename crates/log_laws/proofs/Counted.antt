@@ -1,6 +1,6 @@
 -- Pulses are counted up to the greatest u64.
-use Rattle.std.proofs.Common.{◌≡◌, ℕ, ◌+◌, ◌-◌, ◌<◌, ◌≤◌, ◌^◌, ◌⊎◌, inl, inr, Bool, true, false, List, [], ◌∷◌, cond, arith, lit<, ◌∙◌}
-use Rattle.std.proofs.Math.Nat.{min-eq_left, min-eq_right, min-le_right}
+use Rattle.std.proofs.Common.{◌≡◌, ℕ, ◌+◌, ◌-◌, ◌<◌, ◌≤◌, ◌^◌, ◌⊎◌, inl, inr, Bool, true, false, List, [], ◌∷◌, cond, arith}
+use Rattle.std.proofs.Math.Nat.{min-le_right}
 use Rattle.std.specs.Prelude.{min}
 use Rattle.std.proofs.lemmas.Bool.{cases_lt}
 use Rattle.pcm_cells.specs.Device.{counted}

@@ -1,9 +1,8 @@
 -- The senses of each of a bank's lines are fair.
-use Rattle.std.proofs.Common.{◌≡◌, ℕ, ◌+◌, ◌-◌, ◌<◌, ◌≤◌, ◌==◌, ◌&&◌, ◌⊎◌, inl, inr, Bool, true, false, List, [], ◌∷◌, ◌++◌, Option, Some, None, refl, sym, ap, ◌∙◌, subst, arith, cond, append_assoc}
-use Rattle.std.specs.Prelude.{All, IsTrue, nat_lt, not}
+use Rattle.std.proofs.Common.{◌≡◌, ℕ, ◌+◌, ◌-◌, ◌<◌, ◌==◌, ◌&&◌, ◌⊎◌, inl, inr, Bool, true, false, List, [], ◌∷◌, ◌++◌, Some, None, refl, sym, ap, ◌∙◌, subst, arith, cond, append_assoc}
+use Rattle.std.specs.Prelude.{All, nat_lt, not}
 use Rattle.std.proofs.lemmas.List.Elements.{filter-append}
 use Rattle.pcm_cells.specs.declared.array.Sense.{Sense}
-use Rattle.pcm_cells.specs.Device.{ArrayState}
 use Rattle.bank_shape.specs.declared.BankShape.{BankShape}
 use Rattle.bank_shape.specs.Shape.{slots_of, lines_in}
 use Rattle.bank_model.specs.declared.clock.Doing.TheVariants.{Serving}
@@ -13,18 +12,17 @@ use Rattle.bank_model.specs.Running.{Choice, chosen_by, gives_way, choice_after}
 use Rattle.bank_model.specs.Adding.{senses_of}
 use Rattle.bank_model.specs.Sensing.{pulses_of}
 use Rattle.bank_model.specs.Lawful.{Lawful, IsIdle}
-use Rattle.bank_laws.specs.Laws.{IsSized, LeavesArray, rules_of, log_of}
-use Rattle.bank_laws.specs.Logs.{begins_unpulsed, is_line_fair}
+use Rattle.bank_laws.specs.Laws.{IsSized, rules_of}
+use Rattle.bank_laws.specs.Logs.{begins_unpulsed}
 use Rattle.bank_laws.specs.Outcomes.{rows_from, table_of}
 use Rattle.bank_laws.specs.Settling.{AreOpen}
 use Rattle.bank_laws.proofs.Serves.{idle-waits}
 use Rattle.bank_laws.proofs.Settling.{opens}
-use Rattle.bank_laws.proofs.Fates.{eqb-same}
 use Rattle.bank_laws.proofs.Walking.{and_both}
 use Rattle.log_laws.specs.Laws.{PulseStepsLaw}
 use Rattle.log_laws.proofs.Chains.{last_of, follow-same, begin-same}
 use Rattle.log_laws.proofs.Owning.{own, own-kept, own-log}
-use Rattle.log_laws.proofs.Pulsing.{Torn, Unseen, Seen, Shown}
+use Rattle.log_laws.proofs.Pulsing.{Torn, Shown}
 use Rattle.log_laws.proofs.Stepping.{step}
 use Rattle.log_laws.proofs.Targets.{work-begins}
 

@@ -1,9 +1,9 @@
 -- The queue's entries give of a line what its accepted writes give, down to the last that is out.
-use Rattle.std.proofs.Common.{◌≡◌, ℕ, ◌==◌, ◌||◌, ◌⊎◌, inl, inr, Bool, true, false, List, [], ◌∷◌, ◌++◌, Option, Some, None, length, drop, refl, sym, ap, ◌∙◌, subst, arith, cond, eqb, eqb-true}
+use Rattle.std.proofs.Common.{◌≡◌, ℕ, ◌==◌, ◌||◌, ◌⊎◌, inl, inr, Bool, true, false, List, [], ◌∷◌, ◌++◌, Option, Some, None, length, sym, ap, ◌∙◌, subst, cond, eqb, eqb-true}
 use Rattle.masked_bytes.specs.declared.entry.Entry.{Entry}
 use Rattle.masked_bytes.specs.Masked.{joined, none_given, all_given, gives_all}
-use Rattle.masked_bytes.specs.Entries.{newest_row, merged, laid_on, completed_by, has_row, RowsApart}
-use Rattle.masked_bytes.proofs.Layering.{joined-all_given, joined-none_right, gives_all-all_given}
+use Rattle.masked_bytes.specs.Entries.{newest_row, merged, laid_on, has_row, RowsApart}
+use Rattle.masked_bytes.proofs.Layering.{joined-all_given, gives_all-all_given}
 use Rattle.bank_model.specs.History.{begun}
 use Rattle.bank_laws.specs.Pairs.{has_line}
 use Rattle.bank_laws.proofs.Pairs.{AllLong, gives_all-joined}

@@ -1,11 +1,10 @@
 -- Which bytes the queue's entries of a line give, through each change of the queue.
-use Rattle.std.proofs.Common.{◌≡◌, ℕ, ◌==◌, ◌||◌, ◌⊎◌, inl, inr, Bool, true, false, List, [], ◌∷◌, ◌++◌, Option, Some, None, length, refl, sym, ap, ◌∙◌, subst, arith, cond, eqb, eq-eqb, eqb-true}
+use Rattle.std.proofs.Common.{◌≡◌, ℕ, ◌==◌, ◌⊎◌, inl, inr, Bool, true, false, List, [], ◌∷◌, ◌++◌, Option, Some, None, length, refl, sym, ap, ◌∙◌, subst, cond, eqb, eq-eqb, eqb-true}
 use Rattle.std.proofs.lemmas.List.{length-replicate}
 use Rattle.masked_bytes.specs.declared.entry.Entry.{Entry}
-use Rattle.masked_bytes.specs.Masked.{joined, none_given, all_given, gives_all}
-use Rattle.masked_bytes.specs.Entries.{layer_of, stacked, layer_by, newest_row, or_this, merged, laid_on, completed_by, has_row, RowsApart}
-use Rattle.masked_bytes.proofs.Layering.{length-joined, joined-none_given, joined-none_right, joined-joined, joined-all_given, gives_all-all_given}
-use Rattle.bank_model.specs.History.{begun}
+use Rattle.masked_bytes.specs.Masked.{joined, none_given}
+use Rattle.masked_bytes.specs.Entries.{layer_of, stacked, layer_by, newest_row, or_this, merged, laid_on, has_row, RowsApart}
+use Rattle.masked_bytes.proofs.Layering.{length-joined, joined-none_given, joined-none_right, joined-joined}
 use Rattle.bank_laws.specs.Pairs.{has_line}
 use Rattle.bank_laws.proofs.Pairs.{AllLong}
 use Rattle.bank_laws.proofs.Answering.{newest_row-there}

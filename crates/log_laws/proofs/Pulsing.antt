@@ -1,7 +1,7 @@
 -- What the senses of one line have shown after some events: all of its pulses, or all but that of a tear, whose line is the
 -- target of the present work.
-use Rattle.std.proofs.Common.{◌≡◌, ℕ, ◌+◌, ◌<◌, ◌≤◌, ◌-◌, ◌^◌, ◌==◌, ◌⊎◌, inl, inr, Bool, true, false, List, [], ◌∷◌, ◌++◌, Option, Some, None, refl, sym, ap, ◌∙◌, subst, arith, cond}
-use Rattle.std.specs.Prelude.{All, IfSome}
+use Rattle.std.proofs.Common.{◌≡◌, ℕ, ◌≤◌, ◌-◌, ◌^◌, ◌==◌, ◌⊎◌, inl, inr, Bool, true, false, List, [], ◌∷◌, ◌++◌, None, sym, ap, ◌∙◌, subst, arith}
+use Rattle.std.specs.Prelude.{All}
 use Rattle.std.proofs.lemmas.List.{append-nil}
 use Rattle.std.proofs.lemmas.List.Elements.{All-head, All-tail, All-weaker, filter-append}
 use Rattle.pcm_cells.specs.declared.array.Sense.{Sense}
@@ -13,7 +13,7 @@ use Rattle.bank_model.specs.History.{in_progress}
 use Rattle.bank_model.specs.After.{target_after}
 use Rattle.bank_model.specs.Timing.{Pacing, Timed, core, last_tick}
 use Rattle.bank_model.specs.Running.{running}
-use Rattle.bank_model.specs.Sensing.{is_at, pulses_of}
+use Rattle.bank_model.specs.Sensing.{pulses_of}
 use Rattle.bank_model.specs.Adding.{senses_of}
 use Rattle.bank_laws.specs.Logs.{is_broken, follows, follow_on}
 use Rattle.log_laws.proofs.Chains.{last_of, last_of-more, last_of-all, Follow, follow-more, follow-alike}

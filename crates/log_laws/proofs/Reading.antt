@@ -1,5 +1,5 @@
 -- A row that was read has a sense of its place at its tick, over which the bytes of the queue give those that were read.
-use Rattle.std.proofs.Common.{◌≡◌, ◌≢◌, ℕ, ◌<◌, ◌≤◌, ◌==◌, ◌&&◌, ◌||◌, ◌⊎◌, inl, inr, Bool, true, false, List, [], ◌∷◌, ◌++◌, Option, Some, None, drop, refl, sym, ap, ◌∙◌, subst, arith, cond, eqb, eq-eqb, eqb-true}
+use Rattle.std.proofs.Common.{◌≡◌, ◌≢◌, ℕ, ◌<◌, ◌≤◌, ◌==◌, ◌⊎◌, inl, inr, Bool, true, false, List, [], ◌∷◌, ◌++◌, Some, None, drop, refl, sym, ap, ◌∙◌, subst, arith, cond, eqb, eq-eqb, eqb-true}
 use Rattle.std.specs.Prelude.{All, map, unwrap_or}
 use Rattle.std.proofs.lemmas.List.Elements.{All-head}
 use Rattle.pcm_cells.specs.declared.array.Sense.{Sense}
@@ -13,7 +13,7 @@ use Rattle.bank_model.specs.declared.answer.Served.{Served}
 use Rattle.bank_model.specs.declared.answer.WriteAnswer.TheVariants as wrote
 use Rattle.bank_model.specs.declared.answer.ReadAnswer.TheVariants as came
 use Rattle.bank_model.specs.declared.answer.Step.TheVariants as did
-use Rattle.bank_model.specs.Events.{Event, Write, Read, Serve, Begin, Iterate, Cut, RowsBelow}
+use Rattle.bank_model.specs.Events.{Write, Read, Serve, Begin, Iterate, Cut, RowsBelow}
 use Rattle.bank_model.specs.History.{Awaited, waits}
 use Rattle.bank_model.specs.After.{stands_at_after}
 use Rattle.bank_model.specs.Answers.{IsServed}

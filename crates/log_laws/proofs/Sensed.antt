@@ -1,10 +1,9 @@
 -- Each row that was stored or read has its sense in the log.
-use Rattle.std.proofs.Common.{◌≡◌, ◌≢◌, ℕ, ◌+◌, ◌==◌, ◌&&◌, ◌||◌, ◌⊎◌, inl, inr, Bool, true, false, List, [], ◌∷◌, ◌++◌, refl, sym, ap, ◌∙◌, subst, cond, length, append_assoc}
+use Rattle.std.proofs.Common.{◌≡◌, ℕ, ◌+◌, ◌==◌, ◌&&◌, ◌||◌, inl, inr, Bool, true, false, List, [], ◌∷◌, ◌++◌, refl, sym, ap, ◌∙◌, subst, cond, length, append_assoc}
 use Rattle.std.specs.Prelude.{filter, nat_le, nat_lt}
 use Rattle.std.specs.List.{list_any}
 use Rattle.std.proofs.lemmas.List.Folds.{list_any-append}
 use Rattle.pcm_cells.specs.declared.array.Sense.{Sense}
-use Rattle.pcm_cells.specs.declared.row.Cells.{Cells}
 use Rattle.ecp_line.specs.Reading.{decode}
 use Rattle.result_rows.specs.declared.Outcome.{Outcome}
 use Rattle.result_rows.specs.declared.Outcome.TheVariants as out
@@ -21,21 +20,20 @@ use Rattle.bank_shape.specs.Shape.{lines_in}
 use Rattle.bank_model.specs.declared.answer.WriteAnswer.{WriteAnswer}
 use Rattle.bank_model.specs.declared.answer.ReadAnswer.{ReadAnswer}
 use Rattle.bank_model.specs.declared.answer.ReadAnswer.TheVariants as came
-use Rattle.bank_model.specs.Events.{Event, Write, Read, Serve, Begin, Iterate, Cut, newest}
+use Rattle.bank_model.specs.Events.{Write, Read, Serve, Begin, Iterate, Cut, newest}
 use Rattle.bank_model.specs.History.{Awaited, awaited, queue, waits}
-use Rattle.bank_model.specs.Answers.{read_answer}
 use Rattle.bank_model.specs.Adding.{senses_of}
 use Rattle.bank_model.specs.Timing.{Pacing, Happens, Core, Timed, core, core_of}
-use Rattle.bank_model.specs.Lawful.{Lawful, IsIdle, MayCome}
+use Rattle.bank_model.specs.Lawful.{Lawful, MayCome}
 use Rattle.bank_laws.specs.Laws.{IsSized, log_of}
 use Rattle.bank_laws.specs.Logs.{is_sensed, outcome_sensed, has_sense}
-use Rattle.bank_laws.specs.Outcomes.{outcome_of, ended, row_with, rows_from, table_of}
+use Rattle.bank_laws.specs.Outcomes.{outcome_of, ended, row_with, rows_from}
 use Rattle.bank_laws.specs.Settling.{AreOpen}
 use Rattle.bank_laws.specs.Ticks.{ends_action}
 use Rattle.bank_laws.proofs.Ending.{Onwards, own_answer, outcome-may, write_outcome}
 use Rattle.bank_laws.proofs.Fates.{Awaits, IsSettled, ReadFate, awaits-new, or_first}
 use Rattle.bank_laws.proofs.Serves.{idle-waits, may_at, newest_same, onwards_at}
-use Rattle.bank_laws.proofs.Settling.{opens, lawful_before}
+use Rattle.bank_laws.proofs.Settling.{opens}
 use Rattle.bank_laws.proofs.Walking.{Passes, walk, rows_after}
 use Rattle.log_laws.specs.Laws.{SensedLaw}
 use Rattle.log_laws.proofs.Given.{given_of, given-layer}

@@ -1,7 +1,6 @@
 -- Each event of a lawful history keeps what the senses of a line show.
-use Rattle.std.proofs.Common.{◌≡◌, ℕ, ◌+◌, ◌<◌, ◌≤◌, ◌==◌, ◌&&◌, ◌||◌, ◌⊎◌, inl, inr, Bool, true, false, List, [], ◌∷◌, ◌++◌, Option, Some, None, refl, sym, ap, ◌∙◌, subst, arith, cond, eqb, eq-eqb, eqb-true, ◌-◌, ◌^◌}
+use Rattle.std.proofs.Common.{◌≡◌, ℕ, ◌+◌, ◌≤◌, ◌==◌, ◌||◌, ◌⊎◌, inl, inr, Bool, true, false, List, [], ◌∷◌, ◌++◌, Option, None, refl, sym, ap, ◌∙◌, subst, arith, cond, eq-eqb, eqb-true, ◌-◌, ◌^◌}
 use Rattle.std.specs.Prelude.{All, IsTrue, map, nat_le}
-use Rattle.std.specs.List.{list_any}
 use Rattle.std.proofs.lemmas.Bool.{le-leb}
 use Rattle.std.proofs.lemmas.List.Elements.{All-head}
 use Rattle.std.proofs.lemmas.List.Folds.{list_any-append}
@@ -11,17 +10,16 @@ use Rattle.bank_shape.specs.Pausing.{is_cancelling}
 use Rattle.bank_shape.specs.declared.BankShape.{BankShape}
 use Rattle.bank_model.specs.declared.answer.Served.{Served}
 use Rattle.bank_model.specs.declared.answer.Step.{Step}
-use Rattle.bank_model.specs.declared.clock.Doing.TheVariants.{Iterating}
 use Rattle.bank_model.specs.declared.clock.Action.{Action}
 use Rattle.bank_model.specs.Events.{Event, Write, Read, Serve, Begin, Iterate, Cut}
-use Rattle.bank_model.specs.History.{goes_on, queue, due_after, has_exhausted, in_progress, waits}
+use Rattle.bank_model.specs.History.{queue, due_after, has_exhausted, in_progress}
 use Rattle.bank_model.specs.After.{target_after, sources_of, work_after}
 use Rattle.bank_model.specs.Timing.{Pacing, Happens, Core, Timed, core, core_of, last_tick}
 use Rattle.bank_model.specs.Running.{running, running_at, chosen_after, left, left_by}
 use Rattle.bank_model.specs.Sensing.{is_at, most_steps, pulses_of}
 use Rattle.bank_model.specs.Lawful.{Lawful, MayCome, IsNext}
 use Rattle.bank_laws.specs.Laws.{IsSized, rules_of}
-use Rattle.bank_laws.specs.Logs.{is_broken, follows}
+use Rattle.bank_laws.specs.Logs.{follows}
 use Rattle.bank_laws.specs.Outcomes.{rows_from}
 use Rattle.bank_laws.specs.Settling.{AreOpen}
 use Rattle.bank_laws.specs.Ticks.{ends_action}
