@@ -1,8 +1,8 @@
 -- What the words of the program ask for.
-use Rattle.std.specs.Prelude.{◌≡◌, ◌≤◌, ◌==◌, true, if◌then◌else◌, List, [], ◌∷◌, length, codes, Option, Some, None, Result, Ok, Err}
+use Rattle.std.specs.Prelude.{◌≡◌, ◌≤◌, true, if◌then◌else◌, List, [], ◌∷◌, codes, Option, Some, None, Result, Ok, Err}
 use Rattle.std.specs.Int.{is_power_of_two}
 use Rattle.std.specs.Str.{bytes_eq}
-use Rattle.clap.specs.Words.{App, Row, Text, fault_of, first_of, subcommand_of}
+use Rattle.clap.specs.Words.{App, Kinds, Row, Text, fault_of, first_of, subcommand_of}
 use Rattle.pcm_cells.specs.Device.{IsWear}
 use Rattle.module_shape.specs.Limits.{IsShape}
 use Rattle.command_line.specs.Table.{pcm_app}
@@ -59,20 +59,33 @@ job_named name rows =
     else (if bytes_eq name (codes "map") then map_of rows
     else (if bytes_eq name (codes "moves") then moves_of rows else None)))
 
--- a job, or a faulty command line where there is none
+-- a job, or a faulty command line where there is none, or where `clap` refuses the words for any cause
 abbrev pub or_usage : Option Job → Result Job Refusal
 or_usage None = Err Usage
 or_usage (Some job) = Ok job
 
+abbrev pub answer_of : Kinds → Option Job → Result Job Refusal
+answer_of [] job = or_usage job
+answer_of (kind ∷ kinds) job = Err Usage
+
+-- the job of the command that was found, if one was
 abbrev pub job_met : Option (Text × List Row) → Option Job
 job_met met = with_some met (λ command. job_named command.0 command.1)
 
--- the job of words, as `clap` reads them behind the program's name
+-- why `clap` refuses words, the first of which is the program's name; and the command that it finds in them, with its options
+unfoldable pub faults_at : App → List Text → Kinds
+faults_at app words = fault_of app words
+
+unfoldable pub command_at : App → List Text → Option (Text × List Row)
+command_at app words = subcommand_of app words
+
+-- the job of such words
+unfoldable pub job_at : App → List Text → Result Job Refusal
+job_at app words = answer_of (faults_at app words) (job_met (command_at app words))
+
+-- the job of the words behind the program's name
 unfoldable pub job_of : List Text → Result Job Refusal
-job_of words =
-    if length (fault_of pcm_app (codes "pcm" ∷ words)) == 0
-    then or_usage (job_met (subcommand_of pcm_app (codes "pcm" ∷ words)))
-    else Err Usage
+job_of words = job_at pcm_app (codes "pcm" ∷ words)
 
 -- the numbers of a generated trace are in range
 pub record IsMix (mix : Mix) : Type 0 where

@@ -8,6 +8,7 @@ mod read;
 mod table;
 
 pub use job::{GenJob, Input, Job, LineSize, MapJob, Mix, MovesJob, Print, Refusal, RunJob};
+pub use read::read_job;
 
 
 

@@ -1,7 +1,7 @@
 // The job that the words ask for.
 ghost use Rattle.std.specs.Prelude.{◌≡◌, ◌≢◌, ◌≤◌, ◌∷◌, IfOk, IfErr, IfSome, Ok, Err, Some, map, string_bytes, codes};
-ghost use Rattle.clap.specs.Words.{found_of, kind_of, rows_of};
-ghost use Rattle.command_line.specs.Jobs.{IsJob, run_of, gen_of, map_of, moves_of, job_named, job_of};
+ghost use Rattle.clap.specs.Words.{found_of, kind_of, rows_of, subcommand_rows_of};
+ghost use Rattle.command_line.specs.Jobs.{IsJob, run_of, gen_of, map_of, moves_of, job_named, job_met, or_usage, job_of};
 
 use crate::job::{GenJob, Job, MapJob, MovesJob, Refusal, RunJob};
 use crate::options::{from, input, line, mix, number_of, print, seed, shape, wear};
@@ -111,5 +111,37 @@ fn refusal(error: &Error) -> Refusal
     match error.kind() {
         ErrorKind::OutOfMemory => Refusal::NoMemory,
         _ => Refusal::Usage,
+    }
+}
+
+/// What the words behind the program's name ask for.
+pub fn read_job(alloc: Global, words: &[String]) -> Result<Job, Refusal>
+    ensures ok { IfOk result (λ job. job_of (map string_bytes words.now) ≡ Ok job) }
+    ensures err { IfErr result (λ e. e ≢ Refusal.NoMemory → job_of (map string_bytes words.now) ≡ Err e) }
+    ensures in_range { IfOk result IsJob }
+{
+    let Ok(all) = with_program_name(alloc, words) else {
+        return Err(Refusal::NoMemory);
+    };
+    let Ok(command) = pcm_command(alloc) else {
+        return Err(Refusal::NoMemory);
+    };
+    match command.try_get_matches_from(all.as_slice()) {
+        Ok(matches) => job(&matches),
+        Err(error) => Err(refusal(&error)),
+    }
+}
+
+// The job of what clap found.
+fn job(matches: &ArgMatches<'_>) -> Result<Job, Refusal>
+    ensures exact { result ≡ or_usage (job_met (subcommand_rows_of matches.now)) }
+    ensures in_range { IfOk result IsJob }
+{
+    let Some((name, matches)) = matches.subcommand() else {
+        return Err(Refusal::Usage);
+    };
+    match named(name, matches) {
+        Some(job) => Ok(job),
+        None => Err(Refusal::Usage),
     }
 }
