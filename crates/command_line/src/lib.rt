@@ -4,12 +4,10 @@
 mod job;
 mod options;
 mod read;
-
 mod table;
 
 pub use job::{GenJob, Input, Job, LineSize, MapJob, Mix, MovesJob, Print, Refusal, RunJob};
 pub use read::read_job;
 
-
-
-
+#[cfg(test)]
+mod tests;
