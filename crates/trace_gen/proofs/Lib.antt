@@ -1,0 +1,7 @@
+mod Drawn
+mod Printed
+mod Read
+mod Masks
+mod Words
+mod Cuts
+mod Lawful
