@@ -1,10 +1,10 @@
 -- The characters of a masked write are read as its bytes.
-use Rattle.std.proofs.Common.{◌≡◌, ℕ, zero, suc, ◌+◌, ◌*◌, ◌/◌, ◌%◌, ◌<◌, ◌≤◌, ◌==◌, ◌&&◌, ◌||◌, Bool, true, false, List, [], ◌∷◌, ◌++◌, length, get_or, map, Option, Some, None, unwrap_or, is_some, refl, sym, ap, ◌∙◌, arith}
+use Rattle.std.proofs.Common.{◌≡◌, ℕ, zero, suc, ◌+◌, ◌*◌, ◌/◌, ◌%◌, ◌<◌, ◌≤◌, ◌==◌, ◌&&◌, ◌||◌, Bool, true, false, List, [], ◌∷◌, ◌++◌, length, get_or, map, Option, Some, None, unwrap_or, is_some, refl, sym, ap, ◌∙◌, inl, inr, arith}
 use Rattle.std.specs.Prelude.{codes, IsTrue, if◌then◌else◌, option_map, Result, Ok, Err}
 use Rattle.std.specs.List.{list_any}
 use Rattle.std.specs.Option.{option_and_then}
 use Rattle.std.specs.Result.{result_ok}
-use Rattle.std.proofs.lemmas.Bool.{and_parts, eqb-true}
+use Rattle.std.proofs.lemmas.Bool.{and_parts, cases_Bool, eqb-true}
 use Rattle.std.proofs.lemmas.Bool.Decides.{nat_tests}
 use Rattle.hex.specs.Hex.{IsBytes, digit_or_error, encode_lower, encode_with, hex_digit_value, lower_digits, pair_value, value_at}
 use Rattle.hex.proofs.HexLemmas.{IsDigits-lower_digits}
@@ -23,7 +23,13 @@ pairs_for (byte ∷ bytes) (g ∷ given) = pair_for byte g ∷ pairs_for bytes g
 
 -- a digit is no dot
 digit-no_dot : (d : ℕ) → d < 16 → (get_or lower_digits d 0 == 46) ≡ false
-digit-no_dot d small = ?
+digit-no_dot d small = elim (cases_Bool (get_or lower_digits d 0 == 46)) [
+  | inl same ↦
+      let dot : get_or lower_digits d 0 ≡ 46 = eqb-true (get_or lower_digits d 0) 46 same in
+      let bad : Some d ≡ None = sym (IsDigits-lower_digits d small) ∙ ap hex_digit_value dot in
+      cc bad
+  | inr other ↦ other
+]
 
 -- the two digits of a byte
 pair-read : (byte : ℕ) → byte < 256 → pair_of (get_or lower_digits (byte / 16) 0) (get_or lower_digits (byte % 16) 0) ≡ Some (Some byte)
