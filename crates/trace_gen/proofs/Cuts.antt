@@ -1,9 +1,10 @@
 -- How many rows of a generated trace are cuts.
 use Rattle.std.proofs.Common.{◌≡◌, ◌≢◌, ℕ, zero, suc, ◌+◌, ◌-◌, ◌*◌, ◌/◌, ◌%◌, ◌<◌, ◌≤◌, ◌==◌, ◌&&◌, Bool, true, false, cond, List, [], ◌∷◌, length, max, min, refl, sym, ap, ◌∙◌, inl, inr, arith, nat_lt, nat_le}
 use Rattle.std.specs.Prelude.{if◌then◌else◌}
-use Rattle.std.proofs.Math.Nat.{div-mul-le_self, mod-lt, mul-comm, mul-le-mul, suc-mul, zero-div}
-use Rattle.std.proofs.lemmas.Bool.{cases_Bool, cases_eq, cases_le}
+use Rattle.std.proofs.Math.Nat.{div-mul-le_self, mod-lt, mul_comm, mul-le-mul, suc-mul, zero-div}
+use Rattle.std.proofs.lemmas.Bool.{cases_Bool, cases_eq, cases_lt}
 use Rattle.std.proofs.lemmas.Bool.Decides.{nat_tests}
+use Rattle.std.proofs.lemmas.List.Sums.{sum_by-cons}
 use Rattle.std.proofs.lemmas.Nat.{div-add-mod', div-mul-add, le-div}
 use Rattle.rand_core.specs.Stream.{Stream, fill_bytes, next_u64}
 use Rattle.trace_reader.specs.declared.event.Event.{Event}
@@ -81,6 +82,10 @@ event-cut : (n lines : ℕ) (mix : Mix) (row before : ℕ) (left : Stream) → i
 unfolding event_drawn
 event-cut n lines mix row before left = op-cut n lines mix row (next_u64 left).1
 
+-- one event more
+cuts-more : {n : ℕ} (event : Event n) (rest : List (Event n)) (row : Bool) → is_cut event.op ≡ row → cuts_among (event ∷ rest) ≡ cond row 1 0 + cuts_among rest
+cuts-more {n} event rest row is = sum_by-cons (λ (e : Event n). cond (is_cut e.op) 1 0) event rest ∙ ap (λ (b : Bool). cond b 1 0 + cuts_among rest) is
+
 -- the cuts of the rows behind so many that are done
 cuts-behind : (n lines : ℕ) (mix : Mix) (more done before : ℕ) (left : Stream) → cuts_among (events_drawn n lines mix more done before left) + counted mix done ≡ counted mix (done + more)
 unfolding events_drawn
@@ -92,12 +97,13 @@ cuts-behind n lines mix (suc more) done before left =
     let rest = cuts-behind n lines mix more (suc done) drawn.0.tick drawn.1 in
     let one = row-counts mix done in
     let all : suc done + more ≡ done + suc more = omega arith in
-    rw (← all, event-cut n lines mix (suc done) before left) (omega arith)
+    let first = cuts-more drawn.0 (events_drawn n lines mix more (suc done) drawn.0.tick drawn.1) (is_cut_row mix (suc done)) (event-cut n lines mix (suc done) before left) in
+    rw (← all) (omega arith)
 
 -- all cuts have room
 mono : (k c rows : ℕ) → k * (c + 1) ≤ rows → c * k ≤ rows
 mono k c rows h =
-    let a = mul-comm k (c + 1) in
+    let a = mul_comm k (c + 1) in
     let one : c + 1 ≡ suc c = omega arith in
     let b : suc c * k ≡ c * k + k = suc-mul c k in
     let d : (c + 1) * k ≡ suc c * k = ap (λ (x : ℕ). x * k) one in
@@ -106,13 +112,13 @@ mono k c rows h =
 cuts-fit : (mix : Mix) → mix.cuts ≤ mix.rows → mix.cuts * cut_distance mix ≤ mix.rows
 cuts-fit mix few =
     let k = mix.rows / (mix.cuts + 1) in
-    elim (cases_le 1 k) [
-      | inl some ↦
-          let is : cut_distance mix ≡ k = omega arith in
-          rw is (mono k mix.cuts mix.rows (div-mul-le_self mix.rows (mix.cuts + 1)))
-      | inr none ↦
+    elim (cases_lt k 1) [
+      | inl none ↦
           let is : cut_distance mix ≡ 1 = omega arith in
           rw is (omega arith)
+      | inr some ↦
+          let is : cut_distance mix ≡ k = omega arith in
+          rw is (mono k mix.cuts mix.rows (div-mul-le_self mix.rows (mix.cuts + 1)))
     ]
 
 pub cuts-all : (n lines : ℕ) (mix : Mix) (before : ℕ) (left : Stream) → mix.cuts ≤ mix.rows → cuts_among (events_drawn n lines mix mix.rows 0 before left) ≡ mix.cuts

@@ -5,3 +5,4 @@ mod Masks
 mod Words
 mod Cuts
 mod Lawful
+mod Sizes
