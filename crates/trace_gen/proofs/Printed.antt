@@ -4,7 +4,8 @@ use Rattle.std.specs.Prelude.{codes}
 use Rattle.std.specs.List.{join_with_byte}
 use Rattle.std.proofs.lemmas.List.{append-nil}
 use Rattle.pcm_io.specs.Reserved.{Reserved, appended}
-use Rattle.trace_gen.specs.EventText.{masked_text, pair_text}
+use Rattle.trace_reader.specs.declared.event.Event.{Event}
+use Rattle.trace_gen.specs.EventText.{event_row, event_rows, masked_text, pair_text}
 
 -- four fields that were pushed one by one, with commas between and LF at the end
 pub pieces-row : (t : Reserved) (a b c d : List ℕ) →
@@ -39,3 +40,17 @@ masked-pushed t now bytes given i in_bytes in_given so =
 pub masked-nothing : (t : Reserved) (bytes : List ℕ) (given : List Bool) → t ≡ appended t (masked_text (take 0 bytes) (take 0 given))
 unfolding masked_text
 masked-nothing t bytes given = ap (λ (x : List ℕ). record { bytes = x; limit = t.limit }) (sym (append-nil t.bytes))
+
+-- the rows of a list
+pub event_rows-nil : (n : ℕ) → event_rows {n = n} [] ≡ []
+unfolding event_rows
+event_rows-nil n = refl
+
+pub event_rows-cons : {n : ℕ} (event : Event n) (rest : List (Event n)) → event_rows (event ∷ rest) ≡ event_row event ++ event_rows rest
+unfolding event_rows
+event_rows-cons event rest = refl
+
+pub event_rows-append : {n : ℕ} (first second : List (Event n)) → event_rows (first ++ second) ≡ event_rows first ++ event_rows second
+unfolding event_rows
+event_rows-append [] second = refl
+event_rows-append (event ∷ rest) second = ap (λ (text : List ℕ). event_row event ++ text) (event_rows-append rest second) ∙ sym (append_assoc (event_row event) (event_rows rest) (event_rows second))

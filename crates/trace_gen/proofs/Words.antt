@@ -2,13 +2,14 @@
 use Rattle.std.proofs.Common.{◌≡◌, ℕ, zero, suc, ◌+◌, ◌*◌, ◌/◌, ◌%◌, ◌<◌, ◌≤◌, List, [], ◌∷◌, ◌++◌, length, get_or, take, refl, sym, ap, ◌∙◌, inl, inr, arith, length-append}
 use Rattle.std.specs.Int.{w64, to_le_bytes}
 use Rattle.std.proofs.lemmas.Bool.{cases_lt}
-use Rattle.std.proofs.lemmas.List.{get_or_past, get_or-take, length-take-le}
+use Rattle.std.proofs.lemmas.List.{length-take-le, take_all}
 use Rattle.rand_core.specs.Stream.{Stream, fill_bytes, next_u64}
 use Rattle.rand_core.specs.Steps.{Steps, first_bytes, steps_u64_high, word_bytes}
 use Rattle.rand_core.proofs.StepsLemmas.{fill_bytes-stream_of, next_u64-stream_of}
 use Rattle.rand_xoshiro.specs.Xoshiro256.{plus_plus}
 use Rattle.hex.specs.Hex.{IsBytes}
-use Rattle.trace_gen.specs.Generated.{words_left}
+use Rattle.trace_gen.specs.Generated.{bytes_of_words, words_left}
+use Rattle.trace_gen.specs.Laws.{PayloadLaw}
 
 -- bytes behind bytes
 pub IsBytes-append : (xs ys : List ℕ) → IsBytes xs → IsBytes ys → IsBytes (xs ++ ys)
@@ -93,3 +94,18 @@ fills n left h = rw h.is (fills-state n h.state)
 -- what is left after a word
 pub after-word : (left : Stream) → IsWords left → IsWords (next_u64 left).1
 after-word left h = rw h.is (record { state = (plus_plus h.state).1; is = ap (λ (p : ℕ × Stream). p.1) (next_u64-stream_of (steps_u64_high plus_plus) h.state) })
+
+-- the bytes that are filled in are those of words
+words-state : (k : ℕ) (state : List ℕ) → bytes_of_words k (words_left state) ≡ ((word_bytes (to_le_bytes w64) plus_plus k state).0, words_left (word_bytes (to_le_bytes w64) plus_plus k state).1)
+unfolding bytes_of_words word_bytes
+words-state zero state = refl
+words-state (suc k) state =
+    let before = word_bytes (to_le_bytes w64) plus_plus k state in
+    rw (words-state k state, next_u64-stream_of (steps_u64_high plus_plus) before.1) refl
+
+pub payload_law : PayloadLaw
+payload_law words state =
+    let many : (8 * words + 7) / 8 ≡ words = omega arith in
+    let all : length (word_bytes (to_le_bytes w64) plus_plus words state).0 ≤ 8 * words = omega (arith, word_bytes-length plus_plus words state) in
+    rw (fill_bytes-stream_of (steps_u64_high plus_plus) (8 * words) state, many, take_all (8 * words) (word_bytes (to_le_bytes w64) plus_plus words state).0 all)
+    (sym (words-state words state))

@@ -1,5 +1,6 @@
 -- The events that a seed draws.
-use Rattle.std.specs.Prelude.{◌≡◌, ℕ, zero, suc, ◌+◌, ◌*◌, ◌/◌, ◌%◌, ◌^◌, ◌≤◌, ◌==◌, ◌&&◌, nat_le, nat_lt, max, min, Bool, if◌then◌else◌, List, [], ◌∷◌}
+use Rattle.std.specs.Prelude.{◌≡◌, ℕ, zero, suc, ◌+◌, ◌*◌, ◌/◌, ◌%◌, ◌^◌, ◌≤◌, ◌==◌, ◌&&◌, nat_le, nat_lt, max, min, Bool, if◌then◌else◌, List, [], ◌∷◌, ◌++◌}
+use Rattle.std.specs.Int.{w64, to_le_bytes}
 use Rattle.rand_core.specs.Stream.{Stream, next_u64, fill_bytes}
 use Rattle.rand_core.specs.Steps.{stream_of, steps_u64_high}
 use Rattle.rand_xoshiro.specs.Xoshiro256.{plus_plus}
@@ -38,6 +39,13 @@ draws_write mix word = nat_lt (word / 2 ^ 32 % 100) mix.write_percent
 -- what a generator with this state answers from now on
 abbrev pub words_left : List ℕ → Stream
 words_left state = stream_of (steps_u64_high plus_plus) state
+
+-- the bytes of so many words, each lowest byte first, and what is left
+unfoldable pub bytes_of_words : ℕ → Stream → List ℕ × Stream
+bytes_of_words zero left = ([], left)
+bytes_of_words (suc more) left =
+    let before = bytes_of_words more left in
+    (before.0 ++ to_le_bytes w64 (next_u64 before.1).0, (next_u64 before.1).1)
 
 -- what is drawn for so many lines of n bytes
 module _ (n lines : ℕ) (mix : Mix) where

@@ -1,6 +1,7 @@
 -- The laws of printed and of generated traces.
 use Rattle.std.specs.Prelude.{◌≡◌, ℕ, ◌+◌, ◌*◌, ◌≤◌, Bool, true, false, List, [], ◌∷◌, ◌++◌, length, count_by, Some, Ok}
 use Rattle.std.specs.List.{All}
+use Rattle.rand_core.specs.Stream.{fill_bytes}
 use Rattle.hex.specs.Hex.{IsBytes}
 use Rattle.csv.specs.Machine.{next_record}
 use Rattle.csv.specs.Reading.{default_config}
@@ -13,7 +14,7 @@ use Rattle.trace_reader.specs.declared.event.EventOp.{EventOp}
 use Rattle.trace_reader.specs.declared.event.EventOp.TheVariants.{Read, Write, Mask, Cut}
 use Rattle.trace_gen.specs.declared.mix.Mix.{Mix}
 use Rattle.trace_gen.specs.EventText.{event_fields, event_row, trace_text}
-use Rattle.trace_gen.specs.Generated.{IsMix, generated}
+use Rattle.trace_gen.specs.Generated.{IsMix, bytes_of_words, generated, words_left}
 
 -- the line numbers of a trace have at most five digits
 abbrev pub most_lines : ℕ
@@ -77,6 +78,10 @@ pub record IsGenerated {n : ℕ} (lines : ℕ) (mix : Mix) (events : List (Event
 
 abbrev pub GeneratedLaw : Type 0
 GeneratedLaw = (n seed lines : ℕ) (mix : Mix) → 1 ≤ lines → lines ≤ 65536 → IsMix mix → IsGenerated lines mix (generated n seed lines mix)
+
+-- the bytes of a write are those of the next words, eight of each, lowest byte first
+abbrev pub PayloadLaw : Type 0
+PayloadLaw = (words : ℕ) (state : List ℕ) → fill_bytes (8 * words) (words_left state) ≡ bytes_of_words words (words_left state)
 
 -- a generated trace takes at most 17 bytes for its header, and for each row 21 bytes and two for each byte of a line
 abbrev pub GeneratedSizeLaw : Type 0

@@ -1,6 +1,6 @@
 //! The laws of printed and of generated traces. A law is what a function here ensures; the functions do nothing when they
 //! run.
-ghost use Rattle.trace_gen.specs.Laws.{RowLaw, TextLaw, GeneratedLaw, GeneratedTextLaw, GeneratedSizeLaw};
+ghost use Rattle.trace_gen.specs.Laws.{RowLaw, TextLaw, GeneratedLaw, GeneratedTextLaw, GeneratedSizeLaw, PayloadLaw};
 
 /// A printed row is read as the fields of its event, and these as the event.
 pub fn row_reads_back()
@@ -25,4 +25,9 @@ pub fn gen_text_reads_back()
 /// The text of a generated trace is no longer than its rows can be.
 pub fn gen_text_is_short()
     ensures { GeneratedSizeLaw }
+{}
+
+/// The bytes of a write are eight of each of the next words, lowest byte first.
+pub fn payload_is_words()
+    ensures { PayloadLaw }
 {}
