@@ -1,16 +1,14 @@
 -- How many rows of a generated trace are cuts.
-use Rattle.std.proofs.Common.{◌≡◌, ◌≢◌, ℕ, zero, suc, ◌+◌, ◌-◌, ◌*◌, ◌/◌, ◌%◌, ◌<◌, ◌≤◌, ◌==◌, ◌&&◌, Bool, true, false, cond, List, [], ◌∷◌, length, max, min, refl, sym, ap, ◌∙◌, inl, inr, arith, nat_lt, nat_le}
-use Rattle.std.specs.Prelude.{if◌then◌else◌}
-use Rattle.std.proofs.Math.Nat.{div-mul-le_self, mod-lt, mul_comm, mul-le-mul, suc-mul, zero-div}
+use Rattle.std.proofs.Common.{◌≡◌, ◌≢◌, ℕ, zero, suc, ◌+◌, ◌-◌, ◌*◌, ◌/◌, ◌%◌, ◌<◌, ◌≤◌, ◌==◌, Bool, true, false, cond, List, ◌∷◌, min, refl, sym, ap, ◌∙◌, inl, inr, arith, nat_le}
+use Rattle.std.proofs.Math.Nat.{div-mul-le_self, mod-lt, mul_comm, suc-mul, zero-div}
 use Rattle.std.proofs.lemmas.Bool.{cases_Bool, cases_eq, cases_lt}
 use Rattle.std.proofs.lemmas.Bool.Decides.{nat_tests}
 use Rattle.std.proofs.lemmas.List.Sums.{sum_by-cons}
 use Rattle.std.proofs.lemmas.Nat.{div-add-mod', div-mul-add, le-div}
-use Rattle.rand_core.specs.Stream.{Stream, fill_bytes, next_u64}
+use Rattle.rand_core.specs.Stream.{Stream, next_u64}
 use Rattle.trace_reader.specs.declared.event.Event.{Event}
-use Rattle.trace_reader.specs.declared.event.EventOp.{EventOp}
 use Rattle.trace_gen.specs.declared.mix.Mix.{Mix}
-use Rattle.trace_gen.specs.Generated.{IsMix, access_by, cut_distance, draws_write, event_drawn, events_drawn, is_cut_row, line_drawn, op_drawn}
+use Rattle.trace_gen.specs.Generated.{access_by, cut_distance, draws_write, event_drawn, events_drawn, is_cut_row, op_drawn}
 use Rattle.trace_gen.specs.Laws.{cuts_among, is_cut}
 
 quotient : (a w b x : ℕ) → b < w → x ≡ a * w + b → x / w ≡ a

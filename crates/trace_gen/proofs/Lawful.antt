@@ -1,28 +1,22 @@
 -- The events of a generated trace are those of a trace for its lines.
-use Rattle.std.proofs.Common.{◌≡◌, ℕ, zero, suc, ◌+◌, ◌*◌, ◌/◌, ◌%◌, ◌^◌, ◌<◌, ◌≤◌, ◌&&◌, Bool, true, false, List, [], ◌∷◌, ◌++◌, length, min, refl, sym, ap, ◌∙◌, inl, inr, arith, nat_lt, nat_le, length-append, lit≤}
-use Rattle.std.specs.Prelude.{codes, decimal, if◌then◌else◌, Ok}
+use Rattle.std.proofs.Common.{◌≡◌, ℕ, zero, suc, ◌+◌, ◌*◌, ◌/◌, ◌%◌, ◌^◌, ◌<◌, ◌≤◌, ◌&&◌, List, [], ◌∷◌, length, min, refl, ap, inl, inr, arith, nat_lt}
 use Rattle.std.proofs.Math.Nat.{mod-lt, mul-le-mul, suc-mul}
-use Rattle.std.proofs.lemmas.Bool.{cases_Bool, cases_lt}
+use Rattle.std.proofs.lemmas.Bool.{cases_Bool}
 use Rattle.std.proofs.lemmas.Bool.Decides.{nat_tests}
-use Rattle.std.proofs.lemmas.Fmt.{length-decimal-le}
-use Rattle.rand_core.specs.Stream.{Stream, fill_bytes, next_u64}
+use Rattle.rand_core.specs.Stream.{Stream, next_u64}
 use Rattle.rand_xoshiro.specs.SplitMix64.{splitmix_seed}
 use Rattle.rand_xoshiro.specs.Xoshiro256.{of_seed}
 use Rattle.pcm_cells.specs.Words.{xoshiro_of}
-use Rattle.hex.specs.Hex.{encode_lower, encode_with, lower_digits}
-use Rattle.hex.proofs.HexLemmas.{length-encode_with}
 use Rattle.trace_reader.specs.Events.{AreEventsFor, IsEventFor, IsOpFor}
 use Rattle.trace_reader.specs.Rows.{latest_tick}
 use Rattle.trace_reader.specs.declared.event.Event.{Event}
 use Rattle.trace_reader.specs.declared.event.EventOp.{EventOp}
-use Rattle.trace_reader.specs.declared.event.EventOp.TheVariants.{Read, Write, Mask, Cut}
 use Rattle.trace_gen.specs.declared.mix.Mix.{Mix}
-use Rattle.trace_gen.specs.EventText.{data_text, event_row, event_rows, line_text, masked_text, op_letter, pair_text, trace_text}
-use Rattle.trace_gen.specs.Generated.{IsMix, access_by, draws_write, event_drawn, events_drawn, generated, is_cut_row, line_drawn, op_drawn, words_left}
-use Rattle.trace_gen.specs.Laws.{AllHaveBytes, AllWithin, GeneratedLaw, GeneratedSizeLaw, GeneratedTextLaw, HasBytes, IsGenerated, most_lines}
+use Rattle.trace_gen.specs.Generated.{IsMix, access_by, draws_write, event_drawn, events_drawn, generated, is_cut_row, line_drawn, op_drawn}
+use Rattle.trace_gen.specs.Laws.{AllHaveBytes, AllWithin, GeneratedLaw, GeneratedTextLaw, HasBytes, IsGenerated}
 use Rattle.trace_gen.proofs.Cuts.{cuts-all}
 use Rattle.trace_gen.proofs.Read.{text_law}
-use Rattle.trace_gen.proofs.Words.{Fills, IsWords, after-word, fills}
+use Rattle.trace_gen.proofs.Words.{IsWords, after-word, fills}
 
 -- a line that is drawn exists
 line-below : (lines : ℕ) (mix : Mix) (word : ℕ) → 1 ≤ lines → line_drawn lines mix word < lines

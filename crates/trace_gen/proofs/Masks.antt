@@ -1,15 +1,13 @@
 -- The characters of a masked write are read as its bytes.
-use Rattle.std.proofs.Common.{◌≡◌, ℕ, zero, suc, ◌+◌, ◌*◌, ◌/◌, ◌%◌, ◌<◌, ◌≤◌, ◌==◌, ◌&&◌, ◌||◌, Bool, true, false, List, [], ◌∷◌, ◌++◌, length, get_or, map, Option, Some, None, unwrap_or, is_some, refl, sym, ap, ◌∙◌, inl, inr, arith}
-use Rattle.std.specs.Prelude.{codes, IsTrue, if◌then◌else◌, option_map, Result, Ok, Err}
+use Rattle.std.proofs.Common.{◌≡◌, ℕ, suc, ◌+◌, ◌*◌, ◌/◌, ◌%◌, ◌<◌, ◌==◌, Bool, true, false, List, [], ◌∷◌, ◌++◌, length, get_or, map, Option, Some, None, unwrap_or, is_some, refl, sym, ap, ◌∙◌, inl, inr, arith}
+use Rattle.std.specs.Prelude.{if◌then◌else◌}
 use Rattle.std.specs.List.{list_any}
-use Rattle.std.specs.Option.{option_and_then}
-use Rattle.std.specs.Result.{result_ok}
 use Rattle.std.proofs.lemmas.Bool.{and_parts, cases_Bool, eqb-true}
 use Rattle.std.proofs.lemmas.Bool.Decides.{nat_tests}
-use Rattle.hex.specs.Hex.{IsBytes, digit_or_error, encode_lower, encode_with, hex_digit_value, lower_digits, pair_value, value_at}
+use Rattle.hex.specs.Hex.{IsBytes, encode_with, hex_digit_value, lower_digits}
 use Rattle.hex.proofs.HexLemmas.{IsDigits-lower_digits}
-use Rattle.masked_bytes.specs.Masked.{IsMasked, gives_some, zero_elsewhere}
-use Rattle.trace_reader.specs.Payload.{Masked, masked_by, masked_of, pair_of, pairs_of}
+use Rattle.masked_bytes.specs.Masked.{IsMasked, zero_elsewhere}
+use Rattle.trace_reader.specs.Payload.{masked_of, pair_of, pairs_of}
 use Rattle.trace_gen.specs.EventText.{masked_text, pair_text}
 
 -- what a masked write says byte by byte

@@ -1,7 +1,7 @@
 -- A printed row is read as its event.
-use Rattle.std.proofs.Common.{◌≡◌, ℕ, zero, suc, ◌+◌, ◌-◌, ◌*◌, ◌/◌, ◌%◌, ◌^◌, ◌<◌, ◌≤◌, ◌==◌, ◌&&◌, Bool, true, false, List, [], ◌∷◌, ◌++◌, length, get_or, Option, Some, None, refl, sym, ap, ◌∙◌, arith, nat_lt, lit<, append-nil, map, length-append}
-use Rattle.std.specs.Prelude.{codes, decimal, Result, Ok, Err}
-use Rattle.std.specs.Char.{digit_value, is_ascii_digit}
+use Rattle.std.proofs.Common.{◌≡◌, ℕ, zero, suc, ◌+◌, ◌-◌, ◌*◌, ◌/◌, ◌%◌, ◌^◌, ◌<◌, ◌≤◌, ◌==◌, Bool, true, false, List, [], ◌∷◌, ◌++◌, length, get_or, Some, refl, ap, ◌∙◌, arith, nat_lt, lit<, append-nil, map, length-append}
+use Rattle.std.specs.Prelude.{codes, decimal, Ok}
+use Rattle.std.specs.Char.{is_ascii_digit}
 use Rattle.std.specs.List.{join_with_byte, list_all, list_any}
 use Rattle.std.specs.Result.{result_ok}
 use Rattle.std.specs.Str.Parse.{AllDigits, digits_value}
@@ -14,20 +14,19 @@ use Rattle.csv.specs.Records.{field_at}
 use Rattle.csv.specs.Writing.{default_writer, fields_text, is_blank, needs_byte, row_text}
 use Rattle.csv.specs.declared.parser.State.TheVariants as st
 use Rattle.csv.proofs.RoundTrip.{read-write-many}
-use Rattle.hex.specs.Hex.{IsBytes, decode_sized, encode_lower, encode_with, hex_digit_value, lower_digits}
+use Rattle.hex.specs.Hex.{IsBytes, encode_lower, encode_with, hex_digit_value, lower_digits}
 use Rattle.hex.proofs.HexLemmas.{IsDigits-lower_digits, decode_of-encode_lower, decode_sized-twice, length-encode_with}
-use Rattle.masked_bytes.specs.Masked.{IsMasked}
 use Rattle.trace_reader.specs.Events.{AreEventsFor, IsEventFor, IsOpFor}
 use Rattle.trace_reader.specs.Number.{number_of}
-use Rattle.trace_reader.specs.Payload.{bytes_of, masked_of}
-use Rattle.trace_reader.specs.Rows.{cut_of, event_of, latest_tick, line_of, mask_of, op_of, read_of, text_at, tick_of, write_of}
+use Rattle.trace_reader.specs.Payload.{bytes_of}
+use Rattle.trace_reader.specs.Rows.{cut_of, event_of, latest_tick, line_of, mask_of, op_of, read_of, tick_of, write_of}
 use Rattle.trace_reader.specs.Trace.{events_of, is_header, most_rows, rows_from, trace_of}
 use Rattle.trace_reader.specs.declared.event.Event.{Event}
 use Rattle.trace_reader.specs.declared.event.EventOp.{EventOp}
 use Rattle.trace_reader.specs.declared.event.EventOp.TheVariants.{Read, Write, Mask, Cut}
 use Rattle.trace_reader.proofs.Numbers.{number_of-some}
 use Rattle.trace_gen.specs.EventText.{data_text, event_fields, event_row, event_rows, line_text, masked_text, op_letter, pair_text, trace_header, trace_text}
-use Rattle.trace_gen.specs.Laws.{AllHaveBytes, HasBytes, RowLaw, RowReadsBack, TextLaw, most_lines}
+use Rattle.trace_gen.specs.Laws.{AllHaveBytes, HasBytes, RowLaw, TextLaw, most_lines}
 use Rattle.trace_gen.proofs.Masks.{masked-read}
 
 -- digits are digits

@@ -1,10 +1,9 @@
 -- The bytes that a generator of words fills in: as many as were asked for, and each is a byte.
-use Rattle.std.proofs.Common.{◌≡◌, ℕ, zero, suc, ◌+◌, ◌*◌, ◌/◌, ◌%◌, ◌<◌, ◌≤◌, List, [], ◌∷◌, ◌++◌, length, get_or, take, refl, sym, ap, ◌∙◌, inl, inr, arith, length-append}
+use Rattle.std.proofs.Common.{◌≡◌, ℕ, zero, suc, ◌+◌, ◌*◌, ◌/◌, ◌%◌, ◌≤◌, List, [], ◌∷◌, ◌++◌, length, take, refl, sym, ap, ◌∙◌, arith, length-append}
 use Rattle.std.specs.Int.{w64, to_le_bytes}
-use Rattle.std.proofs.lemmas.Bool.{cases_lt}
 use Rattle.std.proofs.lemmas.List.{length-take-le, take_all}
 use Rattle.rand_core.specs.Stream.{Stream, fill_bytes, next_u64}
-use Rattle.rand_core.specs.Steps.{Steps, first_bytes, steps_u64_high, word_bytes}
+use Rattle.rand_core.specs.Steps.{steps_u64_high, word_bytes}
 use Rattle.rand_core.proofs.StepsLemmas.{fill_bytes-stream_of, next_u64-stream_of}
 use Rattle.rand_xoshiro.specs.Xoshiro256.{plus_plus}
 use Rattle.hex.specs.Hex.{IsBytes}

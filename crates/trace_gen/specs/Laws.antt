@@ -1,6 +1,5 @@
 -- The laws of printed and of generated traces.
 use Rattle.std.specs.Prelude.{◌≡◌, ℕ, ◌+◌, ◌*◌, ◌≤◌, Bool, true, false, List, [], ◌∷◌, ◌++◌, length, count_by, Some, Ok}
-use Rattle.std.specs.List.{All}
 use Rattle.rand_core.specs.Stream.{fill_bytes}
 use Rattle.hex.specs.Hex.{IsBytes}
 use Rattle.csv.specs.Machine.{next_record}

@@ -61,7 +61,13 @@ impl<const B: usize> Generator<B> {
         }
         self.done += 1;
         self.tick += self.words.next_u64() % (u64::from(self.mix.step) + 1);
-        let op = op(&mut self.words, self.done, self.distance, self.lines, &self.mix);
+        let op = op(
+            &mut self.words,
+            self.done,
+            self.distance,
+            self.lines,
+            &self.mix,
+        );
         Some(Event {
             tick: self.tick,
             op,

@@ -16,7 +16,7 @@ pub struct Mix {
 
 impl Mix {
     // How far apart the cuts are.
-    pub fn cut_distance(&self) -> u32
+    pub(crate) fn cut_distance(&self) -> u32
         requires { IsMix self.now }
         ensures distance { result ≡ cut_distance self.now }
         ensures some { 1 ≤ result }
@@ -26,7 +26,7 @@ impl Mix {
 
     // Whether the row of this number is a cut.
     #[tactic(auto, unfolding(crate::specs::Generated::is_cut_row))]
-    pub fn is_cut(&self, row: u32, distance: u32) -> bool
+    pub(crate) fn is_cut(&self, row: u32, distance: u32) -> bool
         requires distance { distance ≡ cut_distance self.now }
         requires some { 1 ≤ distance }
         ensures { result ≡ is_cut_row self.now row }
@@ -36,7 +36,7 @@ impl Mix {
 
     // The line that a word draws.
     #[tactic(auto, unfolding(crate::specs::Generated::line_drawn))]
-    pub fn line(&self, lines: u32, word: u64) -> u32
+    pub(crate) fn line(&self, lines: u32, word: u64) -> u32
         requires { 1 ≤ lines }
         ensures { result ≡ line_drawn lines self.now word }
     {
@@ -49,7 +49,7 @@ impl Mix {
 
     // Whether a word draws a write.
     #[tactic(auto, unfolding(crate::specs::Generated::draws_write))]
-    pub fn is_write(&self, word: u64) -> bool
+    pub(crate) fn is_write(&self, word: u64) -> bool
         ensures { result ≡ draws_write self.now word }
     {
         (word >> 32) % 100 < u64::from(self.write_percent)

@@ -51,7 +51,8 @@ fn push_line<const B: usize>(op: &EventOp<B>, text: &mut Text)
     ensures room { room_in text.old ≤ room_in text.new + 10 }
 {
     match op {
-        EventOp::Read(line) | EventOp::Write(line, _) | EventOp::Mask(line, _, _) => text.push_number(*line as u64),
+        EventOp::Read(line) | EventOp::Write(line, _) | EventOp::Mask(line, _, _) =>
+            text.push_number(*line as u64),
         EventOp::Cut => {}
     }
 }

@@ -22,7 +22,12 @@ fn printed<const B: usize>(alloc: Global, events: &[Event<B>]) -> Result<Text, A
 }
 
 // The text of a generated trace.
-fn generated<const B: usize>(alloc: Global, seed: u64, lines: u32, mix: Mix) -> Result<Text, AllocError>
+fn generated<const B: usize>(
+    alloc: Global,
+    seed: u64,
+    lines: u32,
+    mix: Mix,
+) -> Result<Text, AllocError>
     requires size { B ≤ 128 }
     requires some_lines { 1 ≤ lines }
     requires few_lines { lines ≤ 65536 }
@@ -44,7 +49,10 @@ fn rows_that_are_all_cuts(rt: HostRuntime) -> Result<(), Fail> {
         hot: 0,
     };
     let text = generated::<64>(rt.alloc(), 0, 4, mix)?;
-    assert_eq!(rt; text.bytes(), b"tick,op,arg,data\n0,C,,\n0,C,,\n".as_slice());
+    assert_eq!(rt;
+        text.bytes(),
+        b"tick,op,arg,data\n0,C,,\n0,C,,\n".as_slice()
+    );
     Ok(())
 }
 

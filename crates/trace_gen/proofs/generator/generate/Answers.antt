@@ -1,6 +1,5 @@
-use Rattle.std.proofs.Common.{◌≡◌, ◌++◌, List, [], sym, ap, ◌∙◌, append-nil}
+use Rattle.std.proofs.Common.{◌≡◌, ◌++◌, List, [], ap, ◌∙◌, append-nil}
 use Rattle.trace_reader.specs.declared.event.Event.{Event}
-use Rattle.trace_gen.specs.Generated.{generated}
 use Rattle.trace_gen.proofs.Lawful.{generated_as}
 use Rattle.trace_gen.proofs.generator.generate.Goals as goal
 

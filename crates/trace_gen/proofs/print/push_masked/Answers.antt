@@ -1,6 +1,5 @@
-use Rattle.std.proofs.Common.{◌≡◌, ◌<◌, ◌∙◌, length, sym, refl, arith, append-nil, rules}
-use Rattle.std.proofs.lemmas.Grind.{common_steps}
-use Rattle.trace_gen.proofs.Printed.{masked-none, masked-nothing, masked-pushed}
+use Rattle.std.proofs.Common.{◌<◌, ◌∙◌, length, arith, rules}
+use Rattle.trace_gen.proofs.Printed.{masked-nothing, masked-pushed}
 use Rattle.trace_gen.proofs.print.push_masked.Goals as goal
 
 pub loop-i-init : goal.loop-i-init
