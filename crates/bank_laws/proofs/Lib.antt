@@ -9,7 +9,7 @@ pub mod Walking
 pub mod Ending
 pub mod Serves
 pub mod Wears
-pub mod Quiet
+mod Quiet
 pub mod Holding
 pub mod Lines
 pub mod Merging
