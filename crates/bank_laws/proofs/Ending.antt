@@ -52,7 +52,7 @@ module _ {n : ℕ} where
   pub own_row : (row : ℕ) (t o : Outcome n) → unwrap_or (on_row row row t) o ≡ t
   own_row row t o = subst (λ b. unwrap_or (cond b (Some t) None) o ≡ t) (sym (eqb-same row)) refl
 
-  pub left-ended : (tick : ℕ) (o : Outcome n) → IsLeft o → ended tick o ≡ o
+  left-ended : (tick : ℕ) (o : Outcome n) → IsLeft o → ended tick o ≡ o
   left-ended tick out.Unset l = absurd l
   left-ended tick (out.Stored at place) l = refl
   left-ended tick (out.Merged at) l = refl

@@ -9,10 +9,10 @@ pub mod Walking
 pub mod Ending
 pub mod Serves
 pub mod Wears
-mod Quiet
-mod Holding
+pub mod Quiet
+pub mod Holding
 pub mod Lines
-mod Merging
-mod Counting
+pub mod Merging
+pub mod Counting
 pub mod Waiting
 pub mod Pending

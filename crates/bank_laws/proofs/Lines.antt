@@ -176,7 +176,7 @@ module _ {n : ℕ} where
       by None is h = own busy (eqb e.line line) refl h
 
   -- it is the newest of its line: another stands before it
-  pub newest-covers : (es : List (Entry n)) (line at row : ℕ) → newest_row es line ≡ Some at → (at == row) ≡ false → Stands es row line → Covered es row line
+  newest-covers : (es : List (Entry n)) (line at row : ℕ) → newest_row es line ≡ Some at → (at == row) ≡ false → Stands es row line → Covered es row line
   newest-covers [] line at row h ne s = absurd s
   newest-covers (e ∷ es) line at row h ne s = by (newest_row es line) (λ is t. newest-covers es line at row is ne t) refl h s
     where

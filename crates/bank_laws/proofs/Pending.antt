@@ -80,7 +80,7 @@ module _ {n : ℕ} where
   full_outcome tick answer (out.Lost at) is f = absurd (cc)
   full_outcome tick answer (out.Cut at) is f = absurd (cc)
 
-  pub full-room : (shape : BankShape) (h : List (Event n)) (line : ℕ) → wrote.Full ≡ write_answer shape h line → (length (queue shape h) == shape.writes) ≡ true
+  full-room : (shape : BankShape) (h : List (Event n)) (line : ℕ) → wrote.Full ≡ write_answer shape h line → (length (queue shape h) == shape.writes) ≡ true
   full-room shape h line a = by (has_exhausted h) (candidate (head_busy_after shape h) (queue shape h) line) a
     where
       room : (b : Bool) → wrote.Full ≡ cond b wrote.Full wrote.Accepted → b ≡ true

@@ -39,15 +39,15 @@ use Rattle.bank_laws.proofs.Ending.{Onwards, own_row, own_answer}
 use Rattle.bank_laws.proofs.Serves.{may_at, onwards_at, idle-waits}
 use Rattle.bank_laws.proofs.Counting.{among, Falling, falling-more, hits, waits-counted}
 
-pub or_right_of : (a b : Bool) → b ≡ true → (a || b) ≡ true
+or_right_of : (a b : Bool) → b ≡ true → (a || b) ≡ true
 or_right_of true b h = refl
 or_right_of false b h = h
 
-pub or_left_of : (a b : Bool) → a ≡ true → (a || b) ≡ true
+or_left_of : (a b : Bool) → a ≡ true → (a || b) ≡ true
 or_left_of true b h = refl
 or_left_of false b h = absurd (cc)
 
-pub not_and : (a b : Bool) → b ≡ true → (a && not b) ≡ false
+not_and : (a b : Bool) → b ≡ true → (a && not b) ≡ false
 not_and true true h = refl
 not_and true false h = absurd (cc)
 not_and false b h = refl

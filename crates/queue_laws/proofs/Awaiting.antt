@@ -1,8 +1,7 @@
 -- The reads that a row finds waiting are those that wait by the events, at any tick up to the next end of an action.
-use Rattle.std.proofs.Common.{◌≡◌, ◌≢◌, ℕ, ◌<◌, ◌≤◌, ◌&&◌, ◌||◌, ◌⊎◌, inl, inr, not, Bool, true, false, List, [], ◌∷◌, ◌++◌, length, refl, sym, ap, ◌∙◌, subst, arith, append_assoc}
+use Rattle.std.proofs.Common.{◌≡◌, ℕ, ◌≤◌, ◌&&◌, ◌||◌, inl, inr, not, Bool, true, false, List, [], ◌∷◌, ◌++◌, length, refl, sym, ap, ◌∙◌, subst, append_assoc}
 use Rattle.std.specs.List.{list_any}
 use Rattle.result_rows.specs.declared.Outcome.{Outcome}
-use Rattle.result_rows.specs.declared.Outcome.TheVariants as out
 use Rattle.row_laws.specs.declared.Row.{Row}
 use Rattle.row_laws.specs.Answers.{is_lost, read_after}
 use Rattle.row_laws.specs.Rows.{is_cut}

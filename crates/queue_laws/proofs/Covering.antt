@@ -1,5 +1,5 @@
 -- Over a lawful history the queue gives of each line what its accepted writes behind the last stored one give, and a completed head more.
-use Rattle.std.proofs.Common.{◌≡◌, ℕ, ◌<◌, ◌≤◌, ◌==◌, ◌&&◌, ◌||◌, ◌⊎◌, inl, inr, Bool, true, false, suc, List, [], ◌∷◌, ◌++◌, Option, Some, None, drop, length, refl, sym, ap, ◌∙◌, subst, arith, cond, eqb, eqb-true}
+use Rattle.std.proofs.Common.{◌≡◌, ℕ, ◌<◌, ◌≤◌, ◌==◌, ◌⊎◌, inl, inr, Bool, true, false, suc, List, [], ◌∷◌, ◌++◌, Option, Some, None, drop, refl, sym, ap, ◌∙◌, subst, arith, cond, eqb, eqb-true}
 use Rattle.std.specs.Prelude.{unwrap_or}
 use Rattle.std.proofs.lemmas.Bool.{eq-eqb, ne_eqb}
 use Rattle.result_rows.specs.declared.Outcome.{Outcome}
@@ -28,14 +28,13 @@ use Rattle.bank_laws.proofs.Entries.{either, differ}
 use Rattle.bank_laws.proofs.Standing.{stand_apart}
 use Rattle.bank_laws.proofs.Answering.{IsHead, stored-head}
 use Rattle.bank_laws.proofs.Settling.{opens, above_all, step_stays}
-use Rattle.bank_laws.proofs.Pairs.{AllLong, HeadFull, KeepsPairs, keeps_pairs, busy-full, no_candidate-head, accepted-none, and_left, and_right, eqb-same}
+use Rattle.bank_laws.proofs.Pairs.{AllLong, HeadFull, KeepsPairs, keeps_pairs, busy-full, no_candidate-head, accepted-none, and_left, and_right}
 use Rattle.bank_laws.proofs.Ending.{accepting}
 use Rattle.bank_laws.proofs.Wears.{not_stored, lost_not_stored}
 use Rattle.bank_laws.proofs.Lines.{Stands, stands-one, merged-candidate, merges-stands}
 use Rattle.bank_laws.proofs.Waiting.{may_all}
 use Rattle.bank_laws.proofs.Pending.{queue-asked, writes_in, writes-fall}
 use Rattle.queue_laws.proofs.Order.{Leads, InOrder, in_order, stands-pushed, stands-was, below_among}
-use Rattle.queue_laws.proofs.Spread.{spread}
 use Rattle.queue_laws.proofs.Showing.{Front, Tails, front-same, tails-same, front-push, tails-push, front-merged, tails-merged, candidate-newest, front-push_other, tails-push_other, front-merged_other, tails-merged_other, front-begun, tails-begun, front-stored, front-stored_other}
 use Rattle.queue_laws.proofs.Floors.{since, floor_of, Asked, asked-one, since-none, since-joins, since-other, floor-bound, floor-agree, floor-above, floor-own, floor-new, stored-agree}
 
@@ -94,9 +93,6 @@ module _ {n m : ℕ} (shape : BankShape) (pace : Pacing) (e : ℕ) where
     order : InOrder shape pace e zs
     order = in_order shape pace e zs r i l
 
-    old_floor : ℕ → ℕ
-    old_floor line = floor_of (outcome_of shape zs) (core zs) line
-
     flag : (h : Happens n) (row : ℕ) → MayCome shape pace e zs x h → Storeless h → is_stored (unwrap_or (outcome_with shape zs h x.tick row) (outcome_of shape zs row)) ≡ is_stored (outcome_of shape zs row)
     flag h row may less =
         stored-agree (outcome_of shape zs row) (unwrap_or (outcome_with shape zs h x.tick row) (outcome_of shape zs row)) (λ u p s. none_new zs x h row u p less s)
@@ -135,9 +131,6 @@ module _ {n m : ℕ} (shape : BankShape) (pace : Pacing) (e : ℕ) where
     -- Writes
 
     module _ (at k : ℕ) (bytes : List ℕ) (given : List Bool) (answer : WriteAnswer) (may : MayCome shape pace e zs x (Core (Write at k bytes given answer))) (acc : accepting answer ≡ true) where
-      w : List (Event n)
-      w = Write at k bytes given answer ∷ core zs
-
       joins : (line : ℕ) → (k == line) ≡ true → (f : ℕ) → f ≤ at → since (Write at k bytes given answer ∷ core zs) line f ≡ joined given (since (core zs) line f)
       joins line is f le = since-joins given (since (core zs) line f) (accepting answer) k at line f acc is le
 

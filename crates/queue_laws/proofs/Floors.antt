@@ -1,14 +1,12 @@
 -- What the accepted writes of a line from a row on give, and the row behind the last stored one.
-use Rattle.std.proofs.Common.{◌≡◌, ℕ, ◌<◌, ◌≤◌, ◌==◌, ◌&&◌, ◌||◌, ◌⊎◌, inl, inr, Bool, true, false, suc, List, [], ◌∷◌, ◌++◌, length, refl, sym, ap, ◌∙◌, subst, arith, cond, eqb, eqb-true}
+use Rattle.std.proofs.Common.{◌≡◌, ℕ, ◌<◌, ◌≤◌, ◌==◌, ◌&&◌, ◌⊎◌, inl, inr, Bool, true, false, suc, List, [], ◌∷◌, refl, sym, ap, ◌∙◌, subst, arith, cond, eqb, eqb-true}
 use Rattle.std.specs.Prelude.{nat_le}
 use Rattle.std.proofs.lemmas.Bool.{eq-eqb, le-leb, lt-leb}
-use Rattle.std.proofs.lemmas.List.{length-replicate}
 use Rattle.result_rows.specs.declared.Outcome.{Outcome}
 use Rattle.result_rows.specs.declared.Outcome.TheVariants as out
 use Rattle.masked_bytes.specs.Masked.{joined, none_given}
 use Rattle.row_laws.specs.Answers.{is_stored}
 use Rattle.bank_model.specs.Events.{Event, Write, Read, Serve, Begin, Iterate, Cut, RowsBelow}
-use Rattle.bank_laws.proofs.Entries.{either}
 use Rattle.bank_laws.proofs.Ending.{accepting}
 
 pub and_none : (a b : Bool) → b ≡ false → (a && b) ≡ false
@@ -180,13 +178,6 @@ module _ {n : ℕ} where
   stored_case (out.Busy at) = inr refl
   stored_case (out.Lost at) = inr refl
   stored_case (out.Cut at) = inr refl
-
-  pub is_stored-of : (o : Outcome n) → is_stored o ≡ true → (u : ℕ) × (p : ℕ) × (o ≡ out.Stored u p)
-  is_stored-of o s = by (stored_case o)
-    where
-      by : ((u : ℕ) × (p : ℕ) × (o ≡ out.Stored u p)) ⊎ (is_stored o ≡ false) → (u : ℕ) × (p : ℕ) × (o ≡ out.Stored u p)
-      by (inl is) = is
-      by (inr none) = absurd (cc (none, s))
 
   -- outcomes of which one is stored where the other is
   pub stored-agree : (o q : Outcome n) → ((u p : ℕ) → q ≡ out.Stored u p → o ≡ out.Stored u p) → ((u p : ℕ) → o ≡ out.Stored u p → q ≡ out.Stored u p) → is_stored q ≡ is_stored o

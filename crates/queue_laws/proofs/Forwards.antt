@@ -1,6 +1,5 @@
 -- When a read is forwarded, by the rows; and all that the rows show of the queue and of the waiting reads.
-use Rattle.std.proofs.Common.{◌≡◌, ℕ, ◌<◌, ◌≤◌, ◌==◌, ◌&&◌, ◌||◌, ◌⊎◌, inl, inr, not, Bool, true, false, List, [], ◌∷◌, ◌++◌, length, refl, sym, ap, ◌∙◌, subst, arith, cond, eqb, append_assoc}
-use Rattle.std.specs.Prelude.{filter}
+use Rattle.std.proofs.Common.{◌≡◌, ℕ, ◌≤◌, ◌==◌, ◌||◌, ◌⊎◌, inl, inr, Bool, true, false, List, [], ◌∷◌, ◌++◌, length, refl, sym, ap, ◌∙◌, subst, arith, cond, eqb}
 use Rattle.std.specs.List.{list_any}
 use Rattle.result_rows.specs.declared.Outcome.{Outcome}
 use Rattle.result_rows.specs.declared.Outcome.TheVariants as out
@@ -8,11 +7,10 @@ use Rattle.masked_bytes.specs.declared.entry.Entry.{Entry}
 use Rattle.masked_bytes.specs.Masked.{gives_all}
 use Rattle.masked_bytes.specs.Entries.{has_row, layer_of}
 use Rattle.row_laws.specs.declared.Row.{Row}
-use Rattle.row_laws.specs.Answers.{is_forwarded, is_full}
+use Rattle.row_laws.specs.Answers.{is_forwarded}
 use Rattle.row_laws.specs.Rows.{write_of}
-use Rattle.row_laws.specs.Queueing.{pending, waiting, cover, has_room, is_refused, is_at_head, is_first, next_store, read_fits, merge_fits, is_queue_fair}
+use Rattle.row_laws.specs.Queueing.{pending, waiting, cover, is_at_head, read_fits}
 use Rattle.bank_shape.specs.declared.BankShape.{BankShape}
-use Rattle.bank_model.specs.declared.answer.WriteAnswer.TheVariants as wrote
 use Rattle.bank_model.specs.declared.answer.ReadAnswer.{ReadAnswer}
 use Rattle.bank_model.specs.declared.answer.ReadAnswer.TheVariants as came
 use Rattle.bank_model.specs.Events.{Event, Write, Read, Serve, Begin, Iterate, Cut, RowsBelow, newest}
@@ -20,33 +18,30 @@ use Rattle.bank_model.specs.History.{awaited, queue, waits}
 use Rattle.bank_model.specs.Answers.{read_answer}
 use Rattle.bank_model.specs.Sensing.{most_steps}
 use Rattle.bank_model.specs.Timing.{Pacing, Happens, Core, Timed, core, core_of, last_tick}
-use Rattle.bank_model.specs.Lawful.{Lawful, MayCome, IsIdle}
-use Rattle.bank_laws.specs.Laws.{rules_of, IsSized}
-use Rattle.bank_laws.specs.Outcomes.{outcome_of, ended, row_with, rows_from, table_of}
-use Rattle.bank_laws.specs.RowLaws.{is_room_fair, is_merge_fair, waits_fit}
+use Rattle.bank_model.specs.Lawful.{Lawful, MayCome}
+use Rattle.bank_laws.specs.Outcomes.{outcome_of, row_with, rows_from}
+use Rattle.bank_laws.specs.RowLaws.{waits_fit}
 use Rattle.bank_laws.specs.Ticks.{ends_action}
 use Rattle.bank_laws.proofs.Ticks.{last_tick-rises}
-use Rattle.bank_laws.proofs.Settling.{opens, lawful_before, rows_below-more}
-use Rattle.bank_laws.proofs.Pairs.{AllLong, keeps_pairs, eqb-same}
-use Rattle.bank_laws.proofs.Fates.{IsSettled, ReadFate, awaits-new}
+use Rattle.bank_laws.proofs.Settling.{lawful_before, rows_below-more}
+use Rattle.bank_laws.proofs.Pairs.{AllLong, keeps_pairs}
+use Rattle.bank_laws.proofs.Fates.{IsSettled, awaits-new}
 use Rattle.bank_laws.proofs.Walking.{Passes, walk, rows_after, and_both}
 use Rattle.bank_laws.proofs.Ending.{Onwards, own_answer}
 use Rattle.bank_laws.proofs.Serves.{may_at, onwards_at, idle-waits}
 use Rattle.bank_laws.proofs.Lines.{Stands, stands-row}
 use Rattle.bank_laws.proofs.Waiting.{may_all, read_room, fits_busy, fits_waiting, settled_all}
-use Rattle.bank_laws.proofs.Pending.{full_outcome}
-use Rattle.queue_laws.specs.QueueLaws.{is_forward_fair, is_refusal_fair, ForwardLaw, QueueFairLaw}
-use Rattle.queue_laws.proofs.Written.{Written, items, standing, Each, written, IsEntry}
+use Rattle.queue_laws.specs.QueueLaws.{is_forward_fair, ForwardLaw}
+use Rattle.queue_laws.proofs.Written.{items, standing, written}
 use Rattle.queue_laws.proofs.Stood.{EndsAbove, stood_each, pending_is}
 use Rattle.queue_laws.proofs.Awaiting.{awaiting_length}
-use Rattle.queue_laws.proofs.Few.{StandsWell}
-use Rattle.queue_laws.proofs.Spread.{spread, spread-layer}
+use Rattle.queue_laws.proofs.Spread.{spread-layer}
 use Rattle.queue_laws.proofs.Showing.{HasHead, front-covers, front-head}
 use Rattle.queue_laws.proofs.Floors.{since, floor_of, Asked}
 use Rattle.queue_laws.proofs.Covering.{is_covered}
 use Rattle.queue_laws.proofs.Covers.{cover_is}
 use Rattle.queue_laws.proofs.Heads.{HasStore, store-left, store-right, store-from, store-after, LineFirst, IsStoredFirst, line_first, line_is_first, any_entry}
-use Rattle.queue_laws.proofs.Rooms.{ends_at_row, stands_well, room_between, behind}
+use Rattle.queue_laws.proofs.Rooms.{ends_at_row, stands_well, behind}
 
 module _ {n : ℕ} where
   head-stands : (es : List (Entry n)) (line : ℕ) → HasHead line es → (row : ℕ) × Stands es row line

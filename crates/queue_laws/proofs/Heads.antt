@@ -1,14 +1,13 @@
 -- A line whose entry is the head of the queue is stored before any other row is.
-use Rattle.std.proofs.Common.{◌≡◌, ℕ, ◌<◌, ◌≤◌, ◌==◌, ◌&&◌, ◌||◌, ◌⊎◌, inl, inr, not, Bool, true, false, List, [], ◌∷◌, ◌++◌, Option, Some, None, min, refl, sym, ap, ◌∙◌, subst, arith, cond, eqb, eqb-true}
+use Rattle.std.proofs.Common.{◌≡◌, ℕ, ◌<◌, ◌≤◌, ◌==◌, ◌&&◌, ◌||◌, ◌⊎◌, inl, inr, not, Bool, true, false, List, [], ◌∷◌, ◌++◌, Option, Some, None, min, refl, sym, ap, ◌∙◌, subst, arith, cond, eqb}
 use Rattle.std.specs.Prelude.{unwrap_or, nat_lt}
-use Rattle.std.specs.List.{list_any, list_all}
+use Rattle.std.specs.List.{list_any}
 use Rattle.std.proofs.lemmas.Bool.{eq-eqb, lt-ltb}
 use Rattle.result_rows.specs.declared.Outcome.{Outcome}
 use Rattle.result_rows.specs.declared.Outcome.TheVariants as out
 use Rattle.masked_bytes.specs.declared.entry.Entry.{Entry}
-use Rattle.masked_bytes.specs.Entries.{merged, laid_on, has_row}
+use Rattle.masked_bytes.specs.Entries.{merged, laid_on}
 use Rattle.row_laws.specs.declared.Row.{Row}
-use Rattle.row_laws.specs.declared.Asks.TheVariants.{Writes, Reads, Cuts}
 use Rattle.row_laws.specs.Answers.{is_stored, stored_before}
 use Rattle.row_laws.specs.Rows.{write_of}
 use Rattle.row_laws.specs.Queueing.{least, store_of, next_store, is_first}
@@ -30,12 +29,12 @@ use Rattle.bank_laws.proofs.Wears.{stored_by, stored_tick}
 use Rattle.bank_laws.proofs.Lines.{Stands}
 use Rattle.bank_laws.proofs.Pending.{or_on_left, or_on_right}
 use Rattle.queue_laws.proofs.First.{NoneStored, NoneBelow}
-use Rattle.queue_laws.proofs.Written.{Written, item_of, items, standing, Each, written_by, written, IsEntry}
+use Rattle.queue_laws.proofs.Written.{Written, items, standing, Each, written_by, written, IsEntry}
 use Rattle.queue_laws.proofs.Stood.{EndsAbove}
 use Rattle.queue_laws.proofs.Few.{StandsWell, entry_unset, not_stored_ended, not_before_ended}
 use Rattle.queue_laws.proofs.Showing.{HasHead}
 use Rattle.queue_laws.proofs.Floors.{Asked}
-use Rattle.queue_laws.proofs.Covering.{IsCovered, is_covered, Storeless, none_new}
+use Rattle.queue_laws.proofs.Covering.{is_covered, Storeless, none_new}
 
 -- a next store by a tick
 abbrev NextBy : ℕ → Option ℕ → Type 0

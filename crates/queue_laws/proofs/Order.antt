@@ -7,7 +7,7 @@ use Rattle.bank_shape.specs.declared.Work.TheVariants.{Nothing}
 use Rattle.bank_model.specs.declared.answer.WriteAnswer.{WriteAnswer}
 use Rattle.bank_model.specs.declared.answer.WriteAnswer.TheVariants as wrote
 use Rattle.bank_model.specs.declared.answer.Step.TheVariants as did
-use Rattle.bank_model.specs.Events.{Event, Write, Read, Serve, Begin, Iterate, Cut, RowsBelow, newest}
+use Rattle.bank_model.specs.Events.{Event, Write, Read, Serve, Begin, Iterate, Cut, newest}
 use Rattle.bank_model.specs.History.{begun, queue, due_after, has_exhausted, in_progress}
 use Rattle.bank_model.specs.After.{is_store, due_work}
 use Rattle.bank_model.specs.Answers.{head_busy_after}
@@ -60,10 +60,10 @@ module _ {n : ℕ} where
   leads-same f g [] same l = tt
   leads-same f g (e ∷ es) same l =
       λ row s.
-          let k = l row s in
-          let own : f e.row ≡ g e.row = same e.row (or_on_left (e.row == e.row) _ (eqb-same e.row)) in
-          let other : f row ≡ g row = same row (or_on_right (e.row == row) _ (stands-row es row e.line s)) in
-          (k.0, omega (arith, k.1, own, other))
+      let k = l row s in
+      let own : f e.row ≡ g e.row = same e.row (or_on_left (e.row == e.row) _ (eqb-same e.row)) in
+      let other : f row ≡ g row = same row (or_on_right (e.row == row) _ (stands-row es row e.line s)) in
+      (k.0, omega (arith, k.1, own, other))
 
   pub stands-pushed : (es : List (Entry n)) (x : Entry n) (row line : ℕ) → Stands (es ++ x ∷ []) row line → Stands es row line ⊎ ((x.row ≡ row) × (x.line ≡ line))
   stands-pushed [] x row line (inl s) = inr s

@@ -1,6 +1,6 @@
 -- What a bank holds at a row, and at any tick between two of its events.
-use Rattle.std.proofs.Common.{◌≡◌, ℕ, ◌<◌, ◌≤◌, ◌==◌, ◌&&◌, ◌||◌, ◌⊎◌, inl, inr, not, Bool, true, false, List, [], ◌∷◌, ◌++◌, Option, Some, None, length, refl, sym, ap, ◌∙◌, subst, arith, cond, eqb, append_assoc}
-use Rattle.std.specs.Prelude.{nat_le, nat_lt, filter, All}
+use Rattle.std.proofs.Common.{◌≡◌, ℕ, ◌<◌, ◌≤◌, ◌||◌, ◌⊎◌, inl, inr, not, Bool, true, false, List, [], ◌∷◌, ◌++◌, Option, Some, None, length, refl, sym, ap, ◌∙◌, subst, arith, cond, append_assoc}
+use Rattle.std.specs.Prelude.{nat_le, filter, All}
 use Rattle.std.proofs.lemmas.Bool.{eq-eqb, le-leb}
 use Rattle.std.proofs.lemmas.List.Elements.{All-head, All-tail}
 use Rattle.std.proofs.Math.Nat.{eq-or-lt_of_le}
@@ -13,7 +13,6 @@ use Rattle.row_laws.specs.Answers.{is_full}
 use Rattle.row_laws.specs.Rows.{write_of}
 use Rattle.row_laws.specs.Queueing.{pending, waiting, has_room, pairs_few, is_refused}
 use Rattle.bank_shape.specs.declared.BankShape.{BankShape}
-use Rattle.bank_model.specs.declared.answer.WriteAnswer.{WriteAnswer}
 use Rattle.bank_model.specs.declared.answer.WriteAnswer.TheVariants as wrote
 use Rattle.bank_model.specs.Events.{Event, Write, Read, Serve, Begin, Iterate, Cut}
 use Rattle.bank_model.specs.History.{queue, waits, has_exhausted}
@@ -22,7 +21,6 @@ use Rattle.bank_model.specs.Sensing.{most_steps}
 use Rattle.bank_model.specs.Timing.{Pacing, Happens, Core, Timed, core, last_tick}
 use Rattle.bank_model.specs.Told.{tick_of_row}
 use Rattle.bank_model.specs.Lawful.{Lawful, MayCome}
-use Rattle.bank_laws.specs.Pairs.{has_line}
 use Rattle.bank_laws.specs.Laws.{rules_of}
 use Rattle.bank_laws.specs.Outcomes.{outcome_of, ended, row_with, rows_from}
 use Rattle.bank_laws.specs.Room.{RoomLaw}
@@ -41,7 +39,7 @@ use Rattle.bank_laws.proofs.Pending.{full_outcome, covered_on}
 use Rattle.queue_laws.specs.QueueLaws.{finds_pairs_few, is_refusal_fair, PairsFewLaw, RefusalLaw}
 use Rattle.queue_laws.proofs.Order.{HeadBefore, in_order}
 use Rattle.queue_laws.proofs.First.{First, first, first_now}
-use Rattle.queue_laws.proofs.Written.{Written, items, standing, Each, written, IsEntry}
+use Rattle.queue_laws.proofs.Written.{standing, written}
 use Rattle.queue_laws.proofs.Stood.{EndsAbove, stood_each, stood_fall, stood_length, pending_is}
 use Rattle.queue_laws.proofs.Few.{StandsWell, pairs_are_few, refusal, HeadAlone}
 use Rattle.queue_laws.proofs.Awaiting.{awaiting_length}

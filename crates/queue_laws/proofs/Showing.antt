@@ -1,10 +1,10 @@
 -- How the bytes that a queue gives of a line follow the writes of the line: s of a number is what the accepted writes from that row on give.
-use Rattle.std.proofs.Common.{◌≡◌, ℕ, ◌<◌, ◌≤◌, ◌==◌, ◌||◌, ◌⊎◌, inl, inr, Bool, true, false, suc, List, [], ◌∷◌, ◌++◌, Option, Some, None, drop, length, refl, sym, ap, ◌∙◌, subst, arith, cond, eqb, eqb-true}
+use Rattle.std.proofs.Common.{◌≡◌, ℕ, ◌<◌, ◌≤◌, ◌==◌, ◌⊎◌, inl, inr, Bool, true, false, suc, List, [], ◌∷◌, ◌++◌, Option, Some, None, length, refl, sym, ap, ◌∙◌, subst, arith, cond, eqb, eqb-true}
 use Rattle.std.proofs.lemmas.Bool.{eq-eqb}
 use Rattle.masked_bytes.specs.declared.entry.Entry.{Entry}
 use Rattle.masked_bytes.specs.Masked.{joined, none_given, gives_all}
 use Rattle.masked_bytes.specs.Entries.{RowsApart, has_row, merged, laid_on, newest_row, candidate, or_this}
-use Rattle.masked_bytes.proofs.Layering.{length-joined, joined-none_given, joined-none_right, gives_all-all_given}
+use Rattle.masked_bytes.proofs.Layering.{joined-none_right, gives_all-all_given}
 use Rattle.bank_model.specs.History.{begun}
 use Rattle.bank_laws.specs.Pairs.{has_line, LinesApart, ArePaired}
 use Rattle.bank_laws.proofs.Entries.{or_left, or_right}
@@ -12,7 +12,7 @@ use Rattle.bank_laws.proofs.Pairs.{AllLong, gives_all-joined, eqb-same}
 use Rattle.bank_laws.proofs.Lines.{Stands, stands-row, stands-line, newest-line, newest-stands}
 use Rattle.bank_laws.proofs.Pending.{or_on_left, or_on_right}
 use Rattle.queue_laws.proofs.Order.{MergesInto, merges_into, behind}
-use Rattle.queue_laws.proofs.Spread.{spread, spread-length, spread-lacks, spread-own, spread-other, spread-alone, spread-push, spread-push_other, spread-merged, spread-merged_other}
+use Rattle.queue_laws.proofs.Spread.{spread, spread-length, spread-lacks, spread-other, spread-alone, spread-push, spread-push_other, spread-merged, spread-merged_other}
 
 module _ {n : ℕ} where
   -- behind a head of another line stands what the writes from the floor on give; a head of the line gives that, or all
@@ -62,8 +62,8 @@ module _ {n : ℕ} where
     tails-push [] x l r g is below f = ((λ own. sym (ap (λ k. t (suc k)) r ∙ last)), tt)
     tails-push (e ∷ es) x l r g is below f = (
       (λ own.
-      let lt : e.row < at = below e.row (or_on_left (e.row == e.row) _ (eqb-same e.row)) in
-      spread-push es x line l.1 (ap length g ∙ long) is ∙ ap (λ k. joined x.given k) (f.0 own) ∙ ap (λ k. joined k (s (suc e.row))) g ∙ sym (joins (suc e.row) (omega (arith, lt)))),
+          let lt : e.row < at = below e.row (or_on_left (e.row == e.row) _ (eqb-same e.row)) in
+          spread-push es x line l.1 (ap length g ∙ long) is ∙ ap (λ k. joined x.given k) (f.0 own) ∙ ap (λ k. joined k (s (suc e.row))) g ∙ sym (joins (suc e.row) (omega (arith, lt)))),
       tails-push es x l.1 r g is (λ row there. below row (or_on_right (e.row == row) _ there)) f.1,
     )
 

@@ -1,18 +1,16 @@
 -- Which bytes of a line the entries of a queue give.
-use Rattle.std.proofs.Common.{◌≡◌, ℕ, ◌<◌, ◌≤◌, ◌==◌, ◌||◌, ◌⊎◌, inl, inr, Bool, true, false, suc, List, [], ◌∷◌, ◌++◌, Option, Some, None, drop, length, refl, sym, ap, ◌∙◌, subst, arith, cond, eqb, eqb-true}
+use Rattle.std.proofs.Common.{◌≡◌, ℕ, ◌==◌, inl, inr, Bool, true, false, List, [], ◌∷◌, ◌++◌, Option, Some, None, length, refl, sym, ap, ◌∙◌, subst, cond, eqb, eqb-true}
 use Rattle.std.proofs.lemmas.Bool.{eq-eqb}
 use Rattle.std.proofs.lemmas.List.{length-replicate}
 use Rattle.masked_bytes.specs.declared.entry.Entry.{Entry}
-use Rattle.masked_bytes.specs.Masked.{joined, none_given, all_given, gives_all}
+use Rattle.masked_bytes.specs.Masked.{joined, none_given}
 use Rattle.masked_bytes.specs.Entries.{RowsApart, has_row, merged, laid_on, newest_row, or_this, layer_of, stacked, layer_by}
-use Rattle.masked_bytes.proofs.Layering.{length-joined, joined-none_given, joined-none_right, joined-joined, gives_all-all_given}
-use Rattle.bank_model.specs.History.{begun}
-use Rattle.bank_laws.specs.Pairs.{has_line, LinesApart, ArePaired}
-use Rattle.bank_laws.proofs.Entries.{either, or_left, or_right}
-use Rattle.bank_laws.proofs.Answering.{newest_row-there}
-use Rattle.bank_laws.proofs.Pairs.{AllLong, HeadFull, gives_all-joined}
-use Rattle.bank_laws.proofs.Lines.{Stands, stands-row, stands-line, newest-line, newest-stands}
-use Rattle.queue_laws.proofs.Order.{MergesInto, merges_into, behind}
+use Rattle.masked_bytes.proofs.Layering.{length-joined, joined-none_given, joined-none_right, joined-joined}
+use Rattle.bank_laws.specs.Pairs.{has_line}
+use Rattle.bank_laws.proofs.Entries.{or_left, or_right}
+use Rattle.bank_laws.proofs.Pairs.{AllLong}
+use Rattle.bank_laws.proofs.Lines.{Stands, stands-row, newest-line}
+use Rattle.queue_laws.proofs.Order.{behind}
 
 module _ {n : ℕ} where
   -- the bytes of a line that these entries give

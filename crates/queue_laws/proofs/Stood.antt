@@ -1,5 +1,5 @@
 -- The writes that a row finds are those that stand in the queue, at any tick up to the next end of an action.
-use Rattle.std.proofs.Common.{◌≡◌, ◌≢◌, ℕ, ◌<◌, ◌≤◌, ◌==◌, ◌⊎◌, inl, inr, not, Bool, true, false, List, [], ◌∷◌, ◌++◌, length, refl, sym, ap, ◌∙◌, subst, arith, cond, eqb, append_assoc}
+use Rattle.std.proofs.Common.{◌≡◌, ◌≢◌, ℕ, ◌<◌, ◌≤◌, ◌==◌, ◌⊎◌, inl, inr, not, Bool, true, false, List, [], ◌∷◌, ◌++◌, length, refl, sym, ap, ◌∙◌, subst, arith, cond, append_assoc}
 use Rattle.std.specs.Prelude.{unwrap_or}
 use Rattle.std.specs.List.{list_any}
 use Rattle.result_rows.specs.declared.Outcome.{Outcome}
@@ -152,10 +152,10 @@ module _ {n m : ℕ} (shape : BankShape) (pace : Pacing) (e : ℕ) (all later no
         cond_items _ (has_row (queue shape (core now)) at) _ _ (stood ys) (kind (accepting answer) refl) ih,
         cond_each (λ w. IsEntry shape all now w) (has_row (queue shape (core now)) at) _ (stood ys)
             (λ stands. record {
-          there = own stands (accepting answer) refl;
-          came = sym (ticks at (or_on_left (at == at) _ (eqb-same at)) ∙ ap (λ b. cond b z.tick (tick_of_row at ys)) (eqb-same at));
-          fate = refl;
-        })
+              there = own stands (accepting answer) refl;
+              came = sym (ticks at (or_on_left (at == at) _ (eqb-same at)) ∙ ap (λ b. cond b z.tick (tick_of_row at ys)) (eqb-same at));
+              fate = refl;
+            })
             each,
       )
         where

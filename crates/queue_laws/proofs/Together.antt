@@ -8,8 +8,7 @@ use Rattle.row_laws.specs.declared.Row.{Row}
 use Rattle.row_laws.specs.Answers.{is_full}
 use Rattle.row_laws.specs.Rows.{RowTest, each_row, asks_read, asks_write, line_of, write_of}
 use Rattle.row_laws.specs.Rules.{Rules}
-use Rattle.row_laws.specs.Queueing.{pending, waiting, cover, pairs_few, is_refused, is_at_head, read_fits, merge_fits, queue_fits, is_queue_fair}
-use Rattle.bank_model.specs.Timing.{Timed}
+use Rattle.row_laws.specs.Queueing.{pending, waiting, cover, is_refused, is_at_head, read_fits, merge_fits, queue_fits, is_queue_fair}
 use Rattle.bank_laws.specs.Laws.{rules_of}
 use Rattle.bank_laws.specs.Outcomes.{table_of}
 use Rattle.bank_laws.specs.RowLaws.{is_room_fair, is_wait_fair, is_merge_fair}

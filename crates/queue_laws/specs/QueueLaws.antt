@@ -1,5 +1,5 @@
 -- The laws of a bank's queue and of its waiting reads, one by one and together.
-use Rattle.std.specs.Prelude.{ℕ, Bool, not, ◌&&◌, ◌||◌, length, filter, IsTrue, List, []}
+use Rattle.std.specs.Prelude.{ℕ, not, ◌&&◌, ◌||◌, length, filter, IsTrue, List, []}
 use Rattle.masked_bytes.specs.Masked.{gives_all}
 use Rattle.row_laws.specs.Answers.{is_full}
 use Rattle.row_laws.specs.Rows.{RowTest, each_row, asks_read, asks_write, line_of, write_of}
