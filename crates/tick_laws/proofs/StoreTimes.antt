@@ -135,7 +135,6 @@ module _ {n m : ℕ} (shape : BankShape) (pace : Pacing) (e : ℕ) where
   -- what the event is by which a row is stored
   record IsStore (zs : List (Timed n m)) (y : Timed n m) (h : Happens n) (u : ℕ) : Type 0 where
     at : u ≡ y.tick
-    due : due_after shape (core zs) ≡ None
     fine : has_exhausted (core zs) ≡ false
     one : stores_by h ≡ 1
     moves : moves_by h ≡ 0
@@ -164,14 +163,14 @@ module _ {n m : ℕ} (shape : BankShape) (pace : Pacing) (e : ℕ) where
     store_event (Core (Read at line (came.Forwarded bytes))) may is = absurd (not_set at (out.Forwarded y.tick bytes) (λ u p k. absurd (cc)) is)
     store_event (Core (Serve answer)) may is = absurd (not_set answer.row (out.Read y.tick answer.place answer.bytes) (λ u p k. absurd (cc)) is)
     store_event (Core (Begin (did.Stored at place))) may is = record {
-      at = stored_now at place is; due = done_store shape (core zs) at place may.may.1; fine = of_store at place may.may.1; one = refl; moves = refl; ends = refl;
+      at = stored_now at place is; fine = of_store at place may.may.1; one = refl; moves = refl; ends = refl;
     }
     store_event (Core (Begin did.More)) may is = absurd (cc)
     store_event (Core (Begin (did.Moved move))) may is = absurd (cc)
     store_event (Core (Begin (did.Retired slot line))) may is = absurd (cc)
     store_event (Core (Begin did.Exhausted)) may is = absurd (cc)
     store_event (Core (Iterate (did.Stored at place))) may is = record {
-      at = stored_now at place is; due = done_store shape (core zs) at place may.may.1; fine = of_store at place may.may.1; one = refl; moves = refl; ends = refl;
+      at = stored_now at place is; fine = of_store at place may.may.1; one = refl; moves = refl; ends = refl;
     }
     store_event (Core (Iterate did.More)) may is = absurd (cc)
     store_event (Core (Iterate (did.Moved move))) may is = absurd (cc)
@@ -282,3 +281,67 @@ module _ {n m : ℕ} (shape : BankShape) (pace : Pacing) (e : ℕ) (all : List (
       count-append t (row_with shape all x.happens x.tick x.cancels) (rows_after shape all later) in
       let is : count_by t (rows_from shape all (later ++ x ∷ ys)) ≡ count_by t (rows_from shape all all) = ap (λ (xs : List (Timed n m)). count_by t (rows_from shape all xs)) (sym same) in
       omega (arith, whole, own, front, back, is)
+
+  -- a write that stands is stored in time, if it is
+  record IsInTime (rules : Rules) (a u : ℕ) (table after : List (Row n)) : Type 0 where
+    late : a < u
+    soon : u ≤ a + longest rules (stores_in a u table) (reads_in a u table) (cuts_to u after)
+
+  in_end : (later : List (Timed n m)) (x : Timed n m) (ys : List (Timed n m)) (row u p : ℕ) → 1 ≤ pace.read → 1 ≤ pace.iter → 1 ≤ shape.psi → is_cancelling pace.policy ≡ false → Lawful shape pace e all
+      → all ≡ later ++ x ∷ ys → has_row (queue shape (core (x ∷ ys))) row ≡ true → outcome_of shape all row ≡ out.Stored u p
+      → IsInTime (rules_of e shape pace) x.tick u (Table later x ys x.happens) (rows_after shape all later)
+  in_end later x ys row u p r i some none l same there is =
+      by (setting shape pace e later (x ∷ ys) row (out.Stored u p) total ((opens shape pace e (x ∷ ys) before).queued row there) (λ k. absurd (cc))
+      (ap (λ (xs : List (Timed n m)). outcome_of shape xs row) (sym same) ∙ is))
+    where
+      total : Lawful shape pace e (later ++ x ∷ ys)
+      total = subst (λ (xs : List (Timed n m)). Lawful shape pace e xs) same l
+
+      before : Lawful shape pace e (x ∷ ys)
+      before = lawful_before shape pace e later (x ∷ ys) total
+
+      by : SetAt shape later (x ∷ ys) row (out.Stored u p) → IsInTime (rules_of e shape pace) x.tick u (Table later x ys x.happens) (rows_after shape all later)
+      by at =
+          let split : all ≡ at.late ++ at.event ∷ (at.mid ++ x ∷ ys) = same ∙ ap (λ (xs : List (Timed n m)). xs ++ x ∷ ys) at.split ∙ append_assoc at.late (at.event ∷ at.mid) (x ∷ ys) in
+          let whole : Lawful shape pace e (at.late ++ at.event ∷ (at.mid ++ x ∷ ys)) = subst (λ (xs : List (Timed n m)). Lawful shape pace e xs) split l in
+          let here : Lawful shape pace e (at.event ∷ (at.mid ++ x ∷ ys)) = lawful_before shape pace e at.late (at.event ∷ (at.mid ++ x ∷ ys)) whole in
+          let event = store_event shape pace e (at.mid ++ x ∷ ys) at.event row u p at.event.happens here.0 at.sets in
+          let now : u ≡ at.event.tick = event.at in
+          let since : Delay shape pace e x.tick (x ∷ ys) = let up = since-up shape pace e (x ∷ ys) r i before in inl (omega (arith, up)) in
+          let delay = delays shape pace e x.tick row (x ∷ ys) r i there since at.mid here.1 at.unset event.fine in
+          let ends : at.event.tick ≤ allowed pace.read (work_time pace e) x.tick (at.event ∷ at.mid) =
+          store_tick shape pace e (allowed pace.read (work_time pace e) x.tick at.mid) (at.mid ++ x ∷ ys) at.event here at.event.happens here.0 event.one
+          (delay_at shape pace e (allowed pace.read (work_time pace e) x.tick at.mid) (at.mid ++ x ∷ ys) at.event.tick row (last_tick-rises shape pace e (at.mid ++ x ∷ ys) at.event r i here)
+          (unset_stands shape pace e at.mid (x ∷ ys) row here.1 there at.unset) event.fine delay) in
+          let sum : allowed pace.read (work_time pace e) x.tick (at.event ∷ at.mid)
+              ≡ ((pace.read + work_time pace e)
+              * (tally stores_by (at.event ∷ at.mid) + tally moves_by (at.event ∷ at.mid) + tally retires_by (at.event ∷ at.mid) + tally cuts_by (at.event ∷ at.mid))
+              + pace.read * (2 * tally serves_by (at.event ∷ at.mid) + tally cuts_by (at.event ∷ at.mid)))
+              + x.tick =
+          allowed-is pace.read (work_time pace e) x.tick (at.event ∷ at.mid) in
+          let stores : tally stores_by (at.event ∷ at.mid) ≤ hits (λ row. stored_within x.tick u (outcome_of shape all row)) (writes_in all) =
+          tallied_all shape pace e all stores_by (writes_in all) (stored_within x.tick u) refl (x ∷ ys) u (stores_set x.tick u (x ∷ ys) r i (omega arith)) r i at.late (at.event ∷ at.mid) split l here (omega (arith, now)) in
+          let serves : tally serves_by (at.event ∷ at.mid) ≤ hits (λ row. read_within x.tick u (outcome_of shape all row)) (waiting.reads_in all) =
+          tallied_all shape pace e all serves_by (waiting.reads_in all) (read_within x.tick u) refl (x ∷ ys) u (serves_set x.tick u (x ∷ ys) r i (omega arith)) r i at.late (at.event ∷ at.mid) split l here (omega (arith, now)) in
+          let w : stores_in x.tick u (Table later x ys x.happens) ≡ hits (λ row. stored_within x.tick u (outcome_of shape all row)) (writes_in all) =
+          table-counted _ later x ys same ∙ writes-counted shape all (stored_within x.tick u) (ended-within x.tick u) all in
+          let v : reads_in x.tick u (Table later x ys x.happens) ≡ hits (λ row. read_within x.tick u (outcome_of shape all row)) (waiting.reads_in all) =
+          table-counted _ later x ys same ∙ reads-counted shape all (read_within x.tick u) all in
+          let moves : tally moves_by at.mid + flag (due_after shape (core (at.mid ++ x ∷ ys))) ≤ tally stores_by at.mid + flag (due_after shape (core (x ∷ ys))) = moves_few shape pace e at.mid (x ∷ ys) some here.1 in
+          let most : flag (due_after shape (core (x ∷ ys))) ≤ 1 = flag-most (due_after shape (core (x ∷ ys))) in
+          let one : stores_by at.event.happens ≡ 1 = event.one in
+          let none_moved : moves_by at.event.happens ≡ 0 = event.moves in
+          let retires : tally retires_by (at.event ∷ at.mid) ≤ shape.spares = retires_few shape pace e (at.event ∷ at.mid) (x ∷ ys) here in
+          let cuts : tally cuts_by (at.event ∷ at.mid) ≤ cuts_to u (rows_after shape all (at.event ∷ at.mid)) = cuts-counted shape all pace e u (at.event ∷ at.mid) (x ∷ ys) r i none here (omega (arith, now)) in
+          let more : cuts_to u (rows_after shape all later) ≡ cuts_to u (rows_after shape all (at.event ∷ at.mid)) + cuts_to u (rows_after shape all at.late) =
+          ap (λ (xs : List (Timed n m)). cuts_to u (rows_after shape all xs)) at.split ∙ ap (cuts_to u) (rows_after-append shape all at.late (at.event ∷ at.mid))
+          ∙ count-append _ (rows_after shape all (at.event ∷ at.mid)) (rows_after shape all at.late) in
+          let all_in = bounded (pace.read + work_time pace e) pace.read x.tick
+          (tally stores_by (at.event ∷ at.mid)) (tally moves_by (at.event ∷ at.mid)) (tally retires_by (at.event ∷ at.mid)) (tally cuts_by (at.event ∷ at.mid)) (tally serves_by (at.event ∷ at.mid))
+          (stores_in x.tick u (Table later x ys x.happens)) shape.spares (cuts_to u (rows_after shape all later)) (reads_in x.tick u (Table later x ys x.happens))
+          (omega (arith, stores, w)) (omega (arith, moves, most, one, none_moved)) retires (omega (arith, cuts, more)) (omega (arith, serves, v)) in
+          let long = longest-is (rules_of e shape pace) (stores_in x.tick u (Table later x ys x.happens)) (reads_in x.tick u (Table later x ys x.happens)) (cuts_to u (rows_after shape all later)) none refl in
+          record {
+            late = let lt = above x.tick u (x ∷ ys) r i (omega arith) at.mid at.event here event.ends in omega (arith, lt, now);
+            soon = omega (arith, now, ends, sum, all_in, long);
+          }
