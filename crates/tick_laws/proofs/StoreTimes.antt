@@ -265,7 +265,7 @@ module _ {n m : ℕ} (shape : BankShape) (pace : Pacing) (e : ℕ) (all : List (
         by (Core (Cut tearing)) may lt = inl refl
 
   -- the rows of the table, around those of an event
-  abbrev Table : (later : List (Timed n m)) (x : Timed n m) (ys : List (Timed n m)) → Happens n → List (Row n)
+  abbrev pub Table : (later : List (Timed n m)) (x : Timed n m) (ys : List (Timed n m)) → Happens n → List (Row n)
   Table later x ys h = rows_from shape all ys ++ (row_with shape all h x.tick x.cancels ++ rows_after shape all later)
 
   table-counted : (t : Row n → Bool) (later : List (Timed n m)) (x : Timed n m) (ys : List (Timed n m)) → all ≡ later ++ x ∷ ys
@@ -283,11 +283,11 @@ module _ {n m : ℕ} (shape : BankShape) (pace : Pacing) (e : ℕ) (all : List (
       omega (arith, whole, own, front, back, is)
 
   -- a write that stands is stored in time, if it is
-  record IsInTime (rules : Rules) (a u : ℕ) (table after : List (Row n)) : Type 0 where
-    late : a < u
-    soon : u ≤ a + longest rules (stores_in a u table) (reads_in a u table) (cuts_to u after)
+  pub record IsInTime (rules : Rules) (a u : ℕ) (table after : List (Row n)) : Type 0 where
+    pub late : a < u
+    pub soon : u ≤ a + longest rules (stores_in a u table) (reads_in a u table) (cuts_to u after)
 
-  in_end : (later : List (Timed n m)) (x : Timed n m) (ys : List (Timed n m)) (row u p : ℕ) → 1 ≤ pace.read → 1 ≤ pace.iter → 1 ≤ shape.psi → is_cancelling pace.policy ≡ false → Lawful shape pace e all
+  pub in_end : (later : List (Timed n m)) (x : Timed n m) (ys : List (Timed n m)) (row u p : ℕ) → 1 ≤ pace.read → 1 ≤ pace.iter → 1 ≤ shape.psi → is_cancelling pace.policy ≡ false → Lawful shape pace e all
       → all ≡ later ++ x ∷ ys → has_row (queue shape (core (x ∷ ys))) row ≡ true → outcome_of shape all row ≡ out.Stored u p
       → IsInTime (rules_of e shape pace) x.tick u (Table later x ys x.happens) (rows_after shape all later)
   in_end later x ys row u p r i some none l same there is =
