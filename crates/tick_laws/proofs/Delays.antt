@@ -211,3 +211,20 @@ module _ {n m : ℕ} (shape : BankShape) (pace : Pacing) (e : ℕ) where
         let h = at_cut pace.read pace.iter (work_time pace e) base (gives_way pace.policy) (in_progress (core zs)) (reads_of shape pace zs) (iterated (core zs)) y.tick runs few (running_at-fits shape pace e zs y.tick)
         may.on_time.0.2 (at_cut_by d) in
         inl (omega (arith, h))
+
+    -- a store is no later than an attempt
+    pub store_tick : (h : Happens n) → MayCome shape pace e zs y h → stores_by h ≡ 1 → DelayAt base zs y.tick → y.tick ≤ gain pace.read (work_time pace e) h + base
+    store_tick (Core (Write row line bytes given answer)) may one d = absurd (omega arith)
+    store_tick (Core (Read row line answer)) may one d = absurd (omega arith)
+    store_tick (Core (Serve answer)) may one d = absurd (omega arith)
+    store_tick (Core (Begin (did.Stored row place))) may one d = let h = begin_end (begin_by may.may.0 may.on_time.0.1 (ending Beginning may.on_time.0.0 d)) in omega (arith, h)
+    store_tick (Core (Begin did.More)) may one d = absurd (omega arith)
+    store_tick (Core (Begin (did.Moved move))) may one d = absurd (omega arith)
+    store_tick (Core (Begin (did.Retired slot line))) may one d = absurd (omega arith)
+    store_tick (Core (Begin did.Exhausted)) may one d = absurd (omega arith)
+    store_tick (Core (Iterate (did.Stored row place))) may one d = let h = iterate_end may.may.0 (iterate_by may.may.0 may.on_time.0.1 (ending Iterating may.on_time.0.0 d)) in omega (arith, h)
+    store_tick (Core (Iterate did.More)) may one d = absurd (omega arith)
+    store_tick (Core (Iterate (did.Moved move))) may one d = absurd (omega arith)
+    store_tick (Core (Iterate (did.Retired slot line))) may one d = absurd (omega arith)
+    store_tick (Core (Iterate did.Exhausted)) may one d = absurd (omega arith)
+    store_tick (Core (Cut tearing)) may one d = absurd (omega arith)

@@ -12,3 +12,4 @@ mod Holdups
 mod Delays
 mod Counts
 mod StoreTimes
+mod Times

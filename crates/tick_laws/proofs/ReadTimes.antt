@@ -209,7 +209,7 @@ module _ {n m : ℕ} (shape : BankShape) (pace : Pacing) (e : ℕ) (all : List (
   sums : (s o t x hold k p : ℕ) → s ≤ x → o ≤ hold → t ≡ k → s + o + t ≤ x + hold + k + p
   sums s o t x hold k p top most is = omega arith
 
-  read_at : 1 ≤ pace.read → 1 ≤ pace.iter → is_cancelling pace.policy ≡ false → Lawful shape pace e all → waits shape (core all) ≡ [] → (later : List (Timed n m)) (x : Timed n m) (ys : List (Timed n m)) → all ≡ later ++ x ∷ ys
+  pub read_at : 1 ≤ pace.read → 1 ≤ pace.iter → is_cancelling pace.policy ≡ false → Lawful shape pace e all → waits shape (core all) ≡ [] → (later : List (Timed n m)) (x : Timed n m) (ys : List (Timed n m)) → all ≡ later ++ x ∷ ys
       → Passes (reads_in_time (rules_of e shape pace)) (rows_from shape all ys) (row_with shape all x.happens x.tick x.cancels) (rows_after shape all later)
   read_at r i none l idle later x ys same =
       by x.happens x.cancels (may_at shape pace e all later x ys l same) (onwards_at shape pace e all later x ys l same) (λ arrives. waits_length shape pace e all later x ys r i l idle same arrives)
