@@ -150,7 +150,7 @@ module _ {n : ℕ} where
   pub newest-line : (es : List (Entry n)) (line : ℕ) → newest_row es line ≡ None → has_line es line ≡ false
   newest-line es line none = no_candidate-rest es line None (ap (λ o. or_this o None) none)
 
-  newest-stands : (es : List (Entry n)) (line at : ℕ) → newest_row es line ≡ Some at → Stands es at line
+  pub newest-stands : (es : List (Entry n)) (line at : ℕ) → newest_row es line ≡ Some at → Stands es at line
   newest-stands [] line at h = absurd (cc)
   newest-stands (e ∷ es) line at h = by (newest_row es line) (λ is. newest-stands es line at is) refl h
     where

@@ -202,7 +202,7 @@ module _ {n : ℕ} (shape : BankShape) where
   busy-full h false None es w s = w
 
   -- a write that is accepted as a new entry merges into none
-  accepted-none : (h : List (Event n)) (line : ℕ) → wrote.Accepted ≡ write_answer shape h line → candidate (head_busy_after shape h) (queue shape h) line ≡ None
+  pub accepted-none : (h : List (Event n)) (line : ℕ) → wrote.Accepted ≡ write_answer shape h line → candidate (head_busy_after shape h) (queue shape h) line ≡ None
   accepted-none h line a = by (has_exhausted h) (candidate (head_busy_after shape h) (queue shape h) line) a
     where
       by : (b : Bool) (c : Option ℕ) → wrote.Accepted ≡ cond b wrote.Exhausted (accept_answer shape h c) → c ≡ None

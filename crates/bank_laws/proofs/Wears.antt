@@ -94,7 +94,7 @@ module _ {n : ℕ} where
       by true ex d = d
       by false ex d = absurd (cc)
 
-  exhausted-more : (event : Event n) (h : List (Event n)) → has_exhausted h ≡ true → has_exhausted (event ∷ h) ≡ true
+  pub exhausted-more : (event : Event n) (h : List (Event n)) → has_exhausted h ≡ true → has_exhausted (event ∷ h) ≡ true
   exhausted-more (Write row line bytes given answer) h ex = ex
   exhausted-more (Read row line answer) h ex = ex
   exhausted-more (Serve answer) h ex = ex
@@ -186,7 +186,7 @@ module _ {n m : ℕ} (shape : BankShape) (pace : Pacing) (e : ℕ) where
   exhausted_on : (h : Happens n) (zs : List (Timed n m)) → has_exhausted (core zs) ≡ true → has_exhausted (core_of h (core zs)) ≡ true
   exhausted_on (Core event) zs ex = exhausted-more event (core zs) ex
 
-  exhausted_later : (later zs : List (Timed n m)) → has_exhausted (core zs) ≡ true → has_exhausted (core (later ++ zs)) ≡ true
+  pub exhausted_later : (later zs : List (Timed n m)) → has_exhausted (core zs) ≡ true → has_exhausted (core (later ++ zs)) ≡ true
   exhausted_later [] zs ex = ex
   exhausted_later (x ∷ later) zs ex = exhausted_on x.happens (later ++ zs) (exhausted_later later zs ex)
 
