@@ -4,3 +4,4 @@ pub mod Keeping
 pub mod Writing
 pub mod Cuts
 pub mod Losing
+pub mod Touched
