@@ -5,3 +5,4 @@ pub mod Writing
 pub mod Cuts
 pub mod Losing
 pub mod Touched
+pub mod Waits

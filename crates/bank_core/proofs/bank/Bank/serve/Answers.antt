@@ -1,4 +1,4 @@
-use Rattle.std.proofs.Common.{◌≡◌, ℕ, List, ◌∷◌, drop, slice_get, Some, ap, ◌∙◌}
+use Rattle.std.proofs.Common.{rules, ◌≡◌, ℕ, ◌≤◌, List, ◌∷◌, drop, slice_get, Some, ap, ◌∙◌}
 use Rattle.masked_bytes.specs.Masked.{laid}
 use Rattle.pcm_cells.specs.declared.row.Cells.{Cells}
 use Rattle.pcm_cells.specs.Device.{ArrayState}
@@ -51,3 +51,9 @@ returns-clause-holds g c =
     (record { row = c.in-Some.read.row; place = c.array_line-place.result; bytes = c.lay_over.new.under })
     (first_of bank.waiting c.in-Some.read first) (answers bank old c.in-Some.read c.array_line-place.result c.lay_over.new.under place bytes)
     c.sense.ensures.step.lines c.sense.ensures.step.line holds)
+
+pub read_as-bytes-requires : goal.read_as-bytes-requires
+read_as-bytes-requires g c =
+    let few : g.row.B ≤ 128 = c.self.invariant.few_bytes in
+    let few_check : g.row.M ≤ 16 = c.self.invariant.layout.shape.3 in
+    (search rules, (search rules, c.self.invariant.layout))
