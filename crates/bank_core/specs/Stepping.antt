@@ -58,7 +58,7 @@ module _ {n m e : ℕ} where
   pub record IsWriterStep (tick : ℕ) (old new : Operation n m e) (before after : ArrayState n m) : Type 0 where
     pub work : new.work ≡ old.work
     pub target : new.target ≡ old.target
-    pub round : (prog : Prog n m) × IsRound old.target tick old.writer.prog prog before after
+    pub round : (prog : Prog n m) × IsRound old.target tick old.writer.prog prog before after × ((after.line old.target).held ≡ prog.seen)
     pub writes : Writes new.writer (after.line old.target)
     pub sound : IsSoundLine e (after.line old.target)
     pub worn : IsWorn new.writer.progress → IsWornLine e (after.line old.target)
