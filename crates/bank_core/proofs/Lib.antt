@@ -6,3 +6,4 @@ pub mod Cuts
 pub mod Losing
 pub mod Touched
 pub mod Waits
+pub mod Begun

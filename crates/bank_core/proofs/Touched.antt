@@ -1,7 +1,8 @@
 -- What an event does to its array.
-use Rattle.std.proofs.Common.{◌≡◌, ◌≢◌, ℕ, ◌==◌, refl, sym, ap, subst, ◌∙◌, Bool, true, false, List, [], ◌∷◌, ◌++◌, Option, Some, None, is_some, eq-eqb, eqb-true}
+use Rattle.std.proofs.Common.{◌≡◌, ◌≢◌, ℕ, ◌==◌, refl, sym, ap, subst, ◌∙◌, Bool, true, false, List, [], ◌∷◌, ◌++◌, append_assoc, Option, Some, None, is_some, eq-eqb, eqb-true}
 use Rattle.std.specs.Prelude.{IfSome, IsTrue, IsFalse}
 use Rattle.std.proofs.lemmas.List.{append-nil}
+use Rattle.pcm_cells.specs.declared.array.Sense.{Sense}
 use Rattle.pcm_cells.specs.Device.{ArrayState, LineState, Senses, counted, sense_of}
 use Rattle.program_verify.specs.declared.prog.Prog.{Prog}
 use Rattle.program_verify.specs.Programming.{IsRound, IsTear}
@@ -31,6 +32,25 @@ module _ {n m : ℕ} where
     log = λ after is.
         let was = sense.log after is in
         (was.0, was.1, was.2 ∙ ap (λ (l : LineState n m). was.0 ++ sense_of line tick l ∷ []) (sym (sense.line line)));
+  }
+
+  -- two senses
+  pub touches-senses : (tick source target : ℕ) (old mid new : ArrayState n m) → Senses (sense_of source tick (old.line source)) old mid
+      → Senses (sense_of target tick (mid.line target)) mid new → Touches tick (source ∷ target ∷ []) None false old new
+  touches-senses tick source target old mid new first second = record {
+    lines = second.lines ∙ first.lines;
+    others = λ at off. second.line at ∙ first.line at;
+    pulses = λ at on. cc;
+    tears = second.tears ∙ first.tears;
+    log = λ after is.
+        let late = second.log after is in
+        let early = first.log late.0 late.1 in
+        (early.0, early.1,
+        late.2
+        ∙ ap (λ (xs : List (Sense n m)). xs ++ sense_of target tick (mid.line target) ∷ []) early.2
+        ∙ append_assoc early.0 (sense_of source tick (old.line source) ∷ []) (sense_of target tick (mid.line target) ∷ [])
+        ∙ ap (λ (l : LineState n m). early.0 ++ sense_of source tick l ∷ sense_of target tick (mid.line target) ∷ []) (sym (second.line source ∙ first.line source))
+        ∙ ap (λ (l : LineState n m). early.0 ++ sense_of source tick (new.line source) ∷ sense_of target tick l ∷ []) (sym (second.line target)));
   }
 
   -- a pulse and a sense

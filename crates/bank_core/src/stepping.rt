@@ -82,7 +82,7 @@ impl<const B: usize, const M: usize, const E: usize> Bank<B, M, E> {
     }
 
     // Ends a work that is done, whose array line was this.
-    fn done(&mut self, work: Work, place: u32) -> Step
+    pub(crate) fn done(&mut self, work: Work, place: u32) -> Step
         requires some { IsTrue (is_some_work work) }
         requires next { work ≡ next_work self.old.kept }
         ensures answer { result ≡ done_from self.old.kept work place }
