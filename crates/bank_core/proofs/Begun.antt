@@ -1,5 +1,5 @@
 -- That the begin of a line write keeps the tie and the invariant.
-use Rattle.std.proofs.Common.{◌≡◌, ◌≢◌, ℕ, ◌<◌, ◌≤◌, ◌&&◌, not, refl, sym, ap, subst, ◌∙◌, arith, Bool, true, false, List, [], ◌∷◌, length, slice_get, Option, Some, None, is_some}
+use Rattle.std.proofs.Common.{◌≡◌, ℕ, ◌<◌, ◌≤◌, ◌&&◌, not, refl, sym, ap, subst, ◌∙◌, arith, Bool, true, false, List, [], ◌∷◌, length, slice_get, Option, Some, None, is_some}
 use Rattle.std.specs.Prelude.{IsSomeAnd, IfSome, IsTrue}
 use Rattle.masked_bytes.specs.Masked.{laid}
 use Rattle.masked_bytes.specs.Entries.{completed, head_line, head_row}
@@ -27,7 +27,7 @@ use Rattle.bank_model.specs.declared.answer.Step.TheVariants as did
 use Rattle.bank_model.specs.Events.{Event, Begin}
 use Rattle.bank_invariant.specs.declared.Waiting.{Waiting}
 use Rattle.bank_invariant.specs.State.{BankState, Operation, target_of, is_free, may_begin}
-use Rattle.bank_invariant.specs.Tied.{decoded, AreSound, IsOf, IsTied, IsUnderWay, IsSoundLine}
+use Rattle.bank_invariant.specs.Tied.{decoded, AreSound, IsOf, IsTied, IsSoundLine}
 use Rattle.bank_invariant.specs.Holds.{Holds}
 use Rattle.bank_invariant.specs.Beginning.{begun_with}
 use Rattle.bank_invariant.specs.Storing.{resting}
@@ -218,7 +218,15 @@ module _ {n m e : ℕ} (old new : BankState n m e) (answer : Step) (before after
   is-for : IsTrue (may_begin old) → (b : IsBegin old new answer before after) → after.lines ≡ before.lines → ((at : ℕ) → after.line at ≡ before.line at)
       → IsFor old b.op before after b.op.work
   is-for may b lines same = record {
-    may = may; next = sym b.work; work = refl; target = b.target; bytes = b.bytes; writes = b.writes; few = b.few; lines = lines; same = same;
+    may = may;
+    next = sym b.work;
+    work = refl;
+    target = b.target;
+    bytes = b.bytes;
+    writes = b.writes;
+    few = b.few;
+    lines = lines;
+    same = same;
   }
 
   -- a begin keeps the invariant

@@ -44,13 +44,15 @@ module _ {n m : ℕ} where
     tears = second.tears ∙ first.tears;
     log = λ after is.
         let late = second.log after is in
-        let early = first.log late.0 late.1 in
-        (early.0, early.1,
-        late.2
-        ∙ ap (λ (xs : List (Sense n m)). xs ++ sense_of target tick (mid.line target) ∷ []) early.2
-        ∙ append_assoc early.0 (sense_of source tick (old.line source) ∷ []) (sense_of target tick (mid.line target) ∷ [])
-        ∙ ap (λ (l : LineState n m). early.0 ++ sense_of source tick l ∷ sense_of target tick (mid.line target) ∷ []) (sym (second.line source ∙ first.line source))
-        ∙ ap (λ (l : LineState n m). early.0 ++ sense_of source tick (new.line source) ∷ sense_of target tick l ∷ []) (sym (second.line target)));
+        let early = first.log late.0 late.1 in (
+          early.0,
+          early.1,
+          late.2
+              ∙ ap (λ (xs : List (Sense n m)). xs ++ sense_of target tick (mid.line target) ∷ []) early.2
+              ∙ append_assoc early.0 (sense_of source tick (old.line source) ∷ []) (sense_of target tick (mid.line target) ∷ [])
+              ∙ ap (λ (l : LineState n m). early.0 ++ sense_of source tick l ∷ sense_of target tick (mid.line target) ∷ []) (sym (second.line source ∙ first.line source))
+              ∙ ap (λ (l : LineState n m). early.0 ++ sense_of source tick (new.line source) ∷ sense_of target tick l ∷ []) (sym (second.line target)),
+        );
   }
 
   -- a pulse and a sense

@@ -1,5 +1,5 @@
 -- What a power cut does to a bank and to its array.
-use Rattle.std.specs.Prelude.{◌≡◌, ℕ, Bool, true, false, [], ◌++◌, map, Option, None, Some}
+use Rattle.std.specs.Prelude.{ℕ, Bool, true, false, [], ◌++◌, map, Option, None, Some}
 use Rattle.pcm_cells.specs.Device.{ArrayState}
 use Rattle.program_verify.specs.Programming.{IsTear}
 use Rattle.bank_invariant.specs.State.{BankState, Operation}

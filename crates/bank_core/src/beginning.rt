@@ -87,7 +87,13 @@ impl<const B: usize, const M: usize, const E: usize> Bank<B, M, E> {
     }
 
     // Begins the store of the head, which stands in this slot.
-    fn begin_store<A: CellArray<B, M>>(&mut self, array: &mut A, tick: u64, line: u32, slot: u32) -> Step
+    fn begin_store<A: CellArray<B, M>>(
+        &mut self,
+        array: &mut A,
+        tick: u64,
+        line: u32,
+        slot: u32,
+    ) -> Step
         requires idle { self.old.running ≡ None }
         requires next { next_work self.old.kept ≡ Store line slot }
         requires tied { IsTied self.old (A.state array.old) }
@@ -100,15 +106,25 @@ impl<const B: usize, const M: usize, const E: usize> Bank<B, M, E> {
     }
 
     // Begins the copy of a gap move.
-    fn begin_copy<A: CellArray<B, M>>(&mut self, array: &mut A, tick: u64, region: u32, step: Move) -> Step
+    fn begin_copy<A: CellArray<B, M>>(
+        &mut self,
+        array: &mut A,
+        tick: u64,
+        region: u32,
+        step: Move,
+    ) -> Step
         requires idle { self.old.running ≡ None }
         requires next { next_work self.old.kept ≡ Copy region step }
         requires tied { IsTied self.old (A.state array.old) }
         ensures begins { IsBegin self.old self.new result (A.state array.old) (A.state array.new) }
         ensures touches { Touches tick (lines_sensed self.old.kept (Copy region step)) None false (A.state array.old) (A.state array.new) }
     {
-        let source = self.kept.array_line(self.kept.shape().slot(region, step.from));
-        let target = self.kept.array_line(self.kept.shape().slot(region, step.to));
+        let source = self
+            .kept
+            .array_line(self.kept.shape().slot(region, step.from));
+        let target = self
+            .kept
+            .array_line(self.kept.shape().slot(region, step.to));
         let copied = array.sense(source, tick);
         let seen = array.sense(target, tick);
         self.start_copy(region, step, target, copied, seen)
@@ -148,7 +164,14 @@ impl<const B: usize, const M: usize, const E: usize> Bank<B, M, E> {
     }
 
     // Starts the copy of a gap move, whose source and gap hold these cells.
-    fn start_copy(&mut self, region: u32, step: Move, target: u32, copied: Cells<B, M>, seen: Cells<B, M>) -> Step
+    fn start_copy(
+        &mut self,
+        region: u32,
+        step: Move,
+        target: u32,
+        copied: Cells<B, M>,
+        seen: Cells<B, M>,
+    ) -> Step
         requires layout { IsLayout B M E }
         requires idle { self.old.running ≡ None }
         requires next { next_work self.old.kept ≡ Copy region step }

@@ -1,5 +1,4 @@
-use Rattle.std.proofs.Common.{rules, ◌≡◌, ℕ, ◌∷◌, [], ◌≤◌, None, false, refl, sym, ap, subst, ◌∙◌}
-use Rattle.pcm_cells.specs.Device.{ArrayState, LineState}
+use Rattle.std.proofs.Common.{rules, ◌≡◌, ℕ, ◌∷◌, [], ◌≤◌, None, false, sym, subst}
 use Rattle.power_recovery.specs.Kept.{array_line}
 use Rattle.bank_model.specs.Touching.{Touches}
 use Rattle.bank_invariant.specs.State.{BankState}
