@@ -1,0 +1,9 @@
+pub mod State
+pub mod Leads
+pub mod Passing
+pub mod Arriving
+pub mod Completing
+pub mod Cutting
+pub mod Extending
+pub mod Recording
+pub mod Ending

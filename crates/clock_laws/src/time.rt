@@ -1,0 +1,18 @@
+//! The laws of time that passes in which no event comes.
+
+ghost use Rattle.clock_laws.specs.Passing.{PassingLaw, IdleLaw, EndingLaterLaw};
+
+/// A history leads to its bank at a later tick too, while the action that runs from now on hasn't ended.
+pub fn time_may_pass()
+    ensures { PassingLaw }
+{}
+
+/// A bank in which no action runs and none is chosen has nothing left to do.
+pub fn idle_banks_have_no_work()
+    ensures { IdleLaw }
+{}
+
+/// The action that runs from now on ends later, where senses and iterations last.
+pub fn actions_end_later()
+    ensures { EndingLaterLaw }
+{}
