@@ -39,9 +39,9 @@ abbrev pub AreIn : BankShape → List ℕ → Type 0
 AreIn shape [] = Unit {0}
 AreIn shape (line ∷ lines) = IsIn shape line × AreIn shape lines
 
-AreIn-append : (shape : BankShape) (as bs : List ℕ) → AreIn shape as → AreIn shape bs → AreIn shape (as ++ bs)
-AreIn-append shape [] bs h k = k
-AreIn-append shape (a ∷ as) bs h k = (h.0, AreIn-append shape as bs h.1 k)
+AreIn-append : (shape : BankShape) (first rest : List ℕ) → AreIn shape first → AreIn shape rest → AreIn shape (first ++ rest)
+AreIn-append shape [] rest h k = k
+AreIn-append shape (line ∷ first) rest h k = (h.0, AreIn-append shape first rest h.1 k)
 
 below_gap-within : (n gap : ℕ) → gap ≤ n → below_gap n gap ≤ n
 below_gap-within n gap few =

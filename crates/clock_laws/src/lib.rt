@@ -3,4 +3,8 @@
 //! nothing when they run.
 #![tactic(auto)]
 
+pub mod actions;
+pub mod arrivals;
+pub mod events;
+pub mod outcomes;
 pub mod time;
