@@ -5,4 +5,5 @@ pub mod Completing
 pub mod Arriving
 pub mod Extending
 pub mod Recording
+pub mod Freshness
 pub mod Passing
