@@ -1,11 +1,12 @@
 -- Each entry of a history's queue gives the newest bytes of its line as of its own write.
-use Rattle.std.proofs.Common.{◌≡◌, ℕ, ◌<◌, ◌==◌, ◌||◌, ◌&&◌, not, Bool, true, false, cond, if◌then◌else◌, List, [], ◌∷◌, ◌++◌, length, drop, Option, Some, None, refl, sym, ap, subst, ◌∙◌, arith, eqb-true, eq-eqb}
-use Rattle.std.specs.Prelude.{IsTrue}
+use Rattle.std.proofs.Common.{◌≡◌, ℕ, ◌<◌, ◌==◌, ◌||◌, ◌&&◌, not, Bool, true, false, cond, if◌then◌else◌, List, [], ◌∷◌, ◌++◌, length, drop, slice_get, Option, Some, None, refl, sym, ap, subst, ◌∙◌, arith, eqb-true, eq-eqb}
+use Rattle.std.specs.Prelude.{IsTrue, IsSomeAnd}
 use Rattle.std.proofs.lemmas.List.{length-replicate}
 use Rattle.masked_bytes.specs.declared.entry.Entry.{Entry}
 use Rattle.masked_bytes.specs.Masked.{laid, joined, all_given, gives_all, IsMasked}
-use Rattle.masked_bytes.specs.Entries.{or_this, newest_row, candidate, laid_on, merged, completed, has_row, RowsApart}
-use Rattle.masked_bytes.proofs.Layering.{length-laid, length-joined, laid-all_given, all_given-gives_all, laid-laid}
+use Rattle.masked_bytes.specs.Entries.{Layer, no_layer, stacked, layer_by, layer_of, head_row, head_line, AllMasked, or_this, newest_row, candidate, laid_on, merged, completed, has_row, RowsApart}
+use Rattle.masked_bytes.proofs.Layering.{length-laid, length-joined, laid-all_given, laid-none_given, all_given-gives_all, laid-laid}
+use Rattle.masked_bytes.proofs.Standing.{layer_of-head}
 use Rattle.bank_shape.specs.declared.BankShape.{BankShape}
 use Rattle.bank_model.specs.declared.answer.WriteAnswer.TheVariants as wrote
 use Rattle.bank_model.specs.declared.answer.Step.TheVariants as did
@@ -65,11 +66,11 @@ laid-between (b ∷ bytes) (false ∷ given) (o ∷ own) (a ∷ also) (u ∷ und
     ap (λ x. x ∷ laid bytes given (laid own also (laid bytes given under))) first ∙ ap (λ xs. u ∷ xs) (laid-between bytes given own also under rest)
 
 -- an entry of n bytes changes nothing of what was newest as of its write; and if it is the newest of its line, that is newest now
-record IsFresh {n : ℕ} (was now : List ℕ) (behind : Bool) (entry : Entry n) : Type 0 where
-  bytes_len : length entry.bytes ≡ n
-  given_len : length entry.given ≡ n
-  over : laid entry.bytes entry.given was ≡ was
-  latest : behind ≡ false → was ≡ now
+pub record IsFresh {n : ℕ} (was now : List ℕ) (behind : Bool) (entry : Entry n) : Type 0 where
+  pub bytes_len : length entry.bytes ≡ n
+  pub given_len : length entry.given ≡ n
+  pub over : laid entry.bytes entry.given was ≡ was
+  pub latest : behind ≡ false → was ≡ now
 
 -- what a write of a line changes
 record Goes (row line : ℕ) (bytes : List ℕ) (given : List Bool) (was after : ℕ → ℕ → List ℕ) (now next : ℕ → List ℕ) : Type 0 where
@@ -79,7 +80,7 @@ record Goes (row line : ℕ) (bytes : List ℕ) (given : List Bool) (was after :
   off : (at : ℕ) → (line == at) ≡ false → next at ≡ now at
 
 module _ {n : ℕ} where
-  abbrev AreFresh : (ℕ → ℕ → List ℕ) → (ℕ → List ℕ) → List (Entry n) → Type 0
+  abbrev pub AreFresh : (ℕ → ℕ → List ℕ) → (ℕ → List ℕ) → List (Entry n) → Type 0
   AreFresh was now [] = Unit {0}
   AreFresh was now (e ∷ es) = IsFresh (was e.row e.line) (now e.line) (has_line es e.line) e × AreFresh was now es
 
@@ -316,7 +317,7 @@ module _ {n : ℕ} where
         (λ r at off. named r at ∙ ap (λ b. if b then newest (event ∷ h) at else newest_at h r at) off)
         ((stand_apart shape h row below).queued_below row (omega arith)) fresh
 
-    queue-fresh : (h : List (Event n)) (bound : ℕ) → MayAll shape most h → RowsBelow h bound → AreFresh (newest_at h) (newest h) (queue shape h)
+    pub queue-fresh : (h : List (Event n)) (bound : ℕ) → MayAll shape most h → RowsBelow h bound → AreFresh (newest_at h) (newest h) (queue shape h)
     queue-fresh [] bound may below = tt
     queue-fresh (Write row line bytes given wrote.Accepted ∷ h) bound may below =
         fresh-accepted row line bytes given (newest_at h) (newest_at (Write row line bytes given wrote.Accepted ∷ h)) (newest h) (newest (Write row line bytes given wrote.Accepted ∷ h))
@@ -346,3 +347,38 @@ module _ {n : ℕ} where
     queue-fresh (Iterate (did.Retired slot line) ∷ h) bound may below = queue-fresh h bound may.1 below
     queue-fresh (Iterate did.Exhausted ∷ h) bound may below = queue-fresh h bound may.1 below
     queue-fresh (Cut tearing ∷ h) bound may below = queue-fresh h bound may.1 below
+
+  -- The head
+
+  -- a head that gives every byte has the newest bytes of its line as of its own write
+  pub head-bytes : (h : List (Event n)) (es : List (Entry n)) (bytes : List ℕ) (line : ℕ) → AreFresh (newest_at h) (newest h) es
+      → IsSomeAnd (slice_get es 0) (λ head. (head.line ≡ line) × (head.bytes ≡ bytes) × IsTrue (gives_all head.given)) → bytes ≡ newest_at h (head_row es) (head_line es)
+  head-bytes h [] bytes line fresh some = absurd some
+  head-bytes h (e ∷ es) bytes line fresh some =
+      sym some.1 ∙ whole-bytes (newest_at h e.row e.line) (newest h e.line) (has_line es e.line) e fresh.0 some.2 (length-newest_at h e.row e.line)
+
+  no_line-layer : (es : List (Entry n)) (line : ℕ) → has_line es line ≡ false → layer_of es line ≡ no_layer n
+  no_line-layer [] line off = refl
+  no_line-layer (e ∷ es) line off =
+      ap (λ b. cond b (stacked (layer_of es line) (layer_by e)) (layer_of es line)) (or_left (e.line == line) (has_line es line) off)
+      ∙ no_line-layer es line (or_right (e.line == line) (has_line es line) off)
+
+  -- bytes over which the queue gives the newest ones of the head's line, and that the head doesn't change, were the newest as of its write
+  pub head-under : (h : List (Event n)) (es : List (Entry n)) (under : List ℕ) → AreFresh (newest_at h) (newest h) es → ArePaired es → AllMasked es → length under ≡ n
+      → laid (layer_of es (head_line es)).bytes (layer_of es (head_line es)).given under ≡ newest h (head_line es)
+      → IsSomeAnd (slice_get es 0) (λ head. laid head.bytes head.given under ≡ under) → under ≡ newest_at h (head_row es) (head_line es)
+  head-under h [] under fresh paired masked len stands some = absurd some
+  head-under h (e ∷ es) under fresh paired masked len stands some = by (has_line es e.line) refl
+    where
+      by : (b : Bool) → has_line es e.line ≡ b → under ≡ newest_at h e.row e.line
+      by true behind =
+          let whole : gives_all e.given ≡ true = paired.1 behind in
+          sym some
+          ∙ ap (λ given. laid e.bytes given under) (all_given-gives_all n e.given fresh.0.given_len whole) ∙ laid-all_given n e.bytes under fresh.0.bytes_len len
+          ∙ whole-bytes (newest_at h e.row e.line) (newest h e.line) (has_line es e.line) e fresh.0 whole (length-newest_at h e.row e.line)
+      by false alone =
+          sym (laid-none_given n (no_layer n).bytes under)
+          ∙ ap (λ (l : Layer). laid l.bytes l.given under) (sym (no_line-layer es e.line alone))
+          ∙ ap (λ bytes. laid (layer_of es e.line).bytes (layer_of es e.line).given bytes) (sym some)
+          ∙ sym (layer_of-head e es e.line under masked len refl)
+          ∙ stands ∙ sym (fresh.0.latest alone)

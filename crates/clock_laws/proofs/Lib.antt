@@ -6,4 +6,7 @@ pub mod Arriving
 pub mod Extending
 pub mod Recording
 pub mod Freshness
+pub mod Ending
+pub mod Leaving
+pub mod Elsewhere
 pub mod Passing

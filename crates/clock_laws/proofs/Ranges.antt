@@ -71,10 +71,10 @@ module _ {n : ℕ} (kept : KeptState n) (range : IsKept kept) where
       omega (arith, all, range.shape.some_regions)
 
   -- the slots that the next work writes and copies
-  abbrev IsSlot : ℕ → Type 0
+  abbrev pub IsSlot : ℕ → Type 0
   IsSlot slot = slot < slots_of kept.shape
 
-  abbrev HasSource : Work → Type 0
+  abbrev pub HasSource : Work → Type 0
   HasSource Nothing = Unit {0}
   HasSource (Store line slot) = Unit {0}
   HasSource (Copy region step) = IsSlot (slot_at kept.shape region step.from)
@@ -95,6 +95,10 @@ module _ {n : ℕ} (kept : KeptState n) (range : IsKept kept) where
 
   pub target-in : IsIn kept.shape (target_of kept (next_work kept))
   target-in = array_line-in (target_slot kept (next_work kept)) (next_by kept.exhausted (due_region kept) kept.entries refl range.known).0
+
+  -- and what is due in a bank that may be exhausted
+  pub due-in : IsIn kept.shape (target_of kept (due_work (due_region kept) kept kept.entries))
+  due-in = array_line-in (target_slot kept (due_work (due_region kept) kept kept.entries)) (next_by false (due_region kept) kept.entries refl range.known).0
 
   pub source-within : HasSource (next_work kept)
   source-within = (next_by kept.exhausted (due_region kept) kept.entries refl range.known).1

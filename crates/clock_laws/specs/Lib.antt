@@ -4,6 +4,7 @@ pub mod Passing
 pub mod Arriving
 pub mod Completing
 pub mod Cutting
+pub mod Actions
 pub mod Extending
 pub mod Recording
 pub mod Ending
