@@ -9,4 +9,5 @@ pub mod Freshness
 pub mod Ending
 pub mod Leaving
 pub mod Elsewhere
+pub mod Others
 pub mod Passing

@@ -7,4 +7,5 @@ pub mod Cutting
 pub mod Actions
 pub mod Extending
 pub mod Recording
+pub mod Standing
 pub mod Ending

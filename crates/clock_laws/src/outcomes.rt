@@ -1,6 +1,7 @@
-//! What the events of a call make of the outcomes of all rows.
+//! What the events of a call make of the outcomes of all rows, and which rows stand.
 
 ghost use Rattle.clock_laws.specs.Recording.{WholeOutcomeLaw, BothRecordedLaw};
+ghost use Rattle.clock_laws.specs.Standing.{ApartLaw, OtherRowsLaw};
 
 /// What later events make of the outcomes of a history's rows are the outcomes of the whole history.
 pub fn outcomes_are_of_the_whole_history()
@@ -10,4 +11,14 @@ pub fn outcomes_are_of_the_whole_history()
 /// What the events of two calls make of a row, the one after the other.
 pub fn outcomes_follow_each_other()
     ensures { BothRecordedLaw }
+{}
+
+/// The rows that stand in a bank's queue and among its waiting reads are below the next row, and all apart.
+pub fn standing_rows_are_apart()
+    ensures { ApartLaw }
+{}
+
+/// Events leave the outcome of each row that neither stood in the queue, nor waited, nor came with them.
+pub fn other_outcomes_stay()
+    ensures { OtherRowsLaw }
 {}
