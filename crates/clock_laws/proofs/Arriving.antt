@@ -1,14 +1,12 @@
 -- A write or a read that arrives, and a power cut.
-use Rattle.std.proofs.Common.{◌≡◌, ℕ, ◌<◌, ◌≤◌, ◌==◌, ◌||◌, ◌&&◌, nat_lt, Bool, true, false, cond, if◌then◌else◌, List, [], ◌∷◌, ◌++◌, zero, suc, map, slice_get, slice_set, Option, Some, None, refl, sym, ap, subst, ◌∙◌, arith, eqb-true, eq-eqb, append-nil}
-use Rattle.std.specs.Prelude.{IfSome, IsSomeAnd, IsTrue, IsFalse}
+use Rattle.std.proofs.Common.{◌≡◌, ℕ, ◌<◌, ◌==◌, ◌||◌, ◌&&◌, nat_lt, Bool, true, false, cond, if◌then◌else◌, List, [], ◌∷◌, ◌++◌, zero, suc, map, slice_get, slice_set, Option, Some, None, refl, sym, ap, subst, ◌∙◌, arith, eqb-true, eq-eqb, append-nil}
+use Rattle.std.specs.Prelude.{IfSome, IsSomeAnd}
 use Rattle.std.proofs.lemmas.List.{map_push}
 use Rattle.masked_bytes.specs.declared.entry.Entry.{Entry}
 use Rattle.masked_bytes.specs.Entries.{has_row, merged, laid_on}
-use Rattle.pcm_cells.specs.declared.array.Sense.{Sense}
 use Rattle.pcm_cells.specs.Device.{ArrayState}
 use Rattle.bank_shape.specs.declared.BankShape.{BankShape}
-use Rattle.bank_shape.specs.declared.Work.{Work}
-use Rattle.bank_shape.specs.Pausing.{is_cancelling, most_cancels}
+use Rattle.bank_shape.specs.Pausing.{most_cancels}
 use Rattle.power_recovery.specs.Kept.{KeptState, next_work}
 use Rattle.bank_model.specs.declared.answer.WriteAnswer.{WriteAnswer}
 use Rattle.bank_model.specs.declared.answer.WriteAnswer.TheVariants as wrote
@@ -16,19 +14,19 @@ use Rattle.bank_model.specs.declared.answer.ReadAnswer.{ReadAnswer}
 use Rattle.bank_model.specs.declared.answer.ReadAnswer.TheVariants as came
 use Rattle.bank_model.specs.declared.clock.Doing.TheVariants.{Beginning, Iterating}
 use Rattle.bank_model.specs.declared.clock.Action.{Action}
-use Rattle.bank_model.specs.Events.{Event, Write, Read, Cut, RowsBelow}
+use Rattle.bank_model.specs.Events.{Write, Read, Cut, RowsBelow}
 use Rattle.bank_model.specs.History.{queue, waits}
 use Rattle.bank_model.specs.After.{work_after, is_store_of}
-use Rattle.bank_model.specs.Timing.{Pacing, Timed, ends, is_doing, is_writing, is_empty, core, last_tick}
+use Rattle.bank_model.specs.Timing.{Timed, ends, is_doing, is_writing, is_empty, core, last_tick}
 use Rattle.bank_model.specs.Running.{left, running_at, cancels_after}
-use Rattle.bank_model.specs.Lawful.{IsArrival, IsForwarded, would_cancel}
+use Rattle.bank_model.specs.Lawful.{IsArrival}
 use Rattle.bank_model.specs.Told.{tick_of_row}
 use Rattle.bank_model.specs.Touching.{Touches}
 use Rattle.bank_laws.proofs.Standing.{stand_apart}
-use Rattle.bank_invariant.specs.State.{BankState, Operation}
+use Rattle.bank_invariant.specs.State.{Operation}
 use Rattle.clock_laws.specs.State.{ClockState}
 use Rattle.clock_laws.specs.Leads.{Leads, CopiesWhatItSensed}
-use Rattle.clock_laws.specs.Arriving.{WriteLaw, ReadLaw, arrivals_after, IsPlaceOf, action_after_read, arrival}
+use Rattle.clock_laws.specs.Arriving.{WriteLaw, ReadLaw, arrivals_after, IsPlaceOf, action_after_read}
 use Rattle.clock_laws.specs.Cutting.{PowerCutLaw}
 use Rattle.clock_laws.proofs.Ties.{agrees}
 use Rattle.clock_laws.proofs.Stepping.{stepped, stepped-leads}
@@ -113,7 +111,7 @@ module _ {n : ℕ} (row tick : ℕ) (ticks : ℕ → ℕ) where
 -- Writes and reads
 
 -- nothing is touched
-untouched : {n m : ℕ} (tick : ℕ) (array : ArrayState n m) → Touches tick [] None false array array
+pub untouched : {n m : ℕ} (tick : ℕ) (array : ArrayState n m) → Touches tick [] None false array array
 untouched tick array = record {
   lines = refl;
   others = λ line off. refl;

@@ -1,16 +1,15 @@
 -- What a history is to a bank depends on the array's lines that are the bank's own, and on how many lines there are.
-use Rattle.std.proofs.Common.{◌≡◌, ℕ, ◌+◌, ◌<◌, ◌≤◌, Bool, true, false, List, [], ◌∷◌, get_or, Option, Some, None, refl, sym, ap, subst, ◌∙◌, arith}
-use Rattle.std.specs.Prelude.{IfSome, IsTrue, All}
+use Rattle.std.proofs.Common.{◌≡◌, ℕ, ◌+◌, ◌<◌, List, get_or, Option, Some, None, sym, ap, subst, ◌∙◌, arith}
+use Rattle.std.specs.Prelude.{IfSome}
 use Rattle.masked_bytes.specs.Masked.{laid}
 use Rattle.masked_bytes.specs.Entries.{Layer, layer_of}
 use Rattle.pcm_cells.specs.Device.{ArrayState, LineState}
 use Rattle.ecp_line.specs.Reading.{decode}
-use Rattle.spare_pool.specs.Table.{used_by}
 use Rattle.bank_shape.specs.declared.Work.{Work}
 use Rattle.bank_shape.specs.declared.Work.TheVariants.{Nothing, Store, Copy}
-use Rattle.bank_shape.specs.Shape.{slots_of, slot_at, lines_in}
+use Rattle.bank_shape.specs.Shape.{slots_of, slot_at}
 use Rattle.power_recovery.specs.Slots.{bank_lines}
-use Rattle.power_recovery.specs.Kept.{KeptState, IsKept, array_line, stands_at, due_region, due_work, next_work}
+use Rattle.power_recovery.specs.Kept.{KeptState, IsKept, array_line, stands_at, due_region, due_work}
 use Rattle.bank_model.specs.Events.{Event}
 use Rattle.bank_model.specs.History.{Awaited, waits}
 use Rattle.bank_model.specs.Timing.{core}

@@ -1,12 +1,9 @@
 -- Each action that ends, told by what the bank keeps.
-use Rattle.std.proofs.Common.{◌≡◌, ℕ, ◌<◌, ◌==◌, ◌||◌, not, is_some, Bool, true, false, cond, List, [], ◌∷◌, ◌++◌, map, length, slice_get, Option, Some, None, refl, sym, ap, subst, ◌∙◌, arith}
+use Rattle.std.proofs.Common.{◌≡◌, ℕ, ◌<◌, ◌||◌, not, is_some, Bool, true, false, List, [], ◌∷◌, ◌++◌, map, length, slice_get, Option, Some, None, refl, sym, ap, subst, ◌∙◌, arith}
 use Rattle.std.specs.Prelude.{IfSome, IsSomeAnd, IsTrue, All}
-use Rattle.masked_bytes.specs.Masked.{laid, gives_all}
-use Rattle.masked_bytes.specs.Entries.{Layer, layer_of, no_layer, head_row, head_line, AllMasked}
+use Rattle.masked_bytes.specs.Masked.{laid}
+use Rattle.masked_bytes.specs.Entries.{layer_of, head_row, head_line}
 use Rattle.masked_bytes.specs.declared.entry.Entry.{Entry}
-use Rattle.masked_bytes.proofs.Layering.{laid-all_given, all_given-gives_all, laid-none_given}
-use Rattle.masked_bytes.proofs.Standing.{layer_of-head}
-use Rattle.pcm_cells.specs.declared.array.Sense.{Sense}
 use Rattle.pcm_cells.specs.Device.{ArrayState, LineState}
 use Rattle.ecp_line.specs.Reading.{decode}
 use Rattle.start_gap.specs.declared.Move.{Move}
@@ -18,7 +15,6 @@ use Rattle.power_recovery.specs.Slots.{bank_lines}
 use Rattle.power_recovery.specs.Kept.{KeptState, slot_of, array_line, stands_at, due_region, next_work}
 use Rattle.power_recovery.specs.Events.{is_copy}
 use Rattle.power_recovery.proofs.Bundle.{head-known}
-use Rattle.bank_model.specs.declared.answer.Served.{Served}
 use Rattle.bank_model.specs.declared.answer.Step.{Step}
 use Rattle.bank_model.specs.declared.answer.Step.TheVariants as did
 use Rattle.bank_model.specs.declared.clock.Doing.{Doing}
@@ -30,14 +26,12 @@ use Rattle.bank_model.specs.Answers.{IsDone, IsIterated, MayAll, MayHappen}
 use Rattle.bank_model.specs.Timing.{Core, Timed, core, ends}
 use Rattle.bank_model.specs.Sensing.{is_at, most_steps, stand_of, sensed_by, pulsed_by, IsReadRight, IsLaid, copied, begun_with}
 use Rattle.bank_model.specs.Touching.{Touches, shown}
-use Rattle.bank_model.specs.Adding.{Adds}
-use Rattle.bank_laws.specs.Pairs.{has_line, ArePaired}
+use Rattle.bank_laws.specs.Pairs.{ArePaired}
 use Rattle.bank_laws.proofs.Pairs.{pair_law}
 use Rattle.bank_invariant.specs.declared.Waiting.{Waiting}
 use Rattle.bank_invariant.specs.State.{BankState, Operation, target_of}
-use Rattle.bank_invariant.specs.Tied.{decoded, IsOf, IsRunning}
-use Rattle.bank_invariant.specs.Holds.{Holds, waiting_of}
-use Rattle.bank_invariant.specs.Bridge.{AgreesWith}
+use Rattle.bank_invariant.specs.Tied.{decoded, IsOf}
+use Rattle.bank_invariant.specs.Holds.{waiting_of}
 use Rattle.bank_invariant.proofs.Targets.{length-decode, next_store-slot}
 use Rattle.bank_invariant.proofs.Tearing.{running_of}
 use Rattle.bank_invariant.proofs.Awaiting.{waits-known}
@@ -48,10 +42,9 @@ use Rattle.clock_laws.specs.Leads.{Leads, CopiesWhatItSensed}
 use Rattle.clock_laws.specs.Completing.{completed, EndsDoing}
 use Rattle.clock_laws.specs.Extending.{is_tear}
 use Rattle.clock_laws.specs.Cutting.{cut}
-use Rattle.clock_laws.specs.Actions.{Extends, IsEnd, GoesOn, ServeEndsLaw, sources, begin_lines, WritesCopy, ReadsAsHead, LeavesBegun, BeginEndsLaw, LeavesIterated, IterateEndsLaw, torn_line, CutEndsLaw}
+use Rattle.clock_laws.specs.Actions.{IsEnd, GoesOn, ServeEndsLaw, sources, begin_lines, WritesCopy, ReadsAsHead, BeginEndsLaw, IterateEndsLaw, torn_line, CutEndsLaw}
 use Rattle.clock_laws.proofs.Ties.{agrees}
 use Rattle.clock_laws.proofs.Ranges.{pulsed-in}
-use Rattle.clock_laws.proofs.Stepping.{stepped}
 use Rattle.clock_laws.proofs.Completing.{completion_law}
 use Rattle.clock_laws.proofs.Arriving.{power_cut_law}
 use Rattle.clock_laws.proofs.Extending.{one_added_law}

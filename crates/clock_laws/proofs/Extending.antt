@@ -1,16 +1,17 @@
 -- How the events of several calls add up, and what a bank does not touch.
-use Rattle.std.proofs.Common.{◌≡◌, ◌⊎◌, inl, inr, ℕ, ◌+◌, ◌-◌, ◌<◌, ◌≤◌, ◌==◌, Bool, true, false, cond, if◌then◌else◌, List, [], ◌∷◌, ◌++◌, Option, Some, None, refl, sym, ap, subst, ◌∙◌, arith, eqb-true, append-nil, append_assoc}
+use Rattle.std.proofs.Common.{◌≡◌, ◌⊎◌, inl, inr, ℕ, ◌+◌, ◌<◌, ◌≤◌, ◌==◌, Bool, true, false, cond, List, [], ◌∷◌, ◌++◌, Option, Some, None, refl, sym, ap, ◌∙◌, arith, eqb-true, append-nil, append_assoc}
 use Rattle.std.specs.Prelude.{IfSome}
 use Rattle.pcm_cells.specs.declared.array.Sense.{Sense}
-use Rattle.pcm_cells.specs.Device.{ArrayState, counted}
+use Rattle.pcm_cells.specs.Device.{counted}
 use Rattle.bank_shape.specs.declared.BankShape.{BankShape}
 use Rattle.bank_shape.specs.Shape.{lines_in}
 use Rattle.bank_model.specs.Events.{Event, Write, Read, Serve, Begin, Iterate, Cut}
 use Rattle.bank_model.specs.Timing.{Happens, Core, Timed}
 use Rattle.bank_model.specs.Sensing.{is_at}
-use Rattle.bank_model.specs.Touching.{Touches, shown}
-use Rattle.bank_model.specs.Adding.{Adds, senses_of, pulses_on, torn_by, tears_on}
-use Rattle.clock_laws.specs.Extending.{NothingAddedLaw, OneAddedLaw, BothAddedLaw, is_tear}
+use Rattle.bank_model.specs.Adding.{senses_of, pulses_on, torn_by, tears_on}
+use Rattle.clock_laws.specs.Extending.{NothingAddedLaw, OneAddedLaw, ArrivalAddedLaw, BothAddedLaw, is_tear}
+use Rattle.clock_laws.specs.Arriving.{arrival}
+use Rattle.clock_laws.proofs.Arriving.{untouched}
 
 pub nothing_added_law : NothingAddedLaw
 nothing_added_law n m shape array = record {
@@ -59,6 +60,10 @@ one_added_law n m shape x event sensed tearing old new happens senses within is 
     pulsed_so line true at = touches.pulses line at ∙ ap (λ b. cond b (counted (old.line line).pulses) (old.line line).pulses) (sym at)
     pulsed_so line false at = ap (λ l. l.pulses) (touches.others line at) ∙ ap (λ b. cond b (counted (old.line line).pulses) (old.line line).pulses) (sym at)
 
+pub arrival_added_law : ArrivalAddedLaw
+arrival_added_law n m tick shape event array no_tear =
+    one_added_law n m shape (arrival tick event) event [] false array array refl refl tt (sym no_tear) (untouched tick array)
+
 -- Several events
 
 module _ {n m : ℕ} where
@@ -83,8 +88,7 @@ both_added_law n m shape newer older first between last before after = record {
   tears = after.tears ∙ ap (λ count. tears_on newer count) before.tears ∙ sym (tears-both newer older first.tears);
   log = λ senses told.
       let late = after.log senses told in
-      let early = before.log late.0 late.1 in
-      (
+      let early = before.log late.0 late.1 in (
         early.0,
         early.1,
         late.2 ∙ ap (λ (log : List (Sense n m)). log ++ senses_of newer) early.2 ∙ append_assoc early.0 (senses_of older) (senses_of newer)

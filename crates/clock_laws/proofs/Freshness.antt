@@ -1,10 +1,10 @@
 -- Each entry of a history's queue gives the newest bytes of its line as of its own write.
-use Rattle.std.proofs.Common.{◌≡◌, ℕ, ◌<◌, ◌==◌, ◌||◌, ◌&&◌, not, Bool, true, false, cond, if◌then◌else◌, List, [], ◌∷◌, ◌++◌, length, drop, slice_get, Option, Some, None, refl, sym, ap, subst, ◌∙◌, arith, eqb-true, eq-eqb}
+use Rattle.std.proofs.Common.{◌≡◌, ℕ, ◌==◌, ◌||◌, ◌&&◌, not, Bool, true, false, cond, if◌then◌else◌, List, [], ◌∷◌, ◌++◌, length, drop, slice_get, Option, Some, None, refl, sym, ap, subst, ◌∙◌, arith, eqb-true, eq-eqb}
 use Rattle.std.specs.Prelude.{IsTrue, IsSomeAnd}
 use Rattle.std.proofs.lemmas.List.{length-replicate}
 use Rattle.masked_bytes.specs.declared.entry.Entry.{Entry}
-use Rattle.masked_bytes.specs.Masked.{laid, joined, all_given, gives_all, IsMasked}
-use Rattle.masked_bytes.specs.Entries.{Layer, no_layer, stacked, layer_by, layer_of, head_row, head_line, AllMasked, or_this, newest_row, candidate, laid_on, merged, completed, has_row, RowsApart}
+use Rattle.masked_bytes.specs.Masked.{laid, joined, gives_all, IsMasked}
+use Rattle.masked_bytes.specs.Entries.{Layer, no_layer, stacked, layer_by, layer_of, head_row, head_line, AllMasked, or_this, newest_row, candidate, laid_on, merged, has_row, RowsApart}
 use Rattle.masked_bytes.proofs.Layering.{length-laid, length-joined, laid-all_given, laid-none_given, all_given-gives_all, laid-laid}
 use Rattle.masked_bytes.proofs.Standing.{layer_of-head}
 use Rattle.bank_shape.specs.declared.BankShape.{BankShape}
@@ -17,6 +17,7 @@ use Rattle.bank_laws.specs.Pairs.{has_line, ArePaired}
 use Rattle.bank_laws.proofs.Pairs.{no_candidate-rest, pair_law}
 use Rattle.bank_laws.proofs.Standing.{stand_apart}
 use Rattle.bank_invariant.proofs.Taking.{answer_merged}
+use Rattle.clock_laws.specs.Newest.{GiveNewest, EntryLaw}
 use Rattle.bank_invariant.proofs.Awaiting.{length-newest}
 
 -- Tests
@@ -91,8 +92,7 @@ module _ {n : ℕ} where
       → has_row es row ≡ false → AreFresh was now es → AreFresh after now es
   fresh-aside row was after now [] aside none fresh = tt
   fresh-aside row was after now (e ∷ es) aside none fresh =
-      let same : was e.row e.line ≡ after e.row e.line = sym (aside e.row e.line (turned e.row row (or_left (e.row == row) (has_row es row) none))) in
-      (
+      let same : was e.row e.line ≡ after e.row e.line = sym (aside e.row e.line (turned e.row row (or_left (e.row == row) (has_row es row) none))) in (
         subst (λ (bytes : List ℕ). IsFresh bytes (now e.line) (has_line es e.line) e) same fresh.0,
         fresh-aside row was after now es aside (or_right (e.row == row) (has_row es row) none) fresh.1,
       )
@@ -114,8 +114,7 @@ module _ {n : ℕ} where
         → AreFresh after next (es ++ record { row = row; line = line; bytes = bytes; given = given } ∷ [])
     fresh-accepted [] none masked fresh =
         let is : next line ≡ laid bytes given (now line) = goes.on line (eq-eqb line line refl) in
-        let own : after row line ≡ laid bytes given (now line) = goes.own line ∙ is in
-        (
+        let own : after row line ≡ laid bytes given (now line) = goes.own line ∙ is in (
           record {
             bytes_len = masked.bytes_len;
             given_len = masked.given_len;
@@ -257,8 +256,7 @@ module _ {n : ℕ} where
   fresh-begun None was now (e ∷ es) paired len len_now fresh =
       let done : laid e.bytes e.given (now e.line) ≡ was e.row e.line =
       laid-now (was e.row e.line) (now e.line) (has_line es e.line) e fresh.0 paired.1 (len e.row e.line) (len_now e.line) in
-      let long : length (laid e.bytes e.given (now e.line)) ≡ n = length-laid e.bytes e.given (now e.line) ∙ len_now e.line in
-      (
+      let long : length (laid e.bytes e.given (now e.line)) ≡ n = length-laid e.bytes e.given (now e.line) ∙ len_now e.line in (
         record {
           bytes_len = long;
           given_len = length-replicate n true;
@@ -382,3 +380,10 @@ module _ {n : ℕ} where
           ∙ ap (λ bytes. laid (layer_of es e.line).bytes (layer_of es e.line).given bytes) (sym some)
           ∙ sym (layer_of-head e es e.line under masked len refl)
           ∙ stands ∙ sym (fresh.0.latest alone)
+
+  entries-newest : (h : List (Event n)) (es : List (Entry n)) → AreFresh (newest_at h) (newest h) es → GiveNewest h es
+  entries-newest h [] fresh = tt
+  entries-newest h (e ∷ es) fresh = (fresh.0.over, entries-newest h es fresh.1)
+
+pub entry_law : EntryLaw
+entry_law n most bound shape h may below = entries-newest h (queue shape h) (queue-fresh shape most h bound may below)

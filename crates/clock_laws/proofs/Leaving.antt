@@ -1,5 +1,5 @@
 -- What a history leaves of the array.
-use Rattle.std.proofs.Common.{◌≡◌, ℕ, ◌+◌, ◌*◌, ◌/◌, ◌<◌, Bool, true, cond, List, [], ◌∷◌, length, Option, Some, None, refl, sym, ap, subst, ◌∙◌, arith}
+use Rattle.std.proofs.Common.{◌≡◌, ℕ, ◌<◌, List, [], ◌∷◌, Option, Some, None, refl, sym, ap, subst, ◌∙◌, arith}
 use Rattle.std.specs.Prelude.{IsTrue}
 use Rattle.masked_bytes.specs.declared.entry.Entry.{Entry}
 use Rattle.pcm_cells.specs.Device.{ArrayState}
@@ -8,18 +8,16 @@ use Rattle.start_gap.proofs.Turning.{move-stands}
 use Rattle.spare_pool.specs.Table.{Table, line_by, used_by}
 use Rattle.bank_shape.specs.declared.Work.{Work}
 use Rattle.bank_shape.specs.declared.Work.TheVariants.{Nothing, Store, Copy}
-use Rattle.bank_shape.specs.Shape.{slots_of}
 use Rattle.power_recovery.specs.Slots.{bank_lines}
 use Rattle.power_recovery.specs.Kept.{AllBelow, region_at, array_line, due_region, due_work, target_slot}
 use Rattle.power_recovery.proofs.Bundle.{due_region-Some}
 use Rattle.bank_model.specs.Events.{Event}
-use Rattle.bank_model.specs.History.{queue, moved_in, due_after, retired}
+use Rattle.bank_model.specs.History.{queue, moved_in, due_after}
 use Rattle.bank_model.specs.After as after
 use Rattle.bank_model.specs.After.{array_line_after, slot_of_work}
 use Rattle.bank_model.specs.Timing.{core}
 use Rattle.bank_laws.specs.Laws.{is_worn_at}
 use Rattle.bank_invariant.specs.State.{BankState, target_of}
-use Rattle.bank_invariant.specs.Tied.{IsWornLine}
 use Rattle.bank_invariant.specs.Holds.{Holds}
 use Rattle.bank_invariant.specs.Bridge.{AgreesWith}
 use Rattle.bank_invariant.proofs.Agreeing.{agree_law}

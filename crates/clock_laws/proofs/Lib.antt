@@ -10,4 +10,5 @@ pub mod Ending
 pub mod Leaving
 pub mod Elsewhere
 pub mod Others
+pub mod Fitting
 pub mod Passing

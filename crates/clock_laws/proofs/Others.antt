@@ -1,11 +1,10 @@
 -- The rows that stand, and that no other outcome is touched.
-use Rattle.std.proofs.Common.{◌≡◌, ℕ, ◌≤◌, ◌==◌, ◌||◌, ◌&&◌, not, Bool, true, false, cond, if◌then◌else◌, List, [], ◌∷◌, ◌++◌, map, drop, Option, Some, None, refl, sym, ap, subst, ◌∙◌, arith, eqb-true, eq-eqb}
+use Rattle.std.proofs.Common.{◌≡◌, ℕ, ◌==◌, ◌||◌, ◌&&◌, not, Bool, true, false, cond, if◌then◌else◌, List, [], ◌∷◌, ◌++◌, map, drop, Option, Some, None, refl, sym, ap, subst, ◌∙◌, eqb-true, eq-eqb}
 use Rattle.std.specs.Prelude.{unwrap_or}
-use Rattle.std.specs.List.{list_any}
 use Rattle.result_rows.specs.declared.Outcome.{Outcome}
 use Rattle.result_rows.specs.declared.Outcome.TheVariants as out
 use Rattle.masked_bytes.specs.declared.entry.Entry.{Entry}
-use Rattle.masked_bytes.specs.Entries.{or_this, newest_row, candidate, laid_on, merged, has_row, head_row, RowsApart}
+use Rattle.masked_bytes.specs.Entries.{or_this, newest_row, candidate, laid_on, merged, has_row, head_row}
 use Rattle.bank_shape.specs.declared.BankShape.{BankShape}
 use Rattle.bank_shape.specs.declared.Work.TheVariants.{Nothing}
 use Rattle.bank_model.specs.declared.answer.WriteAnswer.TheVariants as wrote
@@ -13,9 +12,9 @@ use Rattle.bank_model.specs.declared.answer.ReadAnswer.TheVariants as came
 use Rattle.bank_model.specs.declared.answer.Served.{Served}
 use Rattle.bank_model.specs.declared.answer.Step.TheVariants as did
 use Rattle.bank_model.specs.Events.{Event, Write, Read, Serve, Begin, Iterate, Cut, newest}
-use Rattle.bank_model.specs.History.{Awaited, awaited, queue, waits, begun, due_after, has_exhausted}
+use Rattle.bank_model.specs.History.{Awaited, queue, waits, begun, due_after, has_exhausted}
 use Rattle.bank_model.specs.After.{due_work}
-use Rattle.bank_model.specs.Answers.{MayHappen, IsServed, IsDone, IsIterated, head_busy_after}
+use Rattle.bank_model.specs.Answers.{MayHappen, IsServed, IsDone, head_busy_after}
 use Rattle.bank_model.specs.Timing.{Pacing, Happens, Core, Timed, core, core_of}
 use Rattle.bank_model.specs.Lawful.{Lawful, MayCome}
 use Rattle.bank_model.specs.Sensing.{most_steps}

@@ -1,17 +1,15 @@
 -- One more event.
-use Rattle.std.proofs.Common.{◌≡◌, ℕ, ◌<◌, ◌≤◌, Bool, true, false, List, [], ◌∷◌, map, Option, Some, None, refl, sym, ap, subst, ◌∙◌, arith}
-use Rattle.std.specs.Prelude.{IfSome, IsFalse, IsTrue, All}
-use Rattle.masked_bytes.specs.declared.entry.Entry.{Entry}
-use Rattle.pcm_cells.specs.declared.array.Sense.{Sense}
+use Rattle.std.proofs.Common.{◌≡◌, ℕ, ◌<◌, Bool, false, List, [], ◌∷◌, map, Option, refl, sym, subst, ◌∙◌, arith}
+use Rattle.std.specs.Prelude.{IfSome}
 use Rattle.pcm_cells.specs.Device.{ArrayState}
 use Rattle.bank_shape.specs.declared.BankShape.{BankShape}
 use Rattle.bank_model.specs.declared.clock.Action.{Action}
 use Rattle.bank_model.specs.Events.{Event}
 use Rattle.bank_model.specs.History.{queue}
-use Rattle.bank_model.specs.Answers.{MayAll, MayHappen}
-use Rattle.bank_model.specs.Timing.{Pacing, Timed, Core, ends, core, last_tick}
+use Rattle.bank_model.specs.Answers.{MayAll}
+use Rattle.bank_model.specs.Timing.{Pacing, Timed, ends, core}
 use Rattle.bank_model.specs.Running.{left, running_at, running, chosen_after, cancels_by, cancels_after}
-use Rattle.bank_model.specs.Lawful.{IsAsked, IsOnTime, IsNext, Lawful, IsArrival, FollowsCancel}
+use Rattle.bank_model.specs.Lawful.{IsAsked, IsOnTime, IsNext, Lawful, FollowsCancel}
 use Rattle.bank_model.specs.Sensing.{most_steps, pulses_of, sensed_by, pulsed_by, IsReadRight}
 use Rattle.bank_model.specs.Told.{IsTold, IsWhole, tick_of_row}
 use Rattle.bank_model.specs.Touching.{Touches, shown}
@@ -21,7 +19,7 @@ use Rattle.clock_laws.specs.State.{ClockState}
 use Rattle.clock_laws.specs.Leads.{Leads, CopiesWhatItSensed}
 use Rattle.clock_laws.specs.Completing.{completion}
 use Rattle.clock_laws.proofs.Ties.{started-same}
-use Rattle.clock_laws.proofs.Ranges.{ArePulses, IsIn, sensed-in, pulses-at, pulses-next, shown-all, shown-lines}
+use Rattle.clock_laws.proofs.Ranges.{ArePulses, sensed-in, pulses-at, pulses-next, shown-all, shown-lines}
 
 -- the last event is no cancel, so nothing has to follow it
 follows : {n m : ℕ} (shape : BankShape) (pace : Pacing) (xs : List (Timed n m)) (tick : ℕ) (event : Event n) → IsWhole xs → FollowsCancel shape pace xs tick event

@@ -1,5 +1,5 @@
 -- What a bank with its clock and its history say of each other.
-use Rattle.std.proofs.Common.{◌≡◌, ℕ, ◌+◌, ◌<◌, ◌≤◌, ◌&&◌, not, nat_lt, Bool, true, false, cond, List, [], ◌∷◌, length, map, Option, Some, None, is_some, refl, sym, ap, subst, ◌∙◌, arith, lt-ltb, ltb-false}
+use Rattle.std.proofs.Common.{◌≡◌, ℕ, ◌<◌, ◌≤◌, not, nat_lt, Bool, true, false, cond, List, [], ◌∷◌, length, map, Option, Some, None, is_some, refl, sym, ap, ◌∙◌, arith, lt-ltb, ltb-false}
 use Rattle.std.specs.Prelude.{IfSome}
 use Rattle.std.proofs.lemmas.Bool.{le-ltb}
 use Rattle.pcm_cells.specs.Device.{ArrayState}
@@ -7,8 +7,7 @@ use Rattle.bank_model.specs.declared.clock.Doing.{Doing}
 use Rattle.bank_model.specs.declared.clock.Doing.TheVariants.{Serving, Beginning, Iterating}
 use Rattle.bank_model.specs.declared.clock.Action.{Action}
 use Rattle.bank_model.specs.History.{Awaited, waits, in_progress}
-use Rattle.bank_model.specs.After.{may_begin_after}
-use Rattle.bank_model.specs.Timing.{Pacing, Timed, lasts, ends, core, is_empty, last_tick}
+use Rattle.bank_model.specs.Timing.{Timed, lasts, ends, core, is_empty, last_tick}
 use Rattle.bank_model.specs.Running.{gives_way, choice, chosen_by, started, chosen_after, running, running_at}
 use Rattle.bank_invariant.specs.State.{may_begin}
 use Rattle.bank_invariant.specs.Holds.{waiting_of}

@@ -7,7 +7,7 @@ use Rattle.bank_model.specs.declared.answer.Step.TheVariants as did
 use Rattle.bank_model.specs.declared.clock.Doing.{Doing}
 use Rattle.bank_model.specs.declared.clock.Doing.TheVariants.{Serving, Beginning, Iterating}
 use Rattle.bank_model.specs.declared.clock.Action.{Action}
-use Rattle.bank_model.specs.Events.{Event, Write, Read, Serve, Begin, Iterate, Cut}
+use Rattle.bank_model.specs.Events.{Event, Serve, Begin, Iterate}
 use Rattle.bank_model.specs.Timing.{Timed, Core, core, ends}
 use Rattle.bank_model.specs.Sensing.{sensed_by, pulsed_by, IsReadRight}
 use Rattle.bank_model.specs.Touching.{Touches, shown}

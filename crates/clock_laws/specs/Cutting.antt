@@ -2,7 +2,7 @@
 use Rattle.std.specs.Prelude.{◌≡◌, ℕ, Bool, List, [], ◌∷◌, None}
 use Rattle.pcm_cells.specs.Device.{ArrayState}
 use Rattle.bank_model.specs.declared.clock.Doing.TheVariants.{Iterating}
-use Rattle.bank_model.specs.Events.{Event, Cut}
+use Rattle.bank_model.specs.Events.{Cut}
 use Rattle.bank_model.specs.Timing.{Timed, core, is_doing}
 use Rattle.bank_model.specs.Sensing.{pulsed_by}
 use Rattle.bank_model.specs.Touching.{Touches}

@@ -1,5 +1,5 @@
 -- How the events of several calls add up, and what a bank does not touch.
-use Rattle.std.specs.Prelude.{◌≡◌, ℕ, ◌+◌, ◌<◌, ◌≤◌, if◌then◌else◌, Bool, List, [], ◌∷◌, ◌++◌, Option, IfSome, true, false}
+use Rattle.std.specs.Prelude.{◌≡◌, ℕ, ◌+◌, ◌<◌, ◌≤◌, Bool, List, [], ◌∷◌, ◌++◌, IfSome, false}
 use Rattle.pcm_cells.specs.Device.{ArrayState}
 use Rattle.bank_shape.specs.declared.BankShape.{BankShape}
 use Rattle.bank_shape.specs.Shape.{lines_in}
@@ -9,6 +9,7 @@ use Rattle.bank_model.specs.Touching.{Touches, shown}
 use Rattle.bank_model.specs.Adding.{Adds}
 use Rattle.clock_laws.specs.State.{ClockState}
 use Rattle.clock_laws.specs.Leads.{Leads}
+use Rattle.clock_laws.specs.Arriving.{arrival}
 
 -- no event leaves an array as it was
 abbrev pub NothingAddedLaw : Type 0
@@ -27,6 +28,12 @@ OneAddedLaw =
     → IfSome x.pulsed (λ line. (shape.base ≤ line) × (line < shape.base + lines_in shape))
     → tearing ≡ is_tear event
     → Touches x.tick sensed x.pulsed tearing old new → Adds shape (x ∷ []) old new
+
+-- an arrival adds nothing
+abbrev pub ArrivalAddedLaw : Type 0
+ArrivalAddedLaw =
+    (n m tick : ℕ) (shape : BankShape) (event : Event n) (array : ArrayState n m)
+    → is_tear event ≡ false → Adds shape (arrival tick event ∷ []) array array
 
 -- the events of two calls add up
 abbrev pub BothAddedLaw : Type 0

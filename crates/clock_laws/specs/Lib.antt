@@ -1,7 +1,10 @@
 pub mod State
 pub mod Leads
+pub mod Starting
 pub mod Passing
 pub mod Arriving
+pub mod Fitting
+pub mod Newest
 pub mod Completing
 pub mod Cutting
 pub mod Actions

@@ -1,13 +1,8 @@
 -- What the events of a call make of the outcomes of all rows.
-use Rattle.std.specs.Prelude.{◌≡◌, ℕ, true, false, List, [], ◌∷◌, ◌++◌, unwrap_or}
+use Rattle.std.specs.Prelude.{◌≡◌, ℕ, List, [], ◌∷◌, ◌++◌, unwrap_or}
 use Rattle.result_rows.specs.declared.Outcome.{Outcome}
-use Rattle.result_rows.specs.declared.Outcome.TheVariants.{Unset}
-use Rattle.masked_bytes.specs.Entries.{has_row}
 use Rattle.bank_shape.specs.declared.BankShape.{BankShape}
-use Rattle.bank_model.specs.History.{queue, waits}
-use Rattle.bank_model.specs.Timing.{Pacing, Timed, core}
-use Rattle.bank_model.specs.Lawful.{Lawful}
-use Rattle.bank_laws.specs.Standing.{has_wait}
+use Rattle.bank_model.specs.Timing.{Timed}
 use Rattle.bank_laws.specs.Outcomes.{outcome_with, outcome_of}
 
 -- the outcome of a row after these events, which came behind a history, where before them each row had this outcome

@@ -1,11 +1,11 @@
 -- The rows that stand in a bank's queue or wait there, and that no other outcome is touched.
-use Rattle.std.specs.Prelude.{◌≡◌, ℕ, ◌≤◌, ◌==◌, ◌||◌, Bool, true, false, List, [], ◌∷◌, ◌++◌}
+use Rattle.std.specs.Prelude.{◌≡◌, ℕ, ◌≤◌, ◌==◌, Bool, true, false, List, [], ◌∷◌, ◌++◌}
 use Rattle.std.specs.List.{list_any}
 use Rattle.result_rows.specs.declared.Outcome.{Outcome}
 use Rattle.pcm_cells.specs.Device.{ArrayState}
 use Rattle.masked_bytes.specs.declared.entry.Entry.{Entry}
 use Rattle.masked_bytes.specs.Entries.{has_row, RowsApart}
-use Rattle.bank_model.specs.Events.{Event, Write, Read}
+use Rattle.bank_model.specs.Events.{Write, Read}
 use Rattle.bank_model.specs.Timing.{Happens, Core, Timed}
 use Rattle.bank_model.specs.Lawful.{Lawful}
 use Rattle.bank_invariant.specs.declared.Waiting.{Waiting}

@@ -1,6 +1,6 @@
 //! How the events of several calls add up, what a bank does not touch, and what its history leaves.
 
-ghost use Rattle.clock_laws.specs.Extending.{NothingAddedLaw, OneAddedLaw, BothAddedLaw, ElsewhereLaw};
+ghost use Rattle.clock_laws.specs.Extending.{NothingAddedLaw, OneAddedLaw, ArrivalAddedLaw, BothAddedLaw, ElsewhereLaw};
 ghost use Rattle.clock_laws.specs.Ending.{LeavingLaw};
 
 /// No event leaves an array as it was.
@@ -11,6 +11,11 @@ pub fn no_event_adds_nothing()
 /// One event adds what it touches.
 pub fn an_event_adds_what_it_touches()
     ensures { OneAddedLaw }
+{}
+
+/// An arrival adds nothing.
+pub fn arrivals_add_nothing()
+    ensures { ArrivalAddedLaw }
 {}
 
 /// The events of two calls add up.
