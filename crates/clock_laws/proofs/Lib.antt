@@ -10,5 +10,6 @@ pub mod Ending
 pub mod Leaving
 pub mod Elsewhere
 pub mod Others
+pub mod Apart
 pub mod Fitting
 pub mod Passing

@@ -1,10 +1,11 @@
 -- The rows that stand in a bank's queue or wait there, and that no other outcome is touched.
-use Rattle.std.specs.Prelude.{◌≡◌, ℕ, ◌≤◌, ◌==◌, Bool, true, false, List, [], ◌∷◌, ◌++◌}
+use Rattle.std.specs.Prelude.{◌≡◌, ℕ, ◌+◌, ◌≤◌, ◌==◌, Bool, true, false, List, [], ◌∷◌, ◌++◌, drop}
 use Rattle.std.specs.List.{list_any}
 use Rattle.result_rows.specs.declared.Outcome.{Outcome}
 use Rattle.pcm_cells.specs.Device.{ArrayState}
 use Rattle.masked_bytes.specs.declared.entry.Entry.{Entry}
-use Rattle.masked_bytes.specs.Entries.{has_row, RowsApart}
+use Rattle.masked_bytes.specs.Entries.{completed, has_row, RowsApart}
+use Rattle.protected_queue.specs.Queue.{accepted}
 use Rattle.bank_model.specs.Events.{Write, Read}
 use Rattle.bank_model.specs.Timing.{Happens, Core, Timed}
 use Rattle.bank_model.specs.Lawful.{Lawful}
@@ -36,6 +37,20 @@ abbrev pub ApartLaw : Type 0
 ApartLaw =
     (n m e : ℕ) (xs : List (Timed n m)) (clock : ClockState n m e) (array : ArrayState n m)
     → Leads xs clock array → AreApart clock.bank.kept.entries clock.bank.waiting clock.bank.rows_below
+
+-- rows that are apart stay so: while the bound rises, after a write that the queue takes, a read that begins to wait or the first
+-- that is served, the head that is completed or stored, and a cut
+pub record StayApart {n : ℕ} (es : List (Entry n)) (ws : List (Waiting n)) (next : ℕ) : Type 0 where
+  pub rises : (bound : ℕ) → next ≤ bound → AreApart es ws bound
+  pub taken : (cap : ℕ) (busy : Bool) (entry : Entry n) → next ≤ entry.row → AreApart (accepted cap busy entry es) ws (entry.row + 1)
+  pub waits : (w : Waiting n) → next ≤ w.row → AreApart es (ws ++ w ∷ []) (w.row + 1)
+  pub served : AreApart es (drop 1 ws) next
+  pub completed : (under : List ℕ) → AreApart (completed under es) ws next
+  pub stored : AreApart (drop 1 es) ws next
+  pub cut : AreApart es [] next
+
+abbrev pub StayApartLaw : Type 0
+StayApartLaw = (n : ℕ) (es : List (Entry n)) (ws : List (Waiting n)) (next : ℕ) → AreApart es ws next → StayApart es ws next
 
 -- whether an event is the arrival of a row
 abbrev pub is_arrival_of : {n : ℕ} → Happens n → ℕ → Bool

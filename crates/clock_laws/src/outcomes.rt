@@ -1,7 +1,7 @@
 //! What the events of a call make of the outcomes of all rows, and which rows stand.
 
 ghost use Rattle.clock_laws.specs.Recording.{WholeOutcomeLaw, BothRecordedLaw};
-ghost use Rattle.clock_laws.specs.Standing.{ApartLaw, OtherRowsLaw};
+ghost use Rattle.clock_laws.specs.Standing.{ApartLaw, StayApartLaw, OtherRowsLaw};
 
 /// What later events make of the outcomes of a history's rows are the outcomes of the whole history.
 pub fn outcomes_are_of_the_whole_history()
@@ -21,4 +21,9 @@ pub fn standing_rows_are_apart()
 /// Events leave the outcome of each row that neither stood in the queue, nor waited, nor came with them.
 pub fn other_outcomes_stay()
     ensures { OtherRowsLaw }
+{}
+
+/// Rows that are apart stay so over each step of a bank.
+pub fn rows_stay_apart()
+    ensures { StayApartLaw }
 {}

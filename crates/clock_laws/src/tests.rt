@@ -28,5 +28,6 @@ fn laws_hold() {
     outcomes::outcomes_are_of_the_whole_history();
     outcomes::outcomes_follow_each_other();
     outcomes::standing_rows_are_apart();
+    outcomes::rows_stay_apart();
     outcomes::other_outcomes_stay();
 }
