@@ -12,4 +12,5 @@ pub mod Elsewhere
 pub mod Others
 pub mod Apart
 pub mod Fitting
+pub mod Remaining
 pub mod Passing

@@ -5,6 +5,7 @@ pub mod Passing
 pub mod Arriving
 pub mod Fitting
 pub mod Newest
+pub mod Remaining
 pub mod Completing
 pub mod Cutting
 pub mod Actions

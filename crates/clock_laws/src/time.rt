@@ -2,6 +2,7 @@
 
 ghost use Rattle.clock_laws.specs.Passing.{PassingLaw, IdleLaw, EndingLaterLaw};
 ghost use Rattle.clock_laws.specs.Fitting.{ChosenLaw};
+ghost use Rattle.clock_laws.specs.Remaining.{FallingLaw};
 ghost use Rattle.clock_laws.specs.Starting.{StartLaw};
 
 /// No event leads to a bank that was just made.
@@ -27,4 +28,9 @@ pub fn actions_end_later()
 /// An action that is chosen has what it needs: a read waits, a line write may be begun, or one is in progress.
 pub fn chosen_actions_fit()
     ensures { ChosenLaw }
+{}
+
+/// Each action leaves a bank fewer to take, if nothing arrives.
+pub fn actions_grow_fewer()
+    ensures { FallingLaw }
 {}
