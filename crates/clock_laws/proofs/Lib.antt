@@ -11,6 +11,7 @@ pub mod Leaving
 pub mod Elsewhere
 pub mod Others
 pub mod Apart
+pub mod Settled
 pub mod Fitting
 pub mod Remaining
 pub mod Passing

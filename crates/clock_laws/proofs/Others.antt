@@ -69,7 +69,7 @@ or_none : (a b : Bool) → a ≡ false → b ≡ false → (a || b) ≡ false
 or_none true b h k = cc
 or_none false b h k = k
 
-or_back : (a b : Bool) → b ≡ true → (a || b) ≡ true
+pub or_back : (a b : Bool) → b ≡ true → (a || b) ≡ true
 or_back true b h = refl
 or_back false b h = h
 
@@ -104,7 +104,7 @@ module _ {n : ℕ} where
       by false rest = or_none (e.row == row) _ (or_left (e.row == row) _ none) rest
 
   -- the entry into which a write is merged is there
-  candidate-there : (busy : Bool) (es : List (Entry n)) (line old : ℕ) → candidate busy es line ≡ Some old → has_row es old ≡ true
+  pub candidate-there : (busy : Bool) (es : List (Entry n)) (line old : ℕ) → candidate busy es line ≡ Some old → has_row es old ≡ true
   candidate-there busy [] line old is = cc
   candidate-there busy (e ∷ es) line old is = by (newest_row es line) (rest es) (not busy && e.line == line) is
     where

@@ -1,14 +1,18 @@
 -- The rows that stand in a bank's queue or wait there, and that no other outcome is touched.
-use Rattle.std.specs.Prelude.{◌≡◌, ℕ, ◌+◌, ◌≤◌, ◌==◌, Bool, true, false, List, [], ◌∷◌, ◌++◌, drop}
+use Rattle.std.specs.Prelude.{◌≡◌, ◌≢◌, ℕ, ◌+◌, ◌≤◌, ◌==◌, Bool, true, false, if◌then◌else◌, List, [], ◌∷◌, ◌++◌, drop, Some, None}
 use Rattle.std.specs.List.{list_any}
 use Rattle.result_rows.specs.declared.Outcome.{Outcome}
+use Rattle.result_rows.specs.declared.Outcome.TheVariants as out
 use Rattle.pcm_cells.specs.Device.{ArrayState}
 use Rattle.masked_bytes.specs.declared.entry.Entry.{Entry}
 use Rattle.masked_bytes.specs.Entries.{completed, has_row, RowsApart}
 use Rattle.protected_queue.specs.Queue.{accepted}
-use Rattle.bank_model.specs.Events.{Write, Read}
-use Rattle.bank_model.specs.Timing.{Happens, Core, Timed}
+use Rattle.bank_model.specs.Events.{Write, Read, Cut, RowsBelow}
+use Rattle.bank_model.specs.declared.answer.WriteAnswer.{WriteAnswer}
+use Rattle.bank_model.specs.Timing.{Happens, Core, Timed, core}
 use Rattle.bank_model.specs.Lawful.{Lawful}
+use Rattle.bank_model.specs.Told.{tick_of_row}
+use Rattle.bank_laws.specs.Outcomes.{outcome_of, outcome_with}
 use Rattle.bank_invariant.specs.declared.Waiting.{Waiting}
 use Rattle.clock_laws.specs.State.{ClockState}
 use Rattle.clock_laws.specs.Leads.{Leads}
@@ -69,3 +73,23 @@ OtherRowsLaw =
     → Leads xs clock array → Lawful clock.bank.kept.shape clock.pace e (added ++ xs)
     → has_row clock.bank.kept.entries row ≡ false → has_waiting clock.bank.waiting row ≡ false → arrives_with added row ≡ false
     → outcome_on clock.bank.kept.shape added xs before row ≡ before row
+
+-- each row that came, and neither stands in the queue nor waits, has its outcome
+abbrev pub SettledLaw : Type 0
+SettledLaw =
+    (n m e row : ℕ) (xs : List (Timed n m)) (clock : ClockState n m e) (array : ArrayState n m)
+    → Leads xs clock array → arrives_with xs row ≡ true → has_row clock.bank.kept.entries row ≡ false → has_waiting clock.bank.waiting row ≡ false
+    → outcome_of clock.bank.kept.shape xs row ≢ out.Unset
+
+-- a cut makes lost just the reads that wait at the bank
+abbrev pub LostRowsLaw : Type 0
+LostRowsLaw =
+    (n m e row tick : ℕ) (tearing : Bool) (xs : List (Timed n m)) (clock : ClockState n m e) (array : ArrayState n m)
+    → Leads xs clock array
+    → outcome_with clock.bank.kept.shape xs (Core (Cut tearing)) tick row ≡ (if has_waiting clock.bank.waiting row then Some (out.Lost tick) else None)
+
+-- the arrival tick of a row is that of its write
+abbrev pub ArrivalTickLaw : Type 0
+ArrivalTickLaw =
+    (n m row line bound : ℕ) (bytes : List ℕ) (given : List Bool) (answer : WriteAnswer) (later xs : List (Timed n m)) (x : Timed n m)
+    → RowsBelow (core (later ++ x ∷ xs)) bound → x.happens ≡ Core (Write row line bytes given answer) → tick_of_row row (later ++ x ∷ xs) ≡ x.tick

@@ -1,7 +1,7 @@
 //! What the events of a call make of the outcomes of all rows, and which rows stand.
 
 ghost use Rattle.clock_laws.specs.Recording.{WholeOutcomeLaw, BothRecordedLaw};
-ghost use Rattle.clock_laws.specs.Standing.{ApartLaw, StayApartLaw, OtherRowsLaw};
+ghost use Rattle.clock_laws.specs.Standing.{ApartLaw, StayApartLaw, OtherRowsLaw, SettledLaw, LostRowsLaw, ArrivalTickLaw};
 
 /// What later events make of the outcomes of a history's rows are the outcomes of the whole history.
 pub fn outcomes_are_of_the_whole_history()
@@ -26,4 +26,19 @@ pub fn other_outcomes_stay()
 /// Rows that are apart stay so over each step of a bank.
 pub fn rows_stay_apart()
     ensures { StayApartLaw }
+{}
+
+/// Each row that came, and neither stands in the queue nor waits, has its outcome.
+pub fn other_rows_are_settled()
+    ensures { SettledLaw }
+{}
+
+/// A cut makes lost just the reads that wait at the bank.
+pub fn cuts_lose_waiting_reads()
+    ensures { LostRowsLaw }
+{}
+
+/// The arrival tick of a row is that of its write.
+pub fn arrival_ticks_are_of_writes()
+    ensures { ArrivalTickLaw }
 {}

@@ -31,4 +31,7 @@ fn laws_hold() {
     outcomes::standing_rows_are_apart();
     outcomes::rows_stay_apart();
     outcomes::other_outcomes_stay();
+    outcomes::other_rows_are_settled();
+    outcomes::cuts_lose_waiting_reads();
+    outcomes::arrival_ticks_are_of_writes();
 }
