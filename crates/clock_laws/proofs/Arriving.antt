@@ -121,7 +121,7 @@ untouched tick array = record {
 }
 
 module _ {n m e : ℕ} (xs : List (Timed n m)) (clock : ClockState n m e) (array : ArrayState n m) (leads : Leads xs clock array) where
-  arrives : (x : Timed n m) → x.first ≡ clock.now → x.tick ≡ clock.now → IsArrival clock.pace (running_at clock.bank.kept.shape clock.pace xs clock.now) (last_tick xs) x
+  arrives : (x : Timed n m) → x.first ≡ clock.tick → x.tick ≡ clock.tick → IsArrival clock.pace (running_at clock.bank.kept.shape clock.pace xs clock.tick) (last_tick xs) x
   arrives x first is = (
     first ∙ sym is,
     omega (arith, leads.told.now, is),
@@ -161,7 +161,7 @@ write-arrived shape xs kept array row line place tick bytes given wrote.Exhauste
 -- the action that runs behind a read
 read-left : {n m e : ℕ} (xs : List (Timed n m)) (clock : ClockState n m e) (array : ArrayState n m) (row line : ℕ) (answer : ReadAnswer n) → Leads xs clock array
     → action_after_read clock.bank.kept line answer clock.action
-    ≡ left clock.bank.kept.shape (core xs) (Read row line answer) (running_at clock.bank.kept.shape clock.pace xs clock.now)
+    ≡ left clock.bank.kept.shape (core xs) (Read row line answer) (running_at clock.bank.kept.shape clock.pace xs clock.tick)
 read-left xs clock array row line came.Waiting leads =
     ap (λ work. cond (is_doing Beginning clock.action && is_store_of line work) None clock.action) (agrees xs clock array leads).work
     ∙ ap (λ runs. cond (is_doing Beginning runs && is_store_of line (work_after clock.bank.kept.shape (core xs))) None runs) leads.told.runs
@@ -179,18 +179,18 @@ read-to_come kept line (came.Forwarded bytes) action P own = own
 
 pub write_law : WriteLaw
 write_law n m e row line place bytes given answer xs clock bank array leads below keeps holds is_place =
-    let x : Timed n m = stepped clock.bank.kept.shape xs (Write row line bytes given answer) clock.now clock.now array in
-    stepped-leads xs clock bank (Write row line bytes given answer) clock.now clock.now clock.action (arrivals_after clock.now place answer clock.arrivals) false array array leads (record {
+    let x : Timed n m = stepped clock.bank.kept.shape xs (Write row line bytes given answer) clock.tick clock.tick array in
+    stepped-leads xs clock bank (Write row line bytes given answer) clock.tick clock.tick clock.action (arrivals_after clock.tick place answer clock.arrivals) false array array leads (record {
       holds = holds;
       shape = keeps.shape;
       taken = keeps.lost ∙ leads.taken;
-      touches = untouched clock.now array;
+      touches = untouched clock.tick array;
       asked = below;
       on_time = (arrives xs clock array leads x refl refl, refl);
       right = tt;
       runs = leads.told.runs;
       to_come = leads.told.to_come;
-      arrived = write-arrived clock.bank.kept.shape xs bank.kept array row line place clock.now bytes given answer clock.arrivals
+      arrived = write-arrived clock.bank.kept.shape xs bank.kept array row line place clock.tick bytes given answer clock.arrivals
           (holds.entries ∙ ap (λ (shape : BankShape). queue shape (Write row line bytes given answer ∷ core xs)) keeps.shape) is_place
           (none-stands xs clock array leads row below) leads.told.arrived;
       cancels = λ count none. none;
@@ -199,18 +199,18 @@ write_law n m e row line place bytes given answer xs clock bank array leads belo
 
 pub read_law : ReadLaw
 read_law n m e row line answer xs clock bank array leads going below keeps holds =
-    let x : Timed n m = stepped clock.bank.kept.shape xs (Read row line answer) clock.now clock.now array in
-    let runs : Option Action = running_at clock.bank.kept.shape clock.pace xs clock.now in
-    stepped-leads xs clock bank (Read row line answer) clock.now clock.now (action_after_read clock.bank.kept line answer clock.action) clock.arrivals false array array leads (record {
+    let x : Timed n m = stepped clock.bank.kept.shape xs (Read row line answer) clock.tick clock.tick array in
+    let runs : Option Action = running_at clock.bank.kept.shape clock.pace xs clock.tick in
+    stepped-leads xs clock bank (Read row line answer) clock.tick clock.tick (action_after_read clock.bank.kept line answer clock.action) clock.arrivals false array array leads (record {
       holds = holds;
       shape = keeps.shape;
       taken = keeps.lost ∙ leads.taken;
-      touches = untouched clock.now array;
+      touches = untouched clock.tick array;
       asked = below;
       on_time = (arrives xs clock array leads x refl refl, refl, λ not_forwarded. ap (λ b. b && (is_writing runs && (is_empty (waits clock.bank.kept.shape (core xs)) && nat_lt (cancels_after xs) most_cancels))) going);
       right = tt;
       runs = read-left xs clock array row line answer leads;
-      to_come = read-to_come clock.bank.kept line answer clock.action (λ a. clock.now < ends clock.pace a) leads.told.to_come;
+      to_come = read-to_come clock.bank.kept line answer clock.action (λ a. clock.tick < ends clock.pace a) leads.told.to_come;
       arrived = leads.told.arrived;
       cancels = λ count none. none;
       copying = copies-on xs clock array leads bank.running x keeps.running (λ op own. own);
@@ -218,8 +218,8 @@ read_law n m e row line answer xs clock bank array leads going below keeps holds
 
 pub power_cut_law : PowerCutLaw
 power_cut_law n m e tearing xs clock bank old new leads tears holds shape stopped taken touches =
-    let x : Timed n m = stepped clock.bank.kept.shape xs (Cut tearing) clock.now clock.now new in
-    stepped-leads xs clock bank (Cut tearing) clock.now clock.now None clock.arrivals tearing old new leads (record {
+    let x : Timed n m = stepped clock.bank.kept.shape xs (Cut tearing) clock.tick clock.tick new in
+    stepped-leads xs clock bank (Cut tearing) clock.tick clock.tick None clock.arrivals tearing old new leads (record {
       holds = holds;
       shape = shape;
       taken = taken;

@@ -351,8 +351,8 @@ pub cut_ends_law : CutEndsLaw
 cut_ends_law n m e tearing xs clock bank old new leads tears holds shape stopped taken touches =
     let past : MayAll clock.bank.kept.shape (most_steps e) (Cut tearing ∷ core xs) = subst (λ (shape : BankShape). MayAll shape (most_steps e) (Cut tearing ∷ core xs)) shape holds.past in
     let pulsed : Option ℕ = pulsed_by clock.bank.kept.shape (core xs) (Cut tearing) in
-    let touched : Touches clock.now [] pulsed tearing old new =
-    subst (λ (pulsed : Option ℕ). Touches clock.now [] pulsed tearing old new) (torn tearing clock.bank.running refl past.0) touches in
+    let touched : Touches clock.tick [] pulsed tearing old new =
+    subst (λ (pulsed : Option ℕ). Touches clock.tick [] pulsed tearing old new) (torn tearing clock.bank.running refl past.0) touches in
     record {
       leads = power_cut_law n m e tearing xs clock bank old new leads tears holds shape stopped taken touched;
       adds =

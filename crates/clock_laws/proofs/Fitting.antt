@@ -56,11 +56,11 @@ chosen_law n m e clock fit =
     which false false false true waits runs may = may refl
     which false false false false waits runs may = tt
 
-    later : (d : Option Doing) → IfSome d (λ doing. Fits clock.bank doing) → IsFit clock.bank (started_at clock.now d)
+    later : (d : Option Doing) → IfSome d (λ doing. Fits clock.bank doing) → IsFit clock.bank (started_at clock.tick d)
     later None own = tt
     later (Some doing) own = own
 
-    by : (r : Option Action) → IsFit clock.bank r → IfSome (chosen clock) (λ doing. Fits clock.bank doing) → IsFit clock.bank (or_else r (started_at clock.now (chosen clock)))
+    by : (r : Option Action) → IsFit clock.bank r → IfSome (chosen clock) (λ doing. Fits clock.bank doing) → IsFit clock.bank (or_else r (started_at clock.tick (chosen clock)))
     by (Some action) own next = own
     by None own next = later (chosen clock) next
 

@@ -43,7 +43,7 @@ start_law n m e clock array holds idle taken now none empty fresh = record {
         none
         ∙ sym (started-same None (chosen_after {n = n} {m = m} clock.bank.kept.shape clock.pace []) 0)
         ∙ ap (λ tick. running_at {n = n} {m = m} clock.bank.kept.shape clock.pace [] tick) (sym now);
-    to_come = subst (λ (action : Option Action). IfSome action (λ a. clock.now < ends clock.pace a)) (sym none) tt;
+    to_come = subst (λ (action : Option Action). IfSome action (λ a. clock.tick < ends clock.pace a)) (sym none) tt;
     arrived = empty;
     cancels = refl;
     whole = tt;

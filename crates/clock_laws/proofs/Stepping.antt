@@ -35,7 +35,7 @@ module _ {n m e : ℕ} where
   -- the clock after it, with this bank
   abbrev pub clock_at : ClockState n m e → BankState n m e → ℕ → Option Action → List ℕ → ClockState n m e
   clock_at clock bank tick action arrivals =
-      record { bank = bank; pace = clock.pace; now = tick; action = action; arrivals = arrivals; drained = clock.drained }
+      record { bank = bank; pace = clock.pace; tick = tick; action = action; arrivals = arrivals; drained = clock.drained }
 
   -- what has to be known of it
   pub record Steps (xs : List (Timed n m)) (clock : ClockState n m e) (bank : BankState n m e) (event : Event n) (first tick : ℕ) (action : Option Action)

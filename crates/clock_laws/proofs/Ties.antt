@@ -69,23 +69,23 @@ module _ {n m e : ℕ} (xs : List (Timed n m)) (clock : ClockState n m e) (array
       ∙ ap (λ ready. chosen_by gives reads (choice (in_progress (core xs)) ready)) agrees.ready
 
   same_action : next_action clock
-      ≡ or_else (started (running clock.bank.kept.shape clock.pace xs) (chosen_after clock.bank.kept.shape clock.pace xs) (last_tick xs) clock.now)
-      (started_at clock.now (chosen_after clock.bank.kept.shape clock.pace xs))
+      ≡ or_else (started (running clock.bank.kept.shape clock.pace xs) (chosen_after clock.bank.kept.shape clock.pace xs) (last_tick xs) clock.tick)
+      (started_at clock.tick (chosen_after clock.bank.kept.shape clock.pace xs))
   same_action =
-      ap (λ action. or_else action (started_at clock.now (chosen clock))) leads.told.runs
-      ∙ ap (λ doing. or_else (running_at clock.bank.kept.shape clock.pace xs clock.now) (started_at clock.now doing)) chosen-after
+      ap (λ action. or_else action (started_at clock.tick (chosen clock))) leads.told.runs
+      ∙ ap (λ doing. or_else (running_at clock.bank.kept.shape clock.pace xs clock.tick) (started_at clock.tick doing)) chosen-after
 
   -- the action that runs from now on is the one that runs at each later tick
-  pub next-runs : (to : ℕ) → clock.now < to → next_action clock ≡ running_at clock.bank.kept.shape clock.pace xs to
+  pub next-runs : (to : ℕ) → clock.tick < to → next_action clock ≡ running_at clock.bank.kept.shape clock.pace xs to
   next-runs to later =
       same_action
-      ∙ next-started (running clock.bank.kept.shape clock.pace xs) (chosen_after clock.bank.kept.shape clock.pace xs) (last_tick xs) clock.now to leads.told.now later
+      ∙ next-started (running clock.bank.kept.shape clock.pace xs) (chosen_after clock.bank.kept.shape clock.pace xs) (last_tick xs) clock.tick to leads.told.now later
 
   -- where none runs from now on, the history leaves none and chooses none
   pub next-none : next_action clock ≡ None
       → (running clock.bank.kept.shape clock.pace xs ≡ None) × (chosen_after clock.bank.kept.shape clock.pace xs ≡ None)
   next-none none =
-      none-started (running clock.bank.kept.shape clock.pace xs) (chosen_after clock.bank.kept.shape clock.pace xs) (last_tick xs) clock.now (sym same_action ∙ none)
+      none-started (running clock.bank.kept.shape clock.pace xs) (chosen_after clock.bank.kept.shape clock.pace xs) (last_tick xs) clock.tick (sym same_action ∙ none)
 
 -- Ends
 
@@ -95,11 +95,11 @@ lasts-some read iter Beginning some some_iter = some
 lasts-some read iter Iterating some some_iter = some_iter
 
 -- the action that runs from now on ends later, where each lasts
-pub ends-later : {n m e : ℕ} (clock : ClockState n m e) → IfSome clock.action (λ a. clock.now < ends clock.pace a) → 1 ≤ clock.pace.read → 1 ≤ clock.pace.iter
-    → IfSome (next_action clock) (λ a. clock.now < ends clock.pace a)
+pub ends-later : {n m e : ℕ} (clock : ClockState n m e) → IfSome clock.action (λ a. clock.tick < ends clock.pace a) → 1 ≤ clock.pace.read → 1 ≤ clock.pace.iter
+    → IfSome (next_action clock) (λ a. clock.tick < ends clock.pace a)
 ends-later clock above some some_iter = by clock.action (chosen clock) above
   where
-    by : (r : Option Action) (d : Option Doing) → IfSome r (λ a. clock.now < ends clock.pace a) → IfSome (or_else r (started_at clock.now d)) (λ a. clock.now < ends clock.pace a)
+    by : (r : Option Action) (d : Option Doing) → IfSome r (λ a. clock.tick < ends clock.pace a) → IfSome (or_else r (started_at clock.tick d)) (λ a. clock.tick < ends clock.pace a)
     by (Some action) d above = above
     by None None above = tt
     by None (Some doing) above = omega (arith, lasts-some clock.pace.read clock.pace.iter doing some some_iter)

@@ -36,7 +36,7 @@ module _ {n m e : ℕ} where
       (sensed : List ℕ) (pulsed : Option ℕ) (old new : ArrayState n m) : Type 0 where
     pub next : next_action clock ≡ Some action
     pub doing : EndsDoing event action.doing
-    pub later : clock.now < ends clock.pace action
+    pub later : clock.tick < ends clock.pace action
     pub holds : Holds (event ∷ core xs) bank new
     pub shape : bank.kept.shape ≡ clock.bank.kept.shape
     pub taken : bank.lost ≡ []
@@ -137,5 +137,5 @@ CutEndsLaw =
     (n m e : ℕ) (tearing : Bool) (xs : List (Timed n m)) (clock : ClockState n m e) (bank : BankState n m e) (old new : ArrayState n m)
     → Leads xs clock old → tearing ≡ is_doing Iterating clock.action
     → Holds (Cut tearing ∷ core xs) bank new → bank.kept.shape ≡ clock.bank.kept.shape → bank.running ≡ None → bank.lost ≡ []
-    → Touches clock.now [] (torn_line tearing clock.bank.running) tearing old new
+    → Touches clock.tick [] (torn_line tearing clock.bank.running) tearing old new
     → Extends clock.bank.kept.shape xs (cut xs clock tearing) (after_cut clock bank) old new

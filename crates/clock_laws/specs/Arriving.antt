@@ -50,12 +50,12 @@ module _ {n m e : ℕ} where
   -- the clock after a write, with this bank
   abbrev pub after_write : ClockState n m e → BankState n m e → ℕ → WriteAnswer → ClockState n m e
   after_write clock bank place answer =
-      record { bank = bank; pace = clock.pace; now = clock.now; action = clock.action; arrivals = arrivals_after clock.now place answer clock.arrivals; drained = clock.drained }
+      record { bank = bank; pace = clock.pace; tick = clock.tick; action = clock.action; arrivals = arrivals_after clock.tick place answer clock.arrivals; drained = clock.drained }
 
   -- the clock after a read, with this bank
   abbrev pub after_read : ClockState n m e → BankState n m e → ℕ → ReadAnswer n → ClockState n m e
   after_read clock bank line answer =
-      record { bank = bank; pace = clock.pace; now = clock.now; action = action_after_read clock.bank.kept line answer clock.action; arrivals = clock.arrivals; drained = clock.drained }
+      record { bank = bank; pace = clock.pace; tick = clock.tick; action = action_after_read clock.bank.kept line answer clock.action; arrivals = clock.arrivals; drained = clock.drained }
 
 -- a write that arrives now extends the history by its event
 abbrev pub WriteLaw : Type 0
@@ -64,7 +64,7 @@ WriteLaw =
     (clock : ClockState n m e) (bank : BankState n m e) (array : ArrayState n m)
     → Leads xs clock array → RowsBelow (core xs) row → KeepsWork clock.bank bank
     → Holds (Write row line bytes given answer ∷ core xs) bank array → IsPlaceOf bank.kept row place answer
-    → Leads (arrival clock.now (Write row line bytes given answer) ∷ xs) (after_write clock bank place answer) array
+    → Leads (arrival clock.tick (Write row line bytes given answer) ∷ xs) (after_write clock bank place answer) array
 
 -- so does a read, under a policy that doesn't cancel
 abbrev pub ReadLaw : Type 0
@@ -72,4 +72,4 @@ ReadLaw =
     (n m e row line : ℕ) (answer : ReadAnswer n) (xs : List (Timed n m)) (clock : ClockState n m e) (bank : BankState n m e) (array : ArrayState n m)
     → Leads xs clock array → is_cancelling clock.pace.policy ≡ false → RowsBelow (core xs) row → KeepsWork clock.bank bank
     → Holds (Read row line answer ∷ core xs) bank array
-    → Leads (arrival clock.now (Read row line answer) ∷ xs) (after_read clock bank line answer) array
+    → Leads (arrival clock.tick (Read row line answer) ∷ xs) (after_read clock bank line answer) array

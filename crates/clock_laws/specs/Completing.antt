@@ -49,14 +49,14 @@ module _ {n m e : ℕ} where
   -- the clock after an action ended so, with this bank: no action runs
   abbrev pub after_action : ClockState n m e → BankState n m e → Action → Event n → ClockState n m e
   after_action clock bank action event =
-      record { bank = bank; pace = clock.pace; now = ends clock.pace action; action = None; arrivals = arrivals_with event clock.arrivals; drained = clock.drained }
+      record { bank = bank; pace = clock.pace; tick = ends clock.pace action; action = None; arrivals = arrivals_with event clock.arrivals; drained = clock.drained }
 
 -- the action that runs from now on ends by its event, which extends the history; that what it sensed is read right, and that a gap
 -- move in progress writes what its begin sensed, are premises
 abbrev pub CompletionLaw : Type 0
 CompletionLaw =
     (n m e : ℕ) (event : Event n) (action : Action) (xs : List (Timed n m)) (clock : ClockState n m e) (bank : BankState n m e) (old new : ArrayState n m)
-    → Leads xs clock old → next_action clock ≡ Some action → EndsDoing event action.doing → clock.now < ends clock.pace action
+    → Leads xs clock old → next_action clock ≡ Some action → EndsDoing event action.doing → clock.tick < ends clock.pace action
     → Holds (event ∷ core xs) bank new → bank.kept.shape ≡ clock.bank.kept.shape → bank.lost ≡ []
     → let tick = ends clock.pace action in
     Touches tick (sensed_by clock.bank.kept.shape (core xs) event) (pulsed_by clock.bank.kept.shape (core xs) event) false old new

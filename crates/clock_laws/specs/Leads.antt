@@ -21,7 +21,7 @@ CopiesWhatItSensed {e = e} xs op = IsTrue (is_copy op.work) → IsSomeAnd (copie
 pub record Leads {n m e : ℕ} (xs : List (Timed n m)) (clock : ClockState n m e) (array : ArrayState n m) : Type 0 where
   pub lawful : Lawful clock.bank.kept.shape clock.pace e xs
   pub holds : Holds (core xs) clock.bank array
-  pub told : IsTold clock.bank.kept.shape clock.pace xs clock.now clock.action clock.arrivals 0
+  pub told : IsTold clock.bank.kept.shape clock.pace xs clock.tick clock.action clock.arrivals 0
   pub pulses : (line : ℕ) → line < lines_in clock.bank.kept.shape
       → (array.line (clock.bank.kept.shape.base + line)).pulses ≡ pulses_of xs (clock.bank.kept.shape.base + line)
   pub copying : IfSome clock.bank.running (CopiesWhatItSensed xs)

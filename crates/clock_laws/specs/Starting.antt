@@ -11,6 +11,6 @@ abbrev pub StartLaw : Type 0
 StartLaw =
     (n m e : ℕ) (clock : ClockState n m e) (array : ArrayState n m)
     → Holds [] clock.bank array → clock.bank.running ≡ None → clock.bank.lost ≡ []
-    → clock.now ≡ 0 → clock.action ≡ None → clock.arrivals ≡ []
+    → clock.tick ≡ 0 → clock.action ≡ None → clock.arrivals ≡ []
     → ((line : ℕ) → line < lines_in clock.bank.kept.shape → (array.line (clock.bank.kept.shape.base + line)).pulses ≡ 0)
     → Leads [] clock array

@@ -11,7 +11,7 @@ use Rattle.bank_invariant.specs.State.{BankState, may_begin}
 pub record ClockState (n m e : ℕ) : Type 0 where
   pub bank : BankState n m e
   pub pace : Pacing
-  pub now : ℕ
+  pub tick : ℕ
   pub action : Option Action
   pub arrivals : List ℕ
   pub drained : Bool
@@ -34,4 +34,4 @@ module _ {n m e : ℕ} where
 
   -- the action that runs from now on: that which runs, or the one that is chosen now
   abbrev pub next_action : ClockState n m e → Option Action
-  next_action clock = or_else clock.action (started_at clock.now (chosen clock))
+  next_action clock = or_else clock.action (started_at clock.tick (chosen clock))
