@@ -8,7 +8,6 @@ use Rattle.result_rows.specs.declared.Outcome.TheVariants as out
 use Rattle.masked_bytes.specs.declared.entry.Entry.{Entry}
 use Rattle.masked_bytes.specs.Entries.{has_row, candidate}
 use Rattle.row_laws.specs.declared.Row.{Row}
-use Rattle.row_laws.specs.declared.Asks.TheVariants.{Cuts}
 use Rattle.row_laws.specs.Answers.{is_full}
 use Rattle.row_laws.specs.Rows.{write_of}
 use Rattle.row_laws.specs.Queueing.{pending, waiting, has_room, pairs_few, is_refused}
@@ -122,13 +121,13 @@ module _ {n m : ℕ} (shape : BankShape) (pace : Pacing) (e : ℕ) where
     up_to_row : last_tick ys ≤ x.tick
     up_to_row = last_tick-rises shape pace e ys x r i (lawful_before shape pace e later (x ∷ ys) over)
 
-    pairs_at_row : ends_action x.happens ≡ false → finds_pairs_few (rows_from shape all ys) (record { tick = x.tick; asks = Cuts; outcome = out.Unset }) [] ≡ true
+    pairs_at_row : ends_action x.happens ≡ false → pairs_few (pending x.tick [] (rows_from shape all ys)) (pending x.tick [] (rows_from shape all ys)) ≡ true
     pairs_at_row arrives = pairs_at all (later ++ x ∷ []) ys x.tick r i l (behind all later x ys same) up_to_row (ends_at_row later ys x r i over arrives)
 
     pairs_pass : Passes finds_pairs_few (rows_from shape all ys) (row_with shape all x.happens x.tick x.cancels) (rows_after shape all later)
     pairs_pass = by x.happens x.cancels pairs_at_row
       where
-        by : (h : Happens n) (cancels : Bool) → (ends_action h ≡ false → finds_pairs_few (rows_from shape all ys) (record { tick = x.tick; asks = Cuts; outcome = out.Unset }) [] ≡ true)
+        by : (h : Happens n) (cancels : Bool) → (ends_action h ≡ false → pairs_few (pending x.tick [] (rows_from shape all ys)) (pending x.tick [] (rows_from shape all ys)) ≡ true)
             → Passes finds_pairs_few (rows_from shape all ys) (row_with shape all h x.tick cancels) (rows_after shape all later)
         by (Core (Write row line bytes given answer)) cancels few = few refl
         by (Core (Read row line answer)) cancels few = few refl

@@ -10,7 +10,8 @@ use Rattle.bank_model.specs.Lawful.{Lawful, IsIdle}
 use Rattle.bank_laws.specs.Laws.{IsSized, rules_of}
 use Rattle.bank_laws.specs.Outcomes.{table_of}
 
--- a test holds of every row of the table that a lawful history of an idle bank leaves, where the rules of the bank are given
+-- a test holds of each row of the table that a lawful history leaves at whose end the bank is idle. The test may depend on how
+-- many entries a line has, on the bank's shape and on its pace
 abbrev pub HoldsOfRows : ((n e : ℕ) → BankShape → Pacing → RowTest n) → Type 0
 HoldsOfRows test =
     (n m e : ℕ) (shape : BankShape) (pace : Pacing) (xs : List (Timed n m)) → IsSized shape pace → Lawful shape pace e xs
@@ -32,7 +33,8 @@ is_refusal_fair before r after =
 abbrev pub RefusalLaw : Type 0
 RefusalLaw = HoldsOfRows (λ n e shape pace. is_refusal_fair)
 
--- a read is forwarded where the queue gives all bytes of its line, and otherwise only where an entry of its line is at the head
+-- a read is forwarded where the queue gives all bytes of its line, and otherwise only where an entry of its line is at the head;
+-- one that isn't is busy exactly where as many reads wait as may, and else it is read or lost
 abbrev pub is_forward_fair : {n : ℕ} → ℕ → RowTest n
 is_forward_fair reads before r after =
     not (asks_read r.asks)

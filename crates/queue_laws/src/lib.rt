@@ -7,13 +7,13 @@ ghost use Rattle.bank_laws.specs.Room.{RoomLaw};
 ghost use Rattle.queue_laws.specs.QueueLaws.{ForwardLaw, PairsFewLaw, QueueFairLaw, RefusalLaw};
 
 /// At each row at most two writes of one line stand in the queue, and two only where the older one came at an earlier tick, is
-/// at the head, and is stored or left there, never merged.
+/// never merged, and no other is stored before it.
 pub fn few_writes_share_a_line()
     ensures { PairsFewLaw }
 {}
 
-/// A write that is refused as full finds no write of its own line in the queue, or exactly one, which came at an earlier tick
-/// and leaves the queue before any other is stored.
+/// A write that is refused as full finds no write of its own line in the queue, or exactly one, which came at an earlier tick;
+/// no other is stored before that one leaves the queue.
 pub fn refused_writes_find_at_most_one()
     ensures { RefusalLaw }
 {}
