@@ -1,5 +1,6 @@
 -- That what a bank answers keeps the invariant.
 use Rattle.std.proofs.Common.{◌≡◌, ◌≢◌, ℕ, ◌<◌, ◌≤◌, ◌==◌, cond, refl, sym, ap, subst, ◌∙◌, arith, Bool, true, false, List, [], ◌∷◌, ◌++◌, drop, length, length-append, slice_get, Some, ltb, eq-eqb}
+use Rattle.std.specs.Prelude.{All}
 use Rattle.std.proofs.lemmas.Bool.{ne_eqb, ltb-true, ltb-false}
 use Rattle.std.proofs.lemmas.List.Elements.{All-push, All-drop}
 use Rattle.masked_bytes.specs.Entries.{layer_of, AllMasked}
@@ -7,7 +8,8 @@ use Rattle.masked_bytes.specs.Masked.{laid, gives_all}
 use Rattle.pcm_cells.specs.Device.{ArrayState}
 use Rattle.ecp_line.specs.Reading.{decode}
 use Rattle.line_writer.specs.Writing.{most_steps}
-use Rattle.power_recovery.specs.Kept.{KeptState, stands_at}
+use Rattle.power_recovery.specs.Kept.{KeptState, IsKept, stands_at}
+use Rattle.power_recovery.specs.Events.{completed_kept}
 use Rattle.power_recovery.specs.Slots.{bank_lines}
 use Rattle.bank_model.specs.declared.answer.ReadAnswer.{ReadAnswer}
 use Rattle.bank_model.specs.declared.answer.ReadAnswer.TheVariants as came
@@ -139,6 +141,20 @@ module _ {n : ℕ} (m e : ℕ) where
     few_waiting = omega (arith, length-append waiting (w ∷ []), room, is.room);
     known = All-push (λ w. w.line < bank_lines kept.shape) waiting w is.known below;
   }
+
+  pub IsBank-completed : (kept new : KeptState n) (under : List ℕ) (waiting : List (Waiting n)) (places lost : ℕ) → new ≡ completed_kept under kept → IsKept new
+      → IsBank m e kept waiting places lost → IsBank m e new waiting places lost
+  IsBank-completed kept new under waiting places lost same range is =
+      let reads : new.shape.reads ≡ kept.shape.reads = ap (λ (k : KeptState n). k.shape.reads) same in
+      record {
+        few_bytes = is.few_bytes;
+        layout = is.layout;
+        in_range = range;
+        room = is.room ∙ sym reads;
+        lost_room = is.lost_room ∙ sym reads;
+        few_waiting = omega (arith, is.few_waiting, reads);
+        known = subst (λ (k : KeptState n). All (λ w. w.line < bank_lines k.shape) waiting) (sym same) is.known;
+      }
 
   pub IsBank-drop : (kept : KeptState n) (waiting : List (Waiting n)) (places lost : ℕ) → IsBank m e kept waiting places lost → IsBank m e kept (drop 1 waiting) places lost
   IsBank-drop kept waiting places lost is = record {

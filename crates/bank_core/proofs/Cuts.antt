@@ -1,5 +1,5 @@
 -- That a cut keeps the tie and the invariant.
-use Rattle.std.proofs.Common.{◌≡◌, ℕ, ◌+◌, ◌<◌, ◌≤◌, refl, sym, ap, subst, ◌∙◌, arith, Bool, true, false, List, [], ◌∷◌, ◌++◌, length, map, Option, Some, None, is_some}
+use Rattle.std.proofs.Common.{◌≡◌, ℕ, ◌<◌, refl, sym, ap, subst, ◌∙◌, arith, Bool, true, false, List, [], ◌∷◌, ◌++◌, length, map, Option, Some, None, is_some}
 use Rattle.std.specs.Prelude.{IfSome, IsTrue, IsFalse}
 use Rattle.pcm_cells.specs.Device.{ArrayState}
 use Rattle.power_recovery.specs.Kept.{IsKept, target_slot}

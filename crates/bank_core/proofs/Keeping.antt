@@ -1,29 +1,25 @@
 -- What an iteration keeps: the tie of a bank to its array, and the invariant.
-use Rattle.std.proofs.Common.{◌≡◌, ◌≢◌, ℕ, ◌+◌, ◌<◌, ◌≤◌, cond, inl, inr, Bool, true, false, List, ◌∷◌, length, nat_lt, refl, Option, Some, None, is_some, sym, ap, ◌∙◌, subst, arith}
+use Rattle.std.proofs.Common.{◌≡◌, ℕ, ◌+◌, ◌<◌, ◌≤◌, cond, Bool, true, false, List, ◌∷◌, nat_lt, refl, Option, Some, None, is_some, sym, ap, ◌∙◌, subst, arith}
 use Rattle.std.specs.Prelude.{IfSome, IsTrue}
 use Rattle.std.proofs.lemmas.Bool.{ltb-true, ltb-false}
-use Rattle.pcm_cells.specs.Device.{ArrayState, LineState}
-use Rattle.ecp_line.specs.Reading.{decode}
+use Rattle.pcm_cells.specs.Device.{ArrayState}
 use Rattle.spare_pool.specs.Table.{used_by}
-use Rattle.line_writer.specs.declared.writer.LineWriter.{LineWriter}
 use Rattle.line_writer.specs.declared.writer.Progress.{Progress}
 use Rattle.line_writer.specs.declared.writer.Progress.TheVariants as progress
-use Rattle.line_writer.specs.Writing.{IsProgress, IsWorn, Writes, most_steps}
+use Rattle.line_writer.specs.Writing.{IsProgress, IsWorn}
 use Rattle.bank_shape.specs.declared.Work.{Work}
 use Rattle.bank_shape.specs.declared.Work.TheVariants.{Nothing, Store, Copy}
 use Rattle.bank_shape.specs.Shape.{slots_of, lines_in}
-use Rattle.masked_bytes.specs.Entries.{head_row}
-use Rattle.power_recovery.specs.Kept.{KeptState, IsKept, array_line, target_slot, due_region, due_work, next_work}
-use Rattle.power_recovery.specs.Events.{is_copy, is_store, retired_kept, exhausted_kept, stored_kept, moved_kept}
-use Rattle.power_recovery.proofs.Bundle.{next_work-copy, next_work-store}
+use Rattle.power_recovery.specs.Kept.{KeptState, IsKept, target_slot, due_region, due_work, next_work}
+use Rattle.power_recovery.specs.Events.{retired_kept, exhausted_kept}
 use Rattle.bank_model.specs.declared.answer.Step.{Step}
 use Rattle.bank_model.specs.declared.answer.Step.TheVariants as did
 use Rattle.bank_model.specs.Events.{Event, Iterate}
 use Rattle.bank_invariant.specs.State.{BankState, Operation, target_of}
-use Rattle.bank_invariant.specs.Tied.{decoded, AreSound, AreTied, IsOf, IsRunning, IsUnderWay, IsSoundLine, IsTied, IsWornLine}
+use Rattle.bank_invariant.specs.Tied.{AreSound, IsOf, IsRunning, IsUnderWay, IsTied, IsWornLine}
 use Rattle.bank_invariant.specs.Holds.{Holds}
 use Rattle.bank_invariant.specs.Tearing.{DiffersAt}
-use Rattle.bank_invariant.specs.Iterating.{IsLater, going_on}
+use Rattle.bank_invariant.specs.Iterating.{going_on}
 use Rattle.bank_invariant.specs.Retiring.{ended}
 use Rattle.bank_invariant.proofs.Targets.{IsTargetOf, running-target, AreSound-differs, DiffersAt-round, target-exists}
 use Rattle.bank_invariant.proofs.Iterating.{iterated_law, IsOf-differs}
@@ -35,7 +31,7 @@ use Rattle.bank_invariant.proofs.Retiring.{exhausted_law, retired_law, may_itera
 use Rattle.bank_model.specs.After.{work_after, slot_of_work}
 use Rattle.bank_invariant.specs.declared.Waiting.{Waiting}
 use Rattle.bank_core.specs.Steps.{is_some_work}
-use Rattle.bank_core.specs.Stepping.{done_from, done_kept, worn_from, worn_kept, step_from, left_by, IsWriterStep, IsIteration}
+use Rattle.bank_core.specs.Stepping.{done_from, done_kept, step_from, left_by, IsWriterStep, IsIteration}
 
 lt-true : (a b : ℕ) → nat_lt a b ≡ true → a < b
 lt-true a b h = ltb-true a b h

@@ -4,3 +4,6 @@ pub mod Keeping
 pub mod Writing
 pub mod Cuts
 pub mod Losing
+pub mod Touched
+pub mod Waits
+pub mod Begun

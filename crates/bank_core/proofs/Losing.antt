@@ -1,5 +1,5 @@
 -- That the reads that wait are lost one at a time, in order.
-use Rattle.std.proofs.Common.{◌≡◌, ℕ, ◌+◌, ◌<◌, ◌≤◌, refl, sym, ap, ◌∙◌, arith, List, [], ◌∷◌, ◌++◌, drop, map, length, slice_get, Option, Some, None}
+use Rattle.std.proofs.Common.{◌≡◌, ℕ, ◌+◌, ◌<◌, ◌≤◌, refl, sym, ap, ◌∙◌, arith, List, [], ◌∷◌, ◌++◌, drop, map, length, slice_get, Some, None}
 use Rattle.bank_invariant.specs.declared.Waiting.{Waiting}
 
 one-more : (lost : List ℕ) (row : ℕ) (rest : List ℕ) → (lost ++ row ∷ []) ++ rest ≡ lost ++ row ∷ rest

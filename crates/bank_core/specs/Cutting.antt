@@ -1,5 +1,5 @@
 -- What a power cut does to a bank and to its array.
-use Rattle.std.specs.Prelude.{◌≡◌, ℕ, [], ◌++◌, map, None}
+use Rattle.std.specs.Prelude.{ℕ, Bool, true, false, [], ◌++◌, map, Option, None, Some}
 use Rattle.pcm_cells.specs.Device.{ArrayState}
 use Rattle.program_verify.specs.Programming.{IsTear}
 use Rattle.bank_invariant.specs.State.{BankState, Operation}
@@ -13,6 +13,12 @@ module _ {n m e : ℕ} where
   -- the bank once no read waits: their rows are lost, behind those that are lost already
   abbrev pub reads_lost : BankState n m e → BankState n m e
   reads_lost bank = record { kept = bank.kept; running = bank.running; waiting = []; lost = bank.lost ++ map (λ w. w.row) bank.waiting; rows_below = bank.rows_below }
+
+  -- the array line that a cut tears: that of the line write in progress, if the cut falls in its next pulse
+  abbrev pub torn_line : Bool → Option (Operation n m e) → Option ℕ
+  torn_line true (Some op) = Some op.target
+  torn_line true None = None
+  torn_line false running = None
 
   -- a tear of the line write: one pulse that breaks off, of the cells that its step would pulse; its line is sound
   pub record IsTorn (op : Operation n m e) (before after : ArrayState n m) : Type 0 where

@@ -3,3 +3,4 @@ pub mod Bank
 pub mod Steps
 pub mod Stepping
 pub mod Cutting
+pub mod Beginning

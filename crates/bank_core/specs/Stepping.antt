@@ -8,7 +8,6 @@ use Rattle.spare_pool.specs.Table.{used_by}
 use Rattle.bank_shape.specs.declared.Work.{Work}
 use Rattle.bank_shape.specs.declared.Work.TheVariants.{Nothing, Store, Copy}
 use Rattle.bank_shape.specs.Shape.{slots_of}
-use Rattle.line_writer.specs.declared.writer.LineWriter.{LineWriter}
 use Rattle.line_writer.specs.declared.writer.Progress.{Progress}
 use Rattle.line_writer.specs.declared.writer.Progress.TheVariants as progress
 use Rattle.line_writer.specs.Writing.{Writes, IsWorn, steps_left}
@@ -58,7 +57,7 @@ module _ {n m e : ℕ} where
   pub record IsWriterStep (tick : ℕ) (old new : Operation n m e) (before after : ArrayState n m) : Type 0 where
     pub work : new.work ≡ old.work
     pub target : new.target ≡ old.target
-    pub round : (prog : Prog n m) × IsRound old.target tick old.writer.prog prog before after
+    pub round : (prog : Prog n m) × IsRound old.target tick old.writer.prog prog before after × ((after.line old.target).held ≡ prog.seen)
     pub writes : Writes new.writer (after.line old.target)
     pub sound : IsSoundLine e (after.line old.target)
     pub worn : IsWorn new.writer.progress → IsWornLine e (after.line old.target)

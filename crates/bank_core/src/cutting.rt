@@ -1,11 +1,12 @@
 // A power cut.
-ghost use Rattle.std.specs.Prelude.{◌≡◌, ◌+◌, ◌≤◌, List, ◌∷◌, length, IfSome, IsTrue, IsFalse, is_some};
+ghost use Rattle.std.specs.Prelude.{◌≡◌, ◌+◌, ◌≤◌, List, [], ◌∷◌, length, IfSome, IsTrue, IsFalse, is_some};
 ghost use Rattle.power_recovery.specs.Kept.{IsKept};
 ghost use Rattle.bank_model.specs.Events.{Event, Cut};
+ghost use Rattle.bank_model.specs.Touching.{Touches};
 ghost use Rattle.bank_invariant.specs.Tied.{IsTied};
 ghost use Rattle.bank_invariant.specs.Holds.{Holds};
 ghost use Rattle.bank_invariant.specs.Steps.{cut_off};
-ghost use Rattle.bank_core.specs.Cutting.{stopped, reads_lost, IsTorn};
+ghost use Rattle.bank_core.specs.Cutting.{stopped, reads_lost, torn_line, IsTorn};
 
 use crate::bank::Bank;
 use pcm_cells::CellArray;
@@ -19,6 +20,7 @@ impl<const B: usize, const M: usize, const E: usize> Bank<B, M, E> {
         ensures bank { self.new ≡ cut_off self.old }
         ensures quiet { IsFalse tearing → A.state array.new ≡ A.state array.old }
         ensures torn { IsTrue tearing → IfSome self.old.running (λ op. IsTorn op (A.state array.old) (A.state array.new)) }
+        ensures touches { Touches tick [] (torn_line tearing self.old.running) tearing (A.state array.old) (A.state array.new) }
         ensures tied { IsTied self.new (A.state array.new) }
         ensures holds { (h : List (Event B)) → Holds h self.old (A.state array.old) → Holds (Cut tearing ∷ h) self.new (A.state array.new) }
     {

@@ -4,7 +4,10 @@
 
 mod arriving;
 pub mod bank;
+mod beginning;
 mod cutting;
+mod sensing;
+mod serving;
 mod stepping;
 #[cfg(test)]
 mod tests;

@@ -1,11 +1,12 @@
 // The line write in progress.
-ghost use Rattle.std.specs.Prelude.{◌≡◌, ℕ, ◌<◌, List, ◌∷◌, IfSome, IsTrue, is_some};
+ghost use Rattle.std.specs.Prelude.{◌≡◌, ℕ, ◌<◌, List, [], ◌∷◌, Some, IfSome, IsTrue, false, is_some};
 ghost use Rattle.pcm_cells.specs.Device.{ArrayState};
 ghost use Rattle.ecp_line.specs.Layout.{IsLayout};
 ghost use Rattle.bank_shape.specs.Shape.{slots_of};
 ghost use Rattle.line_writer.specs.Writing.{Writes};
 ghost use Rattle.power_recovery.specs.Kept.{IsKept, target_slot, next_work};
 ghost use Rattle.bank_model.specs.Events.{Event, Iterate};
+ghost use Rattle.bank_model.specs.Touching.{Touches};
 ghost use Rattle.bank_invariant.specs.Tied.{IsTied};
 ghost use Rattle.bank_invariant.specs.Holds.{Holds};
 ghost use Rattle.bank_core.specs.Running.{running_of};
@@ -38,6 +39,7 @@ impl<const B: usize, const M: usize, const E: usize> Bank<B, M, E> {
         requires runs { IsTrue (is_some self.old.running) }
         requires tied { IsTied self.old (A.state array.old) }
         ensures step { IfSome self.old.running (λ op. IsIteration tick op self.old self.new result (A.state array.old) (A.state array.new)) }
+        ensures touches { IfSome self.old.running (λ op. Touches tick (op.target ∷ []) (Some op.target) false (A.state array.old) (A.state array.new)) }
         ensures tied { IsTied self.new (A.state array.new) }
         ensures holds { (h : List (Event B)) → Holds h self.old (A.state array.old) → Holds (Iterate result ∷ h) self.new (A.state array.new) }
     {
@@ -80,7 +82,7 @@ impl<const B: usize, const M: usize, const E: usize> Bank<B, M, E> {
     }
 
     // Ends a work that is done, whose array line was this.
-    fn done(&mut self, work: Work, place: u32) -> Step
+    pub(crate) fn done(&mut self, work: Work, place: u32) -> Step
         requires some { IsTrue (is_some_work work) }
         requires next { work ≡ next_work self.old.kept }
         ensures answer { result ≡ done_from self.old.kept work place }

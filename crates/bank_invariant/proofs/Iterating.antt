@@ -64,7 +64,7 @@ from-off_gap r range same =
           omega (arith, at, same, further)
     ]
 
-from-within : (r : Rotation) → IsRotation r → (move_by r).from ≤ r.lines
+pub from-within : (r : Rotation) → IsRotation r → (move_by r).from ≤ r.lines
 from-within r range =
     elim (cases_eq r.gap 0) [
       | inl end ↦ let at : below_gap r.lines r.gap ≡ r.lines = rw end refl in omega (arith, at)

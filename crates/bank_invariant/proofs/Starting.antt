@@ -59,7 +59,7 @@ module _ {n : ℕ} where
       rest true none = cc
       rest false none = none
 
-  free-off : (line slot : ℕ) (ws : List (Waiting n)) → is_free ws (Store line slot) ≡ true → All (λ w. w.line ≢ line) ws
+  pub free-off : (line slot : ℕ) (ws : List (Waiting n)) → is_free ws (Store line slot) ≡ true → All (λ w. w.line ≢ line) ws
   free-off line slot ws free = off_by line ws (by (list_any (λ w. w.line == line) ws) free)
     where
       by : (b : Bool) → not b ≡ true → b ≡ false
@@ -67,7 +67,7 @@ module _ {n : ℕ} where
       by false h = refl
 
   -- a completed head gives each byte
-  whole-completed : (es : List (Entry n)) (line : ℕ) (under bytes : List ℕ) → head_line es ≡ line
+  pub whole-completed : (es : List (Entry n)) (line : ℕ) (under bytes : List ℕ) → head_line es ≡ line
       → IsSomeAnd (slice_get es 0) (λ head. bytes ≡ laid head.bytes head.given under)
       → IsSomeAnd (slice_get (completed under es) 0) (λ head. (head.line ≡ line) × (head.bytes ≡ bytes) × IsTrue (gives_all head.given))
   whole-completed [] line under bytes at some = absurd some
@@ -100,7 +100,7 @@ module _ {n : ℕ} where
           ∙ ap (λ (l : Layer). laid l.bytes l.given (laid e.bytes e.given under)) (sym none)
           ∙ sym (layer_of-head e es e.line under masked len refl) ∙ shown)
 
-AreSound-completed : {n m : ℕ} (e : ℕ) (kept : KeptState n) (under : List ℕ) (array : ArrayState n m) → AreSound e kept array → AreSound e (completed_kept under kept) array
+pub AreSound-completed : {n m : ℕ} (e : ℕ) (kept : KeptState n) (under : List ℕ) (array : ArrayState n m) → AreSound e kept array → AreSound e (completed_kept under kept) array
 AreSound-completed e kept under array sound = record { apart = sound.apart; slots = sound.slots; spares = sound.spares; worn = sound.worn }
 
 pub begun_store_law : BegunStoreLaw

@@ -25,11 +25,11 @@ use Rattle.bank_laws.proofs.Settling.{opens, step_stays}
 pub eqb-same : (a : ℕ) → (a == a) ≡ true
 eqb-same a = eq-eqb a a refl
 
-or_first : (a b : Bool) → a ≡ true → (a || b) ≡ true
+pub or_first : (a b : Bool) → a ≡ true → (a || b) ≡ true
 or_first true b h = refl
 or_first false b h = absurd (cc)
 
-or_second : (a b : Bool) → b ≡ true → (a || b) ≡ true
+pub or_second : (a b : Bool) → b ≡ true → (a || b) ≡ true
 or_second true b h = refl
 or_second false b h = h
 
@@ -125,7 +125,7 @@ pub awaits-new : (ws : List Awaited) (w : Awaited) → Awaits (ws ++ w ∷ []) w
 awaits-new [] w = inl (refl, refl)
 awaits-new (v ∷ ws) w = inr (awaits-new ws w)
 
-awaits-has : (ws : List Awaited) (row : ℕ) (owed : List ℕ) → Awaits ws row owed → has_wait ws row ≡ true
+pub awaits-has : (ws : List Awaited) (row : ℕ) (owed : List ℕ) → Awaits ws row owed → has_wait ws row ≡ true
 awaits-has [] row owed a = absurd a
 awaits-has (w ∷ ws) row owed (inl a) = or_first (w.row == row) _ (eq-eqb w.row row a.0)
 awaits-has (w ∷ ws) row owed (inr a) = or_second (w.row == row) _ (awaits-has ws row owed a)

@@ -1,18 +1,18 @@
-mod Entries
+pub mod Entries
 pub mod Standing
 pub mod Ticks
-mod Answering
+pub mod Answering
 pub mod Settling
 pub mod Pairs
-mod Fates
-mod Walking
-mod Ending
-mod Serves
-mod Wears
-mod Quiet
-mod Holding
-mod Lines
-mod Merging
-mod Counting
-mod Waiting
-mod Pending
+pub mod Fates
+pub mod Walking
+pub mod Ending
+pub mod Serves
+pub mod Wears
+pub mod Quiet
+pub mod Holding
+pub mod Lines
+pub mod Merging
+pub mod Counting
+pub mod Waiting
+pub mod Pending

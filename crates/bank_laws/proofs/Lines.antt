@@ -45,7 +45,7 @@ module _ {n : ℕ} where
   stands-row (e ∷ es) row line (inl s) = or_first (e.row == row) _ (eq-eqb e.row row s.0)
   stands-row (e ∷ es) row line (inr s) = or_second (e.row == row) _ (stands-row es row line s)
 
-  stands-line : (es : List (Entry n)) (row line : ℕ) → Stands es row line → has_line es line ≡ true
+  pub stands-line : (es : List (Entry n)) (row line : ℕ) → Stands es row line → has_line es line ≡ true
   stands-line [] row line s = absurd s
   stands-line (e ∷ es) row line (inl s) = or_first (e.line == line) _ (eq-eqb e.line line s.1)
   stands-line (e ∷ es) row line (inr s) = or_second (e.line == line) _ (stands-line es row line s)
@@ -147,10 +147,10 @@ module _ {n : ℕ} where
 
   -- Which entry a write merges into
 
-  newest-line : (es : List (Entry n)) (line : ℕ) → newest_row es line ≡ None → has_line es line ≡ false
+  pub newest-line : (es : List (Entry n)) (line : ℕ) → newest_row es line ≡ None → has_line es line ≡ false
   newest-line es line none = no_candidate-rest es line None (ap (λ o. or_this o None) none)
 
-  newest-stands : (es : List (Entry n)) (line at : ℕ) → newest_row es line ≡ Some at → Stands es at line
+  pub newest-stands : (es : List (Entry n)) (line at : ℕ) → newest_row es line ≡ Some at → Stands es at line
   newest-stands [] line at h = absurd (cc)
   newest-stands (e ∷ es) line at h = by (newest_row es line) (λ is. newest-stands es line at is) refl h
     where
@@ -234,7 +234,7 @@ module _ {n : ℕ} where
 
   -- Of the answer to a write
 
-  merged-candidate : (shape : BankShape) (h : List (Event n)) (line old : ℕ) → wrote.Merged old ≡ write_answer shape h line → candidate (head_busy_after shape h) (queue shape h) line ≡ Some old
+  pub merged-candidate : (shape : BankShape) (h : List (Event n)) (line old : ℕ) → wrote.Merged old ≡ write_answer shape h line → candidate (head_busy_after shape h) (queue shape h) line ≡ Some old
   merged-candidate shape h line old m = by (has_exhausted h) (candidate (head_busy_after shape h) (queue shape h) line) m
     where
       full : (b : Bool) (c : Option ℕ) → wrote.Merged old ≡ cond b wrote.Full wrote.Accepted → c ≡ Some old

@@ -17,15 +17,15 @@ use Rattle.bank_model.specs.Answers.{head_busy_after, accept_answer, write_answe
 use Rattle.bank_laws.specs.Pairs.{has_line, LinesApart, ArePaired, PairLaw}
 use Rattle.bank_laws.proofs.Entries.{or_none, or_left, or_right, differ_sym, either}
 
-and_left : (a b : Bool) → (a && b) ≡ true → a ≡ true
+pub and_left : (a b : Bool) → (a && b) ≡ true → a ≡ true
 and_left true b h = refl
 and_left false b h = h
 
-and_right : (a b : Bool) → (a && b) ≡ true → b ≡ true
+pub and_right : (a b : Bool) → (a && b) ≡ true → b ≡ true
 and_right true b h = h
 and_right false b h = cc
 
-eqb-same : (a : ℕ) → (a == a) ≡ true
+pub eqb-same : (a : ℕ) → (a == a) ≡ true
 eqb-same a = eq-eqb a a refl
 
 pub gives_all-joined : (given other : List Bool) → length given ≡ length other → gives_all other ≡ true → gives_all (joined given other) ≡ true
@@ -82,7 +82,7 @@ module _ {n : ℕ} where
       by None rest h = own (eqb e.line line) refl h (rest refl)
 
   -- where a write merges into nothing, the rest of the queue lacks its line, and so does the head or it is busy
-  no_candidate-head : (busy : Bool) (e : Entry n) (es : List (Entry n)) (line : ℕ) → candidate busy (e ∷ es) line ≡ None → (line == e.line) ≡ true → busy ≡ true
+  pub no_candidate-head : (busy : Bool) (e : Entry n) (es : List (Entry n)) (line : ℕ) → candidate busy (e ∷ es) line ≡ None → (line == e.line) ≡ true → busy ≡ true
   no_candidate-head busy e es line h is = by (newest_row es line) h
     where
       own : (b busy : Bool) → b ≡ true → cond (not busy && b) (Some e.row) None ≡ None → busy ≡ true
@@ -196,13 +196,13 @@ module _ {n : ℕ} (shape : BankShape) where
   work-begun h false None (e ∷ es) ws f r = gives_all-all_given n
 
   -- a busy head gives all bytes
-  busy-full : (h : List (Event n)) (b : Bool) (due : Option ℕ) (es : List (Entry n)) → HasWork b due es → is_store (cond b Nothing (due_work shape h due es)) ≡ true → HeadFull es
+  pub busy-full : (h : List (Event n)) (b : Bool) (due : Option ℕ) (es : List (Entry n)) → HasWork b due es → is_store (cond b Nothing (due_work shape h due es)) ≡ true → HeadFull es
   busy-full h true due es w s = absurd w
   busy-full h false (Some region) es w s = absurd (cc)
   busy-full h false None es w s = w
 
   -- a write that is accepted as a new entry merges into none
-  accepted-none : (h : List (Event n)) (line : ℕ) → wrote.Accepted ≡ write_answer shape h line → candidate (head_busy_after shape h) (queue shape h) line ≡ None
+  pub accepted-none : (h : List (Event n)) (line : ℕ) → wrote.Accepted ≡ write_answer shape h line → candidate (head_busy_after shape h) (queue shape h) line ≡ None
   accepted-none h line a = by (has_exhausted h) (candidate (head_busy_after shape h) (queue shape h) line) a
     where
       by : (b : Bool) (c : Option ℕ) → wrote.Accepted ≡ cond b wrote.Exhausted (accept_answer shape h c) → c ≡ None
@@ -222,7 +222,7 @@ module _ {n : ℕ} (shape : BankShape) where
             subst (λ (q : List (Entry n)). HeadFull q) is full,
       )
 
-  keeps_pairs : (most : ℕ) (h : List (Event n)) → MayAll shape most h → KeepsPairs h
+  pub keeps_pairs : (most : ℕ) (h : List (Event n)) → MayAll shape most h → KeepsPairs h
   keeps_pairs most [] m = record { paired = tt; long = tt; working = λ p. absurd (cc) }
   keeps_pairs most (Write row line bytes given wrote.Accepted ∷ h) m =
       let k = keeps_pairs most h m.1 in

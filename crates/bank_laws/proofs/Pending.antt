@@ -38,23 +38,23 @@ use Rattle.bank_laws.proofs.Merging.{Fate, covered-kept, stays_there, spares_cov
 use Rattle.bank_laws.proofs.Counting.{among, Falling, falling-more, hits, entries-counted}
 use Rattle.bank_laws.proofs.Waiting.{may_all, cond_length}
 
-or_on_right : (a b : Bool) → b ≡ true → (a || b) ≡ true
+pub or_on_right : (a b : Bool) → b ≡ true → (a || b) ≡ true
 or_on_right true b h = refl
 or_on_right false b h = h
 
-or_on_left : (a b : Bool) → a ≡ true → (a || b) ≡ true
+pub or_on_left : (a b : Bool) → a ≡ true → (a || b) ≡ true
 or_on_left true b h = refl
 or_on_left false b h = absurd (cc)
 
 module _ {n : ℕ} where
   -- whether a write with this outcome stands at tick t, where an accepted write of its line came since, or none
-  abbrev stands_by : ℕ → ℕ → Bool → Outcome n → Bool
+  abbrev pub stands_by : ℕ → ℕ → Bool → Outcome n → Bool
   stands_by t tick any o = accepts (ended tick o) && (stored_after t (ended tick o) || (is_queued (ended tick o) || (is_merged (ended tick o) && not any)))
 
-  by_refused : (t tick : ℕ) (any : Bool) (o : Outcome n) → accepts (ended tick o) ≡ false → stands_by t tick any o ≡ false
+  pub by_refused : (t tick : ℕ) (any : Bool) (o : Outcome n) → accepts (ended tick o) ≡ false → stands_by t tick any o ≡ false
   by_refused t tick any o isnt = subst (λ b. (b && (stored_after t (ended tick o) || (is_queued (ended tick o) || (is_merged (ended tick o) && not any)))) ≡ false) (sym isnt) refl
 
-  any_merges : (line tick : ℕ) (rows : List (Row n)) → merges_at line tick rows ≡ true → list_any (accepted_of line) rows ≡ true
+  pub any_merges : (line tick : ℕ) (rows : List (Row n)) → merges_at line tick rows ≡ true → list_any (accepted_of line) rows ≡ true
   any_merges line tick [] h = absurd (cc)
   any_merges line tick (r ∷ rows) h = by (accepted_of line r) (λ k. any_merges line tick rows k) h
     where
@@ -62,7 +62,7 @@ module _ {n : ℕ} where
       by true go h = refl
       by false go h = go h
 
-  full_outcome : (tick : ℕ) (answer : WriteAnswer) (o : Outcome n) → IsOutcome tick answer o → is_full o ≡ true → answer ≡ wrote.Full
+  pub full_outcome : (tick : ℕ) (answer : WriteAnswer) (o : Outcome n) → IsOutcome tick answer o → is_full o ≡ true → answer ≡ wrote.Full
   full_outcome tick answer out.Unset is f = absurd (cc)
   full_outcome tick answer (out.Stored at place) is f = absurd (cc)
   full_outcome tick answer (out.Merged at) is f = absurd (cc)
@@ -92,10 +92,10 @@ module _ {n : ℕ} where
       by false (Some at) a = absurd (cc)
       by false None a = room (eqb (length (queue shape h)) shape.writes) a
 
-by_stored_later : (n t tick : ℕ) (any : Bool) (u p : ℕ) → t < u → stands_by {n = n} t tick any (out.Stored u p) ≡ true
+pub by_stored_later : (n t tick : ℕ) (any : Bool) (u p : ℕ) → t < u → stands_by {n = n} t tick any (out.Stored u p) ≡ true
 by_stored_later n t tick any u p lt = or_on_left (nat_lt t u) false (lt-ltb t u lt)
 
-by_stored_before : (n t tick : ℕ) (any : Bool) (u p : ℕ) → u ≤ t → stands_by {n = n} t tick any (out.Stored u p) ≡ false
+pub by_stored_before : (n t tick : ℕ) (any : Bool) (u p : ℕ) → u ≤ t → stands_by {n = n} t tick any (out.Stored u p) ≡ false
 by_stored_before n t tick any u p le = subst (λ b. (b || false) ≡ false) (sym (le-ltb t u le)) refl
 
 -- the rows of the writes, the newest first
@@ -107,7 +107,7 @@ abbrev pub writes_in : {n m : ℕ} → List (Timed n m) → List ℕ
 writes_in [] = []
 writes_in (x ∷ xs) = write_rows x.happens ++ writes_in xs
 
-writes-fall : {n m : ℕ} (zs : List (Timed n m)) (bound : ℕ) → RowsBelow (core zs) bound → Falling (writes_in zs) bound
+pub writes-fall : {n m : ℕ} (zs : List (Timed n m)) (bound : ℕ) → RowsBelow (core zs) bound → Falling (writes_in zs) bound
 writes-fall [] bound b = tt
 writes-fall {n} {m} (z ∷ zs) bound b = by z.happens (λ bound b. writes-fall zs bound b) b
   where
@@ -119,7 +119,7 @@ writes-fall {n} {m} (z ∷ zs) bound b = by z.happens (λ bound b. writes-fall z
     by (Core (Iterate answer)) go b = go bound b
     by (Core (Cut tearing)) go b = go bound b
 
-queue-asked : {n m : ℕ} (shape : BankShape) (zs : List (Timed n m)) (r : ℕ) → has_row (queue shape (core zs)) r ≡ true → among (writes_in zs) r ≡ true
+pub queue-asked : {n m : ℕ} (shape : BankShape) (zs : List (Timed n m)) (r : ℕ) → has_row (queue shape (core zs)) r ≡ true → among (writes_in zs) r ≡ true
 queue-asked shape [] r there = absurd (cc)
 queue-asked {n} {m} shape (z ∷ zs) r there = by z.happens (λ t. queue-asked shape zs r t) there
   where
@@ -154,7 +154,7 @@ queue-asked {n} {m} shape (z ∷ zs) r there = by z.happens (λ t. queue-asked s
     by (Core (Cut tearing)) go there = go there
 
 -- a refused write has its outcome at once
-refused_set : {n m : ℕ} (shape : BankShape) (ys : List (Timed n m)) (tick at line : ℕ) (bytes : List ℕ) (given : List Bool) (answer : WriteAnswer) → accepting answer ≡ false
+pub refused_set : {n m : ℕ} (shape : BankShape) (ys : List (Timed n m)) (tick at line : ℕ) (bytes : List ℕ) (given : List Bool) (answer : WriteAnswer) → accepting answer ≡ false
     → unwrap_or (outcome_with shape ys (Core (Write at line bytes given answer)) tick at) (outcome_of shape ys at) ≢ out.Unset
 refused_set shape ys tick at line bytes given wrote.Accepted ref un = absurd (cc)
 refused_set shape ys tick at line bytes given (wrote.Merged old) ref un = absurd (cc)
@@ -162,7 +162,7 @@ refused_set {n} shape ys tick at line bytes given wrote.Full ref un = let both :
 refused_set {n} shape ys tick at line bytes given wrote.Exhausted ref un = let both : ◌≡◌ {A = Outcome n} (out.Worn tick) out.Unset = sym (own_row at (out.Worn tick) (outcome_of shape ys at)) ∙ un in absurd (cc)
 
 module _ {n m : ℕ} (shape : BankShape) (pace : Pacing) (e : ℕ) where
-  last-later : (later zs : List (Timed n m)) → 1 ≤ pace.read → 1 ≤ pace.iter → Lawful shape pace e (later ++ zs) → last_tick zs ≤ last_tick (later ++ zs)
+  pub last-later : (later zs : List (Timed n m)) → 1 ≤ pace.read → 1 ≤ pace.iter → Lawful shape pace e (later ++ zs) → last_tick zs ≤ last_tick (later ++ zs)
   last-later [] zs r i l = omega arith
   last-later (y ∷ later) zs r i l =
       let before : last_tick zs ≤ last_tick (later ++ zs) = last-later later zs r i l.1 in
@@ -170,7 +170,7 @@ module _ {n m : ℕ} (shape : BankShape) (pace : Pacing) (e : ℕ) where
       omega (arith, before, rises)
 
   -- what is stored by later events is stored above the last tick
-  stored_above : (later zs : List (Timed n m)) (row u p : ℕ) → 1 ≤ pace.read → 1 ≤ pace.iter → Lawful shape pace e (later ++ zs) → (outcome_of shape zs row ≡ out.Stored u p → ⊥)
+  pub stored_above : (later zs : List (Timed n m)) (row u p : ℕ) → 1 ≤ pace.read → 1 ≤ pace.iter → Lawful shape pace e (later ++ zs) → (outcome_of shape zs row ≡ out.Stored u p → ⊥)
       → outcome_of shape (later ++ zs) row ≡ out.Stored u p → last_tick zs < u
   stored_above [] zs row u p r i l isnt s = absurd (isnt s)
   stored_above (y ∷ later) zs row u p r i l isnt s =
@@ -183,11 +183,11 @@ module _ {n m : ℕ} (shape : BankShape) (pace : Pacing) (e : ℕ) where
           omega (arith, up, lt, now.1)
       by (inr s) go = go s
 
-  abbrev CoveredOn : List (Timed n m) → ℕ → ℕ → Type 0
+  abbrev pub CoveredOn : List (Timed n m) → ℕ → ℕ → Type 0
   CoveredOn zs row line = Covered (queue shape (core zs)) row line ⊎ ((u : ℕ) × (p : ℕ) × (outcome_of shape zs row ≡ out.Stored u p))
 
   -- a row with one of its line behind it stands until it is stored
-  covered_on : (later zs : List (Timed n m)) (row line : ℕ) → Lawful shape pace e (later ++ zs) → Covered (queue shape (core zs)) row line → CoveredOn (later ++ zs) row line
+  pub covered_on : (later zs : List (Timed n m)) (row line : ℕ) → Lawful shape pace e (later ++ zs) → Covered (queue shape (core zs)) row line → CoveredOn (later ++ zs) row line
   covered_on [] zs row line l c = inl c
   covered_on (y ∷ later) zs row line l c = by (covered_on later zs row line l.1 c)
     where
@@ -200,7 +200,7 @@ module _ {n m : ℕ} (shape : BankShape) (pace : Pacing) (e : ℕ) where
           inr (stored.0, stored.1, step_stays shape pace e (later ++ zs) y y.happens row l.1 (opens shape pace e (later ++ zs) l.1) l.0 (λ un. let k : ◌≡◌ {A = Outcome n} (out.Stored stored.0 stored.1) out.Unset = sym stored.2 ∙ un in absurd (cc)) ∙ stored.2)
 
 module _ {n m : ℕ} (shape : BankShape) (pace : Pacing) (e : ℕ) (all : List (Timed n m)) where
-  left_by : (t tick : ℕ) (o : Outcome n) → IsLeft o → ((u p : ℕ) → o ≡ out.Stored u p → t < u) → stands_by t tick false o ≡ true
+  pub left_by : (t tick : ℕ) (o : Outcome n) → IsLeft o → ((u p : ℕ) → o ≡ out.Stored u p → t < u) → stands_by t tick false o ≡ true
   left_by t tick out.Unset left above = absurd left
   left_by t tick (out.Stored at place) left above = by_stored_later n t tick false at place (above at place refl)
   left_by t tick (out.Merged at) left above = refl

@@ -29,7 +29,7 @@ use Rattle.bank_laws.proofs.Fates.{Awaits, IsSettled, ReadFate, awaits-new, eqb-
 use Rattle.bank_laws.proofs.Walking.{Passes, walk, rows_after, and_both}
 use Rattle.bank_laws.proofs.Ending.{Onwards, onwards, accepting, outcome-accepts, outcome-may, own_answer, write_outcome}
 
-same_bytes-same : (xs ys : List ℕ) → xs ≡ ys → same_bytes xs ys ≡ true
+pub same_bytes-same : (xs ys : List ℕ) → xs ≡ ys → same_bytes xs ys ≡ true
 same_bytes-same xs ys e = subst (λ ys. same_bytes xs ys ≡ true) e (itself xs)
   where
     itself : (xs : List ℕ) → same_bytes xs xs ≡ true

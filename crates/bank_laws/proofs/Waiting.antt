@@ -126,12 +126,12 @@ module _ {n m : ℕ} (shape : BankShape) (pace : Pacing) (e : ℕ) (all : List (
       by false none = inr (inr (lost (has_wait (waits shape (core zs)) row) there, refl))
 
   -- a read that has an outcome: it is read no later than the last event, or lost at a cut behind it
-  record IsPast (o : Outcome n) (last : ℕ) (between : List (Row n)) : Type 0 where
-    set : o ≢ out.Unset
-    ticks : (t : ℕ) → last ≤ t → read_after t o ≡ false
-    lost : (is_lost o && not (list_any is_cut between)) ≡ false
+  pub record IsPast (o : Outcome n) (last : ℕ) (between : List (Row n)) : Type 0 where
+    pub set : o ≢ out.Unset
+    pub ticks : (t : ℕ) → last ≤ t → read_after t o ≡ false
+    pub lost : (is_lost o && not (list_any is_cut between)) ≡ false
 
-  abbrev ReadState : List (Timed n m) → List (Row n) → ℕ → Type 0
+  abbrev pub ReadState : List (Timed n m) → List (Row n) → ℕ → Type 0
   ReadState zs between row =
       ((has_wait (waits shape (core zs)) row ≡ true) × (list_any is_cut between ≡ false)) ⊎ IsPast (outcome_of shape zs row) (last_tick zs) between
 
@@ -165,15 +165,15 @@ module _ {n m : ℕ} (shape : BankShape) (pace : Pacing) (e : ℕ) (all : List (
       inr (subst (λ (o : Outcome n). IsPast o x.tick (between ++ row_with shape all h x.tick x.cancels)) (sym (step_stays shape pace e zs x h row l (opens shape pace e zs l) may past.set))
       (past_more (outcome_of shape zs row) (last_tick zs) x.tick between _ rises past))
 
-  state : (later zs : List (Timed n m)) (row : ℕ) → 1 ≤ pace.read → 1 ≤ pace.iter → Lawful shape pace e (later ++ zs) → ReadState zs [] row → ReadState (later ++ zs) (rows_after shape all later) row
+  pub state : (later zs : List (Timed n m)) (row : ℕ) → 1 ≤ pace.read → 1 ≤ pace.iter → Lawful shape pace e (later ++ zs) → ReadState zs [] row → ReadState (later ++ zs) (rows_after shape all later) row
   state [] zs row r i l s = s
   state (x ∷ later) zs row r i l s = state_step (later ++ zs) x x.happens (rows_after shape all later) row l.1 l.0 (last_tick-rises shape pace e (later ++ zs) x r i l) (state later zs row r i l.1 s)
 
   -- a read that waits waits on, or is read above a tick, or lost
-  abbrev Onward : ℕ → List (Timed n m) → ℕ → Type 0
+  abbrev pub Onward : ℕ → List (Timed n m) → ℕ → Type 0
   Onward t zs row = (has_wait (waits shape (core zs)) row ≡ true) ⊎ ((outcome_of shape zs row ≢ out.Unset) × ((read_after t (outcome_of shape zs row) || is_lost (outcome_of shape zs row)) ≡ true))
 
-  onward_step : (t : ℕ) (zs : List (Timed n m)) (x : Timed n m) (h : Happens n) (row : ℕ) → Lawful shape pace e zs → MayCome shape pace e zs x h → (ends_action h ≡ true → t < x.tick) → Onward t zs row
+  pub onward_step : (t : ℕ) (zs : List (Timed n m)) (x : Timed n m) (h : Happens n) (row : ℕ) → Lawful shape pace e zs → MayCome shape pace e zs x h → (ends_action h ≡ true → t < x.tick) → Onward t zs row
       → (has_wait (waits shape (core_of h (core zs))) row ≡ true)
       ⊎ ((unwrap_or (outcome_with shape zs h x.tick row) (outcome_of shape zs row) ≢ out.Unset)
       × ((read_after t (unwrap_or (outcome_with shape zs h x.tick row) (outcome_of shape zs row)) || is_lost (unwrap_or (outcome_with shape zs h x.tick row) (outcome_of shape zs row))) ≡ true))
@@ -201,7 +201,7 @@ module _ {n m : ℕ} (shape : BankShape) (pace : Pacing) (e : ℕ) (all : List (
         omega (arith, up, rises),
       )
 
-  comb_true : (a b c : Bool) → (a || b) ≡ true → c ≡ false → (a || (b && not c)) ≡ true
+  pub comb_true : (a b c : Bool) → (a || b) ≡ true → c ≡ false → (a || (b && not c)) ≡ true
   comb_true true b c h k = refl
   comb_true false true true h k = absurd (cc)
   comb_true false true false h k = refl
@@ -247,7 +247,7 @@ abbrev pub reads_in : {n m : ℕ} → List (Timed n m) → List ℕ
 reads_in [] = []
 reads_in (x ∷ xs) = read_rows x.happens ++ reads_in xs
 
-reads-fall : {n m : ℕ} (zs : List (Timed n m)) (bound : ℕ) → RowsBelow (core zs) bound → Falling (reads_in zs) bound
+pub reads-fall : {n m : ℕ} (zs : List (Timed n m)) (bound : ℕ) → RowsBelow (core zs) bound → Falling (reads_in zs) bound
 reads-fall [] bound b = tt
 reads-fall {n} {m} (z ∷ zs) bound b = by z.happens (λ bound b. reads-fall zs bound b) b
   where
@@ -259,7 +259,7 @@ reads-fall {n} {m} (z ∷ zs) bound b = by z.happens (λ bound b. reads-fall zs 
     by (Core (Iterate answer)) go b = go bound b
     by (Core (Cut tearing)) go b = go bound b
 
-waits-asked : {n m : ℕ} (shape : BankShape) (zs : List (Timed n m)) (r : ℕ) → has_wait (waits shape (core zs)) r ≡ true → among (reads_in zs) r ≡ true
+pub waits-asked : {n m : ℕ} (shape : BankShape) (zs : List (Timed n m)) (r : ℕ) → has_wait (waits shape (core zs)) r ≡ true → among (reads_in zs) r ≡ true
 waits-asked shape [] r there = absurd (cc)
 waits-asked {n} {m} shape (z ∷ zs) r there = by z.happens (λ t. waits-asked shape zs r t) there
   where
@@ -291,10 +291,10 @@ cond_length false false q xs k is same = same
 
 module _ {n m : ℕ} (shape : BankShape) (pace : Pacing) (e : ℕ) (all : List (Timed n m)) where
   -- how the read of an event begins
-  abbrev StateBy : List (Timed n m) → ℕ → Happens n → ℕ → Type 0
+  abbrev pub StateBy : List (Timed n m) → ℕ → Happens n → ℕ → Type 0
   StateBy ys tick h row = ((has_wait (waits shape (core_of h (core ys))) row ≡ true) × (false ≡ false)) ⊎ IsPast shape pace e all (unwrap_or (outcome_with shape ys h tick row) (outcome_of shape ys row)) tick []
 
-  state_new : (ys : List (Timed n m)) (tick row line : ℕ) (answer : ReadAnswer n) → StateBy ys tick (Core (Read row line answer)) row
+  pub state_new : (ys : List (Timed n m)) (tick row line : ℕ) (answer : ReadAnswer n) → StateBy ys tick (Core (Read row line answer)) row
   state_new ys tick row line came.Waiting = inl (wait-new (waits shape (core ys)) (awaited row line (newest (core ys) line) (layer_of (queue shape (core ys)) line)), refl)
   state_new ys tick row line came.Busy =
       inr (subst (λ (o : Outcome n). IsPast shape pace e all o tick []) (sym (own_row row (out.Busy tick) (outcome_of shape ys row))) (record { set = λ is. absurd (cc); ticks = λ t le. refl; lost = refl }))
@@ -336,7 +336,7 @@ module _ {n m : ℕ} (shape : BankShape) (pace : Pacing) (e : ℕ) (all : List (
       waits_among later x ys r i l none same arrives [] ys refl
       ∙ waits-counted (waits shape (core ys)) (reads_in ys) b.0 (stand_apart shape (core ys) b.0 b.1).waiting_apart (reads-fall ys b.0 b.1) (waits-asked shape ys)
 
-  read_room : (h : List (Event n)) (line : ℕ) (answer : ReadAnswer n) → answer ≡ read_answer shape h line
+  pub read_room : (h : List (Event n)) (line : ℕ) (answer : ReadAnswer n) → answer ≡ read_answer shape h line
       → (answer ≡ came.Busy → (length (waits shape h) == shape.reads) ≡ true) × (answer ≡ came.Waiting → (length (waits shape h) == shape.reads) ≡ false)
   read_room h line answer a = by (gives_all ((layer_of (queue shape h) line).given)) (eqb (length (waits shape h)) shape.reads) refl a
     where
@@ -347,10 +347,10 @@ module _ {n m : ℕ} (shape : BankShape) (pace : Pacing) (e : ℕ) (all : List (
       by false true is a = ((λ k. is), λ k. let both : ◌≡◌ {A = ReadAnswer n} came.Busy came.Waiting = sym a ∙ k in absurd (cc))
       by false false is a = ((λ k. let both : ◌≡◌ {A = ReadAnswer n} came.Waiting came.Busy = sym a ∙ k in absurd (cc)), λ k. is)
 
-  fits_busy : (count tick : ℕ) (o : Outcome n) → o ≡ out.Busy tick → (count == shape.reads) ≡ true → waits_fit shape.reads count o ≡ true
+  pub fits_busy : (count tick : ℕ) (o : Outcome n) → o ≡ out.Busy tick → (count == shape.reads) ≡ true → waits_fit shape.reads count o ≡ true
   fits_busy count tick o is full = ap (waits_fit shape.reads count) is ∙ subst (λ b. cond b true false ≡ true) (sym full) refl
 
-  fits_waiting : (count : ℕ) (owed : List ℕ) (o : Outcome n) → IsSettled owed o → (count == shape.reads) ≡ false → waits_fit shape.reads count o ≡ true
+  pub fits_waiting : (count : ℕ) (owed : List ℕ) (o : Outcome n) → IsSettled owed o → (count == shape.reads) ≡ false → waits_fit shape.reads count o ≡ true
   fits_waiting count owed out.Unset s room = absurd s
   fits_waiting count owed (out.Stored at place) s room = absurd s
   fits_waiting count owed (out.Merged at) s room = absurd s
@@ -363,7 +363,7 @@ module _ {n m : ℕ} (shape : BankShape) (pace : Pacing) (e : ℕ) (all : List (
   fits_waiting count owed (out.Lost at) s room = subst (λ b. cond b false true ≡ true) (sym room) refl
   fits_waiting count owed (out.Cut at) s room = absurd s
 
-  settled_all : (row : ℕ) (owed : List ℕ) → waits shape (core all) ≡ [] → ReadFate shape all row owed → IsSettled owed (outcome_of shape all row)
+  pub settled_all : (row : ℕ) (owed : List ℕ) → waits shape (core all) ≡ [] → ReadFate shape all row owed → IsSettled owed (outcome_of shape all row)
   settled_all row owed none (inl a) = absurd (subst (λ ws. Awaits ws row owed) none a)
   settled_all row owed none (inr s) = s
 

@@ -37,7 +37,7 @@ and_first : (a b : Bool) → a ≡ false → (a && b) ≡ false
 and_first true b h = absurd (cc)
 and_first false b h = refl
 
-and_second : (a b : Bool) → b ≡ false → (a && b) ≡ false
+pub and_second : (a b : Bool) → b ≡ false → (a && b) ≡ false
 and_second true b h = h
 and_second false b h = refl
 
@@ -47,18 +47,18 @@ or_rest false b h k = k
 
 module _ {n : ℕ} where
   -- another outcome than a store leaves a store as it was
-  not_stored : (at row : ℕ) (t o : Outcome n) (u p : ℕ) → t ≢ out.Stored u p → unwrap_or (on_row at row t) o ≡ out.Stored u p → o ≡ out.Stored u p
+  pub not_stored : (at row : ℕ) (t o : Outcome n) (u p : ℕ) → t ≢ out.Stored u p → unwrap_or (on_row at row t) o ≡ out.Stored u p → o ≡ out.Stored u p
   not_stored at row t o u p ne s = by (eqb at row) s
     where
       by : (b : Bool) → unwrap_or (cond b (Some t) None) o ≡ out.Stored u p → o ≡ out.Stored u p
       by true s = absurd (ne s)
       by false s = s
 
-  lost_not_stored : (b : Bool) (tick : ℕ) (o : Outcome n) (u p : ℕ) → unwrap_or (cond b (Some (out.Lost tick)) None) o ≡ out.Stored u p → o ≡ out.Stored u p
+  pub lost_not_stored : (b : Bool) (tick : ℕ) (o : Outcome n) (u p : ℕ) → unwrap_or (cond b (Some (out.Lost tick)) None) o ≡ out.Stored u p → o ≡ out.Stored u p
   lost_not_stored true tick o u p s = absurd (cc)
   lost_not_stored false tick o u p s = s
 
-  stored_tick : (at row tick place : ℕ) (o : Outcome n) (u p : ℕ) → unwrap_or (on_row at row (out.Stored tick place)) o ≡ out.Stored u p → ((true ≡ true) × (u ≡ tick)) ⊎ (o ≡ out.Stored u p)
+  pub stored_tick : (at row tick place : ℕ) (o : Outcome n) (u p : ℕ) → unwrap_or (on_row at row (out.Stored tick place)) o ≡ out.Stored u p → ((true ≡ true) × (u ≡ tick)) ⊎ (o ≡ out.Stored u p)
   stored_tick at row tick place o u p s = by (eqb at row) s
     where
       by : (b : Bool) → unwrap_or (cond b (Some (out.Stored tick place)) None) o ≡ out.Stored u p → ((true ≡ true) × (u ≡ tick)) ⊎ (o ≡ out.Stored u p)
@@ -87,14 +87,14 @@ module _ {n : ℕ} where
   worn_outcome tick wrote.Exhausted o is w = refl
 
   -- an exhausted bank stores nothing
-  exhausted-stores_none : (shape : BankShape) (h : List (Event n)) (row place : ℕ) → has_exhausted h ≡ true → IsDone shape h (work_after shape h) (did.Stored row place) → ⊥
+  pub exhausted-stores_none : (shape : BankShape) (h : List (Event n)) (row place : ℕ) → has_exhausted h ≡ true → IsDone shape h (work_after shape h) (did.Stored row place) → ⊥
   exhausted-stores_none shape h row place ex d = by (has_exhausted h) ex d
     where
       by : (b : Bool) → b ≡ true → IsDone shape h (cond b Nothing (due_work shape h (due_after shape h) (queue shape h))) (did.Stored row place) → ⊥
       by true ex d = d
       by false ex d = absurd (cc)
 
-  exhausted-more : (event : Event n) (h : List (Event n)) → has_exhausted h ≡ true → has_exhausted (event ∷ h) ≡ true
+  pub exhausted-more : (event : Event n) (h : List (Event n)) → has_exhausted h ≡ true → has_exhausted (event ∷ h) ≡ true
   exhausted-more (Write row line bytes given answer) h ex = ex
   exhausted-more (Read row line answer) h ex = ex
   exhausted-more (Serve answer) h ex = ex
@@ -186,7 +186,7 @@ module _ {n m : ℕ} (shape : BankShape) (pace : Pacing) (e : ℕ) where
   exhausted_on : (h : Happens n) (zs : List (Timed n m)) → has_exhausted (core zs) ≡ true → has_exhausted (core_of h (core zs)) ≡ true
   exhausted_on (Core event) zs ex = exhausted-more event (core zs) ex
 
-  exhausted_later : (later zs : List (Timed n m)) → has_exhausted (core zs) ≡ true → has_exhausted (core (later ++ zs)) ≡ true
+  pub exhausted_later : (later zs : List (Timed n m)) → has_exhausted (core zs) ≡ true → has_exhausted (core (later ++ zs)) ≡ true
   exhausted_later [] zs ex = ex
   exhausted_later (x ∷ later) zs ex = exhausted_on x.happens (later ++ zs) (exhausted_later later zs ex)
 

@@ -94,7 +94,7 @@ impl<const B: usize, const M: usize, const E: usize> LineWriter<B, M, E> {
         ensures is { result ≡ self.new.progress }
         ensures progress { IsProgress self.new ((A.state array.new).line line) result }
         ensures sound { Sound B M E (cell ((A.state array.new).line line).held) ((A.state array.new).line line).stuck }
-        ensures round { (after : Prog B M) × IsRound line tick self.old.prog after (A.state array.old) (A.state array.new) }
+        ensures round { (after : Prog B M) × IsRound line tick self.old.prog after (A.state array.old) (A.state array.new) × (((A.state array.new).line line).held ≡ after.seen) }
         ensures unused { (n : ℕ) → full_cell B E < n → is_wrong self.old.prog n ≡ false }
         ensures worn { IsWorn result → is_worn_line E ((A.state array.new).line line).held ((A.state array.new).line line).stuck ≡ true }
         ensures bytes { self.new.bytes ≡ self.old.bytes }

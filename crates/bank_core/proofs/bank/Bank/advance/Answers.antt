@@ -1,7 +1,7 @@
 use Rattle.ecp_line.specs.Layout.{IsLayout}
-use Rattle.std.proofs.Common.{rules, ◌≡◌, ◌<◌, ◌≤◌, Some, None, sym, ap, subst, ◌∙◌}
+use Rattle.std.proofs.Common.{rules, ◌≡◌, ◌<◌, ◌≤◌, Some, sym, ap, subst, ◌∙◌}
 use Rattle.bank_shape.specs.Shape.{slots_of}
-use Rattle.power_recovery.specs.Kept.{target_slot, next_work}
+use Rattle.power_recovery.specs.Kept.{target_slot}
 use Rattle.bank_shape.specs.declared.Work.{Work}
 use Rattle.bank_invariant.specs.State.{BankState}
 use Rattle.bank_core.specs.Running.{running_of, operation_of}

@@ -5,6 +5,7 @@ use Rattle.bank_invariant.specs.Holds.{Holds}
 use Rattle.bank_invariant.specs.Steps.{cut_off}
 use Rattle.bank_core.specs.Cutting.{reads_lost}
 use Rattle.bank_core.proofs.Cuts.{cut_holds, cut_tied, cut-is}
+use Rattle.bank_core.proofs.Touched.{touches-cut}
 use Rattle.bank_core.proofs.bank.Bank.cut.Goals as goal
 
 pub returns-clause-tied : goal.returns-clause-tied
@@ -20,3 +21,8 @@ returns-clause-holds g c =
     λ h holds. subst (λ (b : BankState g.row.B g.row.M g.row.E). Holds (Cut c.args.tearing ∷ h) b (g.A.CellArray.state c.stop.new.array)) (sym same)
     (cut_holds c.args.tearing c.args.self.now (g.A.CellArray.state c.args.array.now) (g.A.CellArray.state c.stop.new.array)
     c.requires.runs c.stop.ensures.quiet c.stop.ensures.torn h holds)
+
+pub returns-clause-touches : goal.returns-clause-touches
+returns-clause-touches g c =
+    touches-cut (g.A.CellArray.state c.args.array.now) (g.A.CellArray.state c.stop.new.array) c.args.tick c.args.tearing c.args.self.now.running
+    c.requires.runs c.stop.ensures.quiet c.stop.ensures.torn

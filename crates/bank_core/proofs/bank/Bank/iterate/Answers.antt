@@ -1,4 +1,5 @@
 use Rattle.bank_core.proofs.Keeping.{stepped-tied, stepped-holds}
+use Rattle.bank_core.proofs.Touched.{touches-iteration}
 use Rattle.bank_core.proofs.bank.Bank.iterate.Goals as goal
 
 pub returns-clause-tied : goal.returns-clause-tied
@@ -10,3 +11,8 @@ pub returns-clause-holds : goal.returns-clause-holds
 returns-clause-holds g c =
     stepped-holds c.args.tick c.args.self.now c.advance.new.self c.advance.result (g.A.CellArray.state c.args.array.now) (g.A.CellArray.state c.advance.new.array)
     c.requires.runs c.advance.ensures.step
+
+pub returns-clause-touches : goal.returns-clause-touches
+returns-clause-touches g c =
+    touches-iteration (g.A.CellArray.state c.args.array.now) (g.A.CellArray.state c.advance.new.array) c.args.tick c.args.self.now c.advance.new.self c.advance.result
+    c.args.self.now.running c.advance.ensures.step

@@ -1,0 +1,59 @@
+use Rattle.std.proofs.Common.{rules, ◌≡◌, ℕ, ◌≤◌, List, drop, slice_get, Some, ap, ◌∙◌}
+use Rattle.masked_bytes.specs.Masked.{laid}
+use Rattle.pcm_cells.specs.declared.row.Cells.{Cells}
+use Rattle.pcm_cells.specs.Device.{ArrayState}
+use Rattle.ecp_line.specs.Reading.{decode}
+use Rattle.power_recovery.specs.Kept.{array_line, stands_at}
+use Rattle.bank_invariant.specs.State.{BankState}
+use Rattle.bank_core.specs.Running.{operation_of}
+use Rattle.bank_core.proofs.Answering.{IsBank-drop, serve_tied, serve_law, first_of, answers}
+use Rattle.bank_core.proofs.Touched.{touches-sense}
+use Rattle.bank_core.proofs.bank.Bank.serve.Goals as goal
+
+pub invariant_of-self : goal.invariant_of-self
+invariant_of-self g c = rw c.pop_front.ensures.items (IsBank-drop g.row.M g.row.E c.self.inside.kept c.self.inside.waiting.items _ _ c.self.invariant)
+
+pub returns-clause-touches : goal.returns-clause-touches
+returns-clause-touches g c = touches-sense c.args.tick c.array_line-place.result (g.A.CellArray.state c.args.array.now) (g.A.CellArray.state c.sense.new.self) c.sense.ensures.step
+
+pub returns-clause-tied : goal.returns-clause-tied
+returns-clause-tied g c =
+    let tied = rw (← c.self.view_is) at c.requires.tied in
+    let bank : BankState g.row.B g.row.M g.row.E = record {
+      kept = c.self.inside.kept;
+      running = operation_of c.self.inside.running;
+      waiting = c.self.inside.waiting.items;
+      lost = c.self.inside.lost.items;
+      rows_below = c.self.inside.rows_below;
+    } in
+    rw c.pop_front.ensures.items
+    (serve_tied bank (g.A.CellArray.state c.args.array.now) (g.A.CellArray.state c.sense.new.self) c.sense.ensures.step.lines c.sense.ensures.step.line tied)
+
+pub returns-clause-holds : goal.returns-clause-holds
+returns-clause-holds g c =
+    let bank : BankState g.row.B g.row.M g.row.E = record {
+      kept = c.self.inside.kept;
+      running = operation_of c.self.inside.running;
+      waiting = c.self.inside.waiting.items;
+      lost = c.self.inside.lost.items;
+      rows_below = c.self.inside.rows_below;
+    } in
+    let old : ArrayState g.row.B g.row.M = g.A.CellArray.state c.args.array.now in
+    let new : ArrayState g.row.B g.row.M = g.A.CellArray.state c.sense.new.self in
+    let place : c.array_line-place.result ≡ stands_at bank.kept c.in-Some.read.line =
+    c.array_line-place.ensures.line ∙ ap (λ (s : ℕ). array_line bank.kept s) c.slot_of.ensures.slot in
+    let bytes : c.lay_over.new.under ≡ laid c.in-Some.read.kept c.in-Some.read.given (decode g.row.E (old.line c.array_line-place.result).held) =
+    c.lay_over.ensures ∙ ap (λ (under : List ℕ). laid c.in-Some.read.kept c.in-Some.read.given under)
+    (c.read_as-bytes.ensures ∙ ap (λ (cells : Cells g.row.B g.row.M). decode g.row.E cells) c.sense.ensures.cells) in
+    let first : Some c.in-Some.read ≡ slice_get bank.waiting 0 = cc in
+    rw (← c.self.view_is, c.pop_front.ensures.items)
+    (λ h holds. serve_law h bank old new c.in-Some.read (drop 1 bank.waiting)
+    (record { row = c.in-Some.read.row; place = c.array_line-place.result; bytes = c.lay_over.new.under })
+    (first_of bank.waiting c.in-Some.read first) (answers bank old c.in-Some.read c.array_line-place.result c.lay_over.new.under place bytes)
+    c.sense.ensures.step.lines c.sense.ensures.step.line holds)
+
+pub read_as-bytes-requires : goal.read_as-bytes-requires
+read_as-bytes-requires g c =
+    let few : g.row.B ≤ 128 = c.self.invariant.few_bytes in
+    let few_check : g.row.M ≤ 16 = c.self.invariant.layout.shape.3 in
+    (search rules, (search rules, c.self.invariant.layout))

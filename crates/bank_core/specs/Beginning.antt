@@ -1,0 +1,61 @@
+-- What the begin of a line write senses, writes, answers and leaves.
+use Rattle.std.specs.Prelude.{◌≡◌, ℕ, ◌≤◌, List, [], ◌∷◌, ◌++◌}
+use Rattle.masked_bytes.specs.Masked.{laid}
+use Rattle.masked_bytes.specs.declared.entry.Entry.{Entry}
+use Rattle.pcm_cells.specs.declared.row.Cells.{Cells}
+use Rattle.pcm_cells.specs.Device.{ArrayState, LineState}
+use Rattle.bank_shape.specs.declared.Work.{Work}
+use Rattle.bank_shape.specs.declared.Work.TheVariants.{Nothing, Store, Copy}
+use Rattle.bank_shape.specs.Shape.{slot_at}
+use Rattle.line_writer.specs.Writing.{Writes, HasBegun, steps_left, most_steps}
+use Rattle.power_recovery.specs.Kept.{KeptState, array_line, next_work}
+use Rattle.power_recovery.specs.Events.{completed_kept}
+use Rattle.bank_model.specs.declared.answer.Step.{Step}
+use Rattle.bank_invariant.specs.State.{BankState, Operation, target_of}
+use Rattle.bank_invariant.specs.Tied.{decoded, IsSoundLine}
+use Rattle.bank_core.specs.Stepping.{with_kept, step_from, left_by}
+
+module _ {n : ℕ} where
+  -- the array line that a work copies
+  abbrev pub sources_of : KeptState n → Work → List ℕ
+  sources_of kept Nothing = []
+  sources_of kept (Store line slot) = []
+  sources_of kept (Copy region step) = array_line kept (slot_at kept.shape region step.from) ∷ []
+
+  -- the array lines that the begin of a work senses, in this order: a copy's source, and the target
+  abbrev pub lines_sensed : KeptState n → Work → List ℕ
+  lines_sensed kept work = sources_of kept work ++ target_of kept work ∷ []
+
+  -- the bytes that the head gives, over these
+  abbrev pub head_over : List (Entry n) → List ℕ → List ℕ
+  head_over [] under = under
+  head_over (head ∷ rest) under = laid head.bytes head.given under
+
+module _ {n m : ℕ} (e : ℕ) (kept : KeptState n) (array : ArrayState n m) where
+  -- the bytes that a work writes: a store those of the head, over what its array line is read as; a copy what its source is read as
+  abbrev pub bytes_for : Work → List ℕ
+  bytes_for Nothing = []
+  bytes_for (Store line slot) = head_over kept.entries (decoded e array (array_line kept slot))
+  bytes_for (Copy region step) = decoded e array (array_line kept (slot_at kept.shape region step.from))
+
+  -- what is kept once a work begins: a store completes the head from what its array line is read as
+  abbrev pub begun_kept : Work → KeptState n
+  begun_kept Nothing = kept
+  begun_kept (Store line slot) = completed_kept (decoded e array (array_line kept slot)) kept
+  begun_kept (Copy region step) = kept
+
+-- some line that is sound holds these cells
+abbrev pub IsOfSoundLine : {n m : ℕ} → ℕ → Cells n m → Type 0
+IsOfSoundLine {n} {m} e cells = (line : LineState n m) × (line.held ≡ cells) × IsSoundLine e line
+
+-- the begin of the next work, as this line write: by how far that has come, the answer and the bank then go
+pub record IsBegin {n m e : ℕ} (old new : BankState n m e) (answer : Step) (before after : ArrayState n m) : Type 0 where
+  pub op : Operation n m e
+  pub work : op.work ≡ next_work old.kept
+  pub target : op.target ≡ target_of old.kept op.work
+  pub bytes : op.writer.bytes ≡ bytes_for e old.kept before op.work
+  pub writes : Writes op.writer (after.line op.target)
+  pub begun : HasBegun op.writer.progress
+  pub few : steps_left op.writer ≤ most_steps e
+  pub is : answer ≡ step_from old.kept op op.writer.progress
+  pub leaves : new ≡ left_by (with_kept old (begun_kept e old.kept before op.work)) op op op.writer.progress

@@ -1,0 +1,131 @@
+-- What an action needs of its bank.
+use Rattle.std.proofs.Common.{◌≡◌, ℕ, ◌<◌, ◌==◌, ◌||◌, ◌&&◌, not, nat_lt, if◌then◌else◌, Bool, true, false, List, [], ◌∷◌, ◌++◌, length, Option, Some, None, is_some, refl, sym, ap, ◌∙◌, arith, eqb-true, eq-eqb, ltb-true}
+use Rattle.std.specs.Prelude.{IfSome}
+use Rattle.std.specs.List.{list_any}
+use Rattle.std.proofs.lemmas.List.{length-append}
+use Rattle.masked_bytes.specs.declared.entry.Entry.{Entry}
+use Rattle.masked_bytes.specs.Entries.{layer_of}
+use Rattle.protected_queue.specs.Queue.{accepted}
+use Rattle.bank_shape.specs.declared.Work.{Work}
+use Rattle.bank_shape.specs.declared.Work.TheVariants.{Nothing, Store, Copy}
+use Rattle.power_recovery.specs.Kept.{KeptState, next_work}
+use Rattle.power_recovery.specs.Events.{is_store, is_copy, accepted_kept}
+use Rattle.power_recovery.proofs.Frames.{next_work-accepted, next_work-due}
+use Rattle.power_recovery.proofs.Bundle.{next_work-store, next_work-copy}
+use Rattle.bank_model.specs.declared.clock.Doing.{Doing}
+use Rattle.bank_model.specs.declared.clock.Doing.TheVariants.{Serving, Beginning, Iterating}
+use Rattle.bank_model.specs.declared.clock.Action.{Action}
+use Rattle.bank_model.specs.After.{is_store_of}
+use Rattle.bank_model.specs.Timing.{same_doing}
+use Rattle.bank_model.specs.Running.{gives_way, choice, chosen_by}
+use Rattle.bank_invariant.specs.declared.Waiting.{Waiting}
+use Rattle.bank_invariant.specs.State.{BankState, is_free, may_begin}
+use Rattle.bank_invariant.specs.Serving.{kept_with, waits_too}
+use Rattle.bank_invariant.specs.Writes.{taken}
+use Rattle.clock_laws.specs.State.{or_else, started_at, chosen}
+use Rattle.clock_laws.specs.Fitting.{Fits, IsFit, ChosenLaw, FitWriteLaw, FitReadLaw}
+
+both_left : (a b : Bool) → (a && b) ≡ true → a ≡ true
+both_left true b h = refl
+both_left false b h = cc
+
+both_right : (a b : Bool) → (a && b) ≡ true → b ≡ true
+both_right true b h = h
+both_right false b h = cc
+
+both : (a b : Bool) → a ≡ true → b ≡ true → (a && b) ≡ true
+both true b h k = k
+both false b h k = cc
+
+-- Choices
+
+pub chosen_law : ChosenLaw
+chosen_law n m e clock fit =
+    by clock.action fit
+    (which (gives_way clock.pace.policy) (nat_lt 0 (length clock.bank.waiting)) (is_some clock.bank.running) (may_begin clock.bank)
+    (ltb-true 0 (length clock.bank.waiting)) (λ is. is) (λ is. is))
+  where
+    which : (gives reads busy ready : Bool) → (reads ≡ true → 0 < length clock.bank.waiting) → (busy ≡ true → is_some clock.bank.running ≡ true) → (ready ≡ true → may_begin clock.bank ≡ true)
+        → IfSome (chosen_by gives reads (choice busy ready)) (λ doing. Fits clock.bank doing)
+    which true true busy ready waits runs may = waits refl
+    which true false true ready waits runs may = runs refl
+    which true false false true waits runs may = may refl
+    which true false false false waits runs may = tt
+    which false reads true ready waits runs may = runs refl
+    which false true false ready waits runs may = waits refl
+    which false false false true waits runs may = may refl
+    which false false false false waits runs may = tt
+
+    later : (d : Option Doing) → IfSome d (λ doing. Fits clock.bank doing) → IsFit clock.bank (started_at clock.tick d)
+    later None own = tt
+    later (Some doing) own = own
+
+    by : (r : Option Action) → IsFit clock.bank r → IfSome (chosen clock) (λ doing. Fits clock.bank doing) → IsFit clock.bank (or_else r (started_at clock.tick (chosen clock)))
+    by (Some action) own next = own
+    by None own next = later (chosen clock) next
+
+-- Writes
+
+module _ {n : ℕ} where
+  -- the work that may be begun stays the next
+  next-stays : (kept : KeptState n) (busy : Bool) (entry : Entry n) (ws : List (Waiting n)) (work : Work) → next_work kept ≡ work → is_free ws work ≡ true
+      → next_work (accepted_kept busy entry kept) ≡ next_work kept
+  next-stays kept busy entry ws Nothing is free = cc
+  next-stays kept busy entry ws (Store line slot) is free = let store = next_work-store kept (ap is_store is) in next_work-accepted kept busy entry store.2
+  next-stays kept busy entry ws (Copy region step) is free =
+      let copy = next_work-copy kept (ap is_copy is) in next_work-due kept (accepted kept.shape.writes busy entry kept.entries) copy.1.0 copy.1.1
+
+module _ {n m e : ℕ} where
+  fit-taken : (bank : BankState n m e) (busy : Bool) (entry : Entry n) (doing : Doing) → Fits bank doing → Fits (taken busy entry bank) doing
+  fit-taken bank busy entry Serving own = own
+  fit-taken bank busy entry Iterating own = own
+  fit-taken bank busy entry Beginning own =
+      let free : is_free bank.waiting (next_work bank.kept) ≡ true = both_right (not (is_some bank.running)) _ own in
+      let still : next_work (accepted_kept busy entry bank.kept) ≡ next_work bank.kept = next-stays bank.kept busy entry bank.waiting (next_work bank.kept) refl free in
+      ap (λ work. not (is_some bank.running) && is_free bank.waiting work) still ∙ own
+
+pub fit_write_law : FitWriteLaw
+fit_write_law n m e entry None bank fit = tt
+fit_write_law n m e entry (Some action) bank fit = fit-taken bank _ entry action.doing fit
+
+-- Reads
+
+any-push : {n : ℕ} (at : ℕ) (ws : List (Waiting n)) (w : Waiting n) → (w.line == at) ≡ false → list_any (λ w. w.line == at) ws ≡ false → list_any (λ w. w.line == at) (ws ++ w ∷ []) ≡ false
+any-push at [] w off none = ap (λ b. b || false) off
+any-push at (v ∷ ws) w off none = by (v.line == at) none (any-push at ws w off)
+  where
+    by : (b : Bool) → (b || list_any (λ w. w.line == at) ws) ≡ false → (list_any (λ w. w.line == at) ws ≡ false → list_any (λ w. w.line == at) (ws ++ w ∷ []) ≡ false)
+        → (b || list_any (λ w. w.line == at) (ws ++ w ∷ [])) ≡ false
+    by true none rest = cc
+    by false none rest = rest none
+
+not-false : (b : Bool) → not b ≡ true → b ≡ false
+not-false true h = cc
+not-false false h = refl
+
+turned : (a b : ℕ) → (a == b) ≡ false → (b == a) ≡ false
+turned a b off = by (b == a) (eqb-true b a)
+  where
+    by : (t : Bool) → (t ≡ true → b ≡ a) → t ≡ false
+    by false is = refl
+    by true is = let same : (a == b) ≡ true = eq-eqb a b (sym (is refl)) in cc
+
+-- a work that may be begun may still be, where the read isn't of the line that it stores
+free-stays : {n : ℕ} (work : Work) (ws : List (Waiting n)) (w : Waiting n) → is_store_of w.line work ≡ false → is_free ws work ≡ true → is_free (ws ++ w ∷ []) work ≡ true
+free-stays Nothing ws w off free = cc
+free-stays (Store line slot) ws w off free = ap (λ b. not b) (any-push line ws w (turned line w.line off) (not-false _ free))
+free-stays (Copy region step) ws w off free = free
+
+fit-waits : {n m e : ℕ} (bank : BankState n m e) (row line first : ℕ) (doing : Doing) (b : Bool) → is_store_of line (next_work bank.kept) ≡ b → Fits bank doing
+    → IsFit (waits_too bank row line) (if same_doing Beginning doing && b then None else Some (record { doing = doing; first = first }))
+fit-waits bank row line first Serving b is own =
+    omega (arith, length-append bank.waiting (kept_with row line (layer_of bank.kept.entries line) ∷ []))
+fit-waits bank row line first Iterating b is own = own
+fit-waits bank row line first Beginning true is own = tt
+fit-waits bank row line first Beginning false is own =
+    both (not (is_some bank.running)) _ (both_left (not (is_some bank.running)) _ own)
+    (free-stays (next_work bank.kept) bank.waiting (kept_with row line (layer_of bank.kept.entries line)) is (both_right (not (is_some bank.running)) _ own))
+
+pub fit_read_law : FitReadLaw
+fit_read_law n m e row line None bank fit = tt
+fit_read_law n m e row line (Some action) bank fit = fit-waits bank row line action.first action.doing (is_store_of line (next_work bank.kept)) refl fit

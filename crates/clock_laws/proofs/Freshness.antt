@@ -1,0 +1,389 @@
+-- Each entry of a history's queue gives the newest bytes of its line as of its own write.
+use Rattle.std.proofs.Common.{◌≡◌, ℕ, ◌==◌, ◌||◌, ◌&&◌, not, Bool, true, false, cond, if◌then◌else◌, List, [], ◌∷◌, ◌++◌, length, drop, slice_get, Option, Some, None, refl, sym, ap, subst, ◌∙◌, arith, eqb-true, eq-eqb}
+use Rattle.std.specs.Prelude.{IsTrue, IsSomeAnd}
+use Rattle.std.proofs.lemmas.List.{length-replicate}
+use Rattle.masked_bytes.specs.declared.entry.Entry.{Entry}
+use Rattle.masked_bytes.specs.Masked.{laid, joined, gives_all, IsMasked}
+use Rattle.masked_bytes.specs.Entries.{Layer, no_layer, stacked, layer_by, layer_of, head_row, head_line, AllMasked, or_this, newest_row, candidate, laid_on, merged, has_row, RowsApart}
+use Rattle.masked_bytes.proofs.Layering.{length-laid, length-joined, laid-all_given, laid-none_given, all_given-gives_all, laid-laid}
+use Rattle.masked_bytes.proofs.Standing.{layer_of-head}
+use Rattle.bank_shape.specs.declared.BankShape.{BankShape}
+use Rattle.bank_model.specs.declared.answer.WriteAnswer.TheVariants as wrote
+use Rattle.bank_model.specs.declared.answer.Step.TheVariants as did
+use Rattle.bank_model.specs.Events.{Event, Write, Read, Serve, Begin, Iterate, Cut, newest, up_to, RowsBelow}
+use Rattle.bank_model.specs.History.{queue, begun, due_after, has_exhausted}
+use Rattle.bank_model.specs.Answers.{MayAll, head_busy_after}
+use Rattle.bank_laws.specs.Pairs.{has_line, ArePaired}
+use Rattle.bank_laws.proofs.Pairs.{no_candidate-rest, pair_law}
+use Rattle.bank_laws.proofs.Standing.{stand_apart}
+use Rattle.bank_invariant.proofs.Taking.{answer_merged}
+use Rattle.clock_laws.specs.Newest.{GiveNewest, EntryLaw}
+use Rattle.bank_invariant.proofs.Awaiting.{length-newest}
+
+-- Tests
+
+or_left : (a b : Bool) → (a || b) ≡ false → a ≡ false
+or_left true b h = cc
+or_left false b h = refl
+
+or_right : (a b : Bool) → (a || b) ≡ false → b ≡ false
+or_right true b h = cc
+or_right false b h = h
+
+or_none : (a b : Bool) → a ≡ false → b ≡ false → (a || b) ≡ false
+or_none true b h k = cc
+or_none false b h k = k
+
+turned : (a b : ℕ) → (a == b) ≡ false → (b == a) ≡ false
+turned a b off = by (b == a) (eqb-true b a)
+  where
+    by : (t : Bool) → (t ≡ true → b ≡ a) → t ≡ false
+    by false is = refl
+    by true is = let same : (a == b) ≡ true = eq-eqb a b (sym (is refl)) in cc
+
+-- Bytes
+
+laid-again : (bytes : List ℕ) (given : List Bool) (under : List ℕ) → laid bytes given (laid bytes given under) ≡ laid bytes given under
+laid-again [] given under = refl
+laid-again (b ∷ bytes) [] under = refl
+laid-again (b ∷ bytes) (g ∷ given) [] = refl
+laid-again (b ∷ bytes) (true ∷ given) (u ∷ under) = ap (λ xs. b ∷ xs) (laid-again bytes given under)
+laid-again (b ∷ bytes) (false ∷ given) (u ∷ under) = ap (λ xs. u ∷ xs) (laid-again bytes given under)
+
+-- bytes that change nothing of others change nothing of those that are laid over these, once they are laid over again
+laid-between : (bytes : List ℕ) (given : List Bool) (own : List ℕ) (also : List Bool) (under : List ℕ) → laid own also under ≡ under
+    → laid bytes given (laid own also (laid bytes given under)) ≡ laid bytes given under
+laid-between [] given own also under still = still
+laid-between (b ∷ bytes) [] own also under still = still
+laid-between (b ∷ bytes) (g ∷ given) [] also under still = laid-again (b ∷ bytes) (g ∷ given) under
+laid-between (b ∷ bytes) (g ∷ given) (o ∷ own) [] under still = laid-again (b ∷ bytes) (g ∷ given) under
+laid-between (b ∷ bytes) (g ∷ given) (o ∷ own) (a ∷ also) [] still = refl
+laid-between (b ∷ bytes) (true ∷ given) (o ∷ own) (a ∷ also) (u ∷ under) still =
+    let rest : laid own also under ≡ under = cc in
+    ap (λ xs. b ∷ xs) (laid-between bytes given own also under rest)
+laid-between (b ∷ bytes) (false ∷ given) (o ∷ own) (a ∷ also) (u ∷ under) still =
+    let first : cond a o u ≡ u = cc in
+    let rest : laid own also under ≡ under = cc in
+    ap (λ x. x ∷ laid bytes given (laid own also (laid bytes given under))) first ∙ ap (λ xs. u ∷ xs) (laid-between bytes given own also under rest)
+
+-- an entry of n bytes changes nothing of what was newest as of its write; and if it is the newest of its line, that is newest now
+pub record IsFresh {n : ℕ} (was now : List ℕ) (behind : Bool) (entry : Entry n) : Type 0 where
+  pub bytes_len : length entry.bytes ≡ n
+  pub given_len : length entry.given ≡ n
+  pub over : laid entry.bytes entry.given was ≡ was
+  pub latest : behind ≡ false → was ≡ now
+
+-- what a write of a line changes
+record Goes (row line : ℕ) (bytes : List ℕ) (given : List Bool) (was after : ℕ → ℕ → List ℕ) (now next : ℕ → List ℕ) : Type 0 where
+  aside : (r at : ℕ) → (row == r) ≡ false → after r at ≡ was r at
+  own : (at : ℕ) → after row at ≡ next at
+  on : (at : ℕ) → (line == at) ≡ true → next at ≡ laid bytes given (now at)
+  off : (at : ℕ) → (line == at) ≡ false → next at ≡ now at
+
+module _ {n : ℕ} where
+  abbrev pub AreFresh : (ℕ → ℕ → List ℕ) → (ℕ → List ℕ) → List (Entry n) → Type 0
+  AreFresh was now [] = Unit {0}
+  AreFresh was now (e ∷ es) = IsFresh (was e.row e.line) (now e.line) (has_line es e.line) e × AreFresh was now es
+
+  -- A write
+
+  -- entries of other rows stay so while nothing is newer
+  fresh-aside : (row : ℕ) (was after : ℕ → ℕ → List ℕ) (now : ℕ → List ℕ) (es : List (Entry n)) → ((r at : ℕ) → (row == r) ≡ false → after r at ≡ was r at)
+      → has_row es row ≡ false → AreFresh was now es → AreFresh after now es
+  fresh-aside row was after now [] aside none fresh = tt
+  fresh-aside row was after now (e ∷ es) aside none fresh =
+      let same : was e.row e.line ≡ after e.row e.line = sym (aside e.row e.line (turned e.row row (or_left (e.row == row) (has_row es row) none))) in (
+        subst (λ (bytes : List ℕ). IsFresh bytes (now e.line) (has_line es e.line) e) same fresh.0,
+        fresh-aside row was after now es aside (or_right (e.row == row) (has_row es row) none) fresh.1,
+      )
+
+  module _ (row line : ℕ) (bytes : List ℕ) (given : List Bool) (was after : ℕ → ℕ → List ℕ) (now next : ℕ → List ℕ) (goes : Goes row line bytes given was after now next) where
+    -- one entry, of another row, behind which an entry of its line stands unless the write is of another line
+    fresh-one : (e : Entry n) (behind later : Bool) → (e.row == row) ≡ false → (later ≡ false → (behind ≡ false) × ((line == e.line) ≡ false))
+        → IsFresh (was e.row e.line) (now e.line) behind e → IsFresh (after e.row e.line) (next e.line) later e
+    fresh-one e behind later other apart fresh =
+        let same : after e.row e.line ≡ was e.row e.line = goes.aside e.row e.line (turned e.row row other) in
+        record {
+          bytes_len = fresh.bytes_len;
+          given_len = fresh.given_len;
+          over = ap (λ under. laid e.bytes e.given under) same ∙ fresh.over ∙ sym same;
+          latest = λ none. let off = apart none in same ∙ fresh.latest off.0 ∙ sym (goes.off e.line off.1);
+        }
+
+    fresh-accepted : (es : List (Entry n)) → has_row es row ≡ false → IsMasked n bytes given → AreFresh was now es
+        → AreFresh after next (es ++ record { row = row; line = line; bytes = bytes; given = given } ∷ [])
+    fresh-accepted [] none masked fresh =
+        let is : next line ≡ laid bytes given (now line) = goes.on line (eq-eqb line line refl) in
+        let own : after row line ≡ laid bytes given (now line) = goes.own line ∙ is in (
+          record {
+            bytes_len = masked.bytes_len;
+            given_len = masked.given_len;
+            over = ap (λ under. laid bytes given under) own ∙ laid-again bytes given (now line) ∙ sym own;
+            latest = λ none. goes.own line;
+          },
+          tt,
+        )
+    fresh-accepted (e ∷ es) none masked fresh = (
+      fresh-one e (has_line es e.line) (has_line (es ++ record { row = row; line = line; bytes = bytes; given = given } ∷ []) e.line)
+          (or_left (e.row == row) (has_row es row) none) (λ off. off_push es e.line off) fresh.0,
+      fresh-accepted es (or_right (e.row == row) (has_row es row) none) masked fresh.1,
+    )
+      where
+        off_push : (es : List (Entry n)) (at : ℕ) → has_line (es ++ record { row = row; line = line; bytes = bytes; given = given } ∷ []) at ≡ false → (has_line es at ≡ false) × ((line == at) ≡ false)
+        off_push [] at off = (refl, or_left (line == at) false off)
+        off_push (f ∷ es) at off =
+            let rest = off_push es at (or_right (f.line == at) _ off) in
+            (or_none (f.line == at) (has_line es at) (or_left (f.line == at) _ off) rest.0, rest.1)
+
+    -- entries of other lines
+    fresh-off : (es : List (Entry n)) → has_row es row ≡ false → has_line es line ≡ false → AreFresh was now es → AreFresh after next es
+    fresh-off [] none off fresh = tt
+    fresh-off (e ∷ es) none off fresh = (
+      fresh-one e (has_line es e.line) (has_line es e.line) (or_left (e.row == row) (has_row es row) none)
+          (λ behind. (behind, turned e.line line (or_left (e.line == line) (has_line es line) off))) fresh.0,
+      fresh-off es (or_right (e.row == row) (has_row es row) none) (or_right (e.line == line) (has_line es line) off) fresh.1,
+    )
+
+    -- the entry into which the write is merged
+    fresh-laid : (e : Entry n) (behind : Bool) → e.line ≡ line → behind ≡ false → IsMasked n bytes given → length (now e.line) ≡ n
+        → IsFresh (was e.row e.line) (now e.line) behind e → IsFresh (after row e.line) (next e.line) behind (laid_on row bytes given e)
+    fresh-laid e behind at none masked len fresh =
+        let is : next e.line ≡ laid bytes given (now e.line) = goes.on e.line (eq-eqb line e.line (sym at)) in
+        let own : after row e.line ≡ laid bytes given (now e.line) = goes.own e.line ∙ is in
+        let same : was e.row e.line ≡ now e.line = fresh.latest none in
+        let still : laid e.bytes e.given (now e.line) ≡ now e.line = ap (λ under. laid e.bytes e.given under) (sym same) ∙ fresh.over ∙ same in
+        record {
+          bytes_len = length-laid bytes given e.bytes ∙ fresh.bytes_len;
+          given_len = length-joined given e.given (masked.given_len ∙ sym fresh.given_len) ∙ fresh.given_len;
+          over =
+              ap (λ under. laid (laid bytes given e.bytes) (joined given e.given) under) own
+              ∙ laid-laid bytes given e.bytes e.given (laid bytes given (now e.line))
+              (masked.given_len ∙ sym masked.bytes_len) (fresh.bytes_len ∙ sym masked.bytes_len) (fresh.given_len ∙ sym masked.bytes_len)
+              (length-laid bytes given (now e.line) ∙ len ∙ sym masked.bytes_len)
+              ∙ laid-between bytes given e.bytes e.given (now e.line) still
+              ∙ sym own;
+          latest = λ none. goes.own e.line;
+        }
+
+    newest_row-there : (es : List (Entry n)) (old : ℕ) → newest_row es line ≡ Some old → (has_row es old ≡ true) × (has_line es line ≡ true)
+    newest_row-there [] old is = cc
+    newest_row-there (e ∷ es) old is = by (newest_row es line) (newest_row-there es old) (e.line == line) refl is
+      where
+        by : (rest : Option ℕ) → (rest ≡ Some old → (has_row es old ≡ true) × (has_line es line ≡ true)) → (b : Bool) → (e.line == line) ≡ b
+            → or_this rest (cond b (Some e.row) None) ≡ Some old → (has_row (e ∷ es) old ≡ true) × (has_line (e ∷ es) line ≡ true)
+        by (Some row) there b at is = let rest = there is in (or_back (e.row == old) (has_row es old) rest.0, or_back (e.line == line) (has_line es line) rest.1)
+          where
+            or_back : (a b : Bool) → b ≡ true → (a || b) ≡ true
+            or_back true b h = refl
+            or_back false b h = h
+        by None there true at is =
+            let same : e.row ≡ old = cc in
+            (ap (λ b. b || has_row es old) (eq-eqb e.row old same), ap (λ b. b || has_line es line) at)
+        by None there false at is = cc
+
+    line-merged : (old at : ℕ) (es : List (Entry n)) → has_line (merged old row bytes given es) at ≡ has_line es at
+    line-merged old at [] = refl
+    line-merged old at (e ∷ es) = by (e.row == old) (line-merged old at es)
+      where
+        by : (b : Bool) → has_line (merged old row bytes given es) at ≡ has_line es at
+            → has_line (if b then laid_on row bytes given e ∷ es else e ∷ merged old row bytes given es) at ≡ has_line (e ∷ es) at
+        by true rest = refl
+        by false rest = ap (λ b. (e.line == at) || b) rest
+
+    fresh-merged : (old : ℕ) (es : List (Entry n)) → newest_row es line ≡ Some old → RowsApart es → has_row es row ≡ false → IsMasked n bytes given
+        → ((at : ℕ) → length (now at) ≡ n) → AreFresh was now es → AreFresh after next (merged old row bytes given es)
+    fresh-merged old [] is apart none masked len fresh = tt
+    fresh-merged old (e ∷ es) is apart none masked len fresh =
+        by (newest_row es line) refl (λ at. fresh-merged old es at apart.1 (or_right (e.row == row) (has_row es row) none) masked len fresh.1) is
+      where
+        own : (b : Bool) → (e.line == line) ≡ b → newest_row es line ≡ None → cond b (Some e.row) None ≡ Some old → AreFresh after next (merged old row bytes given (e ∷ es))
+        own true at alone is =
+            let same : e.row ≡ old = cc in
+            let there : e.line ≡ line = eqb-true e.line line at in
+            let off : has_line es line ≡ false = no_candidate-rest es line None (ap (λ r. or_this r None) alone) in
+            subst (λ (b : Bool). AreFresh after next (if b then laid_on row bytes given e ∷ es else e ∷ merged old row bytes given es)) (sym (eq-eqb e.row old same)) (
+              fresh-laid e (has_line es e.line) there (ap (λ at. has_line es at) there ∙ off) masked (len e.line) fresh.0,
+              fresh-off es (or_right (e.row == row) (has_row es row) none) off fresh.1,
+            )
+        own false at alone is = cc
+
+        by : (rest : Option ℕ) → newest_row es line ≡ rest → (newest_row es line ≡ Some old → AreFresh after next (merged old row bytes given es))
+            → or_this rest (if e.line == line then Some e.row else None) ≡ Some old → AreFresh after next (merged old row bytes given (e ∷ es))
+        by None alone rest is = own (e.line == line) refl alone is
+        by (Some r) found rest is =
+            let here : newest_row es line ≡ Some old = found ∙ is in
+            let there = newest_row-there es old here in
+            let other : (e.row == old) ≡ false = not-same (e.row == old) (eqb-true e.row old) there.0 in
+            subst (λ (b : Bool). AreFresh after next (if b then laid_on row bytes given e ∷ es else e ∷ merged old row bytes given es)) (sym other) (
+              fresh-one e (has_line es e.line) (has_line (merged old row bytes given es) e.line) (or_left (e.row == row) (has_row es row) none)
+                  (λ off.
+                  let still : has_line es e.line ≡ false = sym (line-merged old e.line es) ∙ off in
+                  (still, not-line (line == e.line) (eqb-true line e.line) still there.1)) fresh.0,
+              rest here,
+            )
+          where
+            not-same : (b : Bool) → (b ≡ true → e.row ≡ old) → has_row es old ≡ true → b ≡ false
+            not-same false is there = refl
+            not-same true is there = let bad : has_row es old ≡ false = ap (λ r. has_row es r) (sym (is refl)) ∙ apart.0 in cc
+
+            not-line : (b : Bool) → (b ≡ true → line ≡ e.line) → has_line es e.line ≡ false → has_line es line ≡ true → b ≡ false
+            not-line false is off there = refl
+            not-line true is off there = let bad : has_line es line ≡ false = ap (λ at. has_line es at) (is refl) ∙ off in cc
+
+  -- Begins and stores
+
+  fresh-drop : (was : ℕ → ℕ → List ℕ) (now : ℕ → List ℕ) (es : List (Entry n)) → AreFresh was now es → AreFresh was now (drop 1 es)
+  fresh-drop was now [] fresh = tt
+  fresh-drop was now (e ∷ es) fresh = fresh.1
+
+  -- an entry that gives every byte gives just what was newest as of its write
+  whole-bytes : (was now : List ℕ) (behind : Bool) (e : Entry n) → IsFresh was now behind e → gives_all e.given ≡ true → length was ≡ n → e.bytes ≡ was
+  whole-bytes was now behind e fresh all len =
+      sym (laid-all_given n e.bytes was fresh.bytes_len len) ∙ ap (λ given. laid e.bytes given was) (sym (all_given-gives_all n e.given fresh.given_len all)) ∙ fresh.over
+
+  -- over what is newest now, an entry gives what was newest as of its write, where it is the newest of its line or gives every byte
+  laid-now : (was now : List ℕ) (behind : Bool) (e : Entry n) → IsFresh was now behind e → (behind ≡ true → gives_all e.given ≡ true) → length was ≡ n → length now ≡ n
+      → laid e.bytes e.given now ≡ was
+  laid-now was now false e fresh whole len len_now = ap (λ under. laid e.bytes e.given under) (sym (fresh.latest refl)) ∙ fresh.over
+  laid-now was now true e fresh whole len len_now =
+      ap (λ given. laid e.bytes given now) (all_given-gives_all n e.given fresh.given_len (whole refl)) ∙ laid-all_given n e.bytes now fresh.bytes_len len_now
+      ∙ whole-bytes was now true e fresh (whole refl) len
+
+  fresh-begun : (due : Option ℕ) (was : ℕ → ℕ → List ℕ) (now : ℕ → List ℕ) (es : List (Entry n)) → ArePaired es → ((r at : ℕ) → length (was r at) ≡ n) → ((at : ℕ) → length (now at) ≡ n)
+      → AreFresh was now es → AreFresh was now (begun due now es)
+  fresh-begun (Some region) was now es paired len len_now fresh = fresh
+  fresh-begun None was now [] paired len len_now fresh = tt
+  fresh-begun None was now (e ∷ es) paired len len_now fresh =
+      let done : laid e.bytes e.given (now e.line) ≡ was e.row e.line =
+      laid-now (was e.row e.line) (now e.line) (has_line es e.line) e fresh.0 paired.1 (len e.row e.line) (len_now e.line) in
+      let long : length (laid e.bytes e.given (now e.line)) ≡ n = length-laid e.bytes e.given (now e.line) ∙ len_now e.line in (
+        record {
+          bytes_len = long;
+          given_len = length-replicate n true;
+          over = laid-all_given n (laid e.bytes e.given (now e.line)) (was e.row e.line) long (len e.row e.line) ∙ done;
+          latest = fresh.0.latest;
+        },
+        fresh.1,
+      )
+
+  -- Histories
+
+  -- what was newest of a line as of the write of a row
+  abbrev pub newest_at : List (Event n) → ℕ → ℕ → List ℕ
+  newest_at h row line = newest (up_to row h) line
+
+  length-newest_at : (h : List (Event n)) (row line : ℕ) → length (newest_at h row line) ≡ n
+  length-newest_at h row line = length-newest (up_to row h) line
+
+  -- a write of a line changes what is newest, and what was as of its own row
+  goes-on : (row line : ℕ) (bytes : List ℕ) (given : List Bool) (h : List (Event n)) (event : Event n)
+      → ((r at : ℕ) → newest_at (event ∷ h) r at ≡ (if row == r then newest (event ∷ h) at else newest_at h r at))
+      → ((at : ℕ) → newest (event ∷ h) at ≡ (if line == at then laid bytes given (newest h at) else newest h at))
+      → Goes row line bytes given (newest_at h) (newest_at (event ∷ h)) (newest h) (newest (event ∷ h))
+  goes-on row line bytes given h event named changes = record {
+    aside = λ r at off. named r at ∙ ap (λ b. if b then newest (event ∷ h) at else newest_at h r at) off;
+    own = λ at. named row at ∙ ap (λ b. if b then newest (event ∷ h) at else newest_at h row at) (eq-eqb row row refl);
+    on = λ at is. changes at ∙ ap (λ b. if b then laid bytes given (newest h at) else newest h at) is;
+    off = λ at is. changes at ∙ ap (λ b. if b then laid bytes given (newest h at) else newest h at) is;
+  }
+
+  newest_of-if : (b : Bool) (first other : List (Event n)) (at : ℕ) → newest (if b then first else other) at ≡ (if b then newest first at else newest other at)
+  newest_of-if true first other at = refl
+  newest_of-if false first other at = refl
+
+  module _ (shape : BankShape) (most : ℕ) where
+    -- the entry that a write is merged into is the newest of its line
+    candidate-newest : (busy : Bool) (es : List (Entry n)) (line old : ℕ) → candidate busy es line ≡ Some old → newest_row es line ≡ Some old
+    candidate-newest busy [] line old is = cc
+    candidate-newest busy (e ∷ es) line old is = by (newest_row es line) busy (e.line == line) is
+      where
+        by : (rest : Option ℕ) (busy at : Bool) → or_this rest (if not busy && at then Some e.row else None) ≡ Some old → or_this rest (if at then Some e.row else None) ≡ Some old
+        by (Some row) busy at is = is
+        by None true at is = cc
+        by None false at is = is
+
+    begun-fresh : (h : List (Event n)) → MayAll shape most h → AreFresh (newest_at h) (newest h) (queue shape h)
+        → AreFresh (newest_at h) (newest h) (begun (due_after shape h) (newest h) (queue shape h))
+    begun-fresh h may fresh =
+        fresh-begun (due_after shape h) (newest_at h) (newest h) (queue shape h) (pair_law n most shape h may) (length-newest_at h) (length-newest h) fresh
+
+    refused-fresh : (row line : ℕ) (bytes : List ℕ) (given : List Bool) (h : List (Event n)) (event : Event n) → RowsBelow h row
+        → ((r at : ℕ) → newest_at (event ∷ h) r at ≡ (if row == r then newest (event ∷ h) at else newest_at h r at))
+        → AreFresh (newest_at h) (newest h) (queue shape h) → AreFresh (newest_at (event ∷ h)) (newest h) (queue shape h)
+    refused-fresh row line bytes given h event below named fresh =
+        fresh-aside row (newest_at h) (newest_at (event ∷ h)) (newest h) (queue shape h)
+        (λ r at off. named r at ∙ ap (λ b. if b then newest (event ∷ h) at else newest_at h r at) off)
+        ((stand_apart shape h row below).queued_below row (omega arith)) fresh
+
+    pub queue-fresh : (h : List (Event n)) (bound : ℕ) → MayAll shape most h → RowsBelow h bound → AreFresh (newest_at h) (newest h) (queue shape h)
+    queue-fresh [] bound may below = tt
+    queue-fresh (Write row line bytes given wrote.Accepted ∷ h) bound may below =
+        fresh-accepted row line bytes given (newest_at h) (newest_at (Write row line bytes given wrote.Accepted ∷ h)) (newest h) (newest (Write row line bytes given wrote.Accepted ∷ h))
+        (goes-on row line bytes given h (Write row line bytes given wrote.Accepted) (λ r at. newest_of-if (row == r) _ _ at) (λ at. refl))
+        (queue shape h) ((stand_apart shape h row below.1).queued_below row (omega arith)) may.0.1 (queue-fresh h row may.1 below.1)
+    queue-fresh (Write row line bytes given (wrote.Merged old) ∷ h) bound may below =
+        let told = answer_merged shape h (has_exhausted h) (candidate (head_busy_after shape h) (queue shape h) line) old may.0.2 in
+        let apart = stand_apart shape h row below.1 in
+        fresh-merged row line bytes given (newest_at h) (newest_at (Write row line bytes given (wrote.Merged old) ∷ h)) (newest h) (newest (Write row line bytes given (wrote.Merged old) ∷ h))
+        (goes-on row line bytes given h (Write row line bytes given (wrote.Merged old)) (λ r at. newest_of-if (row == r) _ _ at) (λ at. refl))
+        old (queue shape h) (candidate-newest (head_busy_after shape h) (queue shape h) line old told.1) apart.queued_apart (apart.queued_below row (omega arith)) may.0.1
+        (length-newest h) (queue-fresh h row may.1 below.1)
+    queue-fresh (Write row line bytes given wrote.Full ∷ h) bound may below =
+        refused-fresh row line bytes given h (Write row line bytes given wrote.Full) below.1 (λ r at. newest_of-if (row == r) _ _ at) (queue-fresh h row may.1 below.1)
+    queue-fresh (Write row line bytes given wrote.Exhausted ∷ h) bound may below =
+        refused-fresh row line bytes given h (Write row line bytes given wrote.Exhausted) below.1 (λ r at. newest_of-if (row == r) _ _ at) (queue-fresh h row may.1 below.1)
+    queue-fresh (Read row line answer ∷ h) bound may below = queue-fresh h row may.1 below.1
+    queue-fresh (Serve answer ∷ h) bound may below = queue-fresh h bound may.1 below
+    queue-fresh (Begin (did.Stored row place) ∷ h) bound may below = fresh-drop (newest_at h) (newest h) (queue shape h) (queue-fresh h bound may.1 below)
+    queue-fresh (Begin did.More ∷ h) bound may below = begun-fresh h may.1 (queue-fresh h bound may.1 below)
+    queue-fresh (Begin (did.Moved step) ∷ h) bound may below = begun-fresh h may.1 (queue-fresh h bound may.1 below)
+    queue-fresh (Begin (did.Retired slot line) ∷ h) bound may below = begun-fresh h may.1 (queue-fresh h bound may.1 below)
+    queue-fresh (Begin did.Exhausted ∷ h) bound may below = begun-fresh h may.1 (queue-fresh h bound may.1 below)
+    queue-fresh (Iterate (did.Stored row place) ∷ h) bound may below = fresh-drop (newest_at h) (newest h) (queue shape h) (queue-fresh h bound may.1 below)
+    queue-fresh (Iterate did.More ∷ h) bound may below = queue-fresh h bound may.1 below
+    queue-fresh (Iterate (did.Moved step) ∷ h) bound may below = queue-fresh h bound may.1 below
+    queue-fresh (Iterate (did.Retired slot line) ∷ h) bound may below = queue-fresh h bound may.1 below
+    queue-fresh (Iterate did.Exhausted ∷ h) bound may below = queue-fresh h bound may.1 below
+    queue-fresh (Cut tearing ∷ h) bound may below = queue-fresh h bound may.1 below
+
+  -- The head
+
+  -- a head that gives every byte has the newest bytes of its line as of its own write
+  pub head-bytes : (h : List (Event n)) (es : List (Entry n)) (bytes : List ℕ) (line : ℕ) → AreFresh (newest_at h) (newest h) es
+      → IsSomeAnd (slice_get es 0) (λ head. (head.line ≡ line) × (head.bytes ≡ bytes) × IsTrue (gives_all head.given)) → bytes ≡ newest_at h (head_row es) (head_line es)
+  head-bytes h [] bytes line fresh some = absurd some
+  head-bytes h (e ∷ es) bytes line fresh some =
+      sym some.1 ∙ whole-bytes (newest_at h e.row e.line) (newest h e.line) (has_line es e.line) e fresh.0 some.2 (length-newest_at h e.row e.line)
+
+  no_line-layer : (es : List (Entry n)) (line : ℕ) → has_line es line ≡ false → layer_of es line ≡ no_layer n
+  no_line-layer [] line off = refl
+  no_line-layer (e ∷ es) line off =
+      ap (λ b. cond b (stacked (layer_of es line) (layer_by e)) (layer_of es line)) (or_left (e.line == line) (has_line es line) off)
+      ∙ no_line-layer es line (or_right (e.line == line) (has_line es line) off)
+
+  -- bytes over which the queue gives the newest ones of the head's line, and that the head doesn't change, were the newest as of its write
+  pub head-under : (h : List (Event n)) (es : List (Entry n)) (under : List ℕ) → AreFresh (newest_at h) (newest h) es → ArePaired es → AllMasked es → length under ≡ n
+      → laid (layer_of es (head_line es)).bytes (layer_of es (head_line es)).given under ≡ newest h (head_line es)
+      → IsSomeAnd (slice_get es 0) (λ head. laid head.bytes head.given under ≡ under) → under ≡ newest_at h (head_row es) (head_line es)
+  head-under h [] under fresh paired masked len stands some = absurd some
+  head-under h (e ∷ es) under fresh paired masked len stands some = by (has_line es e.line) refl
+    where
+      by : (b : Bool) → has_line es e.line ≡ b → under ≡ newest_at h e.row e.line
+      by true behind =
+          let whole : gives_all e.given ≡ true = paired.1 behind in
+          sym some
+          ∙ ap (λ given. laid e.bytes given under) (all_given-gives_all n e.given fresh.0.given_len whole) ∙ laid-all_given n e.bytes under fresh.0.bytes_len len
+          ∙ whole-bytes (newest_at h e.row e.line) (newest h e.line) (has_line es e.line) e fresh.0 whole (length-newest_at h e.row e.line)
+      by false alone =
+          sym (laid-none_given n (no_layer n).bytes under)
+          ∙ ap (λ (l : Layer). laid l.bytes l.given under) (sym (no_line-layer es e.line alone))
+          ∙ ap (λ bytes. laid (layer_of es e.line).bytes (layer_of es e.line).given bytes) (sym some)
+          ∙ sym (layer_of-head e es e.line under masked len refl)
+          ∙ stands ∙ sym (fresh.0.latest alone)
+
+  entries-newest : (h : List (Event n)) (es : List (Entry n)) → AreFresh (newest_at h) (newest h) es → GiveNewest h es
+  entries-newest h [] fresh = tt
+  entries-newest h (e ∷ es) fresh = (fresh.0.over, entries-newest h es fresh.1)
+
+pub entry_law : EntryLaw
+entry_law n most bound shape h may below = entries-newest h (queue shape h) (queue-fresh shape most h bound may below)

@@ -1,0 +1,239 @@
+-- The rows that stand, and that no other outcome is touched.
+use Rattle.std.proofs.Common.{◌≡◌, ℕ, ◌==◌, ◌||◌, ◌&&◌, not, Bool, true, false, cond, if◌then◌else◌, List, [], ◌∷◌, ◌++◌, map, drop, Option, Some, None, refl, sym, ap, subst, ◌∙◌, eqb-true, eq-eqb}
+use Rattle.std.specs.Prelude.{unwrap_or}
+use Rattle.result_rows.specs.declared.Outcome.{Outcome}
+use Rattle.result_rows.specs.declared.Outcome.TheVariants as out
+use Rattle.masked_bytes.specs.declared.entry.Entry.{Entry}
+use Rattle.masked_bytes.specs.Entries.{or_this, newest_row, candidate, laid_on, merged, has_row, head_row}
+use Rattle.bank_shape.specs.declared.BankShape.{BankShape}
+use Rattle.bank_shape.specs.declared.Work.TheVariants.{Nothing}
+use Rattle.bank_model.specs.declared.answer.WriteAnswer.TheVariants as wrote
+use Rattle.bank_model.specs.declared.answer.ReadAnswer.TheVariants as came
+use Rattle.bank_model.specs.declared.answer.Served.{Served}
+use Rattle.bank_model.specs.declared.answer.Step.TheVariants as did
+use Rattle.bank_model.specs.Events.{Event, Write, Read, Serve, Begin, Iterate, Cut, newest}
+use Rattle.bank_model.specs.History.{Awaited, queue, waits, begun, due_after, has_exhausted}
+use Rattle.bank_model.specs.After.{due_work}
+use Rattle.bank_model.specs.Answers.{MayHappen, IsServed, IsDone, head_busy_after}
+use Rattle.bank_model.specs.Timing.{Pacing, Happens, Core, Timed, core, core_of}
+use Rattle.bank_model.specs.Lawful.{Lawful, MayCome}
+use Rattle.bank_model.specs.Sensing.{most_steps}
+use Rattle.bank_laws.specs.Outcomes.{outcome_by, outcome_with, on_row}
+use Rattle.bank_laws.specs.Standing.{has_wait, WaitsApart, AreRowsApart}
+use Rattle.bank_laws.proofs.Standing.{stand_apart}
+use Rattle.bank_invariant.specs.declared.Waiting.{Waiting}
+use Rattle.bank_invariant.specs.Holds.{waiting_of}
+use Rattle.bank_invariant.proofs.Taking.{answer_merged}
+use Rattle.clock_laws.specs.Recording.{outcome_on}
+use Rattle.clock_laws.specs.Standing.{has_waiting, WaitingApart, AreApart, ApartLaw, is_arrival_of, arrives_with, OtherRowsLaw}
+
+-- Rows that stand
+
+pub same_wait : (n : ℕ) (ws : List Awaited) (row : ℕ) → has_waiting (map (waiting_of {n = n}) ws) row ≡ has_wait ws row
+same_wait n [] row = refl
+same_wait n (w ∷ ws) row = ap (λ b. (w.row == row) || b) (same_wait n ws row)
+
+same_apart : (n : ℕ) (ws : List Awaited) → WaitsApart ws → WaitingApart (map (waiting_of {n = n}) ws)
+same_apart n [] apart = tt
+same_apart n (w ∷ ws) apart = (same_wait n ws w.row ∙ apart.0, same_apart n ws apart.1)
+
+module _ {n : ℕ} where
+  apart-of : (es : List (Entry n)) (ws : List Awaited) (next : ℕ) → AreRowsApart es ws next → AreApart es (map (waiting_of {n = n}) ws) next
+  apart-of es ws next apart = record {
+    queued_below = apart.queued_below;
+    waiting_below = λ row below. same_wait n ws row ∙ apart.waiting_below row below;
+    queued_apart = apart.queued_apart;
+    waiting_apart = same_apart n ws apart.waiting_apart;
+    one_place = λ row there. same_wait n ws row ∙ apart.one_place row there;
+  }
+
+pub apart_law : ApartLaw
+apart_law n m e xs clock array leads =
+    let apart : AreRowsApart (queue clock.bank.kept.shape (core xs)) (waits clock.bank.kept.shape (core xs)) clock.bank.rows_below =
+    stand_apart clock.bank.kept.shape (core xs) clock.bank.rows_below leads.holds.rows in
+    subst (λ (es : List (Entry n)). AreApart es clock.bank.waiting clock.bank.rows_below) (sym leads.holds.entries)
+    (subst (λ (ws : List (Waiting n)). AreApart (queue clock.bank.kept.shape (core xs)) ws clock.bank.rows_below) (sym leads.holds.waiting)
+    (apart-of (queue clock.bank.kept.shape (core xs)) (waits clock.bank.kept.shape (core xs)) clock.bank.rows_below apart))
+
+-- Rows that don't
+
+or_left : (a b : Bool) → (a || b) ≡ false → a ≡ false
+or_left true b h = cc
+or_left false b h = refl
+
+or_right : (a b : Bool) → (a || b) ≡ false → b ≡ false
+or_right true b h = cc
+or_right false b h = h
+
+or_none : (a b : Bool) → a ≡ false → b ≡ false → (a || b) ≡ false
+or_none true b h k = cc
+or_none false b h k = k
+
+pub or_back : (a b : Bool) → b ≡ true → (a || b) ≡ true
+or_back true b h = refl
+or_back false b h = h
+
+no_wait-push : (ws : List Awaited) (w : Awaited) (row : ℕ) → has_wait ws row ≡ false → (w.row == row) ≡ false → has_wait (ws ++ w ∷ []) row ≡ false
+no_wait-push [] w row none off = or_none (w.row == row) false off refl
+no_wait-push (v ∷ ws) w row none off = or_none (v.row == row) _ (or_left (v.row == row) _ none) (no_wait-push ws w row (or_right (v.row == row) _ none) off)
+
+no_wait-drop : (ws : List Awaited) (row : ℕ) → has_wait ws row ≡ false → has_wait (drop 1 ws) row ≡ false
+no_wait-drop [] row none = none
+no_wait-drop (w ∷ ws) row none = or_right (w.row == row) _ none
+
+module _ {n : ℕ} where
+  lacks-push : (es : List (Entry n)) (x : Entry n) (row : ℕ) → has_row es row ≡ false → (x.row == row) ≡ false → has_row (es ++ x ∷ []) row ≡ false
+  lacks-push [] x row none off = or_none (x.row == row) false off refl
+  lacks-push (e ∷ es) x row none off = or_none (e.row == row) _ (or_left (e.row == row) _ none) (lacks-push es x row (or_right (e.row == row) _ none) off)
+
+  lacks-drop : (es : List (Entry n)) (row : ℕ) → has_row es row ≡ false → has_row (drop 1 es) row ≡ false
+  lacks-drop [] row none = none
+  lacks-drop (e ∷ es) row none = or_right (e.row == row) _ none
+
+  lacks-begun : (due : Option ℕ) (newest_of : ℕ → List ℕ) (es : List (Entry n)) (row : ℕ) → has_row es row ≡ false → has_row (begun due newest_of es) row ≡ false
+  lacks-begun (Some region) newest_of es row none = none
+  lacks-begun None newest_of [] row none = none
+  lacks-begun None newest_of (e ∷ es) row none = none
+
+  lacks-merged : (old at : ℕ) (bytes : List ℕ) (given : List Bool) (es : List (Entry n)) (row : ℕ) → has_row es row ≡ false → (at == row) ≡ false → has_row (merged old at bytes given es) row ≡ false
+  lacks-merged old at bytes given [] row none off = refl
+  lacks-merged old at bytes given (e ∷ es) row none off = by (e.row == old) (lacks-merged old at bytes given es row (or_right (e.row == row) _ none) off)
+    where
+      by : (b : Bool) → has_row (merged old at bytes given es) row ≡ false → has_row (if b then laid_on at bytes given e ∷ es else e ∷ merged old at bytes given es) row ≡ false
+      by true rest = or_none (at == row) _ off (or_right (e.row == row) _ none)
+      by false rest = or_none (e.row == row) _ (or_left (e.row == row) _ none) rest
+
+  -- the entry into which a write is merged is there
+  pub candidate-there : (busy : Bool) (es : List (Entry n)) (line old : ℕ) → candidate busy es line ≡ Some old → has_row es old ≡ true
+  candidate-there busy [] line old is = cc
+  candidate-there busy (e ∷ es) line old is = by (newest_row es line) (rest es) (not busy && e.line == line) is
+    where
+      rest : (es : List (Entry n)) → newest_row es line ≡ Some old → has_row es old ≡ true
+      rest [] is = cc
+      rest (f ∷ es) is = own (newest_row es line) (rest es) (f.line == line) is
+        where
+          own : (r : Option ℕ) → (r ≡ Some old → has_row es old ≡ true) → (b : Bool) → or_this r (if b then Some f.row else None) ≡ Some old → has_row (f ∷ es) old ≡ true
+          own (Some at) there b is = or_back (f.row == old) (has_row es old) (there is)
+          own None there true is = let same : f.row ≡ old = cc in ap (λ b. b || has_row es old) (eq-eqb f.row old same)
+          own None there false is = cc
+
+      by : (r : Option ℕ) → (r ≡ Some old → has_row es old ≡ true) → (b : Bool) → or_this r (if b then Some e.row else None) ≡ Some old → has_row (e ∷ es) old ≡ true
+      by (Some at) there b is = or_back (e.row == old) (has_row es old) (there is)
+      by None there true is = let same : e.row ≡ old = cc in ap (λ b. b || has_row es old) (eq-eqb e.row old same)
+      by None there false is = cc
+
+  -- a row that isn't there is another
+  other-row : (es : List (Entry n)) (at row : ℕ) → has_row es at ≡ true → has_row es row ≡ false → (at == row) ≡ false
+  other-row es at row there none = by (at == row) (eqb-true at row)
+    where
+      by : (b : Bool) → (b ≡ true → at ≡ row) → b ≡ false
+      by false is = refl
+      by true is = let bad : has_row es at ≡ false = ap (λ r. has_row es r) (is refl) ∙ none in cc
+
+  on-other : (at row : ℕ) (outcome : Outcome n) → (at == row) ≡ false → on_row at row outcome ≡ None
+  on-other at row outcome off = ap (λ b. cond b (Some outcome) None) off
+
+  module _ (shape : BankShape) (h : List (Event n)) (row : ℕ) (none : has_row (queue shape h) row ≡ false) (waits_not : has_wait (waits shape h) row ≡ false) where
+    queue-lacks : (event : Event n) → is_arrival_of (Core event) row ≡ false → has_row (queue shape (event ∷ h)) row ≡ false
+    queue-lacks (Write at line bytes given wrote.Accepted) off = lacks-push (queue shape h) _ row none off
+    queue-lacks (Write at line bytes given (wrote.Merged old)) off = lacks-merged old at bytes given (queue shape h) row none off
+    queue-lacks (Write at line bytes given wrote.Full) off = none
+    queue-lacks (Write at line bytes given wrote.Exhausted) off = none
+    queue-lacks (Read at line answer) off = none
+    queue-lacks (Serve answer) off = none
+    queue-lacks (Begin (did.Stored at place)) off = lacks-drop (queue shape h) row none
+    queue-lacks (Begin did.More) off = lacks-begun (due_after shape h) (newest h) (queue shape h) row none
+    queue-lacks (Begin (did.Moved step)) off = lacks-begun (due_after shape h) (newest h) (queue shape h) row none
+    queue-lacks (Begin (did.Retired slot line)) off = lacks-begun (due_after shape h) (newest h) (queue shape h) row none
+    queue-lacks (Begin did.Exhausted) off = lacks-begun (due_after shape h) (newest h) (queue shape h) row none
+    queue-lacks (Iterate (did.Stored at place)) off = lacks-drop (queue shape h) row none
+    queue-lacks (Iterate did.More) off = none
+    queue-lacks (Iterate (did.Moved step)) off = none
+    queue-lacks (Iterate (did.Retired slot line)) off = none
+    queue-lacks (Iterate did.Exhausted) off = none
+    queue-lacks (Cut tearing) off = none
+
+    waits-lack : (event : Event n) → is_arrival_of (Core event) row ≡ false → has_wait (waits shape (event ∷ h)) row ≡ false
+    waits-lack (Write at line bytes given answer) off = waits_not
+    waits-lack (Read at line came.Waiting) off = no_wait-push (waits shape h) _ row waits_not off
+    waits-lack (Read at line came.Busy) off = waits_not
+    waits-lack (Read at line (came.Forwarded bytes)) off = waits_not
+    waits-lack (Serve answer) off = no_wait-drop (waits shape h) row waits_not
+    waits-lack (Begin answer) off = waits_not
+    waits-lack (Iterate answer) off = waits_not
+    waits-lack (Cut tearing) off = refl
+
+    -- the write that is stored is the head
+    stored-other : (mark : Bool) (due : Option ℕ) (es : List (Entry n)) (at place : ℕ) → queue shape h ≡ es
+        → IsDone shape h (if mark then Nothing else due_work shape h due es) (did.Stored at place) → (at == row) ≡ false
+    stored-other true due es at place is done = absurd done
+    stored-other false (Some region) es at place is done = absurd done
+    stored-other false None [] at place is done = absurd done
+    stored-other false None (e ∷ es) at place is done =
+        let same : at ≡ e.row = done.0 ∙ ap (λ es. head_row es) is in
+        let lacks : has_row (e ∷ es) row ≡ false = ap (λ es. has_row es row) (sym is) ∙ none in
+        ap (λ r. r == row) same ∙ or_left (e.row == row) (has_row es row) lacks
+
+    served-other : (ws : List Awaited) (answer : Served n) → has_wait ws row ≡ false → IsServed shape h ws answer → (answer.row == row) ≡ false
+    served-other [] answer lacks is = absurd is
+    served-other (w ∷ ws) answer lacks is = ap (λ r. r == row) is.0 ∙ or_left (w.row == row) _ lacks
+
+    no-outcome : (most tick : ℕ) (event : Event n) → MayHappen shape h most event → is_arrival_of (Core event) row ≡ false → outcome_by (waits shape h) event tick row ≡ None
+    no-outcome most tick (Write at line bytes given wrote.Accepted) may off = refl
+    no-outcome most tick (Write at line bytes given (wrote.Merged old)) may off =
+        let told = answer_merged shape h (has_exhausted h) (candidate (head_busy_after shape h) (queue shape h) line) old may.2 in
+        on-other old row _ (other-row (queue shape h) old row (candidate-there (head_busy_after shape h) (queue shape h) line old told.1) none)
+    no-outcome most tick (Write at line bytes given wrote.Full) may off = on-other at row _ off
+    no-outcome most tick (Write at line bytes given wrote.Exhausted) may off = on-other at row _ off
+    no-outcome most tick (Read at line came.Waiting) may off = refl
+    no-outcome most tick (Read at line came.Busy) may off = on-other at row _ off
+    no-outcome most tick (Read at line (came.Forwarded bytes)) may off = on-other at row _ off
+    no-outcome most tick (Serve answer) may off = on-other answer.row row _ (served-other (waits shape h) answer waits_not may)
+    no-outcome most tick (Begin (did.Stored at place)) may off =
+        on-other at row _ (stored-other (has_exhausted h) (due_after shape h) (queue shape h) at place refl may.1)
+    no-outcome most tick (Begin did.More) may off = refl
+    no-outcome most tick (Begin (did.Moved step)) may off = refl
+    no-outcome most tick (Begin (did.Retired slot line)) may off = refl
+    no-outcome most tick (Begin did.Exhausted) may off = refl
+    no-outcome most tick (Iterate (did.Stored at place)) may off =
+        on-other at row _ (stored-other (has_exhausted h) (due_after shape h) (queue shape h) at place refl may.1)
+    no-outcome most tick (Iterate did.More) may off = refl
+    no-outcome most tick (Iterate (did.Moved step)) may off = refl
+    no-outcome most tick (Iterate (did.Retired slot line)) may off = refl
+    no-outcome most tick (Iterate did.Exhausted) may off = refl
+    no-outcome most tick (Cut tearing) may off = ap (λ b. cond b (Some (out.Lost tick)) None) waits_not
+
+module _ {n m : ℕ} (shape : BankShape) (pace : Pacing) (e row : ℕ) (before : ℕ → Outcome n) where
+  -- a row that neither stands nor waits after events, and whose outcome is as before them
+  record IsAside (added xs : List (Timed n m)) : Type 0 where
+    queued : has_row (queue shape (core (added ++ xs))) row ≡ false
+    waiting : has_wait (waits shape (core (added ++ xs))) row ≡ false
+    outcome : outcome_on shape added xs before row ≡ before row
+
+  aside : (added xs : List (Timed n m)) → Lawful shape pace e (added ++ xs) → has_row (queue shape (core xs)) row ≡ false → has_wait (waits shape (core xs)) row ≡ false
+      → arrives_with added row ≡ false → IsAside added xs
+  aside [] xs lawful none waits_not off = record { queued = none; waiting = waits_not; outcome = refl }
+  aside (x ∷ added) xs lawful none waits_not off =
+      let rest : IsAside added xs = aside added xs lawful.1 none waits_not (or_right (is_arrival_of x.happens row) _ off) in
+      let one = by x.happens (added ++ xs) lawful.0 rest.queued rest.waiting (or_left (is_arrival_of x.happens row) _ off) in
+      record {
+        queued = one.0;
+        waiting = one.1;
+        outcome = ap (λ outcome. unwrap_or outcome (outcome_on shape added xs before row)) one.2 ∙ rest.outcome;
+      }
+    where
+      by : (h : Happens n) (ys : List (Timed n m)) → MayCome shape pace e ys x h → has_row (queue shape (core ys)) row ≡ false → has_wait (waits shape (core ys)) row ≡ false
+          → is_arrival_of h row ≡ false
+          → (has_row (queue shape (core_of h (core ys))) row ≡ false) × (has_wait (waits shape (core_of h (core ys))) row ≡ false) × (outcome_with shape ys h x.tick row ≡ None)
+      by (Core event) ys may none waits_not off = (
+        queue-lacks shape (core ys) row none waits_not event off,
+        waits-lack shape (core ys) row none waits_not event off,
+        no-outcome shape (core ys) row none waits_not (most_steps e) x.tick event may.may off,
+      )
+
+pub other_rows_law : OtherRowsLaw
+other_rows_law n m e row added xs clock array before leads lawful none waits_not off =
+    (aside clock.bank.kept.shape clock.pace e row before added xs lawful
+    (ap (λ es. has_row es row) (sym leads.holds.entries) ∙ none)
+    (sym (same_wait n (waits clock.bank.kept.shape (core xs)) row) ∙ ap (λ ws. has_waiting ws row) (sym leads.holds.waiting) ∙ waits_not)
+    off).outcome

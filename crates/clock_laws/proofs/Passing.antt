@@ -1,0 +1,54 @@
+-- A bank that was just made, and time that passes.
+use Rattle.std.proofs.Common.{◌<◌, [], Option, None, refl, sym, ap, subst, ◌∙◌, arith}
+use Rattle.std.specs.Prelude.{IfSome}
+use Rattle.bank_model.specs.declared.clock.Action.{Action}
+use Rattle.bank_model.specs.Timing.{ends}
+use Rattle.bank_model.specs.Running.{chosen_after, running_at}
+use Rattle.bank_invariant.specs.State.{Operation}
+use Rattle.clock_laws.specs.Leads.{CopiesWhatItSensed}
+use Rattle.clock_laws.specs.Starting.{StartLaw}
+use Rattle.clock_laws.specs.Passing.{PassingLaw, IdleLaw, EndingLaterLaw}
+use Rattle.clock_laws.proofs.Ties.{started-same, next-runs, next-none, ends-later}
+
+pub passing_law : PassingLaw
+passing_law n m e to xs clock array leads later above = record {
+  lawful = leads.lawful;
+  holds = leads.holds;
+  told = record {
+    now = omega (arith, leads.told.now, later);
+    runs = next-runs xs clock array leads to later;
+    to_come = above;
+    arrived = leads.told.arrived;
+    cancels = leads.told.cancels;
+    whole = leads.told.whole;
+  };
+  pulses = leads.pulses;
+  copying = leads.copying;
+  taken = leads.taken;
+}
+
+pub idle_law : IdleLaw
+idle_law n m e xs clock array leads none = let idle = next-none xs clock array leads none in record { runs = idle.0; chosen = idle.1 }
+
+pub ending_later_law : EndingLaterLaw
+ending_later_law n m e clock some some_iter above = ends-later clock above some some_iter
+
+pub start_law : StartLaw
+start_law n m e clock array holds idle taken now none empty fresh = record {
+  lawful = tt;
+  holds = holds;
+  told = record {
+    now = omega arith;
+    runs =
+        none
+        ∙ sym (started-same None (chosen_after {n = n} {m = m} clock.bank.kept.shape clock.pace []) 0)
+        ∙ ap (λ tick. running_at {n = n} {m = m} clock.bank.kept.shape clock.pace [] tick) (sym now);
+    to_come = subst (λ (action : Option Action). IfSome action (λ a. clock.tick < ends clock.pace a)) (sym none) tt;
+    arrived = empty;
+    cancels = refl;
+    whole = tt;
+  };
+  pulses = fresh;
+  copying = subst (λ (r : Option (Operation n m e)). IfSome r (CopiesWhatItSensed {n = n} {m = m} [])) (sym idle) tt;
+  taken = taken;
+}

@@ -1,0 +1,183 @@
+-- The array lines that a bank senses and pulses are its own.
+use Rattle.std.proofs.Common.{◌≡◌, ℕ, ◌+◌, ◌-◌, ◌<◌, ◌≤◌, ◌==◌, inl, inr, Bool, true, false, cond, List, [], ◌∷◌, ◌++◌, map, Option, Some, None, refl, sym, ap, subst, ◌∙◌, arith}
+use Rattle.std.specs.Prelude.{All, IfSome}
+use Rattle.std.proofs.lemmas.Bool.{cases_eq, ne_eqb}
+use Rattle.std.proofs.lemmas.List.Elements.{All-nil, All-cons}
+use Rattle.std.proofs.Math.Nat.{mul-le-mul_left}
+use Rattle.masked_bytes.specs.declared.entry.Entry.{Entry}
+use Rattle.pcm_cells.specs.declared.array.Sense.{Sense}
+use Rattle.pcm_cells.specs.Device.{ArrayState, counted, sense_of}
+use Rattle.start_gap.specs.Rotation.{Rotation, below_gap}
+use Rattle.spare_pool.specs.Table.{line_by, used_by}
+use Rattle.spare_pool.proofs.Lines.{line_by-within}
+use Rattle.bank_shape.specs.declared.BankShape.{BankShape}
+use Rattle.bank_shape.specs.declared.Work.{Work}
+use Rattle.bank_shape.specs.declared.Work.TheVariants.{Nothing, Store, Copy}
+use Rattle.bank_shape.specs.Shape.{slots_of, slot_at, lines_in}
+use Rattle.power_recovery.specs.Slots.{bank_lines}
+use Rattle.power_recovery.specs.Kept.{KeptState, IsKept, AllBelow, region_at, slot_of, array_line, stands_at, due_region, due_work, next_work, target_slot}
+use Rattle.power_recovery.proofs.Placing.{slot_of-within, slot_at-within}
+use Rattle.power_recovery.proofs.Bundle.{due_region-Some}
+use Rattle.bank_model.specs.Events.{Event, Write, Read, Serve, Begin, Iterate, Cut}
+use Rattle.bank_model.specs.History.{Awaited, waits}
+use Rattle.bank_model.specs.After.{work_after, target_after, sources_of}
+use Rattle.bank_model.specs.Timing.{Timed}
+use Rattle.bank_model.specs.Sensing.{is_at, pulses_of, stand_of, sensed_by, pulsed_by}
+use Rattle.bank_model.specs.Touching.{Touches, shown}
+use Rattle.bank_invariant.specs.State.{BankState, target_of}
+use Rattle.bank_invariant.specs.Holds.{Holds}
+use Rattle.bank_invariant.specs.Bridge.{AgreesWith}
+use Rattle.bank_invariant.proofs.Awaiting.{waits-known}
+use Rattle.bank_invariant.proofs.Agreeing.{agree_law}
+
+-- a line of a bank's own
+abbrev pub IsIn : BankShape → ℕ → Type 0
+IsIn shape line = (shape.base ≤ line) × (line < shape.base + lines_in shape)
+
+-- lines of a bank's own
+abbrev pub AreIn : BankShape → List ℕ → Type 0
+AreIn shape [] = Unit {0}
+AreIn shape (line ∷ lines) = IsIn shape line × AreIn shape lines
+
+AreIn-append : (shape : BankShape) (first rest : List ℕ) → AreIn shape first → AreIn shape rest → AreIn shape (first ++ rest)
+AreIn-append shape [] rest h k = k
+AreIn-append shape (line ∷ first) rest h k = (h.0, AreIn-append shape first rest h.1 k)
+
+below_gap-within : (n gap : ℕ) → gap ≤ n → below_gap n gap ≤ n
+below_gap-within n gap few =
+    elim (cases_eq gap 0) [
+      | inl end ↦ subst (λ (b : Bool). cond b n (gap - 1) ≤ n) (sym (eq-test end)) (omega arith)
+      | inr further ↦ subst (λ (b : Bool). cond b n (gap - 1) ≤ n) (sym (ne_eqb gap 0 further)) (omega arith)
+    ]
+  where
+    eq-test : gap ≡ 0 → (gap == 0) ≡ true
+    eq-test end = ap (λ (g : ℕ). g == 0) end
+
+module _ {n : ℕ} (kept : KeptState n) (range : IsKept kept) where
+  -- each slot's array line is one of the bank
+  pub array_line-in : (slot : ℕ) → slot < slots_of kept.shape → IsIn kept.shape (array_line kept slot)
+  array_line-in slot below =
+      let within : line_by kept.table slot < kept.table.slots + used_by kept.table = line_by-within kept.table slot (omega (arith, below, range.slots)) in
+      (omega arith, omega (arith, within, range.slots, range.spares, range.table.within))
+
+  pub stands_at-in : (line : ℕ) → line < bank_lines kept.shape → IsIn kept.shape (stands_at kept line)
+  stands_at-in line below = array_line-in (slot_of kept line) (slot_of-within kept range line below)
+
+  some_slots : 0 < slots_of kept.shape
+  some_slots =
+      let more = mul-le-mul_left kept.shape.regions range.shape.some_lines in
+      let lines : 1 ≤ kept.shape.lines + 1 = omega arith in
+      let all = mul-le-mul_left kept.shape.regions lines in
+      omega (arith, all, range.shape.some_regions)
+
+  -- the slots that the next work writes and copies
+  abbrev pub IsSlot : ℕ → Type 0
+  IsSlot slot = slot < slots_of kept.shape
+
+  abbrev pub HasSource : Work → Type 0
+  HasSource Nothing = Unit {0}
+  HasSource (Store line slot) = Unit {0}
+  HasSource (Copy region step) = IsSlot (slot_at kept.shape region step.from)
+
+  next_by : (mark : Bool) (due : Option ℕ) (es : List (Entry n)) → (due ≡ due_region kept) → AllBelow es (bank_lines kept.shape)
+      → IsSlot (target_slot kept (cond mark Nothing (due_work due kept es))) × HasSource (cond mark Nothing (due_work due kept es))
+  next_by true due es is known = (some_slots, tt)
+  next_by false None [] is known = (some_slots, tt)
+  next_by false None (entry ∷ es) is known = (slot_of-within kept range entry.line known.0, tt)
+  next_by false (Some region) es is known =
+      let due = due_region-Some kept region range (sym is) in
+      let own = range.regions region due.0 in
+      let rotation : Rotation = (region_at kept region).rotation in
+      let less : below_gap rotation.lines rotation.gap ≤ rotation.lines = below_gap-within rotation.lines rotation.gap own.in_range.rotates.gap_within in (
+        slot_at-within kept.shape region rotation.gap due.0 (omega (arith, own.rotates, own.in_range.rotates.gap_within)),
+        slot_at-within kept.shape region (below_gap rotation.lines rotation.gap) due.0 (omega (arith, own.rotates, less)),
+      )
+
+  pub target-in : IsIn kept.shape (target_of kept (next_work kept))
+  target-in = array_line-in (target_slot kept (next_work kept)) (next_by kept.exhausted (due_region kept) kept.entries refl range.known).0
+
+  -- and what is due in a bank that may be exhausted
+  pub due-in : IsIn kept.shape (target_of kept (due_work (due_region kept) kept kept.entries))
+  due-in = array_line-in (target_slot kept (due_work (due_region kept) kept kept.entries)) (next_by false (due_region kept) kept.entries refl range.known).0
+
+  pub source-within : HasSource (next_work kept)
+  source-within = (next_by kept.exhausted (due_region kept) kept.entries refl range.known).1
+
+module _ {n m e : ℕ} (h : List (Event n)) (bank : BankState n m e) (array : ArrayState n m) (holds : Holds h bank array) where
+  agreeing : AgreesWith h bank
+  agreeing = agree_law n m e h bank array holds
+
+  first-in : (ws : List Awaited) → All (λ w. w.line < bank_lines bank.kept.shape) ws → AreIn bank.kept.shape (stand_of bank.kept.shape h ws)
+  first-in [] known = tt
+  first-in (w ∷ ws) known =
+      let own : w.line < bank_lines bank.kept.shape = known 0 w (omega arith) in
+      (subst (λ (at : ℕ). IsIn bank.kept.shape at) (agreeing.stands w.line own) (stands_at-in bank.kept holds.kept w.line own), tt)
+
+  sources-in : (work : Work) → HasSource bank.kept holds.kept work → AreIn bank.kept.shape (sources_of bank.kept.shape h work)
+  sources-in Nothing has = tt
+  sources-in (Store line slot) has = tt
+  sources-in (Copy region step) has =
+      (subst (λ (at : ℕ). IsIn bank.kept.shape at) (agreeing.lines (slot_at bank.kept.shape region step.from)) (array_line-in bank.kept holds.kept _ has), tt)
+
+  pub target_after-in : IsIn bank.kept.shape (target_after bank.kept.shape h)
+  target_after-in = subst (λ (at : ℕ). IsIn bank.kept.shape at) agreeing.target (target-in bank.kept holds.kept)
+
+  -- each event senses lines of its bank
+  pub sensed-in : (event : Event n) → AreIn bank.kept.shape (sensed_by bank.kept.shape h event)
+  sensed-in (Write row line bytes given answer) = tt
+  sensed-in (Read row line answer) = tt
+  sensed-in (Serve answer) = first-in (waits bank.kept.shape h) (waits-known bank.kept.shape _ h holds.past)
+  sensed-in (Begin answer) =
+      AreIn-append bank.kept.shape (sources_of bank.kept.shape h (work_after bank.kept.shape h)) (target_after bank.kept.shape h ∷ [])
+      (subst (λ (work : Work). AreIn bank.kept.shape (sources_of bank.kept.shape h work)) agreeing.work (sources-in (next_work bank.kept) (source-within bank.kept holds.kept)))
+      (target_after-in, tt)
+  sensed-in (Iterate answer) = (target_after-in, tt)
+  sensed-in (Cut tearing) = tt
+
+  -- and pulses one of them or none
+  pub pulsed-in : (event : Event n) → IfSome (pulsed_by bank.kept.shape h event) (IsIn bank.kept.shape)
+  pulsed-in (Write row line bytes given answer) = tt
+  pulsed-in (Read row line answer) = tt
+  pulsed-in (Serve answer) = tt
+  pulsed-in (Begin answer) = tt
+  pulsed-in (Iterate answer) = target_after-in
+  pulsed-in (Cut true) = target_after-in
+  pulsed-in (Cut false) = tt
+
+-- Pulses
+
+module _ {n m : ℕ} where
+  -- a line's pulses after an event, told from those before it
+  touched : (tick : ℕ) (sensed : List ℕ) (pulsed : Option ℕ) (tearing : Bool) (old new : ArrayState n m) (line count : ℕ) → Touches tick sensed pulsed tearing old new
+      → (old.line line).pulses ≡ count → (new.line line).pulses ≡ cond (is_at pulsed line) (counted count) count
+  touched tick sensed pulsed tearing old new line count touches before = by (is_at pulsed line) refl
+    where
+      by : (b : Bool) → is_at pulsed line ≡ b → (new.line line).pulses ≡ cond b (counted count) count
+      by true is = touches.pulses line is ∙ ap counted before
+      by false is = ap (λ l. l.pulses) (touches.others line is) ∙ before
+
+  -- the pulses of a bank's lines are those of the history
+  abbrev pub ArePulses : BankShape → List (Timed n m) → ArrayState n m → Type 0
+  ArePulses shape xs array = (line : ℕ) → line < lines_in shape → (array.line (shape.base + line)).pulses ≡ pulses_of xs (shape.base + line)
+
+  pub pulses-at : (shape : BankShape) (xs : List (Timed n m)) (array : ArrayState n m) (line : ℕ) → ArePulses shape xs array → IsIn shape line
+      → (array.line line).pulses ≡ pulses_of xs line
+  pulses-at shape xs array line are is =
+      let there : shape.base + (line - shape.base) ≡ line = omega (arith, is.0) in
+      subst (λ (at : ℕ). (array.line at).pulses ≡ pulses_of xs at) there (are (line - shape.base) (omega (arith, is.0, is.1)))
+
+  pub pulses-next : (shape : BankShape) (xs : List (Timed n m)) (x : Timed n m) (sensed : List ℕ) (tearing : Bool) (old new : ArrayState n m)
+      → ArePulses shape xs old → Touches x.tick sensed x.pulsed tearing old new → ArePulses shape (x ∷ xs) new
+  pulses-next shape xs x sensed tearing old new are touches line below =
+      touched x.tick sensed x.pulsed tearing old new (shape.base + line) (pulses_of xs (shape.base + line)) touches (are line below)
+
+  -- what holds of the sense of each of a bank's lines holds of those that are shown
+  pub shown-all : (shape : BankShape) (tick : ℕ) (sensed : List ℕ) (array : ArrayState n m) (P : Sense n m → Type 0) → AreIn shape sensed
+      → ((line : ℕ) → IsIn shape line → P (sense_of line tick (array.line line))) → All P (shown tick sensed array)
+  shown-all shape tick [] array P are own = All-nil P
+  shown-all shape tick (line ∷ sensed) array P are own =
+      All-cons P (sense_of line tick (array.line line)) (shown tick sensed array) (own line are.0) (shown-all shape tick sensed array P are.1 own)
+
+  pub shown-lines : (tick : ℕ) (sensed : List ℕ) (array : ArrayState n m) → map (λ s. s.line) (shown tick sensed array) ≡ sensed
+  shown-lines tick [] array = refl
+  shown-lines tick (line ∷ sensed) array = ap (λ lines. line ∷ lines) (shown-lines tick sensed array)

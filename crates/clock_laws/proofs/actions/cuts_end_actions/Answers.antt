@@ -1,0 +1,5 @@
+use Rattle.clock_laws.proofs.Ending.{cut_ends_law}
+use Rattle.clock_laws.proofs.actions.cuts_end_actions.Goals as goal
+
+pub returns : goal.returns
+returns c = cut_ends_law

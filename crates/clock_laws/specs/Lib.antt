@@ -1,0 +1,15 @@
+pub mod State
+pub mod Leads
+pub mod Starting
+pub mod Passing
+pub mod Arriving
+pub mod Fitting
+pub mod Newest
+pub mod Remaining
+pub mod Completing
+pub mod Cutting
+pub mod Actions
+pub mod Extending
+pub mod Recording
+pub mod Standing
+pub mod Ending

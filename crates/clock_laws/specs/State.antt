@@ -1,0 +1,37 @@
+-- What contracts see of a bank with its clock.
+use Rattle.std.specs.Prelude.{ℕ, Bool, nat_lt, List, length, Option, Some, None, is_some}
+use Rattle.bank_model.specs.declared.clock.Doing.{Doing}
+use Rattle.bank_model.specs.declared.clock.Action.{Action}
+use Rattle.bank_model.specs.Timing.{Pacing}
+use Rattle.bank_model.specs.Running.{gives_way, chosen_by, choice}
+use Rattle.bank_invariant.specs.State.{BankState, may_begin}
+
+-- the bank, how long its actions last, the present tick, the action that runs, the arrival tick of each entry of the queue, the
+-- oldest first, and whether the bank was drained, so that nothing comes any more
+pub record ClockState (n m e : ℕ) : Type 0 where
+  pub bank : BankState n m e
+  pub pace : Pacing
+  pub tick : ℕ
+  pub action : Option Action
+  pub arrivals : List ℕ
+  pub drained : Bool
+
+-- an action that starts at a tick, if one is chosen
+abbrev pub started_at : ℕ → Option Doing → Option Action
+started_at tick None = None
+started_at tick (Some doing) = Some (record { doing = doing; first = tick })
+
+-- the action that runs, or else this one
+abbrev pub or_else : Option Action → Option Action → Option Action
+or_else (Some action) other = Some action
+or_else None other = other
+
+module _ {n m e : ℕ} where
+  -- what a bank turns to where no action runs
+  abbrev pub chosen : ClockState n m e → Option Doing
+  chosen clock =
+      chosen_by (gives_way clock.pace.policy) (nat_lt 0 (length clock.bank.waiting)) (choice (is_some clock.bank.running) (may_begin clock.bank))
+
+  -- the action that runs from now on: that which runs, or the one that is chosen now
+  abbrev pub next_action : ClockState n m e → Option Action
+  next_action clock = or_else clock.action (started_at clock.tick (chosen clock))

@@ -1,0 +1,36 @@
+//! The laws of a bank that was just made, and of time that passes in which no event comes.
+
+ghost use Rattle.clock_laws.specs.Passing.{PassingLaw, IdleLaw, EndingLaterLaw};
+ghost use Rattle.clock_laws.specs.Fitting.{ChosenLaw};
+ghost use Rattle.clock_laws.specs.Remaining.{FallingLaw};
+ghost use Rattle.clock_laws.specs.Starting.{StartLaw};
+
+/// No event leads to a bank that was just made.
+pub fn banks_start()
+    ensures { StartLaw }
+{}
+
+/// A history leads to its bank at a later tick too, while the action that runs from now on hasn't ended.
+pub fn time_may_pass()
+    ensures { PassingLaw }
+{}
+
+/// A bank in which no action runs and none is chosen has nothing left to do.
+pub fn idle_banks_have_no_work()
+    ensures { IdleLaw }
+{}
+
+/// The action that runs from now on ends later, where senses and iterations last.
+pub fn actions_end_later()
+    ensures { EndingLaterLaw }
+{}
+
+/// An action that is chosen has what it needs: a read waits, a line write may be begun, or one is in progress.
+pub fn chosen_actions_fit()
+    ensures { ChosenLaw }
+{}
+
+/// Each action leaves a bank fewer to take, if nothing arrives.
+pub fn actions_grow_fewer()
+    ensures { FallingLaw }
+{}

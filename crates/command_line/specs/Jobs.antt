@@ -1,0 +1,115 @@
+-- What the words of the program ask for.
+use Rattle.std.specs.Prelude.{◌≡◌, ◌≤◌, true, if◌then◌else◌, List, [], ◌∷◌, codes, Option, Some, None, Result, Ok, Err}
+use Rattle.std.specs.Int.{is_power_of_two}
+use Rattle.std.specs.Str.{bytes_eq}
+use Rattle.clap.specs.Words.{App, Kinds, Row, Text, fault_of, first_of, subcommand_of}
+use Rattle.pcm_cells.specs.Device.{IsWear}
+use Rattle.module_shape.specs.Limits.{IsShape}
+use Rattle.command_line.specs.Table.{pcm_app}
+use Rattle.command_line.specs.Options.{with_some, number_option, line_of, shape_of, seed_of, wear_of, mix_of, print_of, input_of, from_of}
+use Rattle.command_line.specs.declared.job.Job.{Job}
+use Rattle.command_line.specs.declared.job.Job.TheVariants.{Run, Gen, Map, Moves}
+use Rattle.command_line.specs.declared.job.Mix.{Mix}
+use Rattle.command_line.specs.declared.job.MovesJob.{MovesJob}
+use Rattle.command_line.specs.declared.job.Input.{Input}
+use Rattle.command_line.specs.declared.job.Input.TheVariants.{Source, Drawn}
+use Rattle.command_line.specs.declared.job.Refusal.{Refusal}
+use Rattle.command_line.specs.declared.job.Refusal.TheVariants.{Usage, NoMemory}
+
+-- the job of `run` with these options; those of a generated trace are looked at whatever the input is
+unfoldable pub run_of : List Row → Option Job
+run_of rows =
+    with_some (line_of (first_of (codes "line") rows)) (λ line.
+    with_some (shape_of rows) (λ shape.
+    with_some (seed_of rows) (λ seed.
+    with_some (wear_of seed rows) (λ wear.
+    with_some (print_of (first_of (codes "print") rows)) (λ print.
+    with_some (mix_of rows) (λ mix.
+    with_some (input_of mix (first_of (codes "input") rows)) (λ input.
+    Some (Run (record { line = line; shape = shape; seed = seed; wear = wear; print = print; input = input })))))))))
+
+-- the job of `gen`
+unfoldable pub gen_of : List Row → Option Job
+gen_of rows =
+    with_some (line_of (first_of (codes "line") rows)) (λ line.
+    with_some (shape_of rows) (λ shape.
+    with_some (seed_of rows) (λ seed.
+    with_some (mix_of rows) (λ mix.
+    Some (Gen (record { line = line; shape = shape; seed = seed; mix = mix }))))))
+
+-- the job of `map`
+unfoldable pub map_of : List Row → Option Job
+map_of rows =
+    with_some (shape_of rows) (λ shape.
+    with_some (seed_of rows) (λ seed.
+    with_some (from_of rows) (λ from. Some (Map (record { shape = shape; seed = seed; from = from })))))
+
+-- the job of `moves`: a region of 4 to 256 lines, a power of two
+unfoldable pub moves_of : List Row → Option Job
+moves_of rows =
+    with_some (number_option (codes "lines") 64 4 256 rows) (λ lines.
+    with_some (from_of rows) (λ from.
+    if is_power_of_two lines then Some (Moves (record { lines = lines; from = from })) else None))
+
+-- the job of a command with its options
+unfoldable pub job_named : Text → List Row → Option Job
+job_named name rows =
+    if bytes_eq name (codes "run") then run_of rows
+    else (if bytes_eq name (codes "gen") then gen_of rows
+    else (if bytes_eq name (codes "map") then map_of rows
+    else (if bytes_eq name (codes "moves") then moves_of rows else None)))
+
+-- a job, or a faulty command line where there is none, or where `clap` refuses the words for any cause
+abbrev pub or_usage : Option Job → Result Job Refusal
+or_usage None = Err Usage
+or_usage (Some job) = Ok job
+
+abbrev pub answer_of : Kinds → Option Job → Result Job Refusal
+answer_of [] job = or_usage job
+answer_of (kind ∷ kinds) job = Err Usage
+
+-- the job of the command that was found, if one was
+abbrev pub job_met : Option (Text × List Row) → Option Job
+job_met met = with_some met (λ command. job_named command.0 command.1)
+
+-- why `clap` refuses words, the first of which is the program's name; and the command that it finds in them, with its options
+unfoldable pub faults_at : App → List Text → Kinds
+faults_at app words = fault_of app words
+
+unfoldable pub command_at : App → List Text → Option (Text × List Row)
+command_at app words = subcommand_of app words
+
+-- the job of such words
+unfoldable pub job_at : App → List Text → Result Job Refusal
+job_at app words = answer_of (faults_at app words) (job_met (command_at app words))
+
+-- the job of the words behind the program's name
+unfoldable pub job_of : List Text → Result Job Refusal
+job_of words = job_at pcm_app (codes "pcm" ∷ words)
+
+-- the numbers of a generated trace are in range
+pub record IsMix (mix : Mix) : Type 0 where
+  pub some_rows : 1 ≤ mix.rows
+  pub few_rows : mix.rows ≤ 400000
+  pub percent : mix.write_percent ≤ 100
+  pub few_cuts : mix.cuts ≤ mix.rows
+  pub small_step : mix.step ≤ 65535
+  pub few_hot : mix.hot ≤ 65536
+
+abbrev pub IsInput : Input → Type 0
+IsInput Source = Unit {0}
+IsInput (Drawn mix) = IsMix mix
+
+-- a region of a power of two of lines, and a number of gap moves, that can be told
+pub record IsMoves (job : MovesJob) : Type 0 where
+  pub some_lines : 4 ≤ job.lines
+  pub few_lines : job.lines ≤ 256
+  pub power_of_two : is_power_of_two job.lines ≡ true
+  pub few_moves : job.from ≤ 16781312
+
+-- a job whose numbers are in range
+abbrev pub IsJob : Job → Type 0
+IsJob (Run job) = IsShape job.shape × IsWear job.wear × (job.wear.seed ≡ job.seed) × IsInput job.input
+IsJob (Gen job) = IsShape job.shape × IsMix job.mix
+IsJob (Map job) = IsShape job.shape × (job.from ≤ 16781312)
+IsJob (Moves job) = IsMoves job

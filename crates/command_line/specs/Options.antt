@@ -1,0 +1,122 @@
+-- What the options of a command mean.
+use Rattle.std.specs.Prelude.{ℕ, ◌&&◌, nat_le, if◌then◌else◌, List, codes, Option, Some, None}
+use Rattle.std.specs.Str.{bytes_eq}
+use Rattle.clap.specs.Words.{Row, Text, first_of}
+use Rattle.trace_reader.specs.Number.{number_of}
+use Rattle.pcm_cells.specs.declared.array.Wear.{Wear}
+use Rattle.pace.specs.declared.Policy.{Policy}
+use Rattle.pace.specs.declared.Policy.TheVariants as policy
+use Rattle.module_shape.specs.declared.raw.Field.{Field}
+use Rattle.module_shape.specs.declared.raw.RawShape.{RawShape}
+use Rattle.module_shape.specs.Limits.{shape_fault}
+use Rattle.command_line.specs.declared.job.LineSize.{LineSize}
+use Rattle.command_line.specs.declared.job.LineSize.TheVariants.{Bytes64, Bytes128}
+use Rattle.command_line.specs.declared.job.Print.{Print}
+use Rattle.command_line.specs.declared.job.Print.TheVariants as print
+use Rattle.command_line.specs.declared.job.Input.{Input}
+use Rattle.command_line.specs.declared.job.Input.TheVariants.{Source, Drawn}
+use Rattle.command_line.specs.declared.job.Mix.{Mix}
+
+-- the next step with a value, or none where there is none
+abbrev pub with_some : {T U : Type 0} → Option T → (T → Option U) → Option U
+with_some None next = None
+with_some (Some x) next = next x
+
+-- a number of 1 to 20 digits within a range, or the default where no text is given
+unfoldable pub number_or : ℕ → ℕ → ℕ → Option Text → Option ℕ
+number_or default least most None = Some default
+number_or default least most (Some text) =
+    with_some (number_of 20 most text) (λ number. if nat_le least number then Some number else None)
+
+-- an option with a number: its name, its default and its range
+abbrev pub number_option : Text → ℕ → ℕ → ℕ → List Row → Option ℕ
+number_option name default least most rows = number_or default least most (first_of name rows)
+
+-- a size of a module: the limits of a module say which are in range
+abbrev pub size_option : Text → ℕ → List Row → Option ℕ
+size_option name default rows = number_option name default 0 4294967295 rows
+
+-- which of two words a text is, the first one where no text is given
+abbrev pub one_of_two : {T : Type 0} → Text → T → Text → T → Option Text → Option T
+one_of_two first x second y None = Some x
+one_of_two first x second y (Some text) =
+    if bytes_eq text first then Some x else (if bytes_eq text second then Some y else None)
+
+abbrev pub policy_of : Option Text → Option Policy
+policy_of text = one_of_two (codes "pause") policy.Pause (codes "plain") policy.Plain text
+
+abbrev pub line_of : Option Text → Option LineSize
+line_of text = one_of_two (codes "64") Bytes64 (codes "128") Bytes128 text
+
+abbrev pub input_of : Mix → Option Text → Option Input
+input_of mix text = one_of_two (codes "source") Source (codes "drawn") (Drawn mix) text
+
+abbrev pub print_of : Option Text → Option Print
+print_of None = Some print.Results
+print_of (Some text) =
+    if bytes_eq text (codes "results") then Some print.Results
+    else (if bytes_eq text (codes "summary") then Some print.Summary
+    else (if bytes_eq text (codes "wear") then Some print.Wear else None))
+
+-- the sizes of the module that the options ask for
+unfoldable pub raw_of : List Row → Option RawShape
+raw_of rows =
+    with_some (size_option (codes "banks") 4 rows) (λ banks.
+    with_some (size_option (codes "regions") 2 rows) (λ regions.
+    with_some (size_option (codes "lines") 64 rows) (λ lines.
+    with_some (size_option (codes "spares") 8 rows) (λ spares.
+    with_some (size_option (codes "write-queue") 32 rows) (λ writes.
+    with_some (size_option (codes "read-queue") 32 rows) (λ reads.
+    with_some (size_option (codes "psi") 100 rows) (λ psi.
+    with_some (size_option (codes "read-ticks") 5 rows) (λ read_ticks.
+    with_some (size_option (codes "iter-ticks") 10 rows) (λ iter_ticks.
+    with_some (policy_of (first_of (codes "policy") rows)) (λ policy.
+    Some (record {
+      banks = banks;
+      regions = regions;
+      lines = lines;
+      spares = spares;
+      writes = writes;
+      reads = reads;
+      psi = psi;
+      read_ticks = read_ticks;
+      iter_ticks = iter_ticks;
+      policy = policy;
+    })))))))))))
+
+-- sizes with which something is wrong are none
+abbrev pub faultless : RawShape → Option Field → Option RawShape
+faultless raw None = Some raw
+faultless raw (Some field) = None
+
+-- the sizes of the module, if it can have them
+unfoldable pub shape_of : List Row → Option RawShape
+shape_of rows = with_some (raw_of rows) (λ raw. faultless raw (shape_fault raw))
+
+-- the seed
+abbrev pub seed_of : List Row → Option ℕ
+seed_of rows = number_option (codes "seed") 0 0 18446744073709551615 rows
+
+-- how the cells wear out
+unfoldable pub wear_of : ℕ → List Row → Option Wear
+wear_of seed rows =
+    with_some (number_option (codes "lo") 100000000 1 4000000000 rows) (λ lo.
+    with_some (number_option (codes "hi") 100000000 1 4000000000 rows) (λ hi.
+    with_some (number_option (codes "misses") 0 0 7 rows) (λ misses.
+    if nat_le lo hi then Some (record { seed = seed; lo = lo; hi = hi; misses = misses }) else None)))
+
+-- what the rows of a generated trace are
+unfoldable pub mix_of : List Row → Option Mix
+mix_of rows =
+    with_some (number_option (codes "rows") 1000 1 400000 rows) (λ count.
+    with_some (number_option (codes "write-percent") 50 0 100 rows) (λ percent.
+    with_some (number_option (codes "cuts") 0 0 400000 rows) (λ cuts.
+    with_some (number_option (codes "step") 10 0 65535 rows) (λ step.
+    with_some (number_option (codes "hot") 0 0 65536 rows) (λ hot.
+    if nat_le cuts count
+    then Some (record { rows = count; write_percent = percent; cuts = cuts; step = step; hot = hot })
+    else None)))))
+
+-- how many gap moves were made: up to a full turn of 4096 lines
+abbrev pub from_of : List Row → Option ℕ
+from_of rows = number_option (codes "from") 0 0 16781312 rows

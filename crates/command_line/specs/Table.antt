@@ -1,0 +1,50 @@
+-- The commands and their options.
+use Rattle.std.specs.Prelude.{ℕ, List, [], ◌∷◌, codes, true, Some}
+use Rattle.clap.specs.Words.{App, Rule, Shape, Text, new_app, new_rule, with_rule, with_subcommand}
+use Rattle.clap.specs.declared.builder.action.ArgAction.TheVariants.{Set}
+
+-- an option is written by its name, and takes one value
+abbrev pub option_rule : Text → Rule
+option_rule name = record (new_rule name) { long = Some name; action = Some Set }
+
+abbrev pub with_options : App → List Text → App
+with_options app [] = app
+with_options app (name ∷ rest) = with_options (with_rule app (option_rule name)) rest
+
+-- a command with these options
+unfoldable pub leaf_app : Text → List Text → App
+leaf_app name options = with_options (new_app name) options
+
+abbrev pub run_options : List Text
+run_options =
+    codes "banks" ∷ codes "regions" ∷ codes "lines" ∷ codes "line" ∷ codes "spares" ∷ codes "write-queue"
+    ∷ codes "read-queue" ∷ codes "psi" ∷ codes "read-ticks" ∷ codes "iter-ticks" ∷ codes "policy" ∷ codes "seed"
+    ∷ codes "lo" ∷ codes "hi" ∷ codes "misses" ∷ codes "print" ∷ codes "input" ∷ codes "rows"
+    ∷ codes "write-percent" ∷ codes "cuts" ∷ codes "step" ∷ codes "hot" ∷ []
+
+abbrev pub gen_options : List Text
+gen_options =
+    codes "banks" ∷ codes "regions" ∷ codes "lines" ∷ codes "line" ∷ codes "seed" ∷ codes "rows"
+    ∷ codes "write-percent" ∷ codes "cuts" ∷ codes "step" ∷ codes "hot" ∷ []
+
+abbrev pub map_options : List Text
+map_options =
+    codes "banks" ∷ codes "regions" ∷ codes "lines" ∷ codes "spares" ∷ codes "seed" ∷ codes "from" ∷ []
+
+abbrev pub moves_options : List Text
+moves_options = codes "lines" ∷ codes "from" ∷ []
+
+-- the program: no help, no version, no word but a command's name
+abbrev pub top_app : App
+top_app = record (new_app (codes "pcm")) {
+  top = record (new_app (codes "pcm")).top { disable_help_flag = true; disable_help_subcommand = true };
+}
+
+-- with its four commands
+unfoldable pub pcm_app : App
+pcm_app =
+    with_subcommand (with_subcommand (with_subcommand (with_subcommand top_app
+    (leaf_app (codes "run") run_options).top)
+    (leaf_app (codes "gen") gen_options).top)
+    (leaf_app (codes "map") map_options).top)
+    (leaf_app (codes "moves") moves_options).top

@@ -1,0 +1,105 @@
+// What the words ask for.
+use module_shape::Shape;
+use pcm_cells::Wear;
+
+/// What the program is to do.
+#[derive(Clone, Copy, Drop)]
+pub enum Job {
+    /// Replay a trace on a module.
+    Run(RunJob),
+    /// Write a generated trace.
+    Gen(GenJob),
+    /// Tell where every line of a module stands.
+    Map(MapJob),
+    /// Tell the gap moves of a full turn of a region.
+    Moves(MovesJob),
+}
+
+#[derive(Clone, Copy, Drop)]
+pub struct RunJob {
+    pub line: LineSize,
+    pub shape: Shape,
+    /// Picks the keys that mix the lines.
+    pub seed: u64,
+    /// How the cells wear out; its seed is the same.
+    pub wear: Wear,
+    pub print: Print,
+    pub input: Input,
+}
+
+#[derive(Clone, Copy, Drop)]
+pub struct GenJob {
+    pub line: LineSize,
+    pub shape: Shape,
+    /// Picks the rows.
+    pub seed: u64,
+    pub mix: Mix,
+}
+
+#[derive(Clone, Copy, Drop)]
+pub struct MapJob {
+    pub shape: Shape,
+    /// Picks the keys that mix the lines.
+    pub seed: u64,
+    /// How many gap moves every region made.
+    pub from: u64,
+}
+
+#[derive(Clone, Copy, Debug, Drop, PartialEq, Eq)]
+pub struct MovesJob {
+    /// How many lines the region has: a power of two, 4 to 256.
+    pub lines: u32,
+    /// How many gap moves the region made before the first one that is told.
+    pub from: u64,
+}
+
+/// How many bytes a line has.
+#[derive(Clone, Copy, Debug, Drop, PartialEq, Eq)]
+pub enum LineSize {
+    Bytes64,
+    Bytes128,
+}
+
+/// What a run writes.
+#[derive(Clone, Copy, Debug, Drop, PartialEq, Eq)]
+pub enum Print {
+    /// A row for each row of the trace.
+    Results,
+    /// How many rows had each outcome.
+    Summary,
+    /// A row for each array line.
+    Wear,
+}
+
+/// Where a run takes its trace from.
+#[derive(Clone, Copy, Debug, Drop, PartialEq, Eq)]
+pub enum Input {
+    /// The program's input.
+    Source,
+    /// The rows that `gen` writes for the same options.
+    Drawn(Mix),
+}
+
+/// What the rows of a generated trace are.
+#[derive(Clone, Copy, Debug, Drop, PartialEq, Eq)]
+pub struct Mix {
+    /// How many rows, 1 to 400,000.
+    pub rows: u32,
+    /// How many of a hundred reads and writes are writes.
+    pub write_percent: u32,
+    /// How many rows are power cuts, up to all.
+    pub cuts: u32,
+    /// By how much the tick rises at most from row to row, 0 to 65,535.
+    pub step: u32,
+    /// How many of the first lines are hot, 0 to 65,536: nine in ten reads and writes go to them. 0: none are.
+    pub hot: u32,
+}
+
+/// Why words give no job.
+#[derive(Clone, Copy, Debug, Drop, PartialEq, Eq)]
+pub enum Refusal {
+    /// The words name no command, an option isn't one of the command's, or a value is out of its range.
+    Usage,
+    /// Memory ran out.
+    NoMemory,
+}

@@ -1,0 +1,13 @@
+//! The words of the program: the commands `run`, `gen`, `map` and `moves` with their options, as `clap` reads them.
+#![tactic(auto)]
+
+mod job;
+mod options;
+mod read;
+mod table;
+
+pub use job::{GenJob, Input, Job, LineSize, MapJob, Mix, MovesJob, Print, Refusal, RunJob};
+pub use read::read_job;
+
+#[cfg(test)]
+mod tests;

@@ -1,0 +1,201 @@
+// What the options of a command mean.
+ghost use Rattle.std.specs.Prelude.{◌≡◌, ◌≤◌, IfSome, IfOk, codes, option_map};
+ghost use Rattle.clap.specs.Words.{found_of, first_of, rows_of};
+ghost use Rattle.module_shape.specs.Limits.{IsShape};
+ghost use Rattle.pcm_cells.specs.Device.{IsWear};
+ghost use Rattle.command_line.specs.Options.{number_or, number_option, size_option, policy_of, line_of, print_of, input_of, raw_of, shape_of, seed_of, wear_of, mix_of, from_of};
+ghost use Rattle.command_line.specs.Jobs.{IsMix, IsInput};
+
+use crate::job::{Input, LineSize, Mix, Print};
+use clap::ArgMatches;
+use module_shape::{Policy, RawShape, Shape};
+use pcm_cells::Wear;
+use trace_reader::number;
+
+// The value of an option, as text.
+fn value<'a>(matches: &ArgMatches<'a>, name: &str) -> Option<&'a str>
+    ensures { option_map (λ s. s.now) result ≡ first_of name.now (rows_of (found_of matches.now)) }
+{
+    matches.get_str(name)
+}
+
+// The number that a text writes, or the default where there is none.
+#[tactic(auto, unfolding(crate::specs::Options::number_or), using(trace_reader::proofs::Numbers::number_within))]
+fn number_or_default(text: Option<&str>, default: u64, least: u64, most: u64) -> Option<u64>
+    requires { (least ≤ default) × (default ≤ most) }
+    ensures exact { result ≡ number_or default least most (option_map (λ s. s.now) text.entry) }
+    ensures least { IfSome result (λ number. least ≤ number) }
+    ensures most { IfSome result (λ number. number ≤ most) }
+{
+    match text {
+        None => Some(default),
+        Some(text) => {
+            let value = number(text.as_bytes(), 20, most)?;
+            if least <= value { Some(value) } else { None }
+        }
+    }
+}
+
+/// The number of an option, or its default.
+pub fn number_of(
+    matches: &ArgMatches<'_>,
+    name: &str,
+    default: u64,
+    least: u64,
+    most: u64,
+) -> Option<u64>
+    requires { (least ≤ default) × (default ≤ most) }
+    ensures exact { result ≡ number_option name.now default least most (rows_of (found_of matches.now)) }
+    ensures least { IfSome result (λ number. least ≤ number) }
+    ensures most { IfSome result (λ number. number ≤ most) }
+{
+    number_or_default(value(matches, name), default, least, most)
+}
+
+// A size of a module: the limits of a module say which are in range.
+fn size_of(matches: &ArgMatches<'_>, name: &str, default: u32) -> Option<u32>
+    ensures { result ≡ size_option name.now default (rows_of (found_of matches.now)) }
+{
+    let number = number_of(matches, name, u64::from(default), 0, 4_294_967_295)?;
+    Some(number as u32)
+}
+
+fn policy(text: Option<&str>) -> Option<Policy>
+    ensures { result ≡ policy_of (option_map (λ s. s.now) text.entry) }
+{
+    match text {
+        None => Some(Policy::Pause),
+        Some("pause") => Some(Policy::Pause),
+        Some("plain") => Some(Policy::Plain),
+        Some(_) => None,
+    }
+}
+
+/// The size of a line.
+pub fn line(matches: &ArgMatches<'_>) -> Option<LineSize>
+    ensures { result ≡ line_of (first_of (codes "line") (rows_of (found_of matches.now))) }
+{
+    match value(matches, "line") {
+        None => Some(LineSize::Bytes64),
+        Some("64") => Some(LineSize::Bytes64),
+        Some("128") => Some(LineSize::Bytes128),
+        Some(_) => None,
+    }
+}
+
+/// Where a run takes its trace from; a generated one has this mix.
+pub fn input(matches: &ArgMatches<'_>, mix: Mix) -> Option<Input>
+    requires { IsMix mix }
+    ensures exact { result ≡ input_of mix (first_of (codes "input") (rows_of (found_of matches.now))) }
+    ensures in_range { IfSome result IsInput }
+{
+    match value(matches, "input") {
+        None => Some(Input::Source),
+        Some("source") => Some(Input::Source),
+        Some("drawn") => Some(Input::Drawn(mix)),
+        Some(_) => None,
+    }
+}
+
+/// What a run writes.
+pub fn print(matches: &ArgMatches<'_>) -> Option<Print>
+    ensures { result ≡ print_of (first_of (codes "print") (rows_of (found_of matches.now))) }
+{
+    match value(matches, "print") {
+        None => Some(Print::Results),
+        Some("results") => Some(Print::Results),
+        Some("summary") => Some(Print::Summary),
+        Some("wear") => Some(Print::Wear),
+        Some(_) => None,
+    }
+}
+
+// The sizes of the module, in range or not.
+#[tactic(auto, unfolding(crate::specs::Options::raw_of))]
+fn raw(matches: &ArgMatches<'_>) -> Option<RawShape>
+    ensures { result ≡ raw_of (rows_of (found_of matches.now)) }
+{
+    Some(RawShape {
+        banks: size_of(matches, "banks", 4)?,
+        regions: size_of(matches, "regions", 2)?,
+        lines: size_of(matches, "lines", 64)?,
+        spares: size_of(matches, "spares", 8)?,
+        writes: size_of(matches, "write-queue", 32)?,
+        reads: size_of(matches, "read-queue", 32)?,
+        psi: size_of(matches, "psi", 100)?,
+        read_ticks: size_of(matches, "read-ticks", 5)?,
+        iter_ticks: size_of(matches, "iter-ticks", 10)?,
+        policy: policy(value(matches, "policy"))?,
+    })
+}
+
+/// The shape of the module; None where it can't have these sizes.
+#[tactic(auto, unfolding(crate::specs::Options::shape_of))]
+pub fn shape(matches: &ArgMatches<'_>) -> Option<Shape>
+    ensures exact { result ≡ shape_of (rows_of (found_of matches.now)) }
+    ensures in_range { IfSome result IsShape }
+{
+    match Shape::new(raw(matches)?) {
+        Ok(shape) => Some(shape),
+        Err(_) => None,
+    }
+}
+
+/// The seed.
+pub fn seed(matches: &ArgMatches<'_>) -> Option<u64>
+    ensures { result ≡ seed_of (rows_of (found_of matches.now)) }
+{
+    number_of(matches, "seed", 0, 0, u64::MAX)
+}
+
+/// How the cells wear out.
+#[tactic(auto, unfolding(crate::specs::Options::wear_of))]
+pub fn wear(matches: &ArgMatches<'_>, seed: u64) -> Option<Wear>
+    ensures exact { result ≡ wear_of seed (rows_of (found_of matches.now)) }
+    ensures in_range { IfSome result IsWear }
+    ensures seed { IfSome result (λ wear. wear.seed ≡ seed) }
+{
+    let lo = number_of(matches, "lo", 100_000_000, 1, 4_000_000_000)?;
+    let hi = number_of(matches, "hi", 100_000_000, 1, 4_000_000_000)?;
+    let misses = number_of(matches, "misses", 0, 0, 7)?;
+    if hi < lo {
+        return None;
+    }
+    Some(Wear {
+        seed,
+        lo: lo as u32,
+        hi: hi as u32,
+        misses: misses as u8,
+    })
+}
+
+/// What the rows of a generated trace are.
+#[tactic(auto, unfolding(crate::specs::Options::mix_of))]
+pub fn mix(matches: &ArgMatches<'_>) -> Option<Mix>
+    ensures exact { result ≡ mix_of (rows_of (found_of matches.now)) }
+    ensures in_range { IfSome result IsMix }
+{
+    let rows = number_of(matches, "rows", 1000, 1, 400_000)?;
+    let write_percent = number_of(matches, "write-percent", 50, 0, 100)?;
+    let cuts = number_of(matches, "cuts", 0, 0, 400_000)?;
+    let step = number_of(matches, "step", 10, 0, 65_535)?;
+    let hot = number_of(matches, "hot", 0, 0, 65_536)?;
+    if rows < cuts {
+        return None;
+    }
+    Some(Mix {
+        rows: rows as u32,
+        write_percent: write_percent as u32,
+        cuts: cuts as u32,
+        step: step as u32,
+        hot: hot as u32,
+    })
+}
+
+/// How many gap moves were made.
+pub fn from(matches: &ArgMatches<'_>) -> Option<u64>
+    ensures exact { result ≡ from_of (rows_of (found_of matches.now)) }
+    ensures within { IfSome result (λ moves. moves ≤ 16781312) }
+{
+    number_of(matches, "from", 0, 0, 16_781_312)
+}

@@ -1,0 +1,108 @@
+// The commands and their options, as clap is told them.
+ghost use Rattle.std.specs.Prelude.{◌≡◌, IfOk, false, map};
+ghost use Rattle.clap.specs.Words.{app_of, with_rule, with_subcommand};
+ghost use Rattle.clap.specs.declared.builder.command.Command.TheViews.{out-Command};
+ghost use Rattle.command_line.specs.Table.{leaf_app, option_rule, pcm_app, top_app};
+
+use clap::{Arg, ArgAction, Command};
+use std::alloc::{AllocError, Global};
+
+static RUN_OPTIONS: [&str; 22] = [
+    "banks",
+    "regions",
+    "lines",
+    "line",
+    "spares",
+    "write-queue",
+    "read-queue",
+    "psi",
+    "read-ticks",
+    "iter-ticks",
+    "policy",
+    "seed",
+    "lo",
+    "hi",
+    "misses",
+    "print",
+    "input",
+    "rows",
+    "write-percent",
+    "cuts",
+    "step",
+    "hot",
+];
+
+static GEN_OPTIONS: [&str; 10] = [
+    "banks",
+    "regions",
+    "lines",
+    "line",
+    "seed",
+    "rows",
+    "write-percent",
+    "cuts",
+    "step",
+    "hot",
+];
+
+static MAP_OPTIONS: [&str; 6] = ["banks", "regions", "lines", "spares", "seed", "from"];
+
+static MOVES_OPTIONS: [&str; 2] = ["lines", "from"];
+
+// Adds an option that takes one value.
+fn add_option<'a>(
+    alloc: Global,
+    command: Command<'a>,
+    name: &'a str,
+) -> Result<Command<'a>, AllocError>
+    requires { (out-Command command).has_globals ≡ false }
+    ensures app { IfOk result (λ c. app_of c ≡ with_rule (app_of command.entry) (option_rule name.entry.now)) }
+    ensures globals { IfOk result (λ c. (out-Command c).has_globals ≡ false) }
+{
+    command.arg(Arg::new(alloc, name).long(name).action(ArgAction::Set))
+}
+
+// A command with these options.
+fn leaf<'a>(alloc: Global, name: &'a str, options: &'a [&'a str]) -> Result<Command<'a>, AllocError>
+    ensures app { IfOk result (λ c. app_of c ≡ leaf_app name.entry.now (map (λ s. s.now) options.entry.now)) }
+    ensures globals { IfOk result (λ c. (out-Command c).has_globals ≡ false) }
+{
+    let mut command = Command::new(alloc, name);
+    for option in options {
+        command = add_option(alloc, command, option)?;
+    }
+    Ok(command)
+}
+
+// Adds a subcommand with these options.
+fn with_leaf<'a>(
+    alloc: Global,
+    command: Command<'a>,
+    name: &'a str,
+    options: &'a [&'a str],
+) -> Result<Command<'a>, AllocError>
+    ensures { IfOk result (λ c. app_of c ≡ with_subcommand (app_of command.entry) (leaf_app name.entry.now (map (λ s. s.now) options.entry.now)).top) }
+{
+    command.subcommand(leaf(alloc, name, options)?)
+}
+
+// The program's command, without its subcommands.
+fn top_command<'a>(alloc: Global) -> Command<'a>
+    ensures { app_of result ≡ top_app }
+{
+    Command::new(alloc, "pcm")
+        .disable_help_flag(true)
+        .disable_help_subcommand(true)
+}
+
+/// The program's command with its four subcommands.
+#[tactic(auto, unfolding(crate::specs::Table::pcm_app))]
+pub fn pcm_command<'a>(alloc: Global) -> Result<Command<'a>, AllocError>
+    ensures { IfOk result (λ c. app_of c ≡ pcm_app) }
+{
+    let command = top_command(alloc);
+    let command = with_leaf(alloc, command, "run", &RUN_OPTIONS)?;
+    let command = with_leaf(alloc, command, "gen", &GEN_OPTIONS)?;
+    let command = with_leaf(alloc, command, "map", &MAP_OPTIONS)?;
+    with_leaf(alloc, command, "moves", &MOVES_OPTIONS)
+}

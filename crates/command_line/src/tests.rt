@@ -1,0 +1,217 @@
+use crate::{Input, Job, LineSize, Mix, Print, Refusal, read_job};
+use module_shape::Policy;
+use std::alloc::{AllocError, Global};
+use std::test::Fail;
+
+// The job of these words; a want of memory is an error of the test.
+fn read(alloc: Global, line: &[&str]) -> Result<Result<Job, Refusal>, AllocError> {
+    let mut words = Vec::new(alloc);
+    for word in line {
+        words.push(String::from_str(alloc, word)?)?;
+    }
+    Ok(read_job(alloc, words.as_slice()))
+}
+
+#[test]
+fn a_run_has_defaults(rt: HostRuntime) -> Result<(), Fail> {
+    let Ok(Job::Run(job)) = read(rt.alloc(), &["run"])? else {
+        panic!(rt; "no run");
+    };
+    assert!(rt; job.line == LineSize::Bytes64);
+    assert_eq!(rt; job.shape.total(), 512);
+    assert_eq!(rt; job.shape.array_lines(), 552);
+    assert_eq!(rt; job.shape.raw().writes, 32);
+    assert_eq!(rt; job.shape.raw().reads, 32);
+    assert_eq!(rt; job.shape.raw().psi, 100);
+    assert_eq!(rt; job.shape.pace().read, 5);
+    assert_eq!(rt; job.shape.pace().iter, 10);
+    assert!(rt; job.shape.pace().policy == Policy::Pause);
+    assert_eq!(rt; job.seed, 0);
+    assert_eq!(rt; job.wear.lo, 100_000_000);
+    assert_eq!(rt; job.wear.hi, 100_000_000);
+    assert_eq!(rt; job.wear.misses, 0);
+    assert!(rt; job.print == Print::Results);
+    assert!(rt; job.input == Input::Source);
+    Ok(())
+}
+
+#[test]
+fn a_run_takes_every_option(rt: HostRuntime) -> Result<(), Fail> {
+    let words = [
+        "run",
+        "--banks",
+        "2",
+        "--regions",
+        "1",
+        "--lines",
+        "16",
+        "--line=128",
+        "--spares=3",
+        "--write-queue",
+        "7",
+        "--read-queue",
+        "6",
+        "--psi",
+        "9",
+        "--read-ticks",
+        "4",
+        "--iter-ticks",
+        "8",
+        "--policy",
+        "plain",
+        "--seed",
+        "18446744073709551615",
+        "--lo",
+        "10",
+        "--hi",
+        "0020",
+        "--misses",
+        "7",
+        "--print",
+        "wear",
+        "--input",
+        "drawn",
+        "--rows",
+        "5",
+        "--write-percent",
+        "100",
+        "--cuts",
+        "5",
+        "--step",
+        "0",
+        "--hot",
+        "3",
+    ];
+    let Ok(Job::Run(job)) = read(rt.alloc(), &words)? else {
+        panic!(rt; "no run");
+    };
+    assert!(rt; job.line == LineSize::Bytes128);
+    assert_eq!(rt; job.shape.total(), 32);
+    assert_eq!(rt; job.shape.array_lines(), 40);
+    assert_eq!(rt; job.shape.raw().writes, 7);
+    assert_eq!(rt; job.shape.raw().reads, 6);
+    assert_eq!(rt; job.shape.raw().psi, 9);
+    assert_eq!(rt; job.shape.pace().read, 4);
+    assert_eq!(rt; job.shape.pace().iter, 8);
+    assert!(rt; job.shape.pace().policy == Policy::Plain);
+    assert_eq!(rt; job.seed, 18_446_744_073_709_551_615);
+    assert_eq!(rt; job.wear.seed, 18_446_744_073_709_551_615);
+    assert_eq!(rt; job.wear.lo, 10);
+    assert_eq!(rt; job.wear.hi, 20);
+    assert_eq!(rt; job.wear.misses, 7);
+    assert!(rt; job.print == Print::Wear);
+    let mix = Mix {
+        rows: 5,
+        write_percent: 100,
+        cuts: 5,
+        step: 0,
+        hot: 3,
+    };
+    assert!(rt; job.input == Input::Drawn(mix));
+    Ok(())
+}
+
+#[test]
+fn two_dashes_end_the_options(rt: HostRuntime) -> Result<(), Fail> {
+    let Ok(Job::Gen(job)) = read(rt.alloc(), &["gen", "--"])? else {
+        panic!(rt; "no gen");
+    };
+    assert!(rt; job.line == LineSize::Bytes64);
+    assert_eq!(rt; job.shape.total(), 512);
+    assert_eq!(rt; job.seed, 0);
+    let mix = Mix {
+        rows: 1000,
+        write_percent: 50,
+        cuts: 0,
+        step: 10,
+        hot: 0,
+    };
+    assert!(rt; job.mix == mix);
+    assert!(rt; is_usage(&read(rt.alloc(), &["gen", "--", "--rows"])?));
+    Ok(())
+}
+
+#[test]
+fn a_generated_trace_has_its_options(rt: HostRuntime) -> Result<(), Fail> {
+    let words = [
+        "gen",
+        "--banks",
+        "1",
+        "--regions",
+        "1",
+        "--lines",
+        "4",
+        "--rows",
+        "2",
+        "--cuts",
+        "2",
+        "--step",
+        "0",
+    ];
+    let Ok(Job::Gen(job)) = read(rt.alloc(), &words)? else {
+        panic!(rt; "no gen");
+    };
+    assert_eq!(rt; job.shape.total(), 4);
+    assert_eq!(rt; job.mix.rows, 2);
+    assert_eq!(rt; job.mix.cuts, 2);
+    assert_eq!(rt; job.mix.step, 0);
+    Ok(())
+}
+
+#[test]
+fn a_map_and_moves_are_told(rt: HostRuntime) -> Result<(), Fail> {
+    let map = ["map", "--spares", "2", "--seed", "7", "--from", "16781312"];
+    let Ok(Job::Map(job)) = read(rt.alloc(), &map)? else {
+        panic!(rt; "no map");
+    };
+    assert_eq!(rt; job.shape.array_lines(), 528);
+    assert_eq!(rt; job.seed, 7);
+    assert_eq!(rt; job.from, 16_781_312);
+    let Ok(Job::Moves(job)) = read(rt.alloc(), &["moves", "--lines=256"])? else {
+        panic!(rt; "no moves");
+    };
+    assert_eq!(rt; job.lines, 256);
+    assert_eq!(rt; job.from, 0);
+    Ok(())
+}
+
+#[test]
+fn other_words_are_refused(rt: HostRuntime) -> Result<(), Fail> {
+    let lines: [&[&str]; 24] = [
+        &[],
+        &["walk"],
+        &["ru"],
+        &["help"],
+        &["--help"],
+        &["run", "--help"],
+        &["run", "3"],
+        &["run", "--psi"],
+        &["run", "--lines", "5"],
+        &["run", "--psi", "1", "--psi", "1"],
+        &["run", "--from", "1"],
+        &["run", "--seed=18446744073709551616"],
+        &["run", "--seed="],
+        &["run", "--seed", "-1"],
+        &["run", "--seed", "000000000000000000001"],
+        &["run", "--line", "064"],
+        &["run", "--policy", "cancel"],
+        &["run", "--hi", "99999999"],
+        &["run", "--lo", "100000001"],
+        &["run", "--cuts", "1001"],
+        &["map", "--banks", "16", "--regions", "16", "--lines", "512"],
+        &["moves", "--lines", "512"],
+        &["moves", "--lines", "24"],
+        &["moves", "--from", "16781313"],
+    ];
+    for line in &lines {
+        assert!(rt; is_usage(&read(rt.alloc(), line)?));
+    }
+    Ok(())
+}
+
+fn is_usage(job: &Result<Job, Refusal>) -> bool {
+    match job {
+        Err(Refusal::Usage) => true,
+        _ => false,
+    }
+}

@@ -1,0 +1,89 @@
+-- The senses of each of a bank's lines are fair.
+use Rattle.std.proofs.Common.{◌≡◌, ℕ, ◌+◌, ◌-◌, ◌<◌, ◌==◌, ◌&&◌, ◌⊎◌, inl, inr, Bool, true, false, List, [], ◌∷◌, ◌++◌, Some, None, refl, sym, ap, ◌∙◌, subst, arith, cond, append_assoc}
+use Rattle.std.specs.Prelude.{All, nat_lt, not}
+use Rattle.std.proofs.lemmas.List.Elements.{filter-append}
+use Rattle.pcm_cells.specs.declared.array.Sense.{Sense}
+use Rattle.bank_shape.specs.declared.BankShape.{BankShape}
+use Rattle.bank_shape.specs.Shape.{slots_of, lines_in}
+use Rattle.bank_model.specs.declared.clock.Doing.TheVariants.{Serving}
+use Rattle.bank_model.specs.History.{waits}
+use Rattle.bank_model.specs.Timing.{Pacing, Timed, core, is_empty}
+use Rattle.bank_model.specs.Running.{Choice, chosen_by, gives_way, choice_after}
+use Rattle.bank_model.specs.Adding.{senses_of}
+use Rattle.bank_model.specs.Sensing.{pulses_of}
+use Rattle.bank_model.specs.Lawful.{Lawful, IsIdle}
+use Rattle.bank_laws.specs.Laws.{IsSized, rules_of}
+use Rattle.bank_laws.specs.Logs.{begins_unpulsed}
+use Rattle.bank_laws.specs.Outcomes.{rows_from, table_of}
+use Rattle.bank_laws.specs.Settling.{AreOpen}
+use Rattle.bank_laws.proofs.Serves.{idle-waits}
+use Rattle.bank_laws.proofs.Settling.{opens}
+use Rattle.bank_laws.proofs.Walking.{and_both}
+use Rattle.log_laws.specs.Laws.{PulseStepsLaw}
+use Rattle.log_laws.proofs.Chains.{last_of, follow-same, begin-same}
+use Rattle.log_laws.proofs.Owning.{own, own-kept, own-log}
+use Rattle.log_laws.proofs.Pulsing.{Torn, Shown}
+use Rattle.log_laws.proofs.Stepping.{step}
+use Rattle.log_laws.proofs.Targets.{work-begins}
+
+-- where nothing is chosen no line write may be begun
+none-begins : (way reads : Bool) (c : Choice) → chosen_by way reads c ≡ None → c.ready ≡ false
+none-begins way reads c is = by (way && reads) c.busy reads c.ready is
+  where
+    by : (a b r k : Bool) → cond a (Some Serving) (cond b (Some c.going_on) (cond r (Some Serving) (cond k (Some c.beginning) None))) ≡ None → k ≡ false
+    by true b r k is = absurd (cc)
+    by false true r k is = absurd (cc)
+    by false false true k is = absurd (cc)
+    by false false false true is = absurd (cc)
+    by false false false false is = refl
+
+module _ {n m : ℕ} (e : ℕ) (shape : BankShape) (pace : Pacing) (wears : Bool) (line : ℕ) (all : List (Timed n m)) (sized : IsSized shape pace) (lawful : Lawful shape pace e all) where
+  abbrev Known : List (Timed n m) → Type 0
+  Known zs = Shown shape pace (rules_of e shape pace) (rows_from shape all all) wears line all zs
+
+  known : AreOpen shape all → (pre xs : List (Timed n m)) → all ≡ pre ++ xs → Known xs
+  known o pre [] same = inl (record { none = refl; unpulsed = refl; untouched = λ p t. absurd (cc) })
+  known o pre (x ∷ xs) same =
+      step e shape pace wears line all sized lawful o pre x xs same (known o (pre ++ x ∷ []) xs (same ∙ sym (append_assoc pre (x ∷ []) xs)))
+
+  -- where a bank has no work left, no line is torn
+  mended : IsIdle shape pace all → (s : Sense n m) → Torn shape pace (rules_of e shape pace) (rows_from shape all all) wears line all all s → ⊥
+  mended idle s t =
+      let ready = work-begins shape (core all) (waits shape (core all)) refl (idle-waits shape pace all idle) t.stopped t.work in
+      let isnt = none-begins (gives_way pace.policy) (not (is_empty (waits shape (core all)))) (choice_after shape pace all) idle.chosen in
+      absurd (cc (ready, isnt))
+
+  shown_in_end : IsIdle shape pace all → (more : List (Sense n m)) → All (λ s. s.pulses ≡ pulses_of all line) more → Known all
+      → begins_unpulsed (rules_of e shape pace) (rows_from shape all all) wears (pulses_of all line) (own line (senses_of all) ++ more) ≡ true
+  shown_in_end idle more are (inl u) =
+      subst (λ (ss : List (Sense n m)). begins_unpulsed (rules_of e shape pace) (rows_from shape all all) wears (pulses_of all line) (ss ++ more) ≡ true) (sym u.none)
+      (begin-same (rules_of e shape pace) (rows_from shape all all) wears (pulses_of all line) more u.unpulsed are)
+  shown_in_end idle more are (inr v) =
+      subst (λ (ss : List (Sense n m)). begins_unpulsed (rules_of e shape pace) (rows_from shape all all) wears (pulses_of all line) (ss ++ more) ≡ true) (sym v.2.is)
+      (and_both (v.0.pulses == 0) _ (subst (λ p. (p == 0) ≡ true) (sym v.2.first) refl)
+      (follow-same (rules_of e shape pace) (rows_from shape all all) wears (pulses_of all line) v.0 v.1 more v.2.follow (last v.2.now) are))
+    where
+      last : (pulses_of all line ≡ (last_of v.0 v.1).pulses) ⊎ Torn shape pace (rules_of e shape pace) (rows_from shape all all) wears line all all (last_of v.0 v.1)
+          → (last_of v.0 v.1).pulses ≡ pulses_of all line
+      last (inl same) = sym same
+      last (inr torn) = absurd (mended idle (last_of v.0 v.1) torn)
+
+pub pulse_steps_law : PulseStepsLaw
+pulse_steps_law n m e shape pace xs array log extra sized lawful idle leaves is are line from below =
+    subst (λ (ss : List (Sense n m)). begins_unpulsed (rules_of e shape pace) (table_of shape xs) wears ((array.line line).pulses) ss ≡ true) (sym in_log)
+    (subst (λ p. begins_unpulsed (rules_of e shape pace) (table_of shape xs) wears p (own line (senses_of xs) ++ own line extra) ≡ true) (sym pulses)
+    (shown_in_end e shape pace wears line xs sized lawful idle (own line extra)
+    (subst (λ p. All (λ s. s.pulses ≡ p) (own line extra)) pulses (own-kept line (λ l. (array.line l).pulses) extra are))
+    (known e shape pace wears line xs sized lawful (opens shape pace e xs lawful) [] xs refl)))
+  where
+    wears : Bool
+    wears = nat_lt line (shape.base + slots_of shape + shape.spares)
+
+    in_log : own line log ≡ own line (senses_of xs) ++ own line extra
+    in_log = own-log line shape log from below ∙ ap (λ (ss : List (Sense n m)). own line ss) is ∙ filter-append (λ (s : Sense n m). s.line == line) (senses_of xs) extra
+
+    pulses : (array.line line).pulses ≡ pulses_of xs line
+    pulses =
+        let at : shape.base + (line - shape.base) ≡ line = omega arith in
+        let inside : line - shape.base < lines_in shape = omega arith in
+        subst (λ l. (array.line l).pulses ≡ pulses_of xs l) at (leaves.pulses (line - shape.base) inside)

@@ -1,0 +1,39 @@
+-- The action that runs began no earlier than the last sense.
+use Rattle.std.proofs.Common.{ℕ, ◌≤◌, ◌&&◌, Bool, true, false, List, Option, Some, None, cond}
+use Rattle.std.specs.Prelude.{IfSome, nat_lt}
+use Rattle.bank_shape.specs.declared.BankShape.{BankShape}
+use Rattle.bank_model.specs.declared.answer.ReadAnswer.TheVariants as came
+use Rattle.bank_model.specs.declared.clock.Doing.{Doing}
+use Rattle.bank_model.specs.declared.clock.Doing.TheVariants.{Beginning}
+use Rattle.bank_model.specs.declared.clock.Action.{Action}
+use Rattle.bank_model.specs.Events.{Event, Write, Read, Serve, Begin, Iterate, Cut}
+use Rattle.bank_model.specs.After.{work_after, is_store_of}
+use Rattle.bank_model.specs.Timing.{is_doing}
+use Rattle.bank_model.specs.Running.{started, left}
+
+-- an action, if there is one, began at this tick or later
+abbrev pub BeganFrom : ℕ → Option Action → Type 0
+BeganFrom p action = IfSome action (λ a. p ≤ a.first)
+
+pub started-from : (p : ℕ) (r : Option Action) (d : Option Doing) (last tick : ℕ) → BeganFrom p r → p ≤ last → BeganFrom p (started r d last tick)
+started-from p (Some action) d last tick h le = h
+started-from p None None last tick h le = tt
+started-from p None (Some doing) last tick h le = by (nat_lt last tick)
+  where
+    by : (b : Bool) → BeganFrom p (cond b (Some (record { doing = doing; first = last })) None)
+    by true = le
+    by false = tt
+
+pub left-from : {n : ℕ} (shape : BankShape) (h : List (Event n)) (event : Event n) (p : ℕ) (action : Option Action) → BeganFrom p action → BeganFrom p (left shape h event action)
+left-from shape h (Write row line bytes given answer) p action b = b
+left-from shape h (Read row line came.Waiting) p action b = by (is_doing Beginning action && is_store_of line (work_after shape h))
+  where
+    by : (c : Bool) → BeganFrom p (cond c None action)
+    by true = tt
+    by false = b
+left-from shape h (Read row line came.Busy) p action b = b
+left-from shape h (Read row line (came.Forwarded bytes)) p action b = b
+left-from shape h (Serve answer) p action b = tt
+left-from shape h (Begin answer) p action b = tt
+left-from shape h (Iterate answer) p action b = tt
+left-from shape h (Cut tearing) p action b = tt

@@ -1,0 +1,152 @@
+-- Each row that was stored or read has its sense in the log.
+use Rattle.std.proofs.Common.{◌≡◌, ℕ, ◌+◌, ◌==◌, ◌&&◌, ◌||◌, inl, inr, Bool, true, false, List, [], ◌∷◌, ◌++◌, refl, sym, ap, ◌∙◌, subst, cond, length, append_assoc}
+use Rattle.std.specs.Prelude.{filter, nat_le, nat_lt}
+use Rattle.std.specs.List.{list_any}
+use Rattle.std.proofs.lemmas.List.Folds.{list_any-append}
+use Rattle.pcm_cells.specs.declared.array.Sense.{Sense}
+use Rattle.ecp_line.specs.Reading.{decode}
+use Rattle.result_rows.specs.declared.Outcome.{Outcome}
+use Rattle.result_rows.specs.declared.Outcome.TheVariants as out
+use Rattle.masked_bytes.specs.Masked.{laid, gives_all}
+use Rattle.masked_bytes.specs.Entries.{layer_of}
+use Rattle.row_laws.specs.declared.Row.{Row}
+use Rattle.row_laws.specs.declared.Asks.TheVariants.{Reads, Writes}
+use Rattle.row_laws.specs.Queueing.{cover}
+use Rattle.row_laws.specs.Rows as rows
+use Rattle.row_laws.specs.Rows.{each_row}
+use Rattle.row_laws.specs.Serving.{may_have, same_bytes}
+use Rattle.bank_shape.specs.declared.BankShape.{BankShape}
+use Rattle.bank_shape.specs.Shape.{lines_in}
+use Rattle.bank_model.specs.declared.answer.WriteAnswer.{WriteAnswer}
+use Rattle.bank_model.specs.declared.answer.ReadAnswer.{ReadAnswer}
+use Rattle.bank_model.specs.declared.answer.ReadAnswer.TheVariants as came
+use Rattle.bank_model.specs.Events.{Write, Read, Serve, Begin, Iterate, Cut, newest}
+use Rattle.bank_model.specs.History.{Awaited, awaited, queue, waits}
+use Rattle.bank_model.specs.Adding.{senses_of}
+use Rattle.bank_model.specs.Timing.{Pacing, Happens, Core, Timed, core, core_of}
+use Rattle.bank_model.specs.Lawful.{Lawful, MayCome}
+use Rattle.bank_laws.specs.Laws.{IsSized, log_of}
+use Rattle.bank_laws.specs.Logs.{is_sensed, outcome_sensed, has_sense}
+use Rattle.bank_laws.specs.Outcomes.{outcome_of, ended, row_with, rows_from}
+use Rattle.bank_laws.specs.Settling.{AreOpen}
+use Rattle.bank_laws.specs.Ticks.{ends_action}
+use Rattle.bank_laws.proofs.Ending.{Onwards, own_answer, outcome-may, write_outcome}
+use Rattle.bank_laws.proofs.Fates.{Awaits, IsSettled, ReadFate, awaits-new, or_first}
+use Rattle.bank_laws.proofs.Serves.{idle-waits, may_at, newest_same, onwards_at}
+use Rattle.bank_laws.proofs.Settling.{opens}
+use Rattle.bank_laws.proofs.Walking.{Passes, walk, rows_after}
+use Rattle.log_laws.specs.Laws.{SensedLaw}
+use Rattle.log_laws.proofs.Given.{given_of, given-layer}
+use Rattle.log_laws.proofs.Reading.{read-sensed}
+use Rattle.log_laws.proofs.Storing.{stored-sensed}
+use Rattle.log_laws.proofs.Uncovering.{cover-same}
+
+any-filter : {X : Type 0} (p keep : X → Bool) (xs : List X) → list_any p (filter keep xs) ≡ true → list_any p xs ≡ true
+any-filter p keep [] h = h
+any-filter p keep (x ∷ xs) h = by (keep x) (p x) (λ k. any-filter p keep xs k) refl h
+  where
+    by : (b c : Bool) → (list_any p (filter keep xs) ≡ true → list_any p xs ≡ true) → p x ≡ c → list_any p (cond b (x ∷ filter keep xs) (filter keep xs)) ≡ true → (c || list_any p xs) ≡ true
+    by b true rest is h = refl
+    by true false rest is h = rest (ap (λ c. c || list_any p (filter keep xs)) (sym is) ∙ h)
+    by false false rest is h = rest h
+
+-- a read waits only where the queue doesn't give all bytes
+waits-some : {n : ℕ} (all full : Bool) (bytes : List ℕ) → ◌≡◌ {A = ReadAnswer n} came.Waiting (cond all (came.Forwarded bytes) (cond full came.Busy came.Waiting)) → all ≡ false
+waits-some true full bytes is = absurd (cc)
+waits-some false full bytes is = refl
+
+module _ {n m : ℕ} (shape : BankShape) (pace : Pacing) (e : ℕ) (all : List (Timed n m)) (log extra : List (Sense n m)) (sized : IsSized shape pace) (l : Lawful shape pace e all) (o : AreOpen shape all) (shown : log_of shape log ≡ senses_of all ++ extra) where
+  -- what the history sensed is in the log
+  in-log : (place tick : ℕ) (gives : List ℕ → Bool) → is_sensed (decode e) (senses_of all) place tick gives ≡ true → is_sensed (decode e) log place tick gives ≡ true
+  in-log place tick gives there =
+      any-filter (λ (s : Sense n m). s.line == place && (s.tick == tick && gives (decode e s.cells))) (λ s. nat_le shape.base s.line && nat_lt s.line (shape.base + lines_in shape)) log
+      (ap (λ ss. is_sensed (decode e) ss place tick gives) shown ∙ list_any-append _ (senses_of all) extra ∙ or_first (is_sensed (decode e) (senses_of all) place tick gives) _ there)
+
+  module _ (later : List (Timed n m)) (x : Timed n m) (ys : List (Timed n m)) (same : all ≡ later ++ x ∷ ys) where
+    whole : Lawful shape pace e (later ++ x ∷ ys)
+    whole = subst (λ (xs : List (Timed n m)). Lawful shape pace e xs) same l
+
+    written : (row line : ℕ) (bytes : List ℕ) (given : List Bool) (answer : WriteAnswer) (r : Row n) (after : List (Row n)) (k : Outcome n) → x.happens ≡ Core (Write row line bytes given answer)
+        → rows.newest (r ∷ rows_from shape all ys) (rows.line_of r.asks) ≡ newest (Write row line bytes given answer ∷ core ys) line
+        → may_have {n = n} x.tick (Writes line bytes given) [] (ended x.tick k) ≡ true → outcome_of shape all row ≡ k
+        → outcome_sensed (decode e) log (rows_from shape all ys) r after (ended x.tick k) ≡ true
+    written row line bytes given answer r after out.Unset is newest_is may of = refl
+    written row line bytes given answer r after (out.Stored u p) is newest_is may of =
+        in-log p u (same_bytes (rows.newest (r ∷ rows_from shape all ys) (rows.line_of r.asks)))
+        (subst (λ (xs : List (Timed n m)). is_sensed (decode e) (senses_of xs) p u (same_bytes (rows.newest (r ∷ rows_from shape all ys) (rows.line_of r.asks))) ≡ true) (sym same)
+        (subst (λ b. is_sensed (decode e) (senses_of (later ++ x ∷ ys)) p u (same_bytes b) ≡ true) (sym newest_is)
+        (stored-sensed shape pace e later x ys row line bytes given answer is whole u p (sym (ap (λ xs. outcome_of shape xs row) same) ∙ of))))
+    written row line bytes given answer r after (out.Merged at) is newest_is may of = refl
+    written row line bytes given answer r after (out.Queued at) is newest_is may of = refl
+    written row line bytes given answer r after (out.Full at) is newest_is may of = refl
+    written row line bytes given answer r after (out.Worn at) is newest_is may of = refl
+    written row line bytes given answer r after (out.Read at place some) is newest_is may of = absurd (cc)
+    written row line bytes given answer r after (out.Forwarded at some) is newest_is may of = refl
+    written row line bytes given answer r after (out.Busy at) is newest_is may of = refl
+    written row line bytes given answer r after (out.Lost at) is newest_is may of = refl
+    written row line bytes given answer r after (out.Cut at) is newest_is may of = refl
+
+    waited : (row line : ℕ) (k : Outcome n) → x.happens ≡ Core (Read row line came.Waiting) → gives_all (layer_of (queue shape (core ys)) line).given ≡ false → rows.newest (rows_from shape all ys) line ≡ newest (core ys) line
+        → IsSettled (newest (core ys) line) k → outcome_of shape all row ≡ k
+        → outcome_sensed (decode e) log (rows_from shape all ys) (record { tick = x.tick; asks = Reads line; outcome = k }) (rows_after shape all later) k ≡ true
+    waited row line (out.Read u p bytes) is some newest_is settled of =
+        let mine : Awaited = awaited row line (newest (core ys) line) (layer_of (queue shape (core ys)) line) in
+        let layer : (layer_of (queue shape (core ys)) line).given ≡ given_of (queue shape (core ys)) line = given-layer (queue shape (core ys)) line in
+        let covered : cover x.tick line (rows_from shape all ys) (rows_after shape all later) ≡ (layer_of (queue shape (core ys)) line).given =
+        cover-same shape pace e all sized l o later x ys same line (ap ends_action is) (sym (ap gives_all layer) ∙ some) ∙ sym layer in
+        in-log p u (λ under. same_bytes bytes (laid (rows.newest (rows_from shape all ys) line) (cover x.tick line (rows_from shape all ys) (rows_after shape all later)) under))
+        (subst (λ (xs : List (Timed n m)). is_sensed (decode e) (senses_of xs) p u (λ under. same_bytes bytes (laid (rows.newest (rows_from shape all ys) line) (cover x.tick line (rows_from shape all ys) (rows_after shape all later)) under)) ≡ true) (sym same)
+        (subst (λ c. is_sensed (decode e) (senses_of (later ++ x ∷ ys)) p u (λ under. same_bytes bytes (laid (rows.newest (rows_from shape all ys) line) c under)) ≡ true) (sym covered)
+        (subst (λ b. is_sensed (decode e) (senses_of (later ++ x ∷ ys)) p u (λ under. same_bytes bytes (laid b (layer_of (queue shape (core ys)) line).given under)) ≡ true) (sym newest_is)
+        (read-sensed shape pace e mine x ys line is (ap (λ h. waits shape (core_of h (core ys))) is) later whole u p bytes (sym (ap (λ xs. outcome_of shape xs row) same) ∙ of)))))
+    waited row line out.Unset is some newest_is settled of = absurd settled
+    waited row line (out.Stored at place) is some newest_is settled of = absurd settled
+    waited row line (out.Merged at) is some newest_is settled of = absurd settled
+    waited row line (out.Queued at) is some newest_is settled of = absurd settled
+    waited row line (out.Full at) is some newest_is settled of = absurd settled
+    waited row line (out.Worn at) is some newest_is settled of = absurd settled
+    waited row line (out.Forwarded at bytes) is some newest_is settled of = absurd settled
+    waited row line (out.Busy at) is some newest_is settled of = absurd settled
+    waited row line (out.Lost at) is some newest_is settled of = refl
+    waited row line (out.Cut at) is some newest_is settled of = absurd settled
+
+    settled_in_end : (row : ℕ) (owed : List ℕ) → waits shape (core all) ≡ [] → ReadFate shape all row owed → IsSettled owed (outcome_of shape all row)
+    settled_in_end row owed none (inl a) = absurd (subst (λ ws. Awaits ws row owed) none a)
+    settled_in_end row owed none (inr s) = s
+
+    -- the row of each event has its sense
+    sensed_at : waits shape (core all) ≡ [] → Passes (has_sense (decode e) log) (rows_from shape all ys) (row_with shape all x.happens x.tick x.cancels) (rows_after shape all later)
+    sensed_at none =
+        by x.happens x.cancels refl (may_at shape pace e all later x ys l same) (onwards_at shape pace e all later x ys l same)
+        (λ line. newest_same shape pace e all (later ++ x ∷ []) ys line l o (same ∙ sym (append_assoc later (x ∷ []) ys)))
+        (λ line. newest_same shape pace e all later (x ∷ ys) line l o same)
+      where
+        by : (h : Happens n) (cancels : Bool) → x.happens ≡ h → MayCome shape pace e ys x h → Onwards shape all ys x.tick h
+            → ((line : ℕ) → rows.newest (rows_from shape all ys) line ≡ newest (core ys) line)
+            → ((line : ℕ) → rows.newest (rows_from shape all (x ∷ ys)) line ≡ newest (core (x ∷ ys)) line)
+            → Passes (has_sense (decode e) log) (rows_from shape all ys) (row_with shape all h x.tick cancels) (rows_after shape all later)
+        by (Core (Write row line bytes given answer)) cancels is may on old new =
+            written row line bytes given answer (record { tick = x.tick; asks = Writes line bytes given; outcome = ended x.tick (outcome_of shape all row) }) (rows_after shape all later) (outcome_of shape all row) is
+            (sym (ap (λ h. rows.newest (row_with shape all h x.tick x.cancels ++ rows_from shape all ys) line) is) ∙ new line ∙ ap (λ h. newest (core_of h (core ys)) line) is)
+            (outcome-may x.tick line bytes given answer (ended x.tick (outcome_of shape all row)) (write_outcome shape pace e all ys x row line bytes given answer o may on)) refl
+        by (Core (Read row line (came.Forwarded bytes))) cancels is may on old new =
+            ap (outcome_sensed (decode e) log (rows_from shape all ys) (record { tick = x.tick; asks = Reads line; outcome = outcome_of shape all row }) (rows_after shape all later))
+            (own_answer shape pace e all ys x (Core (Read row line (came.Forwarded bytes))) row (out.Forwarded x.tick bytes) on refl (λ un. absurd (cc)))
+        by (Core (Read row line came.Busy)) cancels is may on old new =
+            ap (outcome_sensed (decode e) log (rows_from shape all ys) (record { tick = x.tick; asks = Reads line; outcome = outcome_of shape all row }) (rows_after shape all later))
+            (own_answer shape pace e all ys x (Core (Read row line came.Busy)) row (out.Busy x.tick) on refl (λ un. absurd (cc)))
+        by (Core (Read row line came.Waiting)) cancels is may on old new =
+            waited row line (outcome_of shape all row) is
+            (waits-some (gives_all (layer_of (queue shape (core ys)) line).given) (length (waits shape (core ys)) == shape.reads) (newest (core ys) line) may.may.1) (old line)
+            (settled_in_end row (newest (core ys) line) none
+            (on.reads row (newest (core ys) line) (inl (awaits-new (waits shape (core ys)) (awaited row line (newest (core ys) line) (layer_of (queue shape (core ys)) line)))))) refl
+        by (Core (Serve answer)) cancels is may on old new = tt
+        by (Core (Begin answer)) cancels is may on old new = tt
+        by (Core (Iterate answer)) cancels is may on old new = tt
+        by (Core (Cut tearing)) true is may on old new = tt
+        by (Core (Cut tearing)) false is may on old new = refl
+
+pub sensed_law : SensedLaw
+sensed_law n m e shape pace xs log extra sized l idle shown =
+    walk shape xs (has_sense (decode e) log) [] xs refl
+    (λ later x ys same. sensed_at shape pace e xs log extra sized l (opens shape pace e xs l) shown later x ys same (idle-waits shape pace xs idle))

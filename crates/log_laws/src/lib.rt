@@ -1,0 +1,34 @@
+//! The laws of a bank's log: what the senses show of a lawful history's rows, and of the pulses of its lines. A law is what
+//! a function here ensures; the functions do nothing when they run.
+#![tactic(auto)]
+
+ghost use Rattle.log_laws.specs.Laws.{PulseStepsLaw, SensedLaw, WholeLogLaw};
+
+/// The first sense of a line carries no pulses, the next at most one more each, an iteration later or broken off by a cut,
+/// none behind a bank's wearing out, and the last the line's pulses.
+pub fn pulses_are_sensed()
+    ensures { PulseStepsLaw }
+{}
+
+/// Each row that was stored or read has a sense of its place at its tick, and its cells are read right.
+pub fn rows_are_sensed()
+    ensures { SensedLaw }
+{}
+
+/// The law of a bank's log: both of these.
+pub fn logs_are_fair()
+    ensures { WholeLogLaw }
+{}
+
+/// The laws are facts, and cost nothing to ask for.
+#[cfg(test)]
+mod tests {
+    use crate::{logs_are_fair, pulses_are_sensed, rows_are_sensed};
+
+    #[test]
+    fn laws_hold_of_every_history() {
+        pulses_are_sensed();
+        rows_are_sensed();
+        logs_are_fair();
+    }
+}

@@ -1,0 +1,13 @@
+//! The sizes of a module: so many banks of so many regions of so many lines. Which sizes a module may have, the shape and
+//! the pace of its banks, and in which bank a line stands.
+#![tactic(auto)]
+
+mod raw;
+mod shape;
+
+pub use pace::{Pace, Policy};
+pub use raw::{BadShape, Field, RawShape};
+pub use shape::{BankLine, Shape};
+
+#[cfg(test)]
+mod tests;

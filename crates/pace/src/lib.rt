@@ -1,0 +1,66 @@
+//! How fast a bank works: the ticks of a sense and of an iteration, and when a line write gives way to a read (write
+//! pausing, Qureshi et al., HPCA 2010).
+#![tactic(auto)]
+
+ghost use Rattle.std.specs.Prelude.{◌≡◌};
+ghost use Rattle.bank_model.specs.Running.{gives_way};
+ghost use Rattle.pace.specs.Policies.{pausing_of};
+
+/// When a line write gives way to a read.
+#[derive(Clone, Copy, Debug, PartialEq, Eq)]
+pub enum Policy {
+    /// A waiting read goes first, between two iterations; the write then resumes.
+    Pause,
+    /// A line write in progress goes on to its end.
+    Plain,
+}
+
+/// How fast a bank works, and what goes first.
+#[derive(Clone, Copy, Debug, PartialEq, Eq)]
+pub struct Pace {
+    /// Ticks of a sense, 1 to 255.
+    pub read: u32,
+    /// Ticks of an iteration, which is a pulse and the sense behind it, 1 to 255.
+    pub iter: u32,
+    /// When a line write gives way.
+    pub policy: Policy,
+}
+
+impl Policy {
+    /// Whether a line write gives way to a waiting read between two iterations.
+    pub fn gives_way(&self) -> bool
+        ensures { result ≡ gives_way (pausing_of self.now) }
+    {
+        match self {
+            Policy::Pause => true,
+            Policy::Plain => false,
+        }
+    }
+}
+
+#[cfg(test)]
+mod tests {
+    use super::*;
+
+    #[test]
+    fn a_pausing_write_gives_way(rt: HostRuntime) {
+        assert!(rt; Policy::Pause.gives_way());
+        assert!(rt; !Policy::Plain.gives_way());
+    }
+
+    #[test]
+    fn tells_paces_apart(rt: HostRuntime) {
+        let pace = Pace {
+            read: 5,
+            iter: 10,
+            policy: Policy::Pause,
+        };
+        assert!(rt; pace == pace);
+        let plain = Pace {
+            read: 5,
+            iter: 10,
+            policy: Policy::Plain,
+        };
+        assert!(rt; pace != plain);
+    }
+}

@@ -1,0 +1,76 @@
+-- Reads cancel one line write few times.
+use Rattle.std.proofs.Common.{◌≡◌, ℕ, ◌+◌, ◌*◌, ◌<◌, ◌≤◌, ◌&&◌, not, Bool, true, false, List, [], ◌∷◌, refl, arith}
+use Rattle.std.specs.Prelude.{nat_lt}
+use Rattle.std.proofs.lemmas.Bool.{ltb-true}
+use Rattle.bank_shape.specs.declared.BankShape.{BankShape}
+use Rattle.bank_shape.specs.Pausing.{Pausing, is_cancelling, most_cancels}
+use Rattle.bank_model.specs.declared.answer.Step.TheVariants as did
+use Rattle.bank_model.specs.Events.{Write, Read, Serve, Begin, Iterate, Cut}
+use Rattle.bank_model.specs.History.{has_exhausted, waits}
+use Rattle.bank_model.specs.Running.{running_at, cancels_with, cancels_after}
+use Rattle.bank_model.specs.Timing.{Pacing, Happens, Core, Timed, is_writing, is_empty, core, core_of}
+use Rattle.bank_model.specs.Lawful.{Lawful, MayCome, would_cancel}
+use Rattle.place_laws.proofs.Counts.{one_if}
+use Rattle.place_laws.proofs.Pulsing.{ends_work, cancels_work, ends_in, cancels_in}
+use Rattle.place_laws.proofs.Trying.{still_at}
+
+-- a read that would cancel finds a policy that cancels, a line write that runs, and few cancels
+cancels-when : (p w empty : Bool) (count : ℕ) → (p && (w && (empty && nat_lt count most_cancels))) ≡ true → (p ≡ true) × (w ≡ true) × (count < most_cancels)
+cancels-when true true true count h = (refl, refl, ltb-true count most_cancels h)
+cancels-when true true false count h = absurd (cc)
+cancels-when true false empty count h = absurd (cc)
+cancels-when false w empty count h = absurd (cc)
+
+-- after each line write that ended at most four were cancelled, and so for the present one; none once the bank is exhausted, and
+-- none where reads don't cancel
+pub record KeepsCancels (policy : Pausing) (ex : Bool) (cancels ends count : ℕ) : Type 0 where
+  pub few : cancels ≤ 4 * ends + count
+  pub most : count ≤ 4
+  pub calm : ex ≡ true → count ≡ 0
+  pub plain : is_cancelling policy ≡ false → cancels ≡ 0
+
+passed : (policy : Pausing) (ex : Bool) (cancels ends count : ℕ) → KeepsCancels policy ex cancels ends count → KeepsCancels policy ex (0 + cancels) (0 + ends) count
+passed policy ex cancels ends count k = record { few = omega (arith, k.few); most = k.most; calm = k.calm; plain = λ is. omega (arith, k.plain is) }
+
+closed : (policy : Pausing) (ex new : Bool) (cancels ends count : ℕ) → KeepsCancels policy ex cancels ends count → KeepsCancels policy new (0 + cancels) (1 + ends) 0
+closed policy ex new cancels ends count k = record { few = omega (arith, k.few, k.most); most = omega arith; calm = λ is. refl; plain = λ is. omega (arith, k.plain is) }
+
+module _ {n m : ℕ} (shape : BankShape) (pace : Pacing) (e : ℕ) where
+  cut_kept : (xs : List (Timed n m)) (tick : ℕ) (by_read : Bool) (cancels ends : ℕ) → Lawful shape pace e xs
+      → (by_read ≡ true → would_cancel shape (core xs) pace.policy (running_at shape pace xs tick) (cancels_after xs) ≡ true)
+      → KeepsCancels pace.policy (has_exhausted (core xs)) cancels ends (cancels_after xs)
+      → KeepsCancels pace.policy (has_exhausted (core xs)) (one_if by_read + cancels) (one_if (not by_read) + ends) (cancels_with {n = n} (Core (Cut true)) by_read (cancels_after xs))
+  cut_kept xs tick true cancels ends l would k =
+      let w = cancels-when (is_cancelling pace.policy) (is_writing (running_at shape pace xs tick)) (is_empty (waits shape (core xs))) (cancels_after xs) (would refl) in
+      record {
+        few = omega (arith, k.few);
+        most = omega (arith, w.2);
+        calm = λ ex. absurd (cc (still_at shape pace e xs tick l ex, w.1));
+        plain = λ is. absurd (cc (w.0, is));
+      }
+  cut_kept xs tick false cancels ends l would k = closed pace.policy (has_exhausted (core xs)) (has_exhausted (core xs)) cancels ends (cancels_after xs) k
+
+  pub cancels-kept : (xs : List (Timed n m)) → Lawful shape pace e xs → KeepsCancels pace.policy (has_exhausted (core xs)) (cancels_in xs) (ends_in xs) (cancels_after xs)
+  cancels-kept [] l = record { few = omega arith; most = omega arith; calm = λ is. refl; plain = λ is. refl }
+  cancels-kept (x ∷ xs) l = by x.happens x.cancels refl l.0 (cancels-kept xs l.1)
+    where
+      before : Lawful shape pace e xs
+      before = l.1
+
+      by : (h : Happens n) (cancels : Bool) → x.cancels ≡ cancels → MayCome shape pace e xs x h → KeepsCancels pace.policy (has_exhausted (core xs)) (cancels_in xs) (ends_in xs) (cancels_after xs)
+          → KeepsCancels pace.policy (has_exhausted (core_of h (core xs))) (one_if (cancels_work h cancels) + cancels_in xs) (one_if (ends_work h cancels) + ends_in xs) (cancels_with h cancels (cancels_after xs))
+      by (Core (Write row line bytes given answer)) cancels is may k = passed pace.policy _ _ _ _ k
+      by (Core (Read row line answer)) cancels is may k = passed pace.policy _ _ _ _ k
+      by (Core (Serve answer)) cancels is may k = passed pace.policy _ _ _ _ k
+      by (Core (Begin did.More)) cancels is may k = passed pace.policy _ _ _ _ k
+      by (Core (Begin (did.Stored row place))) cancels is may k = closed pace.policy (has_exhausted (core xs)) _ _ _ (cancels_after xs) k
+      by (Core (Begin (did.Moved step))) cancels is may k = closed pace.policy (has_exhausted (core xs)) _ _ _ (cancels_after xs) k
+      by (Core (Begin (did.Retired slot line))) cancels is may k = closed pace.policy (has_exhausted (core xs)) _ _ _ (cancels_after xs) k
+      by (Core (Begin did.Exhausted)) cancels is may k = closed pace.policy (has_exhausted (core xs)) _ _ _ (cancels_after xs) k
+      by (Core (Iterate did.More)) cancels is may k = passed pace.policy _ _ _ _ k
+      by (Core (Iterate (did.Stored row place))) cancels is may k = closed pace.policy (has_exhausted (core xs)) _ _ _ (cancels_after xs) k
+      by (Core (Iterate (did.Moved step))) cancels is may k = closed pace.policy (has_exhausted (core xs)) _ _ _ (cancels_after xs) k
+      by (Core (Iterate (did.Retired slot line))) cancels is may k = closed pace.policy (has_exhausted (core xs)) _ _ _ (cancels_after xs) k
+      by (Core (Iterate did.Exhausted)) cancels is may k = closed pace.policy (has_exhausted (core xs)) _ _ _ (cancels_after xs) k
+      by (Core (Cut tearing)) true is may k = cut_kept xs x.tick true _ _ before (λ yes. may.on_time.2 is) k
+      by (Core (Cut tearing)) false is may k = cut_kept xs x.tick false _ _ before (λ yes. absurd (cc)) k

@@ -1,0 +1,94 @@
+-- The slots of a bank's lines and moves are the bank's, and a slot that was given a spare keeps one.
+use Rattle.std.proofs.Common.{ℕ, ◌+◌, ◌*◌, ◌/◌, ◌%◌, ◌<◌, ◌≤◌, ◌==◌, Bool, true, false, List, [], ◌∷◌, ◌++◌, length, length-append, sym, subst, arith, cond}
+use Rattle.std.proofs.lemmas.Nat.{mul-add-lt, mod_below, div_below}
+use Rattle.start_gap.specs.Rotation.{place_after, gap_after}
+use Rattle.spare_pool.specs.Table.{line_from}
+use Rattle.spare_pool.proofs.Lines.{line_from-more}
+use Rattle.bank_shape.specs.declared.BankShape.{BankShape}
+use Rattle.bank_shape.specs.declared.Work.{Work}
+use Rattle.bank_shape.specs.declared.Work.TheVariants.{Nothing, Store, Copy}
+use Rattle.bank_shape.specs.Shape.{slots_of, slot_at, slot_moved}
+use Rattle.bank_model.specs.declared.answer.Step.TheVariants as did
+use Rattle.bank_model.specs.Events.{Event, Write, Read, Serve, Begin, Iterate, Cut}
+use Rattle.bank_model.specs.History.{retired}
+use Rattle.bank_model.specs.After.{work_after}
+use Rattle.bank_model.specs.Answers.{IsDone, MayAll}
+use Rattle.bank_model.specs.Timing.{Happens, Core, Timed, core, core_of}
+
+-- the slot of a place is one of the bank
+pub slot_at-within : (shape : BankShape) (region place : ℕ) → region < shape.regions → place ≤ shape.lines → slot_at shape region place < slots_of shape
+slot_at-within shape region place h k =
+    let below : region * (shape.lines + 1) + place < (shape.lines + 1) * shape.regions = mul-add-lt region (shape.lines + 1) place shape.regions h (omega arith) in
+    omega (arith, below)
+
+pub slot_moved-within : (shape : BankShape) (line moves : ℕ) → 1 ≤ shape.lines → line < shape.regions * shape.lines → slot_moved shape line moves < slots_of shape
+slot_moved-within shape line moves some h =
+    let place : place_after shape.lines (line % shape.lines) moves < shape.lines + 1 = mod_below (line % shape.lines + (moves + line % shape.lines) / shape.lines) (shape.lines + 1) (omega arith) in
+    slot_at-within shape (line / shape.lines) (place_after shape.lines (line % shape.lines) moves) (div_below line shape.lines shape.regions (omega (arith, some)) h) (omega (arith, place))
+
+pub gap-within : (n t : ℕ) → gap_after n t ≤ n
+gap-within n t = omega arith
+
+-- no begin retires or exhausts
+pub begin-retires_none : {n : ℕ} (shape : BankShape) (h : List (Event n)) (work : Work) (slot line : ℕ) → IsDone shape h work (did.Retired slot line) → ⊥
+begin-retires_none shape h Nothing slot line d = d
+begin-retires_none shape h (Store at of) slot line d = d
+begin-retires_none shape h (Copy region step) slot line d = d
+
+pub begin-exhausts_none : {n : ℕ} (shape : BankShape) (h : List (Event n)) (work : Work) → IsDone shape h work did.Exhausted → ⊥
+begin-exhausts_none shape h Nothing d = d
+begin-exhausts_none shape h (Store at of) d = d
+begin-exhausts_none shape h (Copy region step) d = d
+
+module _ {n : ℕ} (shape : BankShape) where
+  -- no more retirements than spares
+  pub retired-few : (most : ℕ) (h : List (Event n)) → MayAll shape most h → length (retired h) ≤ shape.spares
+  retired-few most [] may = omega arith
+  retired-few most (Write row line bytes given answer ∷ h) may = retired-few most h may.1
+  retired-few most (Read row line answer ∷ h) may = retired-few most h may.1
+  retired-few most (Serve answer ∷ h) may = retired-few most h may.1
+  retired-few most (Cut tearing ∷ h) may = retired-few most h may.1
+  retired-few most (Begin (did.Stored row place) ∷ h) may = retired-few most h may.1
+  retired-few most (Begin did.More ∷ h) may = retired-few most h may.1
+  retired-few most (Begin (did.Moved step) ∷ h) may = retired-few most h may.1
+  retired-few most (Begin (did.Retired slot line) ∷ h) may = absurd (begin-retires_none shape h (work_after shape h) slot line may.0.1)
+  retired-few most (Begin did.Exhausted ∷ h) may = retired-few most h may.1
+  retired-few most (Iterate (did.Stored row place) ∷ h) may = retired-few most h may.1
+  retired-few most (Iterate did.More ∷ h) may = retired-few most h may.1
+  retired-few most (Iterate (did.Moved step) ∷ h) may = retired-few most h may.1
+  retired-few most (Iterate (did.Retired slot line) ∷ h) may = omega (arith, length-append (retired h) (slot ∷ []), may.0.1.2)
+  retired-few most (Iterate did.Exhausted ∷ h) may = retired-few most h may.1
+
+  -- a slot that has a spare has one after any later event
+  abbrev pub IsAway : List (Event n) → ℕ → Type 0
+  IsAway h slot = slots_of shape ≤ line_from (slots_of shape) slot (retired h) slot
+
+  away-retired : (h : List (Event n)) (at slot : ℕ) → IsAway h slot → slots_of shape ≤ line_from (slots_of shape) slot (retired h ++ at ∷ []) slot
+  away-retired h at slot away = subst (λ k. slots_of shape ≤ k) (sym (line_from-more (slots_of shape) slot (retired h) at slot)) (by (at == slot))
+    where
+      by : (b : Bool) → slots_of shape ≤ cond b (slots_of shape + length (retired h)) (line_from (slots_of shape) slot (retired h) slot)
+      by true = omega arith
+      by false = away
+
+  away-more : (event : Event n) (h : List (Event n)) (slot : ℕ) → IsAway h slot → IsAway (event ∷ h) slot
+  away-more (Write row line bytes given answer) h slot away = away
+  away-more (Read row line answer) h slot away = away
+  away-more (Serve answer) h slot away = away
+  away-more (Cut tearing) h slot away = away
+  away-more (Begin (did.Stored row place)) h slot away = away
+  away-more (Begin did.More) h slot away = away
+  away-more (Begin (did.Moved step)) h slot away = away
+  away-more (Begin (did.Retired at line)) h slot away = away-retired h at slot away
+  away-more (Begin did.Exhausted) h slot away = away
+  away-more (Iterate (did.Stored row place)) h slot away = away
+  away-more (Iterate did.More) h slot away = away
+  away-more (Iterate (did.Moved step)) h slot away = away
+  away-more (Iterate (did.Retired at line)) h slot away = away-retired h at slot away
+  away-more (Iterate did.Exhausted) h slot away = away
+
+  pub away-later : {m : ℕ} (later zs : List (Timed n m)) (slot : ℕ) → IsAway (core zs) slot → IsAway (core (later ++ zs)) slot
+  away-later [] zs slot away = away
+  away-later {m} (x ∷ later) zs slot away = by x.happens (away-later later zs slot away)
+    where
+      by : (h : Happens n) → IsAway (core (later ++ zs)) slot → IsAway (core_of h (core (later ++ zs))) slot
+      by (Core event) away = away-more event (core (later ++ zs)) slot away

@@ -1,0 +1,161 @@
+-- What refused and queued writes say of worn lines, and when a write is taken.
+use Rattle.std.proofs.Common.{◌≡◌, ℕ, ◌<◌, ◌==◌, ◌&&◌, ◌||◌, not, inl, inr, Bool, true, false, List, [], ◌∷◌, ◌++◌, length, refl, sym, ap, ◌∙◌, subst, append_assoc, arith}
+use Rattle.std.specs.Prelude.{nat_lt}
+use Rattle.std.proofs.lemmas.Bool.{ltb-true, eqb-true}
+use Rattle.result_rows.specs.declared.Outcome.{Outcome}
+use Rattle.result_rows.specs.declared.Outcome.TheVariants as out
+use Rattle.pcm_cells.specs.Device.{ArrayState}
+use Rattle.row_laws.specs.declared.Asks.{Asks}
+use Rattle.row_laws.specs.declared.Asks.TheVariants.{Reads, Writes, Cuts}
+use Rattle.row_laws.specs.declared.Row.{Row}
+use Rattle.row_laws.specs.Answers.{accepts, is_worn, is_queued, is_full}
+use Rattle.row_laws.specs.Rows.{RowTest, each_row}
+use Rattle.row_laws.specs.Queueing.{pending}
+use Rattle.row_laws.specs.Serving.{may_have, is_served}
+use Rattle.bank_shape.specs.declared.BankShape.{BankShape}
+use Rattle.bank_model.specs.declared.answer.WriteAnswer.{WriteAnswer}
+use Rattle.bank_model.specs.declared.answer.WriteAnswer.TheVariants as wrote
+use Rattle.bank_model.specs.Events.{Write, Read, Serve, Begin, Iterate, Cut}
+use Rattle.bank_model.specs.History.{queue, has_exhausted}
+use Rattle.bank_model.specs.Timing.{Pacing, Happens, Core, Timed, core}
+use Rattle.bank_model.specs.Lawful.{Lawful, IsIdle, MayCome}
+use Rattle.bank_laws.specs.Laws.{IsSized, LeavesArray, is_worn_at, rules_of}
+use Rattle.bank_laws.specs.Outcomes.{outcome_of, ended, row_with, rows_from, table_of}
+use Rattle.bank_laws.specs.Places.{is_worn_out, may_leave, is_wear_true, is_taken}
+use Rattle.bank_laws.specs.RowLaws.{is_room_fair}
+use Rattle.bank_laws.proofs.Answering.{merged-there}
+use Rattle.bank_laws.proofs.Settling.{opens}
+use Rattle.bank_laws.proofs.Fates.{IsLeft, WriteFate, new-push, new-merged}
+use Rattle.bank_laws.proofs.Walking.{Passes, walk, rows_after, and_both}
+use Rattle.bank_laws.proofs.Ending.{Onwards, IsOutcome, write_outcome}
+use Rattle.bank_laws.proofs.Serves.{may_at, onwards_at, served_law}
+use Rattle.bank_laws.proofs.Wears.{worn_outcome, refused-exhausted, exhausted_later}
+use Rattle.bank_laws.proofs.Pending.{queue_law}
+use Rattle.place_laws.specs.PlaceLaws.{WornLaw, TakenLaw}
+use Rattle.place_laws.proofs.WornOut.{worn_out, idle-exhausted}
+
+implied : (a b : Bool) → (a ≡ true → b ≡ true) → (not a || b) ≡ true
+implied true b h = h refl
+implied false b h = refl
+
+or_left_true : (a b : Bool) → a ≡ true → (a || b) ≡ true
+or_left_true true b h = refl
+or_left_true false b h = absurd (cc)
+
+both_first : (a b : Bool) → (a && b) ≡ true → a ≡ true
+both_first true b h = refl
+both_first false b h = absurd (cc)
+
+both_second : (a b : Bool) → (a && b) ≡ true → b ≡ true
+both_second true b h = h
+both_second false b h = absurd (cc)
+
+taken_if : (writes count : ℕ) (left fine : Bool) → (left ≡ false → count < writes → fine ≡ true) → (not (nat_lt count writes && not left) || fine) ≡ true
+taken_if writes count left fine h = by (nat_lt count writes) left refl refl
+  where
+    by : (b c : Bool) → nat_lt count writes ≡ b → left ≡ c → (not (b && not c) || fine) ≡ true
+    by true true lt is = refl
+    by true false lt is = h is (ltb-true count writes lt)
+    by false c lt is = refl
+
+module _ {n : ℕ} where
+  left-not_queued : (tick : ℕ) (o : Outcome n) → IsLeft o → is_queued (ended tick o) ≡ false
+  left-not_queued tick out.Unset l = absurd l
+  left-not_queued tick (out.Stored at place) l = refl
+  left-not_queued tick (out.Merged at) l = refl
+  left-not_queued tick (out.Queued at) l = absurd l
+  left-not_queued tick (out.Full at) l = absurd l
+  left-not_queued tick (out.Worn at) l = absurd l
+  left-not_queued tick (out.Read at place bytes) l = absurd l
+  left-not_queued tick (out.Forwarded at bytes) l = absurd l
+  left-not_queued tick (out.Busy at) l = absurd l
+  left-not_queued tick (out.Lost at) l = absurd l
+  left-not_queued tick (out.Cut at) l = absurd l
+
+  -- three tests that every row passes make a fourth
+  each-of : (one two three test : RowTest n)
+      → ((before : List (Row n)) (r : Row n) (after : List (Row n)) → one before r after ≡ true → two before r after ≡ true → three before r after ≡ true → test before r after ≡ true)
+      → (rows after : List (Row n)) → each_row one rows after ≡ true → each_row two rows after ≡ true → each_row three rows after ≡ true → each_row test rows after ≡ true
+  each-of one two three test pass [] after p q r = refl
+  each-of one two three test pass (x ∷ rows) after p q r =
+      and_both _ _ (pass rows x after (both_first _ _ p) (both_first _ _ q) (both_first _ _ r))
+      (each-of one two three test pass rows (x ∷ after) (both_second _ _ p) (both_second _ _ q) (both_second _ _ r))
+
+module _ {n m : ℕ} (shape : BankShape) (pace : Pacing) (e : ℕ) (all : List (Timed n m)) (array : ArrayState n m) (sized : IsSized shape pace) (l : Lawful shape pace e all) (idle : IsIdle shape pace all) (leaves : LeavesArray e shape all array) where
+  pub leaves_work : has_exhausted (core all) ≡ true → may_leave shape (is_worn_at e array) ≡ true
+  leaves_work ex = or_left_true _ _ (worn_out shape pace e all array sized l leaves ex)
+
+  -- an accepted write that is queued in the end
+  fate_true : (tick row : ℕ) → WriteFate shape all row → is_queued (ended tick (outcome_of shape all row)) ≡ true → may_leave shape (is_worn_at e array) ≡ true
+  fate_true tick row (inl there) queued = leaves_work (idle-exhausted shape pace all row idle there)
+  fate_true tick row (inr left) queued = absurd (cc (left-not_queued tick (outcome_of shape all row) left))
+
+  queued_true : (ys : List (Timed n m)) (x : Timed n m) (row line : ℕ) (bytes : List ℕ) (given : List Bool) (answer : WriteAnswer) → MayCome shape pace e ys x (Core (Write row line bytes given answer))
+      → Onwards shape all ys x.tick (Core (Write row line bytes given answer)) → IsOutcome x.tick answer (ended x.tick (outcome_of shape all row))
+      → is_queued (ended x.tick (outcome_of shape all row)) ≡ true → may_leave shape (is_worn_at e array) ≡ true
+  queued_true ys x row line bytes given wrote.Accepted may on is queued =
+      fate_true x.tick row (on.writes row (inl (new-push (queue shape (core ys)) (record { row = row; line = line; bytes = bytes; given = given })))) queued
+  queued_true ys x row line bytes given (wrote.Merged old) may on is queued =
+      fate_true x.tick row (on.writes row (inl (new-merged old row bytes given (queue shape (core ys)) (merged-there shape (core ys) line old may.may.2)))) queued
+  queued_true ys x row line bytes given wrote.Full may on is queued = absurd (cc (ap is_queued is))
+  queued_true ys x row line bytes given wrote.Exhausted may on is queued = absurd (cc (ap is_queued is))
+
+  wear_at : (later : List (Timed n m)) (x : Timed n m) (ys : List (Timed n m)) → all ≡ later ++ x ∷ ys
+      → Passes (is_wear_true shape (is_worn_at e array)) (rows_from shape all ys) (row_with shape all x.happens x.tick x.cancels) (rows_after shape all later)
+  wear_at later x ys same =
+      by x.happens x.cancels (may_at shape pace e all later x ys l same) (onwards_at shape pace e all later x ys l same)
+      (λ ex. subst (λ (xs : List (Timed n m)). has_exhausted (core xs) ≡ true) (append_assoc later (x ∷ []) ys ∙ sym same) (exhausted_later shape pace e (later ++ x ∷ []) ys ex))
+    where
+      by : (h : Happens n) (cancels : Bool) → MayCome shape pace e ys x h → Onwards shape all ys x.tick h → (has_exhausted (core ys) ≡ true → has_exhausted (core all) ≡ true)
+          → Passes (is_wear_true shape (is_worn_at e array)) (rows_from shape all ys) (row_with shape all h x.tick cancels) (rows_after shape all later)
+      by (Core (Write row line bytes given answer)) cancels may on on_exhausted =
+          let is : IsOutcome x.tick answer (ended x.tick (outcome_of shape all row)) = write_outcome shape pace e all ys x row line bytes given answer (opens shape pace e all l) may on in
+          and_both _ _
+          (implied (is_worn (ended x.tick (outcome_of shape all row))) _ (λ worn.
+          worn_out shape pace e all array sized l leaves
+          (on_exhausted (refused-exhausted shape (core ys) line (sym (worn_outcome x.tick answer (ended x.tick (outcome_of shape all row)) is worn) ∙ may.may.2)))))
+          (implied (is_queued (ended x.tick (outcome_of shape all row))) _ (queued_true ys x row line bytes given answer may on is))
+      by (Core (Read row line answer)) cancels may on on_exhausted = refl
+      by (Core (Serve answer)) cancels may on on_exhausted = tt
+      by (Core (Begin answer)) cancels may on on_exhausted = tt
+      by (Core (Iterate answer)) cancels may on on_exhausted = tt
+      by (Core (Cut tearing)) true may on on_exhausted = tt
+      by (Core (Cut tearing)) false may on on_exhausted = refl
+
+pub worn_law : WornLaw
+worn_law n m e shape pace xs array sized l idle leaves =
+    walk shape xs (is_wear_true shape (is_worn_at e array)) [] xs refl (wear_at shape pace e xs array sized l idle leaves)
+
+module _ {n : ℕ} (shape : BankShape) (worn : ℕ → Bool) where
+  -- a write that finds room in a bank that is not worn out, by its outcome
+  taken_outcome : (tick line : ℕ) (bytes : List ℕ) (given : List Bool) (count : ℕ) (out_worn left : Bool) (o : Outcome n) → may_have tick (Writes line bytes given) [] o ≡ true
+      → (not (is_full o) || count == shape.writes) ≡ true → (not (is_worn o) || out_worn) ≡ true → (not (is_queued o) || left) ≡ true → (out_worn ≡ true → left ≡ true)
+      → left ≡ false → count < shape.writes → (accepts o && not (is_queued o)) ≡ true
+  taken_outcome tick line bytes given count out_worn left out.Unset may full wear queued on none lt = absurd (cc)
+  taken_outcome tick line bytes given count out_worn left (out.Stored at place) may full wear queued on none lt = refl
+  taken_outcome tick line bytes given count out_worn left (out.Merged at) may full wear queued on none lt = refl
+  taken_outcome tick line bytes given count out_worn left (out.Queued at) may full wear queued on none lt = absurd (cc)
+  taken_outcome tick line bytes given count out_worn left (out.Full at) may full wear queued on none lt = absurd (omega (arith, eqb-true count shape.writes full, lt))
+  taken_outcome tick line bytes given count out_worn left (out.Worn at) may full wear queued on none lt = absurd (cc (on wear))
+  taken_outcome tick line bytes given count out_worn left (out.Read at place some) may full wear queued on none lt = absurd (cc)
+  taken_outcome tick line bytes given count out_worn left (out.Forwarded at some) may full wear queued on none lt = absurd (cc)
+  taken_outcome tick line bytes given count out_worn left (out.Busy at) may full wear queued on none lt = absurd (cc)
+  taken_outcome tick line bytes given count out_worn left (out.Lost at) may full wear queued on none lt = absurd (cc)
+  taken_outcome tick line bytes given count out_worn left (out.Cut at) may full wear queued on none lt = absurd (cc)
+
+module _ {n : ℕ} (e : ℕ) (shape : BankShape) (pace : Pacing) (worn : ℕ → Bool) where
+  taken_row : (tick : ℕ) (asks : Asks n) (o : Outcome n) (before after : List (Row n)) → is_served before (record { tick = tick; asks = asks; outcome = o }) after ≡ true
+      → is_room_fair shape.writes before (record { tick = tick; asks = asks; outcome = o }) after ≡ true → is_wear_true shape worn before (record { tick = tick; asks = asks; outcome = o }) after ≡ true
+      → is_taken (rules_of e shape pace) shape worn before (record { tick = tick; asks = asks; outcome = o }) after ≡ true
+  taken_row tick (Reads line) o before after served room wear = refl
+  taken_row tick Cuts o before after served room wear = refl
+  taken_row tick (Writes line bytes given) o before after served room wear =
+      taken_if shape.writes (length (pending tick [] before)) (may_leave shape worn) (accepts o && not (is_queued o))
+      (taken_outcome shape worn tick line bytes given (length (pending tick [] before)) (is_worn_out shape worn) (may_leave shape worn) o served (both_second _ _ room) (both_first _ _ wear) (both_second _ _ wear)
+      (λ is. or_left_true _ _ is))
+
+pub taken_law : TakenLaw
+taken_law n m e shape pace xs array sized l idle leaves =
+    each-of is_served (is_room_fair shape.writes) (is_wear_true shape (is_worn_at e array)) (is_taken (rules_of e shape pace) shape (is_worn_at e array))
+    (λ before r after served room wear. taken_row e shape pace (is_worn_at e array) r.tick r.asks r.outcome before after served room wear)
+    (table_of shape xs) [] (served_law n m e shape pace xs l idle) (queue_law n m e shape pace xs sized l) (worn_law n m e shape pace xs array sized l idle leaves)

@@ -1,0 +1,217 @@
+-- How many line writes end, and how many are cancelled.
+use Rattle.std.proofs.Common.{◌≡◌, ℕ, ◌+◌, ◌*◌, ◌≤◌, ◌==◌, ◌&&◌, not, Bool, true, false, List, [], ◌∷◌, Option, Some, None, length, length-append, refl, ap, arith, cond}
+use Rattle.std.specs.Prelude.{nat_lt, nat_le}
+use Rattle.std.proofs.lemmas.Bool.{lt-leb}
+use Rattle.bank_shape.specs.declared.BankShape.{BankShape}
+use Rattle.bank_shape.specs.declared.Work.TheVariants.{Nothing}
+use Rattle.bank_model.specs.declared.answer.ReadAnswer.TheVariants as came
+use Rattle.bank_model.specs.declared.answer.Step.TheVariants as did
+use Rattle.bank_model.specs.declared.clock.Doing.{Doing}
+use Rattle.bank_model.specs.declared.clock.Doing.TheVariants as doing
+use Rattle.bank_model.specs.declared.clock.Action.{Action}
+use Rattle.bank_model.specs.Events.{Event, Write, Read, Serve, Begin, Iterate, Cut}
+use Rattle.bank_model.specs.History.{moved_in, stored_in, retired, has_exhausted, due_after, queue, waits, in_progress}
+use Rattle.bank_model.specs.After.{due_work, work_after, is_ready, is_store_of, may_begin_after}
+use Rattle.bank_model.specs.Answers.{MayAll}
+use Rattle.bank_model.specs.Running.{choice, chosen_by, gives_way, started, left_by, running, running_at, chosen_after}
+use Rattle.bank_model.specs.Sensing.{most_steps}
+use Rattle.bank_model.specs.Timing.{Pacing, Happens, Core, Timed, is_doing, is_writing, is_empty, core, core_of, last_tick}
+use Rattle.bank_model.specs.Lawful.{Lawful, MayCome}
+use Rattle.bank_laws.proofs.Waiting.{may_all}
+use Rattle.bank_laws.proofs.Fates.{eqb-same}
+use Rattle.place_laws.proofs.Counts.{one_if, stores_with}
+use Rattle.place_laws.proofs.Working.{done-move}
+use Rattle.place_laws.proofs.Moves.{next_product, last_region, KeepsMoves, keeps}
+use Rattle.place_laws.proofs.Slots.{begin-retires_none, begin-exhausts_none}
+use Rattle.place_laws.proofs.Pulsing.{ends_work, ends_in}
+
+module _ {n : ℕ} where
+  -- all stores, all moves
+  abbrev pub all_stores : List (Event n) → ℕ
+  all_stores h = stores_with (λ line. true) h
+
+  abbrev pub all_moves : List (Event n) → ℕ
+  all_moves [] = 0
+  all_moves (Begin (did.Moved step) ∷ h) = 1 + all_moves h
+  all_moves (Iterate (did.Moved step) ∷ h) = 1 + all_moves h
+  all_moves (_ ∷ h) = all_moves h
+
+-- whether an event is a cut but for one that a read made, and how many there were
+abbrev pub cuts_power : {n : ℕ} → Happens n → Bool → Bool
+cuts_power (Core (Cut tearing)) cancels = not cancels
+cuts_power (Core _) cancels = false
+
+abbrev pub cuts_in : {n m : ℕ} → List (Timed n m) → ℕ
+cuts_in [] = 0
+cuts_in (x ∷ xs) = one_if (cuts_power x.happens x.cancels) + cuts_in xs
+
+-- one, where a move is due
+abbrev pub due_one : Option ℕ → ℕ
+due_one None = 0
+due_one (Some region) = 1
+
+due_one-few : (due : Option ℕ) → due_one due ≤ 1
+due_one-few None = omega arith
+due_one-few (Some region) = omega arith
+
+module _ {n : ℕ} (shape : BankShape) where
+  -- an exhausted bank begins nothing
+  pub exhausted-begins_none : (h : List (Event n)) → has_exhausted h ≡ true → may_begin_after shape h ≡ false
+  exhausted-begins_none h ex = by (in_progress h) (has_exhausted h) ex
+    where
+      by : (b ex : Bool) → ex ≡ true → (not b && is_ready (waits shape h) (cond ex Nothing (due_work shape h (due_after shape h) (queue shape h)))) ≡ false
+      by true ex is = refl
+      by false true is = refl
+      by false false is = absurd (cc)
+
+  begun_idle : (h : List (Event n)) (busy : Bool) → has_exhausted h ≡ true → may_begin_after shape h ≡ true → busy ≡ false
+  begun_idle h busy ex may = absurd (cc (exhausted-begins_none h ex, may))
+
+  -- and no line write is in progress
+  pub exhausted-idle : (most : ℕ) (h : List (Event n)) → MayAll shape most h → has_exhausted h ≡ true → in_progress h ≡ false
+  exhausted-idle most [] may ex = refl
+  exhausted-idle most (Write row line bytes given answer ∷ h) may ex = exhausted-idle most h may.1 ex
+  exhausted-idle most (Read row line answer ∷ h) may ex = exhausted-idle most h may.1 ex
+  exhausted-idle most (Serve answer ∷ h) may ex = exhausted-idle most h may.1 ex
+  exhausted-idle most (Cut tearing ∷ h) may ex = refl
+  exhausted-idle most (Begin did.More ∷ h) may ex = begun_idle h true ex may.0.0
+  exhausted-idle most (Begin (did.Stored row place) ∷ h) may ex = refl
+  exhausted-idle most (Begin (did.Moved step) ∷ h) may ex = refl
+  exhausted-idle most (Begin (did.Retired slot line) ∷ h) may ex = refl
+  exhausted-idle most (Begin did.Exhausted ∷ h) may ex = refl
+  exhausted-idle most (Iterate did.More ∷ h) may ex = absurd (cc (exhausted-idle most h may.1 ex, may.0.0))
+  exhausted-idle most (Iterate (did.Stored row place) ∷ h) may ex = refl
+  exhausted-idle most (Iterate (did.Moved step) ∷ h) may ex = refl
+  exhausted-idle most (Iterate (did.Retired slot line) ∷ h) may ex = refl
+  exhausted-idle most (Iterate did.Exhausted ∷ h) may ex = refl
+
+  -- after a move none is due
+  moved-none_due : 1 ≤ shape.psi → (h : List (Event n)) → KeepsMoves shape h
+      → due_one (cond (nat_le (shape.psi * (one_if (last_region shape h == last_region shape h) + moved_in shape.lines h (last_region shape h) + 1)) (stored_in shape.lines h (last_region shape h))) (Some (last_region shape h)) None) ≡ 0
+  moved-none_due some h k =
+      let own : ℕ = last_region shape h in
+      let one : one_if (last_region shape h == last_region shape h) + moved_in shape.lines h (last_region shape h) + 1 ≡ moved_in shape.lines h (last_region shape h) + 1 + 1 =
+      omega (arith, ap one_if (eqb-same (last_region shape h))) in
+      let near : stored_in shape.lines h (last_region shape h) ≤ shape.psi * (moved_in shape.lines h (last_region shape h) + 1) = k.near (last_region shape h) in
+      let next : shape.psi * (moved_in shape.lines h (last_region shape h) + 1 + 1) ≡ shape.psi * (moved_in shape.lines h (last_region shape h) + 1) + shape.psi =
+      next_product shape.psi (moved_in shape.lines h (last_region shape h) + 1) in
+      let whole : shape.psi * (one_if (last_region shape h == last_region shape h) + moved_in shape.lines h (last_region shape h) + 1) ≡ shape.psi * (moved_in shape.lines h (last_region shape h) + 1 + 1) =
+      ap (λ k. shape.psi * k) one in
+      ap (λ b. due_one (cond b (Some (last_region shape h)) None)) (lt-leb _ _ (omega (arith, near, next, whole, some)))
+
+  -- no more moves than stores, with the one that is due
+  pub moves-few : (most : ℕ) (h : List (Event n)) → 1 ≤ shape.psi → MayAll shape most h → all_moves h + due_one (due_after shape h) ≤ all_stores h
+  moves-few most [] some may = omega (arith, none_at_first)
+    where
+      none_at_first : due_one (due_after {n = n} shape []) ≡ 0
+      none_at_first = ap (λ b. due_one (cond b (Some (last_region {n = n} shape [])) None)) (lt-leb (shape.psi * (0 + 1)) 0 (omega (arith, next_product shape.psi 0, some)))
+  moves-few most (Write row line bytes given answer ∷ h) some may = moves-few most h some may.1
+  moves-few most (Read row line answer ∷ h) some may = moves-few most h some may.1
+  moves-few most (Serve answer ∷ h) some may = moves-few most h some may.1
+  moves-few most (Cut tearing ∷ h) some may = moves-few most h some may.1
+  moves-few most (Begin did.More ∷ h) some may = moves-few most h some may.1
+  moves-few most (Begin (did.Stored row place) ∷ h) some may =
+      omega (arith, moves-few most h some may.1, due_one-few (due_after shape (Begin (did.Stored row place) ∷ h)))
+  moves-few most (Begin (did.Moved step) ∷ h) some may =
+      let m = done-move shape h step may.0.1 in
+      omega (arith, moves-few most h some may.1, ap due_one m.due, moved-none_due some h (keeps shape most h some may.1))
+  moves-few most (Begin (did.Retired slot line) ∷ h) some may = moves-few most h some may.1
+  moves-few most (Begin did.Exhausted ∷ h) some may = moves-few most h some may.1
+  moves-few most (Iterate did.More ∷ h) some may = moves-few most h some may.1
+  moves-few most (Iterate (did.Stored row place) ∷ h) some may =
+      omega (arith, moves-few most h some may.1, due_one-few (due_after shape (Iterate (did.Stored row place) ∷ h)))
+  moves-few most (Iterate (did.Moved step) ∷ h) some may =
+      let m = done-move shape h step may.0.1 in
+      omega (arith, moves-few most h some may.1, ap due_one m.due, moved-none_due some h (keeps shape most h some may.1))
+  moves-few most (Iterate (did.Retired slot line) ∷ h) some may = moves-few most h some may.1
+  moves-few most (Iterate did.Exhausted ∷ h) some may = moves-few most h some may.1
+
+-- what may be done once nothing is in progress and nothing may be begun
+chosen-serves : (way reads busy ready : Bool) (d : Doing) → busy ≡ false → ready ≡ false → chosen_by way reads (choice busy ready) ≡ Some d → d ≡ doing.Serving
+chosen-serves way reads true ready d idle none is = absurd (cc)
+chosen-serves way reads false true d idle none is = absurd (cc)
+chosen-serves true true false false d idle none is = cc
+chosen-serves true false false false d idle none is = absurd (cc)
+chosen-serves false true false false d idle none is = cc
+chosen-serves false false false false d idle none is = absurd (cc)
+
+serving-still : (d : Doing) (first : ℕ) → d ≡ doing.Serving → is_writing (Some (record { doing = d; first = first })) ≡ false
+serving-still doing.Serving first is = refl
+serving-still doing.Beginning first is = absurd (cc)
+serving-still doing.Iterating first is = absurd (cc)
+
+started-still : (r : Option Action) (d : Option Doing) (last tick : ℕ) → is_writing r ≡ false → ((a : Doing) → d ≡ Some a → a ≡ doing.Serving) → is_writing (started r d last tick) ≡ false
+started-still (Some action) d last tick still serves = still
+started-still None None last tick still serves = refl
+started-still None (Some d) last tick still serves = by (nat_lt last tick)
+  where
+    by : (b : Bool) → is_writing (cond b (Some (record { doing = d; first = last })) None) ≡ false
+    by true = serving-still d last (serves d refl)
+    by false = refl
+
+dropped-still : (b : Bool) (r : Option Action) → is_writing r ≡ false → is_writing (cond b None r) ≡ false
+dropped-still true r still = refl
+dropped-still false r still = still
+
+module _ {n m : ℕ} (shape : BankShape) (pace : Pacing) (e : ℕ) where
+  chosen-still : (xs : List (Timed n m)) → Lawful shape pace e xs → has_exhausted (core xs) ≡ true → (a : Doing) → chosen_after shape pace xs ≡ Some a → a ≡ doing.Serving
+  chosen-still xs l ex a is =
+      chosen-serves (gives_way pace.policy) (not (is_empty (waits shape (core xs)))) (in_progress (core xs)) (may_begin_after shape (core xs)) a
+      (exhausted-idle shape (most_steps e) (core xs) (may_all shape pace e xs l) ex) (exhausted-begins_none shape (core xs) ex) is
+
+  -- in an exhausted bank no action of a line write runs
+  exhausted-still : (xs : List (Timed n m)) → Lawful shape pace e xs → has_exhausted (core xs) ≡ true → is_writing (running shape pace xs) ≡ false
+  exhausted-still [] l ex = refl
+  exhausted-still (x ∷ xs) l ex =
+      by x.happens ex (λ ex. started-still (running shape pace xs) (chosen_after shape pace xs) (last_tick xs) x.tick (exhausted-still xs l.1 ex) (chosen-still xs l.1 ex))
+    where
+      by : (h : Happens n) → has_exhausted (core_of h (core xs)) ≡ true → (has_exhausted (core xs) ≡ true → is_writing (running_at shape pace xs x.tick) ≡ false)
+          → is_writing (left_by shape (core xs) h (running_at shape pace xs x.tick)) ≡ false
+      by (Core (Write row line bytes given answer)) ex still = still ex
+      by (Core (Read row line came.Waiting)) ex still =
+          dropped-still (is_doing doing.Beginning (running_at shape pace xs x.tick) && is_store_of line (work_after shape (core xs))) (running_at shape pace xs x.tick) (still ex)
+      by (Core (Read row line came.Busy)) ex still = still ex
+      by (Core (Read row line (came.Forwarded bytes))) ex still = still ex
+      by (Core (Serve answer)) ex still = refl
+      by (Core (Begin answer)) ex still = refl
+      by (Core (Iterate answer)) ex still = refl
+      by (Core (Cut tearing)) ex still = refl
+
+  pub still_at : (xs : List (Timed n m)) (tick : ℕ) → Lawful shape pace e xs → has_exhausted (core xs) ≡ true → is_writing (running_at shape pace xs tick) ≡ false
+  still_at xs tick l ex = started-still (running shape pace xs) (chosen_after shape pace xs) (last_tick xs) tick (exhausted-still xs l ex) (chosen-still xs l ex)
+
+  -- each line write that ends is a store, a move, a retirement, a cut, or the one that finds no spare
+  abbrev pub causes : List (Timed n m) → ℕ
+  causes xs = all_stores (core xs) + all_moves (core xs) + length (retired (core xs)) + cuts_in xs + one_if (has_exhausted (core xs))
+
+  pub ends-few : (xs : List (Timed n m)) → Lawful shape pace e xs → ends_in xs ≤ causes xs
+  ends-few [] l = omega arith
+  ends-few (x ∷ xs) l = by x.happens x.cancels l.0 (ends-few xs l.1) (exhausted-idle shape (most_steps e) (core xs) (may_all shape pace e xs l.1))
+    where
+      after : Happens n → Bool → ℕ
+      after h cancels =
+          all_stores (core_of h (core xs)) + all_moves (core_of h (core xs)) + length (retired (core_of h (core xs))) + (one_if (cuts_power h cancels) + cuts_in xs) + one_if (has_exhausted (core_of h (core xs)))
+
+      new_exhausted : (ex busy : Bool) (k c : ℕ) → (ex ≡ true → busy ≡ false) → busy ≡ true → k ≤ c + one_if ex → 1 + k ≤ c + 1
+      new_exhausted true busy k c idle going le = absurd (cc (idle refl))
+      new_exhausted false busy k c idle going le = omega (arith, le)
+
+      by : (h : Happens n) (cancels : Bool) → MayCome shape pace e xs x h → ends_in xs ≤ causes xs → (has_exhausted (core xs) ≡ true → in_progress (core xs) ≡ false) → one_if (ends_work h cancels) + ends_in xs ≤ after h cancels
+      by (Core (Write row line bytes given answer)) cancels may ih idle = omega (arith, ih)
+      by (Core (Read row line answer)) cancels may ih idle = omega (arith, ih)
+      by (Core (Serve answer)) cancels may ih idle = omega (arith, ih)
+      by (Core (Begin did.More)) cancels may ih idle = omega (arith, ih)
+      by (Core (Begin (did.Stored row place))) cancels may ih idle = omega (arith, ih)
+      by (Core (Begin (did.Moved step))) cancels may ih idle = omega (arith, ih)
+      by (Core (Begin (did.Retired slot line))) cancels may ih idle = absurd (begin-retires_none shape (core xs) (work_after shape (core xs)) slot line may.may.1)
+      by (Core (Begin did.Exhausted)) cancels may ih idle = absurd (begin-exhausts_none shape (core xs) (work_after shape (core xs)) may.may.1)
+      by (Core (Iterate did.More)) cancels may ih idle = omega (arith, ih)
+      by (Core (Iterate (did.Stored row place))) cancels may ih idle = omega (arith, ih)
+      by (Core (Iterate (did.Moved step))) cancels may ih idle = omega (arith, ih)
+      by (Core (Iterate (did.Retired slot line))) cancels may ih idle = omega (arith, ih, length-append (retired (core xs)) (slot ∷ []))
+      by (Core (Iterate did.Exhausted)) cancels may ih idle =
+          let more : 1 + ends_in xs ≤ all_stores (core xs) + all_moves (core xs) + length (retired (core xs)) + cuts_in xs + 1 =
+          new_exhausted (has_exhausted (core xs)) (in_progress (core xs)) (ends_in xs) (all_stores (core xs) + all_moves (core xs) + length (retired (core xs)) + cuts_in xs) idle may.may.0 ih in
+          omega (arith, more)
+      by (Core (Cut tearing)) true may ih idle = omega (arith, ih)
+      by (Core (Cut tearing)) false may ih idle = omega (arith, ih)

@@ -1,0 +1,191 @@
+-- A bank that is exhausted has more worn lines than spares.
+use Rattle.std.proofs.Common.{◌≡◌, ℕ, zero, suc, ◌+◌, ◌*◌, ◌/◌, ◌<◌, ◌≤◌, ◌==◌, ◌&&◌, not, inl, inr, Bool, true, false, List, [], ◌∷◌, Option, Some, None, length, refl, sym, ap, subst, arith, cond}
+use Rattle.std.proofs.lemmas.Bool.{eq-eqb, ne_eqb, le-leb, cases_eq}
+use Rattle.std.proofs.lemmas.Nat.{div_below}
+use Rattle.masked_bytes.specs.declared.entry.Entry.{Entry}
+use Rattle.masked_bytes.specs.Entries.{has_row}
+use Rattle.pcm_cells.specs.Device.{ArrayState}
+use Rattle.start_gap.specs.Rotation.{move_after}
+use Rattle.spare_pool.specs.Table.{Table, line_from}
+use Rattle.spare_pool.proofs.Lines.{line_by-within}
+use Rattle.bank_shape.specs.declared.BankShape.{BankShape}
+use Rattle.bank_shape.specs.declared.Work.TheVariants.{Nothing}
+use Rattle.bank_shape.specs.Shape.{slots_of}
+use Rattle.bank_model.specs.declared.answer.Step.TheVariants as did
+use Rattle.bank_model.specs.Events.{Event, Write, Read, Serve, Begin, Iterate, Cut, RowsBelow, line_of_row}
+use Rattle.bank_model.specs.History.{Awaited, first_or, stores, moved_in, retired, has_exhausted, due_after, queue, waits, in_progress}
+use Rattle.bank_model.specs.After.{due_work, work_after, slot_of_work, is_ready, may_begin_after}
+use Rattle.bank_model.specs.Answers.{MayAll}
+use Rattle.bank_model.specs.declared.clock.Doing.TheVariants as doing
+use Rattle.bank_model.specs.Running.{Choice, chosen_by, gives_way, choice_after}
+use Rattle.bank_model.specs.Sensing.{most_steps}
+use Rattle.bank_model.specs.Timing.{Pacing, Timed, core, is_empty}
+use Rattle.bank_model.specs.Lawful.{Lawful, IsIdle}
+use Rattle.bank_laws.specs.Laws.{IsSized, LeavesArray, is_worn_at}
+use Rattle.bank_laws.specs.Places.{worn_among, is_worn_out}
+use Rattle.bank_laws.proofs.Settling.{above_all}
+use Rattle.bank_laws.proofs.Serves.{idle-waits}
+use Rattle.bank_laws.proofs.Lines.{Stands}
+use Rattle.bank_laws.proofs.Waiting.{may_all}
+use Rattle.place_laws.proofs.Asked.{asked-within, wrote-asked, wrote-line, queue-wrote}
+use Rattle.place_laws.proofs.Counts.{one_if}
+use Rattle.place_laws.proofs.Working.{IsStoreOf, done-store}
+use Rattle.place_laws.proofs.Moves.{some-due}
+use Rattle.place_laws.proofs.Slots.{slot_at-within, slot_moved-within, gap-within, begin-retires_none, begin-exhausts_none}
+use Rattle.place_laws.proofs.Owners.{owners, owners-some, worn-many}
+
+some_product : (a b : ℕ) → 1 ≤ a → 1 ≤ b → 0 < a * b
+some_product a b p q = grind (arith, p, q)
+
+module _ {n : ℕ} (shape : BankShape) where
+  -- an exhausted bank has used all its spares
+  pub exhausted-full : (most : ℕ) (h : List (Event n)) → MayAll shape most h → has_exhausted h ≡ true → length (retired h) ≡ shape.spares
+  exhausted-full most [] may ex = absurd (cc)
+  exhausted-full most (Write row line bytes given answer ∷ h) may ex = exhausted-full most h may.1 ex
+  exhausted-full most (Read row line answer ∷ h) may ex = exhausted-full most h may.1 ex
+  exhausted-full most (Serve answer ∷ h) may ex = exhausted-full most h may.1 ex
+  exhausted-full most (Cut tearing ∷ h) may ex = exhausted-full most h may.1 ex
+  exhausted-full most (Begin (did.Stored row place) ∷ h) may ex = exhausted-full most h may.1 ex
+  exhausted-full most (Begin did.More ∷ h) may ex = exhausted-full most h may.1 ex
+  exhausted-full most (Begin (did.Moved step) ∷ h) may ex = exhausted-full most h may.1 ex
+  exhausted-full most (Begin (did.Retired slot line) ∷ h) may ex = absurd (begin-retires_none shape h (work_after shape h) slot line may.0.1)
+  exhausted-full most (Begin did.Exhausted ∷ h) may ex = absurd (begin-exhausts_none shape h (work_after shape h) may.0.1)
+  exhausted-full most (Iterate (did.Stored row place) ∷ h) may ex = exhausted-full most h may.1 ex
+  exhausted-full most (Iterate did.More ∷ h) may ex = exhausted-full most h may.1 ex
+  exhausted-full most (Iterate (did.Moved step) ∷ h) may ex = exhausted-full most h may.1 ex
+  exhausted-full most (Iterate (did.Retired slot line) ∷ h) may ex = absurd (omega (arith, exhausted-full most h may.1 ex, may.0.1.2))
+  exhausted-full most (Iterate did.Exhausted ∷ h) may ex = may.0.1
+
+  store_line : (most : ℕ) (h : List (Event n)) (next row place : ℕ) → MayAll shape most h → RowsBelow h next → IsStoreOf shape h row place → line_of_row row h < shape.regions * shape.lines
+  store_line most h next row place may b store =
+      let w = queue-wrote shape most h next row store.line may b store.stands in
+      omega (arith, wrote-line h next row store.line b w, asked-within shape most h row store.line may (wrote-asked h row store.line w))
+
+  -- the last store is of one of the bank's lines
+  last_within : (most : ℕ) (h : List (Event n)) (next : ℕ) → 1 ≤ shape.regions → 1 ≤ shape.lines → MayAll shape most h → RowsBelow h next → first_or 0 (stores h) < shape.regions * shape.lines
+  last_within most [] next r l may b = some_product shape.regions shape.lines r l
+  last_within most (Write row line bytes given answer ∷ h) next r l may b = last_within most h row r l may.1 b.1
+  last_within most (Read row line answer ∷ h) next r l may b = last_within most h row r l may.1 b.1
+  last_within most (Serve answer ∷ h) next r l may b = last_within most h next r l may.1 b
+  last_within most (Cut tearing ∷ h) next r l may b = last_within most h next r l may.1 b
+  last_within most (Begin (did.Stored row place) ∷ h) next r l may b = store_line most h next row place may.1 b (done-store shape h row place may.0.1)
+  last_within most (Begin did.More ∷ h) next r l may b = last_within most h next r l may.1 b
+  last_within most (Begin (did.Moved step) ∷ h) next r l may b = last_within most h next r l may.1 b
+  last_within most (Begin (did.Retired slot line) ∷ h) next r l may b = last_within most h next r l may.1 b
+  last_within most (Begin did.Exhausted ∷ h) next r l may b = last_within most h next r l may.1 b
+  last_within most (Iterate (did.Stored row place) ∷ h) next r l may b = store_line most h next row place may.1 b (done-store shape h row place may.0.1)
+  last_within most (Iterate did.More ∷ h) next r l may b = last_within most h next r l may.1 b
+  last_within most (Iterate (did.Moved step) ∷ h) next r l may b = last_within most h next r l may.1 b
+  last_within most (Iterate (did.Retired slot line) ∷ h) next r l may b = last_within most h next r l may.1 b
+  last_within most (Iterate did.Exhausted ∷ h) next r l may b = last_within most h next r l may.1 b
+
+  -- what is due writes a slot of the bank
+  pub due-within : (most : ℕ) (h : List (Event n)) (next : ℕ) → 1 ≤ shape.regions → 1 ≤ shape.lines → MayAll shape most h → RowsBelow h next
+      → slot_of_work shape h (due_work shape h (due_after shape h) (queue shape h)) < slots_of shape
+  due-within most h next r l may b = by (due_after shape h) (queue shape h) refl refl
+    where
+      some : 0 < shape.lines
+      some = omega (arith, l)
+
+      by : (due : Option ℕ) (es : List (Entry n)) → due_after shape h ≡ due → queue shape h ≡ es → slot_of_work shape h (due_work shape h due es) < slots_of shape
+      by (Some region) es is q =
+          let own : first_or 0 (stores h) / shape.lines ≡ region = (some-due shape h region is).own in
+          let within : first_or 0 (stores h) / shape.lines < shape.regions = div_below (first_or 0 (stores h)) shape.lines shape.regions some (last_within most h next r l may b) in
+          slot_at-within shape region (move_after shape.lines (moved_in shape.lines h region)).to (omega (arith, own, within)) (gap-within shape.lines (moved_in shape.lines h region))
+      by None [] is q = some_product shape.regions (shape.lines + 1) r (omega arith)
+      by None (e ∷ es) is q =
+          let stands = subst (λ (q : List (Entry n)). Stands q e.row e.line) (sym q) (inl (refl, refl)) in
+          slot_moved-within shape e.line (moved_in shape.lines h (e.line / shape.lines)) l
+          (asked-within shape most h e.row e.line may (wrote-asked h e.row e.line (queue-wrote shape most h next e.row e.line may b stands)))
+
+-- where nothing is chosen no line write goes on, and none may be begun
+pub none-ready : (way reads : Bool) (c : Choice) → chosen_by way reads c ≡ None → (c.busy ≡ false) × (c.ready ≡ false)
+none-ready way reads c is = by way reads c.busy c.ready is
+  where
+    by : (way reads busy ready : Bool) → cond (way && reads) (Some doing.Serving) (cond busy (Some c.going_on) (cond reads (Some doing.Serving) (cond ready (Some c.beginning) None))) ≡ None → (busy ≡ false) × (ready ≡ false)
+    by true true busy ready is = absurd (cc)
+    by true false true ready is = absurd (cc)
+    by true false false true is = absurd (cc)
+    by true false false false is = (refl, refl)
+    by false reads true ready is = absurd (cc)
+    by false true false ready is = absurd (cc)
+    by false false false true is = absurd (cc)
+    by false false false false is = (refl, refl)
+
+-- a bank without work in whose queue a row stands is exhausted
+pub idle-exhausted : {n m : ℕ} (shape : BankShape) (pace : Pacing) (xs : List (Timed n m)) (row : ℕ) → IsIdle shape pace xs → has_row (queue shape (core xs)) row ≡ true → has_exhausted (core xs) ≡ true
+idle-exhausted {n} shape pace xs row idle there =
+    by (in_progress (core xs)) (has_exhausted (core xs)) (due_after shape (core xs)) (queue shape (core xs)) (waits shape (core xs)) none.0 (idle-waits shape pace xs idle) none.1 there
+  where
+    none : (in_progress (core xs) ≡ false) × (may_begin_after shape (core xs) ≡ false)
+    none = none-ready (gives_way pace.policy) (not (is_empty (waits shape (core xs)))) (choice_after shape pace xs) idle.chosen
+
+    by : (busy ex : Bool) (due : Option ℕ) (es : List (Entry n)) (ws : List Awaited) → busy ≡ false → ws ≡ []
+        → (not busy && is_ready ws (cond ex Nothing (due_work shape (core xs) due es))) ≡ false → has_row es row ≡ true → ex ≡ true
+    by true ex due es ws idle empty ready there = absurd (cc)
+    by false true due es ws idle empty ready there = refl
+    by false false (Some region) es ws idle empty ready there = absurd (cc)
+    by false false None [] ws idle empty ready there = absurd (cc)
+    by false false None (e ∷ es) [] idle empty ready there = absurd (cc)
+    by false false None (e ∷ es) (w ∷ ws) idle empty ready there = absurd (cc)
+
+-- and so is one where a move is due
+pub idle-due : {n m : ℕ} (shape : BankShape) (pace : Pacing) (xs : List (Timed n m)) (region : ℕ) → IsIdle shape pace xs → due_after shape (core xs) ≡ Some region → has_exhausted (core xs) ≡ true
+idle-due {n} shape pace xs region idle due =
+    by (in_progress (core xs)) (has_exhausted (core xs)) (due_after shape (core xs)) none.0 due none.1
+  where
+    none : (in_progress (core xs) ≡ false) × (may_begin_after shape (core xs) ≡ false)
+    none = none-ready (gives_way pace.policy) (not (is_empty (waits shape (core xs)))) (choice_after shape pace xs) idle.chosen
+
+    by : (busy ex : Bool) (due : Option ℕ) → busy ≡ false → due ≡ Some region → (not busy && is_ready (waits shape (core xs)) (cond ex Nothing (due_work shape (core xs) due (queue shape (core xs))))) ≡ false → ex ≡ true
+    by true ex due idle is ready = absurd (cc)
+    by false true due idle is ready = refl
+    by false false None idle is ready = absurd (cc)
+    by false false (Some at) idle is ready = absurd (cc)
+
+module _ {n m : ℕ} (shape : BankShape) (pace : Pacing) (e : ℕ) (all : List (Timed n m)) (array : ArrayState n m) (sized : IsSized shape pace) (l : Lawful shape pace e all) (leaves : LeavesArray e shape all array) where
+  -- an exhausted bank is worn out
+  pub worn_out : has_exhausted (core all) ≡ true → is_worn_out shape (is_worn_at e array) ≡ true
+  worn_out ex = le-leb (shape.spares + 1) (worn_among (is_worn_at e array) shape.base (slots_of shape + shape.spares)) many
+    where
+      may : MayAll shape (most_steps e) (core all)
+      may = may_all shape pace e all l
+
+      full : length (retired (core all)) ≡ shape.spares
+      full = exhausted-full shape (most_steps e) (core all) may ex
+
+      line_at : ℕ → ℕ
+      line_at slot = line_from (slots_of shape) slot (retired (core all)) slot
+
+      target : ℕ
+      target = slot_of_work shape (core all) (due_work shape (core all) (due_after shape (core all)) (queue shape (core all)))
+
+      within : target < slots_of shape
+      within = let b = above_all shape pace e all l in due-within shape (most_steps e) (core all) b.0 sized.regions sized.lines may b.1
+
+      exists : line_at target < slots_of shape + shape.spares
+      exists =
+          let table : Table = record { slots = slots_of shape; spares = shape.spares; replaced = retired (core all) } in
+          omega (arith, line_by-within table target within, full)
+
+      unowned : (at k : ℕ) → k ≡ slots_of shape → at < slots_of shape + shape.spares → owners line_at at k ≡ 0 → 1 ≤ one_if (is_worn_at e array (shape.base + at))
+      unowned at k is lt none =
+          let worn : is_worn_at e array (shape.base + at) ≡ true =
+          leaves.retired at (omega (arith, lt, full)) (λ slot in_it same. omega (arith, owners-some line_at at k slot (omega (arith, in_it, is)) same, none)) in
+          omega (arith, ap one_if worn)
+
+      each : (at : ℕ) → at < slots_of shape + shape.spares → 1 + one_if (line_at target == at) ≤ one_if (is_worn_at e array (shape.base + at)) + owners line_at at (slots_of shape)
+      each at lt =
+          elim (cases_eq (line_at target) at) [
+            | inl is ↦
+                let worn : is_worn_at e array (shape.base + at) ≡ true = subst (λ k. is_worn_at e array (shape.base + k) ≡ true) is (leaves.exhausted ex) in
+                omega (arith, ap one_if (eq-eqb (line_at target) at is), ap one_if worn, owners-some line_at at (slots_of shape) target within is)
+            | inr other ↦ by (owners line_at at (slots_of shape)) refl (ne_eqb (line_at target) at other)
+          ]
+        where
+          by : (k : ℕ) → owners line_at at (slots_of shape) ≡ k → (line_at target == at) ≡ false → 1 + one_if (line_at target == at) ≤ one_if (is_worn_at e array (shape.base + at)) + k
+          by zero none ne = omega (arith, ap one_if ne, unowned at (slots_of shape) refl lt none)
+          by (suc k) some ne = omega (arith, ap one_if ne)
+
+      many : shape.spares + 1 ≤ worn_among (is_worn_at e array) shape.base (slots_of shape + shape.spares)
+      many = worn-many (is_worn_at e array) line_at shape.base (slots_of shape) shape.spares (line_at target) exists each

@@ -1,0 +1,165 @@
+-- The bytes that the rows show as given by the queue are those of the accepted writes behind the last stored one.
+use Rattle.std.proofs.Common.{◌≡◌, ℕ, ◌<◌, ◌≤◌, ◌==◌, ◌&&◌, ◌⊎◌, inl, inr, Bool, true, false, suc, List, [], ◌∷◌, ◌++◌, refl, sym, ap, ◌∙◌, subst, arith, cond, eqb, append_assoc}
+use Rattle.std.specs.Prelude.{nat_le}
+use Rattle.std.specs.List.{list_any}
+use Rattle.std.proofs.lemmas.Bool.{le-leb, lt-leb}
+use Rattle.std.proofs.lemmas.List.Folds.{list_any-append}
+use Rattle.result_rows.specs.declared.Outcome.{Outcome}
+use Rattle.result_rows.specs.declared.Outcome.TheVariants as out
+use Rattle.masked_bytes.specs.Masked.{joined, none_given}
+use Rattle.row_laws.specs.declared.Row.{Row}
+use Rattle.row_laws.specs.Answers as answers
+use Rattle.row_laws.specs.Answers.{accepts, is_stored}
+use Rattle.row_laws.specs.Rows.{write_of}
+use Rattle.row_laws.specs.Queueing.{unstored, cover}
+use Rattle.bank_shape.specs.declared.BankShape.{BankShape}
+use Rattle.bank_model.specs.Events.{Write, Read, Serve, Begin, Iterate, Cut, RowsBelow}
+use Rattle.bank_model.specs.Timing.{Pacing, Happens, Core, Timed, core, core_of, last_tick}
+use Rattle.bank_model.specs.Lawful.{Lawful, MayCome}
+use Rattle.bank_laws.specs.Outcomes.{outcome_of, ended, row_with, rows_from}
+use Rattle.bank_laws.proofs.Entries.{or_none}
+use Rattle.bank_laws.proofs.Settling.{opens, lawful_before, stays, rows_below-more}
+use Rattle.bank_laws.proofs.Walking.{rows_after}
+use Rattle.bank_laws.proofs.Ending.{Onwards, accepting, write_outcome, outcome-accepts}
+use Rattle.bank_laws.proofs.Serves.{onwards_at}
+use Rattle.bank_laws.proofs.Wears.{stored_up_to}
+use Rattle.queue_laws.proofs.Stood.{EndsAbove, stored_over}
+use Rattle.queue_laws.proofs.Floors.{since, floor_of, since-none, since-other, floor-bound, floor-skip, stored_case, and_none, and_first}
+
+module _ {n : ℕ} where
+  later_stored : (t tick : ℕ) (o : Outcome n) → ((u p : ℕ) → o ≡ out.Stored u p → t < u) → answers.stored_by t (ended tick o) ≡ false
+  later_stored t tick out.Unset h = refl
+  later_stored t tick (out.Stored at place) h = lt-leb at t (h at place refl)
+  later_stored t tick (out.Merged at) h = refl
+  later_stored t tick (out.Queued at) h = refl
+  later_stored t tick (out.Full at) h = refl
+  later_stored t tick (out.Worn at) h = refl
+  later_stored t tick (out.Read at place bytes) h = refl
+  later_stored t tick (out.Forwarded at bytes) h = refl
+  later_stored t tick (out.Busy at) h = refl
+  later_stored t tick (out.Lost at) h = refl
+  later_stored t tick (out.Cut at) h = refl
+
+three_true : (a b c : Bool) → b ≡ true → c ≡ true → (a && (b && c)) ≡ a
+three_true true true true h k = refl
+three_true true true false h k = absurd (cc)
+three_true true false c h k = absurd (cc)
+three_true false b c h k = refl
+
+one_true : (a b : Bool) → a ≡ true → (a && b) ≡ b
+one_true true b h = refl
+one_true false b h = absurd (cc)
+
+rows_before : {n m : ℕ} (mid now : List (Timed n m)) (bound : ℕ) → RowsBelow (core (mid ++ now)) bound → RowsBelow (core now) bound
+rows_before [] now bound b = b
+rows_before {n} {m} (x ∷ mid) now bound b = by x.happens (λ bound b. rows_before mid now bound b) b
+  where
+    by : (h : Happens n) → ((bound : ℕ) → RowsBelow (core (mid ++ now)) bound → RowsBelow (core now) bound) → RowsBelow (core_of h (core (mid ++ now))) bound → RowsBelow (core now) bound
+    by (Core (Write at line bytes given answer)) go b = rows_below-more (core now) at bound (omega (arith, b.0)) (go at b.1)
+    by (Core (Read at line answer)) go b = rows_below-more (core now) at bound (omega (arith, b.0)) (go at b.1)
+    by (Core (Serve answer)) go b = go bound b
+    by (Core (Begin answer)) go b = go bound b
+    by (Core (Iterate answer)) go b = go bound b
+    by (Core (Cut tearing)) go b = go bound b
+
+module _ {n m : ℕ} (shape : BankShape) (pace : Pacing) (e : ℕ) (all later now : List (Timed n m)) (t : ℕ) (r : 1 ≤ pace.read) (i : 1 ≤ pace.iter) (l : Lawful shape pace e all) (same : all ≡ later ++ now)
+    (up : last_tick now ≤ t) (ends : EndsAbove t later) where
+  whole : Lawful shape pace e (later ++ now)
+  whole = subst (λ (xs : List (Timed n m)). Lawful shape pace e xs) same l
+
+  here : Lawful shape pace e now
+  here = lawful_before shape pace e later now whole
+
+  unstored_later : (row tick : ℕ) → ((u p : ℕ) → outcome_of shape now row ≡ out.Stored u p → ⊥) → answers.stored_by t (ended tick (outcome_of shape all row)) ≡ false
+  unstored_later row tick isnt =
+      later_stored t tick (outcome_of shape all row) (λ u p s. stored_over shape pace e t later now row u p ends (isnt u p) whole (sym (ap (λ xs. outcome_of shape xs row) same) ∙ s))
+
+  -- a row is stored by the tick exactly where it is stored by now
+  stored_same : (row tick : ℕ) → answers.stored_by t (ended tick (outcome_of shape all row)) ≡ is_stored (outcome_of shape now row)
+  stored_same row tick = by (stored_case (outcome_of shape now row))
+    where
+      by : ((u : ℕ) × (p : ℕ) × (outcome_of shape now row ≡ out.Stored u p)) ⊎ (is_stored (outcome_of shape now row) ≡ false) → answers.stored_by t (ended tick (outcome_of shape all row)) ≡ is_stored (outcome_of shape now row)
+      by (inl s) =
+          let at_most : s.0 ≤ last_tick now = stored_up_to shape pace e now row s.0 s.1 r i here s.2 in
+          let kept : outcome_of shape all row ≡ out.Stored s.0 s.1 =
+          ap (λ xs. outcome_of shape xs row) same
+          ∙ stays shape pace e later now row whole (λ un. let both : ◌≡◌ {A = Outcome n} (out.Stored s.0 s.1) out.Unset = sym s.2 ∙ un in absurd (cc)) ∙ s.2 in
+          ap (λ (o : Outcome n). answers.stored_by t (ended tick o)) kept ∙ le-leb s.0 t (omega (arith, at_most, up)) ∙ sym (ap is_stored s.2)
+      by (inr none) = unstored_later row tick (λ u p s. absurd (cc (none, ap is_stored s))) ∙ sym none
+
+  unstored_is : (line : ℕ) (mid ys : List (Timed n m)) → now ≡ mid ++ ys → unstored (λ (o : Outcome n). answers.stored_by t o) line (rows_from shape all ys) ≡ since (core ys) line (floor_of (outcome_of shape now) (core ys) line)
+  unstored_is line mid [] split = refl
+  unstored_is line mid (z ∷ ys) split =
+      by z.happens z.cancels before.0 (onwards_at shape pace e all (later ++ mid) z ys l in_all) (unstored_is line (mid ++ z ∷ []) ys (split ∙ sym (append_assoc mid (z ∷ []) ys)))
+    where
+      before : Lawful shape pace e (z ∷ ys)
+      before = lawful_before shape pace e mid (z ∷ ys) (subst (λ (xs : List (Timed n m)). Lawful shape pace e xs) split here)
+
+      in_all : all ≡ (later ++ mid) ++ z ∷ ys
+      in_all = same ∙ ap (λ xs. later ++ xs) split ∙ sym (append_assoc later mid (z ∷ ys))
+
+      by : (h : Happens n) (cancels : Bool) → MayCome shape pace e ys z h → Onwards shape all ys z.tick h
+          → unstored (λ (o : Outcome n). answers.stored_by t o) line (rows_from shape all ys) ≡ since (core ys) line (floor_of (outcome_of shape now) (core ys) line)
+          → unstored (λ (o : Outcome n). answers.stored_by t o) line (row_with shape all h z.tick cancels ++ rows_from shape all ys) ≡ since (core_of h (core ys)) line (floor_of (outcome_of shape now) (core_of h (core ys)) line)
+      by (Core (Write at k bytes given answer)) cancels may on ih = kind (eqb k line) refl (is_stored (outcome_of shape now at)) refl
+        where
+          agrees : accepts (ended z.tick (outcome_of shape all at)) ≡ accepting answer
+          agrees = outcome-accepts z.tick answer (ended z.tick (outcome_of shape all at)) (write_outcome shape pace e all ys z at k bytes given answer (opens shape pace e all l) may on)
+
+          low : floor_of (outcome_of shape now) (core ys) line ≤ at
+          low = floor-bound (outcome_of shape now) (core ys) at line may.asked
+
+          kind : (b : Bool) → eqb k line ≡ b → (st : Bool) → is_stored (outcome_of shape now at) ≡ st
+              → cond (k == line && answers.stored_by t (ended z.tick (outcome_of shape all at))) (none_given n) (cond (k == line && accepts (ended z.tick (outcome_of shape all at))) (joined given (unstored (λ (o : Outcome n). answers.stored_by t o) line (rows_from shape all ys))) (unstored (λ (o : Outcome n). answers.stored_by t o) line (rows_from shape all ys)))
+              ≡ since (Write at k bytes given answer ∷ core ys) line (cond (k == line && is_stored (outcome_of shape now at)) (suc at) (floor_of (outcome_of shape now) (core ys) line))
+          kind true own true st =
+              ap (λ c. cond c (none_given n) (cond (k == line && accepts (ended z.tick (outcome_of shape all at))) (joined given (unstored (λ (o : Outcome n). answers.stored_by t o) line (rows_from shape all ys))) (unstored (λ (o : Outcome n). answers.stored_by t o) line (rows_from shape all ys))))
+              (one_true (k == line) _ own ∙ stored_same at z.tick ∙ st)
+              ∙ sym (ap (λ c. since (Write at k bytes given answer ∷ core ys) line (cond c (suc at) (floor_of (outcome_of shape now) (core ys) line))) (one_true (k == line) _ own ∙ st)
+              ∙ since-none (Write at k bytes given answer ∷ core ys) (suc at) line (suc at) (omega arith, may.asked) (omega arith))
+          kind true own false st =
+              ap (λ c. cond c (none_given n) (cond (k == line && accepts (ended z.tick (outcome_of shape all at))) (joined given (unstored (λ (o : Outcome n). answers.stored_by t o) line (rows_from shape all ys))) (unstored (λ (o : Outcome n). answers.stored_by t o) line (rows_from shape all ys))))
+              (and_none (k == line) _ (stored_same at z.tick ∙ st))
+              ∙ ap (λ c. cond c (joined given (unstored (λ (o : Outcome n). answers.stored_by t o) line (rows_from shape all ys))) (unstored (λ (o : Outcome n). answers.stored_by t o) line (rows_from shape all ys)))
+              (one_true (k == line) _ own ∙ agrees ∙ sym (three_true (accepting answer) (k == line) (nat_le (floor_of (outcome_of shape now) (core ys) line) at) own (le-leb (floor_of (outcome_of shape now) (core ys) line) at low)))
+              ∙ ap (λ g. cond (accepting answer && (k == line && nat_le (floor_of (outcome_of shape now) (core ys) line) at)) (joined given g) g) ih
+              ∙ sym (ap (λ f. since (Write at k bytes given answer ∷ core ys) line f) (floor-skip (k == line && is_stored (outcome_of shape now at)) at (floor_of (outcome_of shape now) (core ys) line) (and_none (k == line) _ st)))
+          kind false ne st is =
+              ap (λ c. cond c (none_given n) (cond (k == line && accepts (ended z.tick (outcome_of shape all at))) (joined given (unstored (λ (o : Outcome n). answers.stored_by t o) line (rows_from shape all ys))) (unstored (λ (o : Outcome n). answers.stored_by t o) line (rows_from shape all ys))))
+              (and_first (k == line) _ ne)
+              ∙ ap (λ c. cond c (joined given (unstored (λ (o : Outcome n). answers.stored_by t o) line (rows_from shape all ys))) (unstored (λ (o : Outcome n). answers.stored_by t o) line (rows_from shape all ys))) (and_first (k == line) _ ne)
+              ∙ ih
+              ∙ sym (since-other given (since (core ys) line (floor_of (outcome_of shape now) (core ys) line)) (accepting answer) k at line (floor_of (outcome_of shape now) (core ys) line) ne)
+              ∙ sym (ap (λ f. since (Write at k bytes given answer ∷ core ys) line f) (floor-skip (k == line && is_stored (outcome_of shape now at)) at (floor_of (outcome_of shape now) (core ys) line) (and_first (k == line) _ ne)))
+      by (Core (Read at k answer)) cancels may on ih = ih
+      by (Core (Serve answer)) cancels may on ih = ih
+      by (Core (Begin answer)) cancels may on ih = ih
+      by (Core (Iterate answer)) cancels may on ih = ih
+      by (Core (Cut tearing)) true may on ih = ih
+      by (Core (Cut tearing)) false may on ih = ih
+
+  -- no later row is stored by the tick
+  none_after : (line : ℕ) (mid zs : List (Timed n m)) → Lawful shape pace e (mid ++ zs) → ((bound : ℕ) → RowsBelow (core zs) bound → RowsBelow (core now) bound)
+      → list_any (λ (q : Row n). write_of line q && answers.stored_by t q.outcome) (rows_after shape all mid) ≡ false
+  none_after line [] zs lawful low = refl
+  none_after line (x ∷ mid) zs lawful low =
+      list_any-append (λ (q : Row n). write_of line q && answers.stored_by t q.outcome) (rows_after shape all mid) (row_with shape all x.happens x.tick x.cancels)
+      ∙ or_none (list_any (λ (q : Row n). write_of line q && answers.stored_by t q.outcome) (rows_after shape all mid)) _ (none_after line mid zs lawful.1 low) (by x.happens x.cancels lawful.0)
+    where
+      by : (h : Happens n) (cancels : Bool) → MayCome shape pace e (mid ++ zs) x h → list_any (λ (q : Row n). write_of line q && answers.stored_by t q.outcome) (row_with shape all h x.tick cancels) ≡ false
+      by (Core (Write at k bytes given answer)) cancels may =
+          or_none (k == line && answers.stored_by t (ended x.tick (outcome_of shape all at))) false
+          (and_none (k == line) _ (unstored_later at x.tick
+          (λ u p s. let both : ◌≡◌ {A = Outcome n} (out.Stored u p) out.Unset = sym s ∙ (opens shape pace e now here).coming at (low at (rows_before mid zs at may.asked)) in absurd (cc)))) refl
+      by (Core (Read at k answer)) cancels may = refl
+      by (Core (Serve answer)) cancels may = refl
+      by (Core (Begin answer)) cancels may = refl
+      by (Core (Iterate answer)) cancels may = refl
+      by (Core (Cut tearing)) true may = refl
+      by (Core (Cut tearing)) false may = refl
+
+  -- what the rows show as given by the queue
+  pub cover_is : (line : ℕ) (mid zs : List (Timed n m)) → Lawful shape pace e (mid ++ zs) → ((bound : ℕ) → RowsBelow (core zs) bound → RowsBelow (core now) bound)
+      → cover t line (rows_from shape all now) (rows_after shape all mid) ≡ since (core now) line (floor_of (outcome_of shape now) (core now) line)
+  cover_is line mid zs lawful low =
+      ap (λ b. cond b (none_given n) (unstored (λ (o : Outcome n). answers.stored_by t o) line (rows_from shape all now))) (none_after line mid zs lawful low) ∙ unstored_is line [] now refl

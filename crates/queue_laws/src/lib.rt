@@ -1,0 +1,48 @@
+//! The laws of a bank's write queue and of its waiting reads: what the rows of a lawful history's table show of them. A law
+//! is what a function here ensures; the functions do nothing when they run.
+#![tactic(auto)]
+
+ghost use Rattle.std.specs.Prelude.{ℕ};
+ghost use Rattle.bank_laws.specs.Room.{RoomLaw};
+ghost use Rattle.queue_laws.specs.QueueLaws.{ForwardLaw, PairsFewLaw, QueueFairLaw, RefusalLaw};
+
+/// At each row at most two writes of one line stand in the queue, and two only where the older one came at an earlier tick, is
+/// never merged, and no other is stored before it.
+pub fn few_writes_share_a_line()
+    ensures { PairsFewLaw }
+{}
+
+/// A write that is refused as full finds no write of its own line in the queue, or exactly one, which came at an earlier tick;
+/// no other is stored before that one leaves the queue.
+pub fn refused_writes_find_at_most_one()
+    ensures { RefusalLaw }
+{}
+
+/// At any tick between two of its events a bank holds no more writes and waiting reads than it may, and at most two writes of
+/// one line.
+pub fn banks_have_room()
+    ensures { (n m : ℕ) → RoomLaw n m }
+{}
+
+/// A read is forwarded where the accepted writes of its line that are not stored give all its bytes, and otherwise only where
+/// an entry of its line is at the head of the queue. A read that isn't forwarded is busy exactly where as many reads wait as
+/// may, and else it is read or lost.
+pub fn reads_are_forwarded_exactly()
+    ensures { ForwardLaw }
+{}
+
+/// Each row finds a bank that holds no more than it may, and its own answer is the one that follows from what it finds.
+pub fn rows_are_fair_to_the_queue()
+    ensures { QueueFairLaw }
+{}
+
+/// The laws are facts, and cost nothing to ask for.
+#[cfg(test)]
+#[test]
+fn laws_hold_of_every_history() {
+    few_writes_share_a_line();
+    refused_writes_find_at_most_one();
+    banks_have_room();
+    reads_are_forwarded_exactly();
+    rows_are_fair_to_the_queue();
+}

@@ -1,0 +1,230 @@
+-- How far the ticks of a bank may be behind an arrival, by what ended since.
+use Rattle.std.proofs.Common.{◌≡◌, ℕ, ◌+◌, ◌*◌, ◌<◌, ◌≤◌, ◌==◌, ◌&&◌, ◌||◌, ◌⊎◌, inl, inr, not, Bool, true, false, List, [], ◌∷◌, ◌++◌, Option, Some, None, refl, sym, ap, ◌∙◌, subst, arith, cond}
+use Rattle.std.specs.Prelude.{IfSome, IsTrue}
+use Rattle.std.proofs.lemmas.Bool.{and_parts}
+use Rattle.masked_bytes.specs.Entries.{has_row, layer_of}
+use Rattle.bank_shape.specs.declared.BankShape.{BankShape}
+use Rattle.bank_model.specs.declared.answer.WriteAnswer.TheVariants as wrote
+use Rattle.bank_model.specs.declared.answer.ReadAnswer.TheVariants as came
+use Rattle.bank_model.specs.declared.answer.Step.TheVariants as did
+use Rattle.bank_model.specs.declared.clock.Doing.{Doing}
+use Rattle.bank_model.specs.declared.clock.Doing.TheVariants.{Serving, Beginning, Iterating}
+use Rattle.bank_model.specs.declared.clock.Action.{Action}
+use Rattle.bank_model.specs.Events.{Event, Write, Read, Serve, Begin, Iterate, Cut, newest}
+use Rattle.bank_model.specs.History.{Awaited, awaited, queue, waits, has_exhausted, in_progress, iterated}
+use Rattle.bank_model.specs.After.{work_after, is_store_of, may_begin_after}
+use Rattle.bank_model.specs.Sensing.{most_steps}
+use Rattle.bank_model.specs.Timing.{Pacing, Happens, Core, Timed, lasts, ends, is_doing, is_empty, core, core_of, last_tick}
+use Rattle.bank_model.specs.Running.{gives_way, choice, chosen_by, started, left_by, running, running_at, chosen_after}
+use Rattle.bank_model.specs.Lawful.{Lawful, MayCome}
+use Rattle.tick_laws.proofs.Actions.{since, since-started, since_of, reads_of, Fits, FitsAll, running_at-fits, not_begun}
+use Rattle.tick_laws.proofs.Turns.{chosen-reads}
+use Rattle.tick_laws.proofs.Waits.{work_time, few_times, times_more}
+use Rattle.tick_laws.proofs.Tallies.{stores_by, moves_by, retires_by, serves_by, cuts_by}
+use Rattle.tick_laws.proofs.Holdups.{HeldUp, IsHeld, held-reads, held-wait, held-push, held-merged, store-held, held-begins_none, works, not_begun-next}
+
+-- the time that a line write in progress took so far, without the reads served in between
+abbrev pub spent : ℕ → ℕ → Bool → ℕ → ℕ
+spent read iter true count = read + count * iter
+spent read iter false count = 0
+
+-- what an event adds to the ticks that may have passed since an arrival: an attempt for a store, a move, a retirement or a cut,
+-- two senses for a serve and one for a cut
+abbrev pub gain : {n : ℕ} → ℕ → ℕ → Happens n → ℕ
+gain read work h = (read + work) * (stores_by h + moves_by h + retires_by h + cuts_by h) + read * (2 * serves_by h + cuts_by h)
+
+-- what runs began in time: by the time that the line write in progress took, or by a sense where its begin was dropped
+abbrev pub InTime : {n : ℕ} → BankShape → ℕ → ℕ → ℕ → List (Event n) → Option Action → ℕ → Type 0
+InTime shape read iter base h r top =
+    (top ≤ base + spent read iter (in_progress h) (iterated h)) ⊎ (IsHeld shape h × (is_doing Beginning r ≡ false) × (top ≤ base + read))
+
+spent-most : (read iter work : ℕ) (busy : Bool) (count : ℕ) → (busy ≡ true → count * iter + iter ≤ work) → spent read iter busy count ≤ read + work
+spent-most read iter work true count few = let k : count * iter + iter ≤ work = few refl in omega arith
+spent-most read iter work false count few = omega arith
+
+spent-iterated : (read iter work : ℕ) (busy : Bool) (count : ℕ) → busy ≡ true → count * iter + iter ≤ work → spent read iter busy count + iter ≤ read + work
+spent-iterated read iter work true count is few = omega arith
+spent-iterated read iter work false count is few = absurd (cc)
+
+spent-more : (read iter : ℕ) (busy : Bool) (count : ℕ) → busy ≡ true → spent read iter busy count + iter ≡ read + (count + 1) * iter
+spent-more read iter true count is = let k : (count + 1) * iter ≡ count * iter + iter = times_more count iter in omega (arith, k)
+spent-more read iter false count is = absurd (cc)
+
+spent-idle : (read iter : ℕ) (busy : Bool) (count : ℕ) → busy ≡ false → spent read iter busy count ≡ 0
+spent-idle read iter true count is = absurd (cc)
+spent-idle read iter false count is = refl
+
+-- a cut comes at most an attempt and a sense later
+at_cut : (read iter work base : ℕ) (way busy reads : Bool) (count tick : ℕ) (r : Option Action) → (busy ≡ true → count * iter + iter ≤ work) → IfSome r (λ a. Fits way busy reads a.doing)
+    → IfSome r (λ a. tick < a.first + lasts read iter a.doing) → (since r tick ≤ base + spent read iter busy count) ⊎ ((busy ≡ false) × (since r tick ≤ base + read))
+    → tick ≤ ((read + work) * (0 + 0 + 0 + 1) + read * (2 * 0 + 1)) + base
+at_cut read iter work base way busy reads count tick None few f end (inl h) = let k : spent read iter busy count ≤ read + work = spent-most read iter work busy count few in omega arith
+at_cut read iter work base way busy reads count tick None few f end (inr h) = omega (arith, h.1)
+at_cut read iter work base way busy reads count tick (Some action) few f end h = by action.doing f end h
+  where
+    by : (doing : Doing) → Fits way busy reads doing → tick < action.first + lasts read iter doing → (action.first ≤ base + spent read iter busy count) ⊎ ((busy ≡ false) × (action.first ≤ base + read))
+        → tick ≤ ((read + work) * (0 + 0 + 0 + 1) + read * (2 * 0 + 1)) + base
+    by Serving f end (inl h) = let k : spent read iter busy count ≤ read + work = spent-most read iter work busy count few in omega arith
+    by Serving f end (inr h) = omega (arith, h.1)
+    by Beginning f end (inl h) = let k : spent read iter busy count ≤ read + work = spent-most read iter work busy count few in omega arith
+    by Beginning f end (inr h) = omega (arith, h.1)
+    by Iterating f end (inl h) = let k : spent read iter busy count + iter ≤ read + work = spent-iterated read iter work busy count f (few f) in omega arith
+    by Iterating f end (inr h) = let k : true ≡ false = sym f ∙ h.0 in absurd (cc)
+
+module _ {n m : ℕ} (shape : BankShape) (pace : Pacing) (e : ℕ) where
+  abbrev pub Delay : ℕ → List (Timed n m) → Type 0
+  Delay base zs = InTime shape pace.read pace.iter base (core zs) (running shape pace zs) (since_of shape pace zs)
+
+  -- the same at the tick of the next event, before that
+  abbrev pub DelayAt : ℕ → List (Timed n m) → ℕ → Type 0
+  DelayAt base zs tick = InTime shape pace.read pace.iter base (core zs) (running_at shape pace zs tick) (since (running_at shape pace zs tick) tick)
+
+  pub delay_at : (base : ℕ) (zs : List (Timed n m)) (tick row : ℕ) → last_tick zs ≤ tick → has_row (queue shape (core zs)) row ≡ true → has_exhausted (core zs) ≡ false → Delay base zs → DelayAt base zs tick
+  delay_at base zs tick row rises there fine d = by d
+    where
+      some : (d : Doing) × (chosen_after shape pace zs ≡ Some d)
+      some = works (gives_way pace.policy) shape (core zs) row there fine
+
+      top : since (running_at shape pace zs tick) tick ≡ since_of shape pace zs
+      top = ap (λ d. since (started (running shape pace zs) d (last_tick zs) tick) tick) some.1 ∙ since-started (running shape pace zs) some.0 (last_tick zs) tick rises
+
+      by : Delay base zs → DelayAt base zs tick
+      by (inl h) = inl (omega (arith, h, top))
+      by (inr h) = inr (h.0, begins, omega (arith, h.2, top))
+        where
+          next : Doing
+          next = cond (gives_way pace.policy) Serving (cond (in_progress (core zs)) Iterating Serving)
+
+          chosen : chosen_after shape pace zs ≡ Some next
+          chosen =
+              ap (λ b. chosen_by (gives_way pace.policy) b (choice (in_progress (core zs)) (may_begin_after shape (core zs)))) (held-reads (waits shape (core zs)) (queue shape (core zs)) h.0.held)
+              ∙ chosen-reads (gives_way pace.policy) (in_progress (core zs)) (may_begin_after shape (core zs))
+
+          begins : is_doing Beginning (running_at shape pace zs tick) ≡ false
+          begins =
+              subst (λ d. is_doing Beginning (started (running shape pace zs) d (last_tick zs) tick) ≡ false) (sym chosen)
+              (not_begun-next (gives_way pace.policy) (in_progress (core zs)) (running shape pace zs) (last_tick zs) tick h.1)
+
+  module _ (base : ℕ) (zs : List (Timed n m)) (y : Timed n m) (l : Lawful shape pace e (y ∷ zs)) where
+    abbrev pub DelayBy : Happens n → Type 0
+    DelayBy h =
+        InTime shape pace.read pace.iter (gain pace.read (work_time pace e) h + base) (core_of h (core zs)) (left_by shape (core zs) h (running_at shape pace zs y.tick))
+        (since (left_by shape (core zs) h (running_at shape pace zs y.tick)) y.tick)
+
+    abbrev runs : Option Action
+    runs = running_at shape pace zs y.tick
+
+    ending : (doing : Doing) → runs ≡ Some (record { doing = doing; first = y.first }) → DelayAt base zs y.tick → InTime shape pace.read pace.iter base (core zs) (Some (record { doing = doing; first = y.first })) y.first
+    ending doing is d = subst (λ r. InTime shape pace.read pace.iter base (core zs) r (since r y.tick)) is d
+
+    fits_ending : (doing : Doing) → runs ≡ Some (record { doing = doing; first = y.first }) → Fits (gives_way pace.policy) (in_progress (core zs)) (reads_of shape pace zs) doing
+    fits_ending doing is = subst (λ r. FitsAll shape pace zs r) is (running_at-fits shape pace e zs y.tick)
+
+    few : in_progress (core zs) ≡ true → iterated (core zs) * pace.iter + pace.iter ≤ work_time pace e
+    few busy = few_times shape pace e zs l.1 busy
+
+    at_read : (row line : ℕ) (b : Bool) (r : Option Action) → (b ≡ true → (is_doing Beginning r ≡ true) × (is_store_of line (work_after shape (core zs)) ≡ true)) → IfSome r (λ a. y.tick < ends pace a)
+        → FitsAll shape pace zs r → InTime shape pace.read pace.iter base (core zs) r (since r y.tick)
+        → InTime shape pace.read pace.iter (gain {n = n} pace.read (work_time pace e) (Core (Read row line came.Waiting)) + base) (Read row line came.Waiting ∷ core zs) (cond b None r) (since (cond b None r) y.tick)
+    at_read row line false r drops end f (inl h) = inl (omega (arith, h))
+    at_read row line false r drops end f (inr h) =
+        inr (record { idle = h.0.idle; due = h.0.due; held = held-wait (waits shape (core zs)) _ (queue shape (core zs)) h.0.held }, h.1, omega (arith, h.2))
+    at_read row line true None drops end f h = let k : false ≡ true = (drops refl).0 in absurd (cc)
+    at_read row line true (Some action) drops end f (inr h) = absurd (cc (h.1, (drops refl).0))
+    at_read row line true (Some action) drops end f (inl h) = by action.doing (drops refl).0 end f
+      where
+        by : (doing : Doing) → is_doing Beginning (Some (record { doing = doing; first = action.first })) ≡ true → y.tick < action.first + lasts pace.read pace.iter doing
+            → Fits (gives_way pace.policy) (in_progress (core zs)) (reads_of shape pace zs) doing
+            → InTime shape pace.read pace.iter (gain {n = n} pace.read (work_time pace e) (Core (Read row line came.Waiting)) + base) (Read row line came.Waiting ∷ core zs) None y.tick
+        by Serving d end f = absurd (cc)
+        by Iterating d end f = absurd (cc)
+        by Beginning d end f =
+            let v = awaited row line (newest (core zs) line) (layer_of (queue shape (core zs)) line) in
+            let held = store-held shape (core zs) line v refl (drops refl).1 in
+            let none : spent pace.read pace.iter (in_progress (core zs)) (iterated (core zs)) ≡ 0 = spent-idle pace.read pace.iter (in_progress (core zs)) (iterated (core zs)) f in
+            inr (record { idle = f; due = held.0; held = held.1 }, refl, omega (arith, h, end, none))
+
+    begin_by : IsTrue (may_begin_after shape (core zs)) → y.tick ≡ y.first + pace.read → InTime shape pace.read pace.iter base (core zs) (Some (record { doing = Beginning; first = y.first })) y.first → y.tick ≤ base + pace.read
+    begin_by may end (inr h) = absurd (held-begins_none shape (core zs) h.0 may)
+    begin_by may end (inl h) =
+        let none : spent pace.read pace.iter (in_progress (core zs)) (iterated (core zs)) ≡ 0 =
+        spent-idle pace.read pace.iter (in_progress (core zs)) (iterated (core zs)) (not_begun (in_progress (core zs)) _ may) in
+        omega (arith, h, end, none)
+
+    iterate_by : in_progress (core zs) ≡ true → y.tick ≡ y.first + pace.iter → InTime shape pace.read pace.iter base (core zs) (Some (record { doing = Iterating; first = y.first })) y.first
+        → y.tick ≤ base + (spent pace.read pace.iter (in_progress (core zs)) (iterated (core zs)) + pace.iter)
+    iterate_by busy end (inr h) = absurd (cc (h.0.idle, busy))
+    iterate_by busy end (inl h) = omega (arith, h, end)
+
+    -- a line write that ends is no later than an attempt
+    begin_end : y.tick ≤ base + pace.read → y.tick ≤ ((pace.read + work_time pace e) * 1 + pace.read * 0) + base
+    begin_end h = omega arith
+
+    iterate_end : in_progress (core zs) ≡ true → y.tick ≤ base + (spent pace.read pace.iter (in_progress (core zs)) (iterated (core zs)) + pace.iter) → y.tick ≤ ((pace.read + work_time pace e) * 1 + pace.read * 0) + base
+    iterate_end busy h =
+        let k : spent pace.read pace.iter (in_progress (core zs)) (iterated (core zs)) + pace.iter ≤ pace.read + work_time pace e =
+        spent-iterated pace.read pace.iter (work_time pace e) (in_progress (core zs)) (iterated (core zs)) busy (few busy) in
+        omega (arith, h, k)
+
+    at_serve : y.tick ≡ y.first + pace.read → InTime shape pace.read pace.iter base (core zs) (Some (record { doing = Serving; first = y.first })) y.first
+        → y.tick ≤ (((pace.read + work_time pace e) * 0 + pace.read * 2) + base) + spent pace.read pace.iter (in_progress (core zs)) (iterated (core zs))
+    at_serve end (inl h) = omega (arith, end, h)
+    at_serve end (inr h) = omega (arith, end, h.2)
+
+    at_cut_by : DelayAt base zs y.tick → (since runs y.tick ≤ base + spent pace.read pace.iter (in_progress (core zs)) (iterated (core zs))) ⊎ ((in_progress (core zs) ≡ false) × (since runs y.tick ≤ base + pace.read))
+    at_cut_by (inl h) = inl h
+    at_cut_by (inr h) = inr (h.0.idle, h.2)
+
+    pub step : (h : Happens n) → MayCome shape pace e zs y h → has_exhausted (core_of h (core zs)) ≡ false → DelayAt base zs y.tick → DelayBy h
+    step (Core (Write row line bytes given wrote.Accepted)) may fine (inl h) = inl (omega (arith, h))
+    step (Core (Write row line bytes given wrote.Accepted)) may fine (inr h) =
+        inr (record { idle = h.0.idle; due = h.0.due; held = held-push (waits shape (core zs)) (queue shape (core zs)) _ h.0.held }, h.1, omega (arith, h.2))
+    step (Core (Write row line bytes given (wrote.Merged old))) may fine (inl h) = inl (omega (arith, h))
+    step (Core (Write row line bytes given (wrote.Merged old))) may fine (inr h) =
+        inr (record { idle = h.0.idle; due = h.0.due; held = held-merged (waits shape (core zs)) (queue shape (core zs)) old row bytes given h.0.held }, h.1, omega (arith, h.2))
+    step (Core (Write row line bytes given wrote.Full)) may fine (inl h) = inl (omega (arith, h))
+    step (Core (Write row line bytes given wrote.Full)) may fine (inr h) = inr (record { idle = h.0.idle; due = h.0.due; held = h.0.held }, h.1, omega (arith, h.2))
+    step (Core (Write row line bytes given wrote.Exhausted)) may fine (inl h) = inl (omega (arith, h))
+    step (Core (Write row line bytes given wrote.Exhausted)) may fine (inr h) = inr (record { idle = h.0.idle; due = h.0.due; held = h.0.held }, h.1, omega (arith, h.2))
+    step (Core (Read row line came.Waiting)) may fine d =
+        at_read row line (is_doing Beginning runs && is_store_of line (work_after shape (core zs))) runs (and_parts (is_doing Beginning runs) (is_store_of line (work_after shape (core zs)))) may.on_time.0.2
+        (running_at-fits shape pace e zs y.tick) d
+    step (Core (Read row line came.Busy)) may fine (inl h) = inl (omega (arith, h))
+    step (Core (Read row line came.Busy)) may fine (inr h) = inr (record { idle = h.0.idle; due = h.0.due; held = h.0.held }, h.1, omega (arith, h.2))
+    step (Core (Read row line (came.Forwarded bytes))) may fine (inl h) = inl (omega (arith, h))
+    step (Core (Read row line (came.Forwarded bytes))) may fine (inr h) = inr (record { idle = h.0.idle; due = h.0.due; held = h.0.held }, h.1, omega (arith, h.2))
+    step (Core (Serve answer)) may fine d = inl (at_serve may.on_time.0.1 (ending Serving may.on_time.0.0 d))
+    step (Core (Begin did.More)) may fine d = let h : y.tick ≤ base + pace.read = begin_by may.may.0 may.on_time.0.1 (ending Beginning may.on_time.0.0 d) in inl (omega (arith, h))
+    step (Core (Begin (did.Stored row place))) may fine d = let h = begin_end (begin_by may.may.0 may.on_time.0.1 (ending Beginning may.on_time.0.0 d)) in inl (omega (arith, h))
+    step (Core (Begin (did.Moved move))) may fine d = let h = begin_end (begin_by may.may.0 may.on_time.0.1 (ending Beginning may.on_time.0.0 d)) in inl (omega (arith, h))
+    step (Core (Begin (did.Retired slot line))) may fine d = absurd may.may.1
+    step (Core (Begin did.Exhausted)) may fine d = absurd (cc)
+    step (Core (Iterate did.More)) may fine d =
+        let h : y.tick ≤ base + (spent pace.read pace.iter (in_progress (core zs)) (iterated (core zs)) + pace.iter) = iterate_by may.may.0 may.on_time.0.1 (ending Iterating may.on_time.0.0 d) in
+        let k = spent-more pace.read pace.iter (in_progress (core zs)) (iterated (core zs)) may.may.0 in
+        inl (omega (arith, h, k))
+    step (Core (Iterate (did.Stored row place))) may fine d = let h = iterate_end may.may.0 (iterate_by may.may.0 may.on_time.0.1 (ending Iterating may.on_time.0.0 d)) in inl (omega (arith, h))
+    step (Core (Iterate (did.Moved move))) may fine d = let h = iterate_end may.may.0 (iterate_by may.may.0 may.on_time.0.1 (ending Iterating may.on_time.0.0 d)) in inl (omega (arith, h))
+    step (Core (Iterate (did.Retired slot line))) may fine d = let h = iterate_end may.may.0 (iterate_by may.may.0 may.on_time.0.1 (ending Iterating may.on_time.0.0 d)) in inl (omega (arith, h))
+    step (Core (Iterate did.Exhausted)) may fine d = absurd (cc)
+    step (Core (Cut tearing)) may fine d =
+        let h = at_cut pace.read pace.iter (work_time pace e) base (gives_way pace.policy) (in_progress (core zs)) (reads_of shape pace zs) (iterated (core zs)) y.tick runs few (running_at-fits shape pace e zs y.tick)
+        may.on_time.0.2 (at_cut_by d) in
+        inl (omega (arith, h))
+
+    -- a store is no later than an attempt
+    pub store_tick : (h : Happens n) → MayCome shape pace e zs y h → stores_by h ≡ 1 → DelayAt base zs y.tick → y.tick ≤ gain pace.read (work_time pace e) h + base
+    store_tick (Core (Write row line bytes given answer)) may one d = absurd (omega arith)
+    store_tick (Core (Read row line answer)) may one d = absurd (omega arith)
+    store_tick (Core (Serve answer)) may one d = absurd (omega arith)
+    store_tick (Core (Begin (did.Stored row place))) may one d = let h = begin_end (begin_by may.may.0 may.on_time.0.1 (ending Beginning may.on_time.0.0 d)) in omega (arith, h)
+    store_tick (Core (Begin did.More)) may one d = absurd (omega arith)
+    store_tick (Core (Begin (did.Moved move))) may one d = absurd (omega arith)
+    store_tick (Core (Begin (did.Retired slot line))) may one d = absurd (omega arith)
+    store_tick (Core (Begin did.Exhausted)) may one d = absurd (omega arith)
+    store_tick (Core (Iterate (did.Stored row place))) may one d = let h = iterate_end may.may.0 (iterate_by may.may.0 may.on_time.0.1 (ending Iterating may.on_time.0.0 d)) in omega (arith, h)
+    store_tick (Core (Iterate did.More)) may one d = absurd (omega arith)
+    store_tick (Core (Iterate (did.Moved move))) may one d = absurd (omega arith)
+    store_tick (Core (Iterate (did.Retired slot line))) may one d = absurd (omega arith)
+    store_tick (Core (Iterate did.Exhausted)) may one d = absurd (omega arith)
+    store_tick (Core (Cut tearing)) may one d = absurd (omega arith)

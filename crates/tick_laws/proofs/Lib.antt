@@ -1,0 +1,15 @@
+mod Actions
+mod Spacing
+mod Apart
+mod Settings
+mod Turns
+mod Waits
+mod Afterwards
+mod ReadTimes
+mod Tallies
+mod Moves
+mod Holdups
+mod Delays
+mod Counts
+mod StoreTimes
+mod Times

@@ -1,0 +1,281 @@
+-- A read is read or lost in time.
+use Rattle.std.proofs.Common.{◌≡◌, ◌≢◌, ℕ, ◌+◌, ◌*◌, ◌<◌, ◌≤◌, ◌==◌, ◌&&◌, ◌||◌, ◌⊎◌, inl, inr, not, Bool, true, false, List, [], ◌∷◌, ◌++◌, Option, Some, None, length, refl, sym, ap, ◌∙◌, subst, arith, cond, append_assoc}
+use Rattle.std.specs.Prelude.{IfSome, nat_le, nat_lt}
+use Rattle.std.specs.List.{list_any, list_all}
+use Rattle.std.proofs.lemmas.Bool.{le-leb, lt-ltb, eq-eqb, or_from}
+use Rattle.std.proofs.lemmas.List.Folds.{list_any-append, list_all-append}
+use Rattle.result_rows.specs.declared.Outcome.{Outcome}
+use Rattle.result_rows.specs.declared.Outcome.TheVariants as out
+use Rattle.row_laws.specs.declared.Row.{Row}
+use Rattle.row_laws.specs.Rows.{is_cut}
+use Rattle.row_laws.specs.Rules.{Rules}
+use Rattle.row_laws.specs.Queueing.{waiting}
+use Rattle.row_laws.specs.Ticking.{delay, bound, no_cut_below, first_cut_at, read_in_time}
+use Rattle.bank_shape.specs.Pausing.{Pausing, Pause, Plain, Cancel, is_cancelling}
+use Rattle.bank_shape.specs.declared.BankShape.{BankShape}
+use Rattle.bank_model.specs.declared.answer.WriteAnswer.TheVariants as wrote
+use Rattle.bank_model.specs.declared.answer.ReadAnswer.TheVariants as came
+use Rattle.bank_model.specs.declared.answer.Step.TheVariants as did
+use Rattle.bank_model.specs.declared.answer.Served.{Served}
+use Rattle.bank_model.specs.declared.clock.Doing.{Doing}
+use Rattle.bank_model.specs.declared.clock.Doing.TheVariants.{Serving, Beginning, Iterating}
+use Rattle.bank_model.specs.declared.clock.Action.{Action}
+use Rattle.bank_model.specs.Events.{Event, Write, Read, Serve, Begin, Iterate, Cut, RowsBelow, newest}
+use Rattle.bank_model.specs.History.{Awaited, awaited, queue, waits, in_progress, iterated}
+use Rattle.masked_bytes.specs.Entries.{layer_of}
+use Rattle.bank_model.specs.After.{work_after, is_store_of}
+use Rattle.bank_model.specs.Sensing.{most_steps}
+use Rattle.bank_model.specs.Timing.{Pacing, Happens, Core, Timed, ends, is_doing, core, core_of, last_tick}
+use Rattle.bank_model.specs.Running.{gives_way, left_by, running, running_at}
+use Rattle.bank_model.specs.Lawful.{Lawful, MayCome, IsIdle}
+use Rattle.bank_laws.specs.Laws.{rules_of}
+use Rattle.bank_laws.specs.Outcomes.{on_row, outcome_with, outcome_of, row_with, rows_from}
+use Rattle.bank_laws.specs.Standing.{has_wait}
+use Rattle.bank_laws.specs.Ticks.{ends_action}
+use Rattle.bank_laws.proofs.Standing.{stand_apart}
+use Rattle.bank_laws.proofs.Settling.{opens, lawful_before}
+use Rattle.bank_laws.proofs.Ticks.{last_tick-rises}
+use Rattle.bank_laws.proofs.Fates.{Awaits, IsSettled, ReadFate, awaits-has, awaits-new}
+use Rattle.bank_laws.proofs.Answering.{IsFirst, served-first}
+use Rattle.bank_laws.proofs.Walking.{Passes, walk, rows_after}
+use Rattle.bank_laws.proofs.Ending.{Onwards, own_answer}
+use Rattle.bank_laws.proofs.Serves.{may_at, onwards_at, idle-waits}
+use Rattle.bank_laws.proofs.Waiting.{waits_length}
+use Rattle.tick_laws.specs.TickLaws.{reads_in_time, ReadTimeLaw}
+use Rattle.tick_laws.proofs.Actions.{since, since-up, FitsAll, running_at-fits, not-cancelled}
+use Rattle.tick_laws.proofs.Settings.{SetAt, row_set, setting, unset_before, unset_waits}
+use Rattle.tick_laws.proofs.Turns.{turn, turn-some, turn-new, NotFirst, NotEarly, not_early-new, owes, owes-most, paid, hold_up}
+use Rattle.tick_laws.proofs.Waits.{HasTurn, Turn, TurnAt, turn_at, TurnBy, step, work_time, few_times, fits_ending, ending, at_end, at_cut}
+use Rattle.tick_laws.proofs.Afterwards.{none-below, first-behind, rows_after-append, late-cuts}
+
+module _ {n : ℕ} where
+  -- what the outcome of a read that came at tick a has to do with a bound and the rows behind it
+  abbrev InTime : (read a bound : ℕ) → List (Row n) → Outcome n → Type 0
+  InTime read a bound after (out.Read u place bytes) = (a + read ≤ u) × (u ≤ bound) × (no_cut_below u after ≡ true)
+  InTime read a bound after (out.Lost u) = (first_cut_at u after ≡ true) × (u < bound)
+  InTime read a bound after _ = Unit {0}
+
+  in_time : (rules : Rules) (a most : ℕ) (before after : List (Row n)) (o : Outcome n) → bound rules a before after ≡ most → InTime rules.read a most after o → read_in_time rules a o before after ≡ true
+  in_time rules a most before after out.Unset same h = refl
+  in_time rules a most before after (out.Stored at place) same h = refl
+  in_time rules a most before after (out.Merged at) same h = refl
+  in_time rules a most before after (out.Queued at) same h = refl
+  in_time rules a most before after (out.Full at) same h = refl
+  in_time rules a most before after (out.Worn at) same h = refl
+  in_time rules a most before after (out.Read u place bytes) same h =
+      both (nat_le (a + rules.read) u) _ (le-leb (a + rules.read) u h.0) (both (nat_le u (bound rules a before after)) _ (subst (λ k. nat_le u k ≡ true) (sym same) (le-leb u most h.1)) h.2)
+    where
+      both : (a b : Bool) → a ≡ true → b ≡ true → (a && b) ≡ true
+      both true b h k = k
+      both false b h k = h
+  in_time rules a most before after (out.Forwarded at bytes) same h = refl
+  in_time rules a most before after (out.Busy at) same h = refl
+  in_time rules a most before after (out.Lost u) same h =
+      both (first_cut_at u after) _ h.0 (subst (λ k. nat_lt u k ≡ true) (sym same) (lt-ltb u most h.1))
+    where
+      both : (a b : Bool) → a ≡ true → b ≡ true → (a && b) ≡ true
+      both true b h k = k
+      both false b h k = h
+  in_time rules a most before after (out.Cut at) same h = refl
+
+  delay-is : (rules : Rules) (p : Pausing) (a : ℕ) (before after : List (Row n)) → is_cancelling p ≡ false → delay rules p a before after ≡ hold_up rules.read rules.iter (rules.steps * rules.iter) (gives_way p)
+  delay-is rules Pause a before after none = refl
+  delay-is rules Plain a before after none = refl
+  delay-is rules Cancel a before after none = absurd (cc)
+
+module _ {n m : ℕ} (shape : BankShape) (pace : Pacing) (e : ℕ) (all : List (Timed n m)) where
+  -- a read that waits is in time, and no cut came
+  turns : (a most row : ℕ) (owed : List ℕ) (zs : List (Timed n m)) → 1 ≤ pace.read → 1 ≤ pace.iter → Awaits (waits shape (core zs)) row owed → a ≤ last_tick zs → Turn shape pace e a most row zs
+      → (mid : List (Timed n m)) → Lawful shape pace e (mid ++ zs) → outcome_of shape (mid ++ zs) row ≡ out.Unset
+      → Turn shape pace e a most row (mid ++ zs) × (a ≤ last_tick (mid ++ zs)) × (list_any is_cut (rows_after shape all mid) ≡ false)
+  turns a most row owed zs r i waits_on up t [] l un = (t, up, refl)
+  turns a most row owed zs r i waits_on up t (y ∷ mid) l un =
+      let back = unset_before shape pace e y (mid ++ zs) row l un in
+      let before = turns a most row owed zs r i waits_on up t mid l.1 back in
+      let rises : last_tick (mid ++ zs) ≤ y.tick = last_tick-rises shape pace e (mid ++ zs) y r i l in
+      let there : has_wait (waits shape (core (mid ++ zs))) row ≡ true = unset_waits shape pace e mid zs row owed l.1 waits_on back in
+      let still = unset_waits shape pace e (y ∷ mid) zs row owed l waits_on un in
+      let over = step shape pace e a most row (mid ++ zs) y l y.happens l.0 there still (turn_at shape pace e a most row (mid ++ zs) y.tick rises before.1 there before.0) in
+      let high : a ≤ last_tick (mid ++ zs) = before.1 in (
+        record { low = over.low; high = over.high },
+        omega (arith, high, rises),
+        list_any-append is_cut (rows_after shape all mid) _ ∙ or_from _ _ before.2 (uncut y.happens y.cancels still),
+      )
+    where
+      uncut : (h : Happens n) (cancels : Bool) → has_wait (waits shape (core_of h (core (mid ++ zs)))) row ≡ true → list_any is_cut (row_with shape all h y.tick cancels) ≡ false
+      uncut (Core (Write at line bytes given answer)) cancels still = refl
+      uncut (Core (Read at line answer)) cancels still = refl
+      uncut (Core (Serve answer)) cancels still = refl
+      uncut (Core (Begin answer)) cancels still = refl
+      uncut (Core (Iterate answer)) cancels still = refl
+      uncut (Core (Cut tearing)) cancels still = absurd (cc)
+
+  module _ (a most row : ℕ) (zs : List (Timed n m)) (s : Timed n m) (r : 1 ≤ pace.read) (i : 1 ≤ pace.iter) (l : Lawful shape pace e (s ∷ zs)) (mids lates : List (Row n)) where
+    -- where the event of a read's outcome comes it comes in time
+    at_serve : (ws : List Awaited) (at first : ℕ) → IsFirst ws at → (at == row) ≡ true → NotEarly a row ws (Some (record { doing = Serving; first = first })) → a ≤ first
+    at_serve [] at first head own low = absurd head
+    at_serve (w ∷ ws) at first head own (inl up) = up
+    at_serve (w ∷ ws) at first head own (inr (inl other)) = absurd (cc)
+    at_serve (w ∷ ws) at first head own (inr (inr later)) = let same : (w.row == row) ≡ true = subst (λ k. (k == row) ≡ true) head own in absurd (cc)
+
+    -- the rows behind the read, around those of an event
+    abbrev Behind : Happens n → List (Row n)
+    Behind h = (mids ++ row_with shape all h s.tick s.cancels) ++ lates
+
+    as_set : (h : Happens n) (t o : Outcome n) → t ≡ o → InTime pace.read a most (Behind h) t → InTime pace.read a most (Behind h) o
+    as_set h t o same k = subst (λ (o : Outcome n). InTime pace.read a most (Behind h) o) same k
+
+    cut_row : (tearing cancels : Bool) → cancels ≡ false → first_cut_at s.tick (row_with shape all (Core (Cut tearing)) s.tick cancels ++ lates) ≡ true
+    cut_row tearing true none = absurd (cc)
+    cut_row tearing false none = eq-eqb s.tick s.tick refl
+
+    at_event : (h : Happens n) (o : Outcome n) → MayCome shape pace e zs s h → s.cancels ≡ false → has_wait (waits shape (core zs)) row ≡ true → list_any is_cut mids ≡ false
+        → no_cut_below s.tick lates ≡ true → TurnAt shape pace e a most row zs s.tick (running_at shape pace zs s.tick)
+        → outcome_with shape zs h s.tick row ≡ Some o → InTime pace.read a most (Behind h) o
+    at_event (Core (Write at line bytes given wrote.Accepted)) o may whole there none late t is = absurd (cc)
+    at_event (Core (Write at line bytes given (wrote.Merged old))) o may whole there none late t is = as_set (Core (Write at line bytes given (wrote.Merged old))) _ o (row_set old row _ o is).1 tt
+    at_event (Core (Write at line bytes given wrote.Full)) o may whole there none late t is = as_set (Core (Write at line bytes given wrote.Full)) _ o (row_set at row _ o is).1 tt
+    at_event (Core (Write at line bytes given wrote.Exhausted)) o may whole there none late t is = as_set (Core (Write at line bytes given wrote.Exhausted)) _ o (row_set at row _ o is).1 tt
+    at_event (Core (Read at line came.Waiting)) o may whole there none late t is = absurd (cc)
+    at_event (Core (Read at line came.Busy)) o may whole there none late t is = as_set (Core (Read at line came.Busy)) _ o (row_set at row _ o is).1 tt
+    at_event (Core (Read at line (came.Forwarded bytes))) o may whole there none late t is = as_set (Core (Read at line (came.Forwarded bytes))) _ o (row_set at row _ o is).1 tt
+    at_event (Core (Serve answer)) o may whole there none late t is =
+        let own = row_set answer.row row _ o is in
+        let now = ending shape pace e a most row zs s l Serving may.on_time.0.0 t in
+        let fits = fits_ending shape pace e a most row zs s l Serving may.on_time.0.0 in
+        let end : s.tick ≡ s.first + pace.read = may.on_time.0.1 in
+        let low : a ≤ s.first = at_serve (waits shape (core zs)) answer.row s.first (served-first shape (core zs) (waits shape (core zs)) answer may.may) own.0 now.low in
+        let high : s.first + pace.read ≤ most =
+        at_end pace.read pace.iter (work_time pace e) most (gives_way pace.policy) (in_progress (core zs)) (iterated (core zs)) s.first (turn pace.read row (waits shape (core zs))) fits.1
+        (turn-some pace.read row (waits shape (core zs)) there) now.high in
+        as_set (Core (Serve answer)) _ o own.1 (
+          omega (arith, low, end),
+          omega (arith, high, end),
+          list_all-append (λ (q : Row n). not (is_cut q) || nat_le s.tick q.tick) (mids ++ []) lates
+          ∙ two _ _ (list_all-append (λ (q : Row n). not (is_cut q) || nat_le s.tick q.tick) mids [] ∙ two _ _ (none-below s.tick mids none) refl) late,
+        )
+      where
+        two : (a b : Bool) → a ≡ true → b ≡ true → (a && b) ≡ true
+        two true b h k = k
+        two false b h k = h
+    at_event (Core (Begin (did.Stored at place))) o may whole there none late t is = as_set (Core (Begin (did.Stored at place))) _ o (row_set at row _ o is).1 tt
+    at_event (Core (Begin did.More)) o may whole there none late t is = absurd (cc)
+    at_event (Core (Begin (did.Moved move))) o may whole there none late t is = absurd (cc)
+    at_event (Core (Begin (did.Retired slot line))) o may whole there none late t is = absurd (cc)
+    at_event (Core (Begin did.Exhausted)) o may whole there none late t is = absurd (cc)
+    at_event (Core (Iterate (did.Stored at place))) o may whole there none late t is = as_set (Core (Iterate (did.Stored at place))) _ o (row_set at row _ o is).1 tt
+    at_event (Core (Iterate did.More)) o may whole there none late t is = absurd (cc)
+    at_event (Core (Iterate (did.Moved move))) o may whole there none late t is = absurd (cc)
+    at_event (Core (Iterate (did.Retired slot line))) o may whole there none late t is = absurd (cc)
+    at_event (Core (Iterate did.Exhausted)) o may whole there none late t is = absurd (cc)
+    at_event (Core (Cut tearing)) o may whole there none late t is =
+        as_set (Core (Cut tearing)) (out.Lost s.tick) o (lost (has_wait (waits shape (core zs)) row) is) (
+          ap (first_cut_at s.tick) (append_assoc mids (row_with shape all (Core (Cut tearing)) s.tick s.cancels) lates)
+          ∙ first-behind s.tick mids _ none ∙ cut_row tearing s.cancels whole,
+          at_cut pace.read pace.iter (work_time pace e) most (gives_way pace.policy) (in_progress (core zs)) _ (iterated (core zs)) s.tick (turn pace.read row (waits shape (core zs))) (running_at shape pace zs s.tick) r
+          (turn-some pace.read row (waits shape (core zs)) there) (λ busy. few_times shape pace e zs l.1 busy) (running_at-fits shape pace e zs s.tick) may.on_time.0.2 t.high,
+        )
+      where
+        lost : (b : Bool) → ◌≡◌ {A = Option (Outcome n)} (cond b (Some (out.Lost s.tick)) None) (Some o) → out.Lost s.tick ≡ o
+        lost true is = cc
+        lost false is = absurd (cc)
+
+  -- so a read that begins to wait is in time in the end
+  in_end : (a most row : ℕ) (owed : List ℕ) (later zs : List (Timed n m)) → 1 ≤ pace.read → 1 ≤ pace.iter → is_cancelling pace.policy ≡ false → Lawful shape pace e (later ++ zs)
+      → Awaits (waits shape (core zs)) row owed → a ≤ last_tick zs → Turn shape pace e a most row zs → outcome_of shape (later ++ zs) row ≢ out.Unset
+      → InTime pace.read a most (rows_after shape all later) (outcome_of shape (later ++ zs) row)
+  in_end a most row owed later zs r i none l waits_on up t set = by (setting shape pace e later zs row (outcome_of shape (later ++ zs) row) l unset set refl)
+    where
+      before : Lawful shape pace e zs
+      before = lawful_before shape pace e later zs l
+
+      unset : outcome_of shape zs row ≡ out.Unset
+      unset = (opens shape pace e zs before).waiting row (awaits-has (waits shape (core zs)) row owed waits_on)
+
+      by : SetAt shape later zs row (outcome_of shape (later ++ zs) row) → InTime pace.read a most (rows_after shape all later) (outcome_of shape (later ++ zs) row)
+      by at =
+          let whole : Lawful shape pace e (at.late ++ at.event ∷ (at.mid ++ zs)) =
+          subst (λ (xs : List (Timed n m)). Lawful shape pace e xs) (ap (λ (xs : List (Timed n m)). xs ++ zs) at.split ∙ append_assoc at.late (at.event ∷ at.mid) zs) l in
+          let here : Lawful shape pace e (at.event ∷ (at.mid ++ zs)) = lawful_before shape pace e at.late (at.event ∷ (at.mid ++ zs)) whole in
+          let past = turns a most row owed zs r i waits_on up t at.mid here.1 at.unset in
+          let there : has_wait (waits shape (core (at.mid ++ zs))) row ≡ true = unset_waits shape pace e at.mid zs row owed here.1 waits_on at.unset in
+          let behind = at_event a most row (at.mid ++ zs) at.event r i here (rows_after shape all at.mid) (rows_after shape all at.late) at.event.happens (outcome_of shape (later ++ zs) row) here.0
+          (not-cancelled shape pace e (at.mid ++ zs) at.event at.event.happens none here.0) there past.2
+          (late-cuts shape all pace e at.event.tick at.late (at.event ∷ (at.mid ++ zs)) r i whole (omega arith))
+          (turn_at shape pace e a most row (at.mid ++ zs) at.event.tick (last_tick-rises shape pace e (at.mid ++ zs) at.event r i here) past.1 there past.0) at.sets in
+          subst (λ (rows : List (Row n)). InTime pace.read a most rows (outcome_of shape (later ++ zs) row))
+          (sym (rows_after-append shape all at.late (at.event ∷ at.mid)) ∙ ap (rows_after shape all) (sym at.split)) behind
+
+  sums : (s o t x hold k p : ℕ) → s ≤ x → o ≤ hold → t ≡ k → s + o + t ≤ x + hold + k + p
+  sums s o t x hold k p top most is = omega arith
+
+  pub read_at : 1 ≤ pace.read → 1 ≤ pace.iter → is_cancelling pace.policy ≡ false → Lawful shape pace e all → waits shape (core all) ≡ [] → (later : List (Timed n m)) (x : Timed n m) (ys : List (Timed n m)) → all ≡ later ++ x ∷ ys
+      → Passes (reads_in_time (rules_of e shape pace)) (rows_from shape all ys) (row_with shape all x.happens x.tick x.cancels) (rows_after shape all later)
+  read_at r i none l idle later x ys same =
+      by x.happens x.cancels (may_at shape pace e all later x ys l same) (onwards_at shape pace e all later x ys l same) (λ arrives. waits_length shape pace e all later x ys r i l idle same arrives)
+      (since-up shape pace e (x ∷ ys) r i here)
+      (λ most row owed waits_on t set.
+      subst (λ (xs : List (Timed n m)). InTime pace.read x.tick most (rows_after shape all later) (outcome_of shape xs row)) (sym same)
+      (in_end x.tick most row owed later (x ∷ ys) r i none whole waits_on (omega arith) t (subst (λ (xs : List (Timed n m)). outcome_of shape xs row ≢ out.Unset) same set)))
+    where
+      whole : Lawful shape pace e (later ++ x ∷ ys)
+      whole = subst (λ (xs : List (Timed n m)). Lawful shape pace e xs) same l
+
+      here : Lawful shape pace e (x ∷ ys)
+      here = lawful_before shape pace e later (x ∷ ys) whole
+
+      runs : Option Action
+      runs = running_at shape pace ys x.tick
+
+      most : ℕ
+      most = x.tick + hold_up pace.read pace.iter (work_time pace e) (gives_way pace.policy) + (length (waits shape (core ys)) + 1) * pace.read
+
+      drop_or : (b : Bool) → FitsAll shape pace ys runs → FitsAll shape pace ys (cond b None runs)
+      drop_or true f = tt
+      drop_or false f = f
+
+      bound-is : length (waiting x.tick [] (rows_from shape all ys)) ≡ length (waits shape (core ys)) → bound (rules_of e shape pace) x.tick (rows_from shape all ys) (rows_after shape all later) ≡ most
+      bound-is count =
+          ap (λ k. x.tick + k + (length (waiting x.tick [] (rows_from shape all ys)) + 1) * pace.read) (delay-is (rules_of e shape pace) pace.policy x.tick (rows_from shape all ys) (rows_after shape all later) none)
+          ∙ ap (λ k. x.tick + hold_up pace.read pace.iter (work_time pace e) (gives_way pace.policy) + (k + 1) * pace.read) count
+
+      by : (h : Happens n) (cancels : Bool) → MayCome shape pace e ys x h → Onwards shape all ys x.tick h
+          → (ends_action h ≡ false → length (waiting x.tick [] (rows_from shape all ys)) ≡ length (waits shape (core ys)))
+          → since (left_by shape (core ys) h runs) x.tick ≤ x.tick
+          → ((most row : ℕ) (owed : List ℕ) → Awaits (waits shape (core_of h (core ys))) row owed → TurnBy shape pace e x.tick most row ys x here h (left_by shape (core ys) h runs)
+          → outcome_of shape all row ≢ out.Unset → InTime pace.read x.tick most (rows_after shape all later) (outcome_of shape all row))
+          → Passes (reads_in_time (rules_of e shape pace)) (rows_from shape all ys) (row_with shape all h x.tick cancels) (rows_after shape all later)
+      by (Core (Write row line bytes given answer)) cancels may on count top go = refl
+      by (Core (Read row line (came.Forwarded bytes))) cancels may on count top go =
+          ap (λ (o : Outcome n). read_in_time (rules_of e shape pace) x.tick o (rows_from shape all ys) (rows_after shape all later))
+          (own_answer shape pace e all ys x (Core (Read row line (came.Forwarded bytes))) row (out.Forwarded x.tick bytes) on refl (λ is. absurd (cc)))
+      by (Core (Read row line came.Busy)) cancels may on count top go =
+          ap (λ (o : Outcome n). read_in_time (rules_of e shape pace) x.tick o (rows_from shape all ys) (rows_after shape all later))
+          (own_answer shape pace e all ys x (Core (Read row line came.Busy)) row (out.Busy x.tick) on refl (λ is. absurd (cc)))
+      by (Core (Read row line came.Waiting)) cancels may on count top go =
+          let v = awaited row line (newest (core ys) line) (layer_of (queue shape (core ys)) line) in
+          let drops = is_doing Beginning runs && is_store_of line (work_after shape (core ys)) in
+          let new : has_wait (waits shape (core ys)) row ≡ false = (stand_apart shape (core ys) row may.asked).waiting_below row (omega arith) in
+          let waits_on = awaits-new (waits shape (core ys)) v in
+          in_time (rules_of e shape pace) x.tick most (rows_from shape all ys) (rows_after shape all later) (outcome_of shape all row) (bound-is (count refl))
+          (go most row (newest (core ys) line) waits_on
+          (record {
+            low = not_early-new x.tick row (gives_way pace.policy) (in_progress (core ys)) (waits shape (core ys)) v (cond drops None runs) new (drop_or drops (running_at-fits shape pace e ys x.tick));
+            high = sums _ _ _ x.tick (hold_up pace.read pace.iter (work_time pace e) (gives_way pace.policy)) ((length (waits shape (core ys)) + 1) * pace.read) _ top
+                (owes-most pace.read pace.iter (work_time pace e) (gives_way pace.policy) (in_progress (core ys)) (cond drops None runs))
+                (turn-new pace.read row (waits shape (core ys)) v new refl);
+          })
+          (ended_read row (newest (core ys) line) (on.reads row (newest (core ys) line) (inl waits_on))))
+        where
+          ended_read : (row : ℕ) (owed : List ℕ) → ReadFate shape all row owed → outcome_of shape all row ≢ out.Unset
+          ended_read row owed (inl a) un = subst (λ ws. Awaits ws row owed) idle a
+          ended_read row owed (inr s) un = subst (λ (o : Outcome n). IsSettled owed o) un s
+      by (Core (Serve answer)) cancels may on count top go = tt
+      by (Core (Begin answer)) cancels may on count top go = tt
+      by (Core (Iterate answer)) cancels may on count top go = tt
+      by (Core (Cut tearing)) true may on count top go = tt
+      by (Core (Cut tearing)) false may on count top go = refl
+
+pub read_time_law : ReadTimeLaw
+read_time_law n m e shape pace xs sized l idle none =
+    walk shape xs (reads_in_time (rules_of e shape pace)) [] xs refl (read_at shape pace e xs sized.read sized.iter none l (idle-waits shape pace xs idle))

@@ -1,0 +1,347 @@
+-- A write that is stored is stored in time.
+use Rattle.std.proofs.Common.{◌≡◌, ◌≢◌, ℕ, ◌+◌, ◌*◌, ◌<◌, ◌≤◌, ◌==◌, ◌&&◌, ◌||◌, ◌⊎◌, inl, inr, not, Bool, true, false, List, [], ◌∷◌, ◌++◌, Option, Some, None, refl, sym, ap, ◌∙◌, subst, arith, cond, append_assoc}
+use Rattle.std.specs.Prelude.{unwrap_or, nat_lt, nat_le, count_by}
+use Rattle.std.proofs.lemmas.Bool.{lt-ltb, le-leb, and_from}
+use Rattle.std.proofs.Math.Nat.{mul-le-mul_left}
+use Rattle.result_rows.specs.declared.Outcome.{Outcome}
+use Rattle.result_rows.specs.declared.Outcome.TheVariants as out
+use Rattle.masked_bytes.specs.Entries.{has_row}
+use Rattle.row_laws.specs.declared.Asks.TheVariants.{Writes}
+use Rattle.row_laws.specs.declared.Row.{Row}
+use Rattle.row_laws.specs.Answers.{stored_after, stored_by, read_after, read_by}
+use Rattle.row_laws.specs.Rows.{asks_read, asks_write}
+use Rattle.row_laws.specs.Rules.{Rules}
+use Rattle.row_laws.specs.Ticking.{attempt, tries, longest, stores_in, reads_in, cuts_to, store_in_time}
+use Rattle.bank_shape.specs.Pausing.{Pausing, Pause, Plain, Cancel, is_cancelling}
+use Rattle.bank_shape.specs.declared.BankShape.{BankShape}
+use Rattle.bank_model.specs.declared.answer.WriteAnswer.{WriteAnswer}
+use Rattle.bank_model.specs.declared.answer.WriteAnswer.TheVariants as wrote
+use Rattle.bank_model.specs.declared.answer.ReadAnswer.TheVariants as came
+use Rattle.bank_model.specs.declared.answer.Step.TheVariants as did
+use Rattle.bank_model.specs.Events.{Event, Write, Read, Serve, Begin, Iterate, Cut}
+use Rattle.bank_model.specs.History.{queue, waits, due_after, has_exhausted}
+use Rattle.bank_model.specs.After.{work_after}
+use Rattle.bank_model.specs.Answers.{IsDone}
+use Rattle.bank_model.specs.Timing.{Pacing, Happens, Core, Timed, core, core_of, last_tick}
+use Rattle.bank_model.specs.Lawful.{Lawful, MayCome}
+use Rattle.bank_laws.specs.Laws.{rules_of}
+use Rattle.bank_laws.specs.Outcomes.{on_row, outcome_with, outcome_of, ended, row_with, rows_from}
+use Rattle.bank_laws.specs.Ticks.{ends_action}
+use Rattle.bank_laws.proofs.Entries.{either}
+use Rattle.bank_laws.proofs.Answering.{head-there, first-there, stored-head, served-first, merged-there}
+use Rattle.bank_laws.proofs.Settling.{opens, lawful_before}
+use Rattle.bank_laws.proofs.Ticks.{last_tick-rises, last-below}
+use Rattle.bank_laws.proofs.Fates.{new-push, new-merged}
+use Rattle.bank_laws.proofs.Walking.{Passes, walk, rows_after}
+use Rattle.bank_laws.proofs.Ending.{Onwards, own_row, own_answer}
+use Rattle.bank_laws.proofs.Serves.{may_at, onwards_at}
+use Rattle.bank_laws.proofs.Counting.{among, hits}
+use Rattle.bank_laws.proofs.Wears.{exhausted-more, exhausted-stores_none}
+use Rattle.bank_laws.proofs.Waiting as waiting
+use Rattle.bank_laws.proofs.Waiting.{waits-asked}
+use Rattle.bank_laws.proofs.Pending.{writes_in, write_rows, queue-asked, last-later}
+use Rattle.tick_laws.specs.TickLaws.{stores_in_time, StoreTimeLaw}
+use Rattle.tick_laws.proofs.Actions.{since-up}
+use Rattle.tick_laws.proofs.Settings.{SetAt, row_set, setting, unset_before, unset_stands}
+use Rattle.tick_laws.proofs.Waits.{work_time}
+use Rattle.tick_laws.proofs.Afterwards.{rows_after-append}
+use Rattle.tick_laws.proofs.Tallies.{stores_by, moves_by, retires_by, serves_by, cuts_by, tally}
+use Rattle.tick_laws.proofs.Moves.{done_store, flag, flag-most, moves_few, retires_few}
+use Rattle.tick_laws.proofs.Delays.{gain, Delay, DelayAt, delay_at, step, store_tick}
+use Rattle.tick_laws.proofs.Counts.{Sets, tallied_all, writes-counted, reads-counted, rows-counted, cuts-counted, count-append, among-later}
+
+-- the ticks that may have passed to an arrival at a and over some events
+abbrev allowed : {n m : ℕ} → ℕ → ℕ → ℕ → List (Timed n m) → ℕ
+allowed read work a [] = a
+allowed read work a (y ∷ mid) = gain read work y.happens + allowed read work a mid
+
+times-add : (a x y : ℕ) → a * (x + y) ≡ a * x + a * y
+times-add a x y = grind arith
+
+spread : (a r b s m t c v ss mm tt cc vv : ℕ) → (a * (s + m + t + c) + r * (2 * v + c)) + ((a * (ss + mm + tt + cc) + r * (2 * vv + cc)) + b)
+    ≡ (a * ((s + ss) + (m + mm) + (t + tt) + (c + cc)) + r * (2 * (v + vv) + (c + cc))) + b
+spread a r b s m t c v ss mm tt cc vv =
+    let d : a * ((s + ss) + (m + mm) + (t + tt) + (c + cc)) ≡ a * (s + m + t + c) + a * (ss + mm + tt + cc) = ap (λ k. a * k) (omega arith) ∙ times-add a (s + m + t + c) (ss + mm + tt + cc) in
+    let f : r * (2 * (v + vv) + (c + cc)) ≡ r * (2 * v + c) + r * (2 * vv + cc) = ap (λ k. r * k) (omega arith) ∙ times-add r (2 * v + c) (2 * vv + cc) in
+    omega (arith, d, f)
+
+allowed-is : {n m : ℕ} (read work a : ℕ) (mid : List (Timed n m))
+    → allowed read work a mid ≡ ((read + work) * (tally stores_by mid + tally moves_by mid + tally retires_by mid + tally cuts_by mid) + read * (2 * tally serves_by mid + tally cuts_by mid)) + a
+allowed-is read work a [] = omega arith
+allowed-is read work a (y ∷ mid) =
+    ap (λ k. gain read work y.happens + k) (allowed-is read work a mid)
+    ∙ spread (read + work) read a (stores_by y.happens) (moves_by y.happens) (retires_by y.happens) (cuts_by y.happens) (serves_by y.happens)
+    (tally stores_by mid) (tally moves_by mid) (tally retires_by mid) (tally cuts_by mid) (tally serves_by mid)
+
+longest-is : (rules : Rules) (w s c : ℕ) → is_cancelling rules.policy ≡ false → rules.twice ≡ false → longest rules w s c ≡ attempt rules * (2 * w + rules.spares + c) + rules.read * (2 * s + c)
+longest-is rules w s c none single =
+    ap (λ k. k * attempt rules * (cond rules.twice 2 1 * (2 * w + rules.spares) + c) + rules.read * (2 * s + c)) (once rules.policy none)
+    ∙ ap (λ b. 1 * attempt rules * (cond b 2 1 * (2 * w + rules.spares) + c) + rules.read * (2 * s + c)) single
+    ∙ ap (λ k. k * (1 * (2 * w + rules.spares) + c) + rules.read * (2 * s + c)) one
+    ∙ ap (λ k. attempt rules * k + rules.read * (2 * s + c)) (omega arith)
+  where
+    once : (p : Pausing) → is_cancelling p ≡ false → tries p ≡ 1
+    once Pause none = refl
+    once Plain none = refl
+    once Cancel none = absurd (cc)
+
+    one : 1 * attempt rules ≡ attempt rules
+    one = omega arith
+
+bounded : (a r b s m t c v w spares cuts reads : ℕ) → s ≤ w → m ≤ s → t ≤ spares → c ≤ cuts → v ≤ reads
+    → (a * (s + m + t + c) + r * (2 * v + c)) + b ≤ b + (a * (2 * w + spares + cuts) + r * (2 * reads + cuts))
+bounded a r b s m t c v w spares cuts reads sw ms ts cs vs =
+    let d : a * (s + m + t + c) ≤ a * (2 * w + spares + cuts) = mul-le-mul_left {m = s + m + t + c} {n = 2 * w + spares + cuts} a (omega arith) in
+    let f : r * (2 * v + c) ≤ r * (2 * reads + cuts) = mul-le-mul_left {m = 2 * v + c} {n = 2 * reads + cuts} r (omega arith) in
+    omega (arith, d, f)
+
+module _ {n : ℕ} where
+  -- stored, or read, at a tick above a and up to u
+  abbrev stored_within : ℕ → ℕ → Outcome n → Bool
+  stored_within a u o = stored_after a o && stored_by u o
+
+  abbrev read_within : ℕ → ℕ → Outcome n → Bool
+  read_within a u o = read_after a o && read_by u o
+
+  ended-within : (a u tick : ℕ) (o : Outcome n) → stored_within a u (ended tick o) ≡ stored_within a u o
+  ended-within a u tick out.Unset = refl
+  ended-within a u tick (out.Stored at place) = refl
+  ended-within a u tick (out.Merged at) = refl
+  ended-within a u tick (out.Queued at) = refl
+  ended-within a u tick (out.Full at) = refl
+  ended-within a u tick (out.Worn at) = refl
+  ended-within a u tick (out.Read at place bytes) = refl
+  ended-within a u tick (out.Forwarded at bytes) = refl
+  ended-within a u tick (out.Busy at) = refl
+  ended-within a u tick (out.Lost at) = refl
+  ended-within a u tick (out.Cut at) = refl
+
+  fine_before : (h : Happens n) (xs : List (Event n)) → has_exhausted (core_of h xs) ≡ false → has_exhausted xs ≡ false
+  fine_before (Core event) xs fine = either (has_exhausted xs) (λ ex. absurd (cc (exhausted-more event xs ex, fine))) (λ is. is)
+
+module _ {n m : ℕ} (shape : BankShape) (pace : Pacing) (e : ℕ) where
+  -- while a write stands the ticks are in time
+  delays : (a row : ℕ) (zs : List (Timed n m)) → 1 ≤ pace.read → 1 ≤ pace.iter → has_row (queue shape (core zs)) row ≡ true → Delay shape pace e a zs
+      → (mid : List (Timed n m)) → Lawful shape pace e (mid ++ zs) → outcome_of shape (mid ++ zs) row ≡ out.Unset → has_exhausted (core (mid ++ zs)) ≡ false
+      → Delay shape pace e (allowed pace.read (work_time pace e) a mid) (mid ++ zs)
+  delays a row zs r i there d [] l un fine = d
+  delays a row zs r i there d (y ∷ mid) l un fine =
+      let back = unset_before shape pace e y (mid ++ zs) row l un in
+      let before = fine_before y.happens (core (mid ++ zs)) fine in
+      step shape pace e (allowed pace.read (work_time pace e) a mid) (mid ++ zs) y l y.happens l.0 fine
+      (delay_at shape pace e (allowed pace.read (work_time pace e) a mid) (mid ++ zs) y.tick row (last_tick-rises shape pace e (mid ++ zs) y r i l) (unset_stands shape pace e mid zs row l.1 there back) before
+      (delays a row zs r i there d mid l.1 back before))
+
+  -- what the event is by which a row is stored
+  record IsStore (zs : List (Timed n m)) (y : Timed n m) (h : Happens n) (u : ℕ) : Type 0 where
+    at : u ≡ y.tick
+    fine : has_exhausted (core zs) ≡ false
+    one : stores_by h ≡ 1
+    moves : moves_by h ≡ 0
+    ends : ends_action h ≡ true
+
+  module _ (zs : List (Timed n m)) (y : Timed n m) (row u p : ℕ) where
+    not_set : (at : ℕ) (t : Outcome n) → ((u p : ℕ) → t ≡ out.Stored u p → ⊥) → on_row at row t ≡ Some (out.Stored u p) → ⊥
+    not_set at t other is = other u p (row_set at row t (out.Stored u p) is).1
+
+    stored_now : (at place : ℕ) → on_row {n = n} at row (out.Stored y.tick place) ≡ Some (out.Stored u p) → u ≡ y.tick
+    stored_now at place is = by (row_set at row (out.Stored y.tick place) (out.Stored u p) is).1
+      where
+        by : ◌≡◌ {A = Outcome n} (out.Stored y.tick place) (out.Stored u p) → u ≡ y.tick
+        by same = cc
+
+    of_store : (at place : ℕ) → IsDone shape (core zs) (work_after shape (core zs)) (did.Stored at place) → has_exhausted (core zs) ≡ false
+    of_store at place d = either (has_exhausted (core zs)) (λ ex. absurd (exhausted-stores_none shape (core zs) at place ex d)) (λ is. is)
+
+    store_event : (h : Happens n) → MayCome shape pace e zs y h → outcome_with shape zs h y.tick row ≡ Some (out.Stored u p) → IsStore zs y h u
+    store_event (Core (Write at line bytes given wrote.Accepted)) may is = absurd (cc)
+    store_event (Core (Write at line bytes given (wrote.Merged old))) may is = absurd (not_set old (out.Merged y.tick) (λ u p k. absurd (cc)) is)
+    store_event (Core (Write at line bytes given wrote.Full)) may is = absurd (not_set at (out.Full y.tick) (λ u p k. absurd (cc)) is)
+    store_event (Core (Write at line bytes given wrote.Exhausted)) may is = absurd (not_set at (out.Worn y.tick) (λ u p k. absurd (cc)) is)
+    store_event (Core (Read at line came.Waiting)) may is = absurd (cc)
+    store_event (Core (Read at line came.Busy)) may is = absurd (not_set at (out.Busy y.tick) (λ u p k. absurd (cc)) is)
+    store_event (Core (Read at line (came.Forwarded bytes))) may is = absurd (not_set at (out.Forwarded y.tick bytes) (λ u p k. absurd (cc)) is)
+    store_event (Core (Serve answer)) may is = absurd (not_set answer.row (out.Read y.tick answer.place answer.bytes) (λ u p k. absurd (cc)) is)
+    store_event (Core (Begin (did.Stored at place))) may is = record {
+      at = stored_now at place is; fine = of_store at place may.may.1; one = refl; moves = refl; ends = refl;
+    }
+    store_event (Core (Begin did.More)) may is = absurd (cc)
+    store_event (Core (Begin (did.Moved move))) may is = absurd (cc)
+    store_event (Core (Begin (did.Retired slot line))) may is = absurd (cc)
+    store_event (Core (Begin did.Exhausted)) may is = absurd (cc)
+    store_event (Core (Iterate (did.Stored at place))) may is = record {
+      at = stored_now at place is; fine = of_store at place may.may.1; one = refl; moves = refl; ends = refl;
+    }
+    store_event (Core (Iterate did.More)) may is = absurd (cc)
+    store_event (Core (Iterate (did.Moved move))) may is = absurd (cc)
+    store_event (Core (Iterate (did.Retired slot line))) may is = absurd (cc)
+    store_event (Core (Iterate did.Exhausted)) may is = absurd (cc)
+    store_event (Core (Cut tearing)) may is = by _ is
+      where
+        by : (b : Bool) → ◌≡◌ {A = Option (Outcome n)} (cond b (Some (out.Lost y.tick)) None) (Some (out.Stored u p)) → IsStore zs y (Core (Cut tearing)) u
+        by true is = absurd (cc)
+        by false is = absurd (cc)
+
+module _ {n m : ℕ} (shape : BankShape) (pace : Pacing) (e : ℕ) (all : List (Timed n m)) where
+  module _ (a u : ℕ) (zs : List (Timed n m)) (r : 1 ≤ pace.read) (i : 1 ≤ pace.iter) (up : a ≤ last_tick zs) where
+    written : (late back : List (Timed n m)) (y : Timed n m) → all ≡ late ++ y ∷ (back ++ zs) → (c : ℕ) → among (writes_in (back ++ zs)) c ≡ true → among (writes_in all) c ≡ true
+    written late back y same c there =
+        subst (λ (xs : List (Timed n m)). among (writes_in xs) c ≡ true) (append_assoc late (y ∷ []) (back ++ zs) ∙ sym same)
+        (among-later {n = n} {m = m} write_rows writes_in (λ x xs. refl) (late ++ y ∷ []) (back ++ zs) c there)
+
+    asked : (late back : List (Timed n m)) (y : Timed n m) → all ≡ late ++ y ∷ (back ++ zs) → (c : ℕ) → among (waiting.reads_in (back ++ zs)) c ≡ true → among (waiting.reads_in all) c ≡ true
+    asked late back y same c there =
+        subst (λ (xs : List (Timed n m)). among (waiting.reads_in xs) c ≡ true) (append_assoc late (y ∷ []) (back ++ zs) ∙ sym same)
+        (among-later {n = n} {m = m} waiting.read_rows waiting.reads_in (λ x xs. refl) (late ++ y ∷ []) (back ++ zs) c there)
+
+    above : (back : List (Timed n m)) (y : Timed n m) → Lawful shape pace e (y ∷ back ++ zs) → ends_action y.happens ≡ true → a < y.tick
+    above back y l ends =
+        let before : last_tick zs ≤ last_tick (back ++ zs) = last-later shape pace e back zs r i l.1 in
+        let lt : last_tick (back ++ zs) < y.tick = last-below shape pace e (back ++ zs) y r i l ends in
+        omega (arith, up, before, lt)
+
+    -- each store stores a row, and each serve reads one
+    stores_set : (late back : List (Timed n m)) (y : Timed n m) → all ≡ late ++ y ∷ (back ++ zs) → Lawful shape pace e (y ∷ back ++ zs) → y.tick ≤ u
+        → Sets shape pace e all stores_by (writes_in all) (stored_within a u) y (back ++ zs)
+    stores_set late back y same l le = by y.happens l.0 (above back y l)
+      where
+        Goal : Happens n → Type 0
+        Goal h =
+            (stores_by h ≡ 0)
+            ⊎ ((stores_by h ≡ 1) × (c : ℕ) × (among (writes_in all) c ≡ true) × (outcome_of shape (back ++ zs) c ≡ out.Unset)
+            × (stored_within a u (unwrap_or (outcome_with shape (back ++ zs) h y.tick c) (outcome_of shape (back ++ zs) c)) ≡ true))
+
+        own : (at place : ℕ) → IsDone shape (core (back ++ zs)) (work_after shape (core (back ++ zs))) (did.Stored at place) → a < y.tick
+            → (c : ℕ) × (among (writes_in all) c ≡ true) × (outcome_of shape (back ++ zs) c ≡ out.Unset)
+            × (stored_within a u (unwrap_or (on_row at c (out.Stored y.tick place)) (outcome_of shape (back ++ zs) c)) ≡ true)
+        own at place d lt =
+            let there : has_row (queue shape (core (back ++ zs))) at ≡ true = head-there (queue shape (core (back ++ zs))) at (stored-head shape (core (back ++ zs)) at place d) in (
+              at,
+              written late back y same at (queue-asked shape (back ++ zs) at there),
+              (opens shape pace e (back ++ zs) l.1).queued at there,
+              ap (stored_within a u) (own_row at (out.Stored y.tick place) (outcome_of shape (back ++ zs) at)) ∙ and_from _ _ (lt-ltb a y.tick lt) (le-leb y.tick u le),
+            )
+
+        by : (h : Happens n) → MayCome shape pace e (back ++ zs) y h → (ends_action h ≡ true → a < y.tick) → Goal h
+        by (Core (Write row line bytes given answer)) may lt = inl refl
+        by (Core (Read row line answer)) may lt = inl refl
+        by (Core (Serve answer)) may lt = inl refl
+        by (Core (Begin (did.Stored at place))) may lt = inr (let k = own at place may.may.1 (lt refl) in (refl, k.0, k.1, k.2, k.3))
+        by (Core (Begin did.More)) may lt = inl refl
+        by (Core (Begin (did.Moved move))) may lt = inl refl
+        by (Core (Begin (did.Retired slot line))) may lt = inl refl
+        by (Core (Begin did.Exhausted)) may lt = inl refl
+        by (Core (Iterate (did.Stored at place))) may lt = inr (let k = own at place may.may.1 (lt refl) in (refl, k.0, k.1, k.2, k.3))
+        by (Core (Iterate did.More)) may lt = inl refl
+        by (Core (Iterate (did.Moved move))) may lt = inl refl
+        by (Core (Iterate (did.Retired slot line))) may lt = inl refl
+        by (Core (Iterate did.Exhausted)) may lt = inl refl
+        by (Core (Cut tearing)) may lt = inl refl
+
+    serves_set : (late back : List (Timed n m)) (y : Timed n m) → all ≡ late ++ y ∷ (back ++ zs) → Lawful shape pace e (y ∷ back ++ zs) → y.tick ≤ u
+        → Sets shape pace e all serves_by (waiting.reads_in all) (read_within a u) y (back ++ zs)
+    serves_set late back y same l le = by y.happens l.0 (above back y l)
+      where
+        Goal : Happens n → Type 0
+        Goal h =
+            (serves_by h ≡ 0)
+            ⊎ ((serves_by h ≡ 1) × (c : ℕ) × (among (waiting.reads_in all) c ≡ true) × (outcome_of shape (back ++ zs) c ≡ out.Unset)
+            × (read_within a u (unwrap_or (outcome_with shape (back ++ zs) h y.tick c) (outcome_of shape (back ++ zs) c)) ≡ true))
+
+        by : (h : Happens n) → MayCome shape pace e (back ++ zs) y h → (ends_action h ≡ true → a < y.tick) → Goal h
+        by (Core (Write row line bytes given answer)) may lt = inl refl
+        by (Core (Read row line answer)) may lt = inl refl
+        by (Core (Serve answer)) may lt =
+            let there = first-there (waits shape (core (back ++ zs))) answer.row (served-first shape (core (back ++ zs)) (waits shape (core (back ++ zs))) answer may.may) in
+            inr (
+              refl,
+              answer.row,
+              asked late back y same answer.row (waits-asked shape (back ++ zs) answer.row there),
+              (opens shape pace e (back ++ zs) l.1).waiting answer.row there,
+              ap (read_within a u) (own_row answer.row (out.Read y.tick answer.place answer.bytes) (outcome_of shape (back ++ zs) answer.row)) ∙ and_from _ _ (lt-ltb a y.tick (lt refl)) (le-leb y.tick u le),
+            )
+        by (Core (Begin answer)) may lt = inl refl
+        by (Core (Iterate answer)) may lt = inl refl
+        by (Core (Cut tearing)) may lt = inl refl
+
+  -- the rows of the table, around those of an event
+  abbrev pub Table : (later : List (Timed n m)) (x : Timed n m) (ys : List (Timed n m)) → Happens n → List (Row n)
+  Table later x ys h = rows_from shape all ys ++ (row_with shape all h x.tick x.cancels ++ rows_after shape all later)
+
+  table-counted : (t : Row n → Bool) (later : List (Timed n m)) (x : Timed n m) (ys : List (Timed n m)) → all ≡ later ++ x ∷ ys
+      → count_by t (Table later x ys x.happens) ≡ count_by t (rows_from shape all all)
+  table-counted t later x ys same =
+      let whole : count_by t (rows_from shape all (later ++ x ∷ ys)) ≡ count_by t (rows_after shape all later) + count_by t (row_with shape all x.happens x.tick x.cancels ++ rows_from shape all ys) =
+      rows-counted shape all t later (x ∷ ys) in
+      let own : count_by t (row_with shape all x.happens x.tick x.cancels ++ rows_from shape all ys) ≡ count_by t (row_with shape all x.happens x.tick x.cancels) + count_by t (rows_from shape all ys) =
+      count-append t (row_with shape all x.happens x.tick x.cancels) (rows_from shape all ys) in
+      let front : count_by t (Table later x ys x.happens) ≡ count_by t (rows_from shape all ys) + count_by t (row_with shape all x.happens x.tick x.cancels ++ rows_after shape all later) =
+      count-append t (rows_from shape all ys) _ in
+      let back : count_by t (row_with shape all x.happens x.tick x.cancels ++ rows_after shape all later) ≡ count_by t (row_with shape all x.happens x.tick x.cancels) + count_by t (rows_after shape all later) =
+      count-append t (row_with shape all x.happens x.tick x.cancels) (rows_after shape all later) in
+      let is : count_by t (rows_from shape all (later ++ x ∷ ys)) ≡ count_by t (rows_from shape all all) = ap (λ (xs : List (Timed n m)). count_by t (rows_from shape all xs)) (sym same) in
+      omega (arith, whole, own, front, back, is)
+
+  -- a write that stands is stored in time, if it is
+  pub record IsInTime (rules : Rules) (a u : ℕ) (table after : List (Row n)) : Type 0 where
+    pub late : a < u
+    pub soon : u ≤ a + longest rules (stores_in a u table) (reads_in a u table) (cuts_to u after)
+
+  pub in_end : (later : List (Timed n m)) (x : Timed n m) (ys : List (Timed n m)) (row u p : ℕ) → 1 ≤ pace.read → 1 ≤ pace.iter → 1 ≤ shape.psi → is_cancelling pace.policy ≡ false → Lawful shape pace e all
+      → all ≡ later ++ x ∷ ys → has_row (queue shape (core (x ∷ ys))) row ≡ true → outcome_of shape all row ≡ out.Stored u p
+      → IsInTime (rules_of e shape pace) x.tick u (Table later x ys x.happens) (rows_after shape all later)
+  in_end later x ys row u p r i some none l same there is =
+      by (setting shape pace e later (x ∷ ys) row (out.Stored u p) total ((opens shape pace e (x ∷ ys) before).queued row there) (λ k. absurd (cc))
+      (ap (λ (xs : List (Timed n m)). outcome_of shape xs row) (sym same) ∙ is))
+    where
+      total : Lawful shape pace e (later ++ x ∷ ys)
+      total = subst (λ (xs : List (Timed n m)). Lawful shape pace e xs) same l
+
+      before : Lawful shape pace e (x ∷ ys)
+      before = lawful_before shape pace e later (x ∷ ys) total
+
+      by : SetAt shape later (x ∷ ys) row (out.Stored u p) → IsInTime (rules_of e shape pace) x.tick u (Table later x ys x.happens) (rows_after shape all later)
+      by at =
+          let split : all ≡ at.late ++ at.event ∷ (at.mid ++ x ∷ ys) = same ∙ ap (λ (xs : List (Timed n m)). xs ++ x ∷ ys) at.split ∙ append_assoc at.late (at.event ∷ at.mid) (x ∷ ys) in
+          let whole : Lawful shape pace e (at.late ++ at.event ∷ (at.mid ++ x ∷ ys)) = subst (λ (xs : List (Timed n m)). Lawful shape pace e xs) split l in
+          let here : Lawful shape pace e (at.event ∷ (at.mid ++ x ∷ ys)) = lawful_before shape pace e at.late (at.event ∷ (at.mid ++ x ∷ ys)) whole in
+          let event = store_event shape pace e (at.mid ++ x ∷ ys) at.event row u p at.event.happens here.0 at.sets in
+          let now : u ≡ at.event.tick = event.at in
+          let since : Delay shape pace e x.tick (x ∷ ys) = let up = since-up shape pace e (x ∷ ys) r i before in inl (omega (arith, up)) in
+          let delay = delays shape pace e x.tick row (x ∷ ys) r i there since at.mid here.1 at.unset event.fine in
+          let ends : at.event.tick ≤ allowed pace.read (work_time pace e) x.tick (at.event ∷ at.mid) =
+          store_tick shape pace e (allowed pace.read (work_time pace e) x.tick at.mid) (at.mid ++ x ∷ ys) at.event here at.event.happens here.0 event.one
+          (delay_at shape pace e (allowed pace.read (work_time pace e) x.tick at.mid) (at.mid ++ x ∷ ys) at.event.tick row (last_tick-rises shape pace e (at.mid ++ x ∷ ys) at.event r i here)
+          (unset_stands shape pace e at.mid (x ∷ ys) row here.1 there at.unset) event.fine delay) in
+          let sum : allowed pace.read (work_time pace e) x.tick (at.event ∷ at.mid)
+              ≡ ((pace.read + work_time pace e)
+              * (tally stores_by (at.event ∷ at.mid) + tally moves_by (at.event ∷ at.mid) + tally retires_by (at.event ∷ at.mid) + tally cuts_by (at.event ∷ at.mid))
+              + pace.read * (2 * tally serves_by (at.event ∷ at.mid) + tally cuts_by (at.event ∷ at.mid)))
+              + x.tick =
+          allowed-is pace.read (work_time pace e) x.tick (at.event ∷ at.mid) in
+          let stores : tally stores_by (at.event ∷ at.mid) ≤ hits (λ row. stored_within x.tick u (outcome_of shape all row)) (writes_in all) =
+          tallied_all shape pace e all stores_by (writes_in all) (stored_within x.tick u) refl (x ∷ ys) u (stores_set x.tick u (x ∷ ys) r i (omega arith)) r i at.late (at.event ∷ at.mid) split l here (omega (arith, now)) in
+          let serves : tally serves_by (at.event ∷ at.mid) ≤ hits (λ row. read_within x.tick u (outcome_of shape all row)) (waiting.reads_in all) =
+          tallied_all shape pace e all serves_by (waiting.reads_in all) (read_within x.tick u) refl (x ∷ ys) u (serves_set x.tick u (x ∷ ys) r i (omega arith)) r i at.late (at.event ∷ at.mid) split l here (omega (arith, now)) in
+          let w : stores_in x.tick u (Table later x ys x.happens) ≡ hits (λ row. stored_within x.tick u (outcome_of shape all row)) (writes_in all) =
+          table-counted _ later x ys same ∙ writes-counted shape all (stored_within x.tick u) (ended-within x.tick u) all in
+          let v : reads_in x.tick u (Table later x ys x.happens) ≡ hits (λ row. read_within x.tick u (outcome_of shape all row)) (waiting.reads_in all) =
+          table-counted _ later x ys same ∙ reads-counted shape all (read_within x.tick u) all in
+          let moves : tally moves_by at.mid + flag (due_after shape (core (at.mid ++ x ∷ ys))) ≤ tally stores_by at.mid + flag (due_after shape (core (x ∷ ys))) = moves_few shape pace e at.mid (x ∷ ys) some here.1 in
+          let most : flag (due_after shape (core (x ∷ ys))) ≤ 1 = flag-most (due_after shape (core (x ∷ ys))) in
+          let one : stores_by at.event.happens ≡ 1 = event.one in
+          let none_moved : moves_by at.event.happens ≡ 0 = event.moves in
+          let retires : tally retires_by (at.event ∷ at.mid) ≤ shape.spares = retires_few shape pace e (at.event ∷ at.mid) (x ∷ ys) here in
+          let cuts : tally cuts_by (at.event ∷ at.mid) ≤ cuts_to u (rows_after shape all (at.event ∷ at.mid)) = cuts-counted shape all pace e u (at.event ∷ at.mid) (x ∷ ys) r i none here (omega (arith, now)) in
+          let more : cuts_to u (rows_after shape all later) ≡ cuts_to u (rows_after shape all (at.event ∷ at.mid)) + cuts_to u (rows_after shape all at.late) =
+          ap (λ (xs : List (Timed n m)). cuts_to u (rows_after shape all xs)) at.split ∙ ap (cuts_to u) (rows_after-append shape all at.late (at.event ∷ at.mid))
+          ∙ count-append _ (rows_after shape all (at.event ∷ at.mid)) (rows_after shape all at.late) in
+          let all_in = bounded (pace.read + work_time pace e) pace.read x.tick
+          (tally stores_by (at.event ∷ at.mid)) (tally moves_by (at.event ∷ at.mid)) (tally retires_by (at.event ∷ at.mid)) (tally cuts_by (at.event ∷ at.mid)) (tally serves_by (at.event ∷ at.mid))
+          (stores_in x.tick u (Table later x ys x.happens)) shape.spares (cuts_to u (rows_after shape all later)) (reads_in x.tick u (Table later x ys x.happens))
+          (omega (arith, stores, w)) (omega (arith, moves, most, one, none_moved)) retires (omega (arith, cuts, more)) (omega (arith, serves, v)) in
+          let long = longest-is (rules_of e shape pace) (stores_in x.tick u (Table later x ys x.happens)) (reads_in x.tick u (Table later x ys x.happens)) (cuts_to u (rows_after shape all later)) none refl in
+          record {
+            late = let lt = above x.tick u (x ∷ ys) r i (omega arith) at.mid at.event here event.ends in omega (arith, lt, now);
+            soon = omega (arith, now, ends, sum, all_in, long);
+          }

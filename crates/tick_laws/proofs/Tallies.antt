@@ -1,0 +1,35 @@
+-- How many line writes ended, reads were served and cuts came, over some events.
+use Rattle.std.proofs.Common.{◌≡◌, ℕ, ◌+◌, List, [], ◌∷◌}
+use Rattle.bank_model.specs.declared.answer.Step.{Step}
+use Rattle.bank_model.specs.declared.answer.Step.TheVariants as did
+use Rattle.bank_model.specs.Events.{Write, Read, Serve, Begin, Iterate, Cut}
+use Rattle.bank_model.specs.Timing.{Happens, Core, Timed}
+
+module _ {n : ℕ} where
+  -- one for each store, move, retirement, serve or cut
+  abbrev pub stores_by : Happens n → ℕ
+  stores_by (Core (Begin (did.Stored row place))) = 1
+  stores_by (Core (Iterate (did.Stored row place))) = 1
+  stores_by _ = 0
+
+  abbrev pub moves_by : Happens n → ℕ
+  moves_by (Core (Begin (did.Moved move))) = 1
+  moves_by (Core (Iterate (did.Moved move))) = 1
+  moves_by _ = 0
+
+  abbrev pub retires_by : Happens n → ℕ
+  retires_by (Core (Iterate (did.Retired slot line))) = 1
+  retires_by _ = 0
+
+  abbrev pub serves_by : Happens n → ℕ
+  serves_by (Core (Serve answer)) = 1
+  serves_by _ = 0
+
+  abbrev pub cuts_by : Happens n → ℕ
+  cuts_by (Core (Cut tearing)) = 1
+  cuts_by _ = 0
+
+-- the sum of that over some events
+abbrev pub tally : {n m : ℕ} → (Happens n → ℕ) → List (Timed n m) → ℕ
+tally by [] = 0
+tally by (x ∷ xs) = by x.happens + tally by xs

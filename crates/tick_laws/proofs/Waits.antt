@@ -1,0 +1,218 @@
+-- Each event leaves a read that waits in time, and the one that ends its wait comes in time.
+use Rattle.std.proofs.Common.{◌≡◌, ℕ, ◌+◌, ◌*◌, ◌<◌, ◌≤◌, ◌==◌, ◌&&◌, ◌⊎◌, inl, inr, not, Bool, true, false, List, [], ◌∷◌, ◌++◌, Option, Some, None, drop, length, refl, sym, ap, ◌∙◌, subst, arith, cond, eqb}
+use Rattle.std.specs.Prelude.{IfSome}
+use Rattle.std.proofs.Math.Nat.{mul-le-mul_right}
+use Rattle.std.specs.List.{list_any}
+use Rattle.std.proofs.lemmas.List.Folds.{list_any-append}
+use Rattle.result_rows.specs.declared.Outcome.{Outcome}
+use Rattle.result_rows.specs.declared.Outcome.TheVariants as out
+use Rattle.row_laws.specs.declared.Row.{Row}
+use Rattle.row_laws.specs.Rows.{is_cut}
+use Rattle.bank_shape.specs.Pausing.{is_cancelling}
+use Rattle.bank_shape.specs.declared.BankShape.{BankShape}
+use Rattle.bank_model.specs.declared.answer.ReadAnswer.TheVariants as came
+use Rattle.bank_model.specs.declared.answer.Step.TheVariants as did
+use Rattle.bank_model.specs.declared.clock.Doing.{Doing}
+use Rattle.bank_model.specs.declared.clock.Doing.TheVariants.{Serving, Beginning, Iterating}
+use Rattle.bank_model.specs.declared.clock.Action.{Action}
+use Rattle.bank_model.specs.Events.{Event, Write, Read, Serve, Begin, Iterate, Cut, RowsBelow}
+use Rattle.bank_model.specs.History.{Awaited, awaited, waits, in_progress, iterated, goes_on}
+use Rattle.bank_model.specs.After.{work_after, is_store_of, may_begin_after}
+use Rattle.bank_model.specs.Sensing.{most_steps}
+use Rattle.bank_model.specs.Timing.{Pacing, Happens, Core, Timed, lasts, ends_with, ends, is_doing, is_empty, core, core_of, last_tick}
+use Rattle.bank_model.specs.Running.{gives_way, choice, chosen_by, started, left_by, running, running_at, chosen_after}
+use Rattle.bank_model.specs.Lawful.{Lawful, MayCome}
+use Rattle.bank_laws.specs.Standing.{has_wait, WaitsApart}
+use Rattle.bank_laws.proofs.Standing.{stand_apart}
+use Rattle.bank_laws.proofs.Settling.{above_all}
+use Rattle.bank_laws.proofs.Ticks.{last_tick-rises}
+use Rattle.bank_laws.proofs.Answering.{IsFirst, served-first}
+use Rattle.tick_laws.proofs.Actions.{since, since-started, since_of, reads_of, Fits, FitsAll, running_at-fits, not_begun, iterated-few}
+use Rattle.tick_laws.proofs.Turns.{turn, NotFirst, turn-some, turn-push, turn-served, owed_by, owes, paid, chosen-reads, owes-started, NotEarly, started-not_early, not_early-push}
+
+module _ (read iter work bound : ℕ) where
+  after_begin : (way busy next : Bool) (count first t : ℕ) → busy ≡ false → first + owed_by read iter work way Beginning + t ≤ bound + paid iter way busy count
+      → (first + read) + owes read iter work way next None + t ≤ bound + paid iter way next 0
+  after_begin way true next count first t idle h = absurd (cc)
+  after_begin true false next count first t idle h = omega arith
+  after_begin false false true count first t idle h = omega arith
+  after_begin false false false count first t idle h = omega arith
+
+  after_iterate : (way busy next : Bool) (count first t : ℕ) → busy ≡ true → (count + 1) * iter ≡ count * iter + iter → count * iter + iter ≤ work
+      → first + owed_by read iter work way Iterating + t ≤ bound + paid iter way busy count → (first + iter) + owes read iter work way next None + t ≤ bound + paid iter way next (count + 1)
+  after_iterate way false next count first t busy more few h = absurd (cc)
+  after_iterate true true next count first t busy more few h = omega arith
+  after_iterate false true true count first t busy more few h = omega arith
+  after_iterate false true false count first t busy more few h = omega arith
+
+  after_serve : (way busy : Bool) (count first t : ℕ) → (way ≡ false → busy ≡ false) → first + 0 + (read + t) ≤ bound + paid iter way busy count
+      → (first + read) + owes read iter work way busy None + t ≤ bound + paid iter way busy count
+  after_serve true busy count first t idle h = omega arith
+  after_serve false true count first t idle h = let k : true ≡ false = idle refl in absurd (cc)
+  after_serve false false count first t idle h = omega arith
+
+  after_drop : (way busy : Bool) (count first tick t : ℕ) → busy ≡ false → tick < first + read → first + owed_by read iter work way Beginning + t ≤ bound + paid iter way busy count
+      → tick + owes read iter work way busy None + t ≤ bound + paid iter way busy count
+  after_drop way true count first tick t idle lt h = absurd (cc)
+  after_drop true false count first tick t idle lt h = omega arith
+  after_drop false false count first tick t idle lt h = omega arith
+
+  pub at_end : (way busy : Bool) (count first t : ℕ) → (way ≡ false → busy ≡ false) → read ≤ t → first + 0 + t ≤ bound + paid iter way busy count → first + read ≤ bound
+  at_end true busy count first t idle some h = omega arith
+  at_end false true count first t idle some h = let k : true ≡ false = idle refl in absurd (cc)
+  at_end false false count first t idle some h = omega arith
+
+  -- a cut comes below the bound, where a read waits
+  pub at_cut : (way busy reads : Bool) (count tick t : ℕ) (r : Option Action) → 1 ≤ read → read ≤ t → (busy ≡ true → count * iter + iter ≤ work) → IfSome r (λ a. Fits way busy reads a.doing)
+      → IfSome r (λ a. tick < ends_with read iter a)
+      → since r tick + owes read iter work way busy r + t ≤ bound + paid iter way busy count → tick < bound
+  at_cut true busy reads count tick t None some turn few f end h = omega arith
+  at_cut false true reads count tick t None some turn few f end h = let k : count * iter + iter ≤ work = few refl in omega arith
+  at_cut false false reads count tick t None some turn few f end h = omega arith
+  at_cut way busy reads count tick t (Some action) some turn few f end h = by way busy action.doing f few end h
+    where
+      by : (way busy : Bool) (doing : Doing) → Fits way busy reads doing → (busy ≡ true → count * iter + iter ≤ work) → tick < action.first + lasts read iter doing
+          → action.first + owed_by read iter work way doing + t ≤ bound + paid iter way busy count → tick < bound
+      by true busy Serving f few end h = omega arith
+      by false true Serving f few end h = let k : true ≡ false = f.1 refl in absurd (cc)
+      by false false Serving f few end h = omega arith
+      by way true Beginning f few end h = absurd (cc)
+      by true false Beginning f few end h = omega arith
+      by false false Beginning f few end h = omega arith
+      by way false Iterating f few end h = absurd (cc)
+      by true true Iterating f few end h = omega arith
+      by false true Iterating f few end h = let k : count * iter + iter ≤ work = few refl in omega arith
+
+-- where a read that came at tick a stands, whose turn ends by this bound
+pub record HasTurn (read iter work : ℕ) (way : Bool) (a bound row top : ℕ) (r : Option Action) (busy : Bool) (count : ℕ) (ws : List Awaited) : Type 0 where
+  pub low : NotEarly a row ws r
+  pub high : top + owes read iter work way busy r + turn read row ws ≤ bound + paid iter way busy count
+
+pub some-reads : (ws : List Awaited) (row : ℕ) → has_wait ws row ≡ true → not (is_empty ws) ≡ true
+some-reads [] row there = absurd (cc)
+some-reads (w ∷ ws) row there = refl
+
+pub times_more : (k x : ℕ) → (k + 1) * x ≡ k * x + x
+times_more k x = grind arith
+
+times_few : (k w x : ℕ) → k < w → k * x + x ≤ w * x
+times_few k w x lt = subst (λ n. n ≤ w * x) (times_more k x) (mul-le-mul_right {m = k + 1} {n = w} x (omega (arith, lt)))
+
+-- the time of all iterations of a line write
+abbrev pub work_time : Pacing → ℕ → ℕ
+work_time pace e = most_steps e * pace.iter
+
+module _ {n m : ℕ} (shape : BankShape) (pace : Pacing) (e : ℕ) where
+  abbrev pub Turn : ℕ → ℕ → ℕ → List (Timed n m) → Type 0
+  Turn a bound row zs =
+      HasTurn pace.read pace.iter (work_time pace e) (gives_way pace.policy) a bound row (since_of shape pace zs) (running shape pace zs) (in_progress (core zs)) (iterated (core zs)) (waits shape (core zs))
+
+  -- the same at the tick of the next event, before that
+  abbrev pub TurnAt : ℕ → ℕ → ℕ → List (Timed n m) → ℕ → Option Action → Type 0
+  TurnAt a bound row zs tick r =
+      HasTurn pace.read pace.iter (work_time pace e) (gives_way pace.policy) a bound row (since r tick) r (in_progress (core zs)) (iterated (core zs)) (waits shape (core zs))
+
+  pub few_times : (zs : List (Timed n m)) → Lawful shape pace e zs → in_progress (core zs) ≡ true → iterated (core zs) * pace.iter + pace.iter ≤ (work_time pace e)
+  few_times zs l busy = times_few (iterated (core zs)) (most_steps e) pace.iter (iterated-few shape pace e zs l busy)
+
+  pub turn_at : (a bound row : ℕ) (zs : List (Timed n m)) (tick : ℕ) → last_tick zs ≤ tick → a ≤ last_tick zs → has_wait (waits shape (core zs)) row ≡ true → Turn a bound row zs
+      → TurnAt a bound row zs tick (running_at shape pace zs tick)
+  turn_at a bound row zs tick rises up there t =
+      subst (λ d. TurnAt a bound row zs tick (started (running shape pace zs) d (last_tick zs) tick)) (sym chosen) (record {
+        low = started-not_early a row (waits shape (core zs)) (running shape pace zs) (Some next) (last_tick zs) tick up t.low;
+        high = subst (λ k. k + owes pace.read pace.iter (work_time pace e) (gives_way pace.policy) (in_progress (core zs)) (started (running shape pace zs) (Some next) (last_tick zs) tick) + turn pace.read row (waits shape (core zs))
+            ≤ bound + paid pace.iter (gives_way pace.policy) (in_progress (core zs)) (iterated (core zs)))
+            (sym (since-started (running shape pace zs) next (last_tick zs) tick rises))
+            (subst (λ k. since_of shape pace zs + k + turn pace.read row (waits shape (core zs)) ≤ bound + paid pace.iter (gives_way pace.policy) (in_progress (core zs)) (iterated (core zs)))
+            (sym (owes-started pace.read pace.iter (work_time pace e) (gives_way pace.policy) (in_progress (core zs)) (running shape pace zs) (last_tick zs) tick)) t.high);
+      })
+    where
+      next : Doing
+      next = cond (gives_way pace.policy) Serving (cond (in_progress (core zs)) Iterating Serving)
+
+      chosen : chosen_after shape pace zs ≡ Some next
+      chosen =
+          ap (λ b. chosen_by (gives_way pace.policy) b (choice (in_progress (core zs)) (may_begin_after shape (core zs)))) (some-reads (waits shape (core zs)) row there)
+          ∙ chosen-reads (gives_way pace.policy) (in_progress (core zs)) (may_begin_after shape (core zs))
+
+  module _ (a bound row : ℕ) (zs : List (Timed n m)) (y : Timed n m) (l : Lawful shape pace e (y ∷ zs)) where
+    abbrev pub TurnBy : Happens n → Option Action → Type 0
+    TurnBy h r =
+        HasTurn pace.read pace.iter (work_time pace e) (gives_way pace.policy) a bound row (since r y.tick) r (in_progress (core_of h (core zs))) (iterated (core_of h (core zs))) (waits shape (core_of h (core zs)))
+
+    -- the action that ends
+    pub ending : (doing : Doing) → running_at shape pace zs y.tick ≡ Some (record { doing = doing; first = y.first }) → TurnAt a bound row zs y.tick (running_at shape pace zs y.tick)
+        → TurnAt a bound row zs y.tick (Some (record { doing = doing; first = y.first }))
+    ending doing is t = subst (λ r. TurnAt a bound row zs y.tick r) is t
+
+    pub fits_ending : (doing : Doing) → running_at shape pace zs y.tick ≡ Some (record { doing = doing; first = y.first }) → Fits (gives_way pace.policy) (in_progress (core zs)) (reads_of shape pace zs) doing
+    fits_ending doing is = subst (λ r. FitsAll shape pace zs r) is (running_at-fits shape pace e zs y.tick)
+
+    at_read : (line : ℕ) (b : Bool) (r : Option Action) (v : Awaited) → (b ≡ true → is_doing Beginning r ≡ true) → IfSome r (λ a. y.tick < ends pace a) → FitsAll shape pace zs r → has_wait (waits shape (core zs)) row ≡ true
+        → TurnAt a bound row zs y.tick r
+        → HasTurn pace.read pace.iter (work_time pace e) (gives_way pace.policy) a bound row (since (cond b None r) y.tick) (cond b None r) (in_progress (core zs)) (iterated (core zs)) (waits shape (core zs) ++ v ∷ [])
+    at_read line false r v drops end f there t = record {
+      low = not_early-push a row (waits shape (core zs)) v r t.low;
+      high = subst (λ k. since r y.tick + owes pace.read pace.iter (work_time pace e) (gives_way pace.policy) (in_progress (core zs)) r + k ≤ bound + paid pace.iter (gives_way pace.policy) (in_progress (core zs)) (iterated (core zs)))
+          (sym (turn-push pace.read row (waits shape (core zs)) v there)) t.high;
+    }
+    at_read line true None v drops end f there t = let k : false ≡ true = drops refl in absurd (cc)
+    at_read line true (Some action) v drops end f there t = record {
+      low = tt;
+      high = subst (λ k. y.tick + owes pace.read pace.iter (work_time pace e) (gives_way pace.policy) (in_progress (core zs)) None + k ≤ bound + paid pace.iter (gives_way pace.policy) (in_progress (core zs)) (iterated (core zs)))
+          (sym (turn-push pace.read row (waits shape (core zs)) v there)) (by action.doing (drops refl) end f t.high);
+    }
+      where
+        by : (doing : Doing) → is_doing Beginning (Some (record { doing = doing; first = action.first })) ≡ true → y.tick < action.first + lasts pace.read pace.iter doing
+            → Fits (gives_way pace.policy) (in_progress (core zs)) (reads_of shape pace zs) doing
+            → action.first + owed_by pace.read pace.iter (work_time pace e) (gives_way pace.policy) doing + turn pace.read row (waits shape (core zs)) ≤ bound + paid pace.iter (gives_way pace.policy) (in_progress (core zs)) (iterated (core zs))
+            → y.tick + owes pace.read pace.iter (work_time pace e) (gives_way pace.policy) (in_progress (core zs)) None + turn pace.read row (waits shape (core zs))
+            ≤ bound + paid pace.iter (gives_way pace.policy) (in_progress (core zs)) (iterated (core zs))
+        by Serving d end f h = absurd (cc)
+        by Beginning d end f h =
+            after_drop pace.read pace.iter (work_time pace e) bound (gives_way pace.policy) (in_progress (core zs)) (iterated (core zs)) action.first y.tick (turn pace.read row (waits shape (core zs))) f end h
+        by Iterating d end f h = absurd (cc)
+
+    at_serve : (ws : List Awaited) (first : ℕ) → y.tick ≡ first + pace.read → (gives_way pace.policy ≡ false → in_progress (core zs) ≡ false) → WaitsApart ws → has_wait (drop 1 ws) row ≡ true
+        → first + 0 + turn pace.read row ws ≤ bound + paid pace.iter (gives_way pace.policy) (in_progress (core zs)) (iterated (core zs))
+        → y.tick + owes pace.read pace.iter (work_time pace e) (gives_way pace.policy) (in_progress (core zs)) None + turn pace.read row (drop 1 ws) ≤ bound + paid pace.iter (gives_way pace.policy) (in_progress (core zs)) (iterated (core zs))
+    at_serve [] first end idle apart there h = absurd (cc)
+    at_serve (w ∷ ws) first end idle apart there h =
+        subst (λ k. k + owes pace.read pace.iter (work_time pace e) (gives_way pace.policy) (in_progress (core zs)) None + turn pace.read row ws ≤ bound + paid pace.iter (gives_way pace.policy) (in_progress (core zs)) (iterated (core zs)))
+        (sym end)
+        (after_serve pace.read pace.iter (work_time pace e) bound (gives_way pace.policy) (in_progress (core zs)) (iterated (core zs)) first (turn pace.read row ws) idle
+        (subst (λ k. first + 0 + k ≤ bound + paid pace.iter (gives_way pace.policy) (in_progress (core zs)) (iterated (core zs))) (turn-served pace.read row w ws apart there) h))
+
+    pub step : (h : Happens n) → MayCome shape pace e zs y h → has_wait (waits shape (core zs)) row ≡ true → has_wait (waits shape (core_of h (core zs))) row ≡ true
+        → TurnAt a bound row zs y.tick (running_at shape pace zs y.tick) → TurnBy h (left_by shape (core zs) h (running_at shape pace zs y.tick))
+    step (Core (Write at line bytes given answer)) may there still t = record { low = t.low; high = t.high }
+    step (Core (Read at line came.Waiting)) may there still t =
+        at_read line (is_doing Beginning (running_at shape pace zs y.tick) && is_store_of line (work_after shape (core zs))) (running_at shape pace zs y.tick) _
+        (first_both (is_doing Beginning (running_at shape pace zs y.tick)) _) may.on_time.0.2 (running_at-fits shape pace e zs y.tick) there t
+      where
+        first_both : (a b : Bool) → (a && b) ≡ true → a ≡ true
+        first_both true b h = refl
+        first_both false b h = h
+    step (Core (Read at line came.Busy)) may there still t = record { low = t.low; high = t.high }
+    step (Core (Read at line (came.Forwarded bytes))) may there still t = record { low = t.low; high = t.high }
+    step (Core (Serve answer)) may there still t =
+        let b = above_all shape pace e zs l.1 in
+        record {
+          low = tt;
+          high = at_serve (waits shape (core zs)) y.first may.on_time.0.1 (fits_ending Serving may.on_time.0.0).1 (stand_apart shape (core zs) b.0 b.1).waiting_apart still (ending Serving may.on_time.0.0 t).high;
+        }
+    step (Core (Begin answer)) may there still t = record {
+      low = tt;
+      high = subst (λ k. k + owes pace.read pace.iter (work_time pace e) (gives_way pace.policy) (goes_on answer) None + turn pace.read row (waits shape (core zs)) ≤ bound + paid pace.iter (gives_way pace.policy) (goes_on answer) 0)
+          (sym may.on_time.0.1)
+          (after_begin pace.read pace.iter (work_time pace e) bound (gives_way pace.policy) (in_progress (core zs)) (goes_on answer) (iterated (core zs)) y.first (turn pace.read row (waits shape (core zs)))
+          (fits_ending Beginning may.on_time.0.0) (ending Beginning may.on_time.0.0 t).high);
+    }
+    step (Core (Iterate answer)) may there still t = record {
+      low = tt;
+      high = subst (λ k. k + owes pace.read pace.iter (work_time pace e) (gives_way pace.policy) (goes_on answer) None + turn pace.read row (waits shape (core zs)) ≤ bound + paid pace.iter (gives_way pace.policy) (goes_on answer) (iterated (core zs) + 1))
+          (sym may.on_time.0.1)
+          (after_iterate pace.read pace.iter (work_time pace e) bound (gives_way pace.policy) (in_progress (core zs)) (goes_on answer) (iterated (core zs)) y.first (turn pace.read row (waits shape (core zs)))
+          may.may.0 (times_more (iterated (core zs)) pace.iter) (few_times zs l.1 may.may.0) (ending Iterating may.on_time.0.0 t).high);
+    }
+    step (Core (Cut tearing)) may there still t = absurd (cc)

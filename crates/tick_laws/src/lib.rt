@@ -1,0 +1,38 @@
+//! The laws on the ticks of a bank's rows: what runs at a time, how long a read waits, and when a write is stored. A law is
+//! what a function here ensures; the functions do nothing when they run.
+#![tactic(auto)]
+
+ghost use Rattle.tick_laws.specs.TickLaws.{ApartLaw, ReadTimeLaw, StoreTimeLaw, InTimeLaw};
+
+/// Two stored rows lie at least a sense apart, two read rows too and in the order of their rows, and no row is read at the
+/// tick of a stored one.
+pub fn actions_stand_apart()
+    ensures { ApartLaw }
+{}
+
+/// Unless reads cancel writes, a read is read a sense or more after its arrival, and within the time of the reads before it,
+/// its own, and what a line write may take that doesn't give way; or it is lost at the first cut, before that time is up.
+pub fn reads_wait_little()
+    ensures { ReadTimeLaw }
+{}
+
+/// Unless reads cancel writes, a write that is stored is stored after its arrival, and within the time of the line writes,
+/// reads and cuts since.
+pub fn writes_wait_little()
+    ensures { StoreTimeLaw }
+{}
+
+/// Unless reads cancel writes, each row is read or stored in time, and apart from every row before it.
+pub fn rows_are_in_time()
+    ensures { InTimeLaw }
+{}
+
+/// The laws are facts, and cost nothing to ask for.
+#[cfg(test)]
+#[test]
+fn laws_hold_of_every_history() {
+    actions_stand_apart();
+    reads_wait_little();
+    writes_wait_little();
+    rows_are_in_time();
+}
