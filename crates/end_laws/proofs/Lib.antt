@@ -1,0 +1,6 @@
+mod Remapped
+mod Leaving
+mod Following
+mod Kept
+mod Queued
+mod Ending

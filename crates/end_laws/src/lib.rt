@@ -2,9 +2,49 @@
 //! is what a function here ensures; the functions do nothing when they run.
 #![tactic(auto)]
 
-ghost use Rattle.end_laws.specs.EndLaws.{EndLaw};
+ghost use Rattle.end_laws.specs.EndLaws.{EndLaw, GapsLaw, KeptLaw, QueuedLaw, RemappedLaw, StillThereLaw};
+
+/// Each slot of a bank has an array line of its own: the one of its number, or a spare where that one is worn.
+pub fn slots_have_their_lines()
+    ensures { RemappedLaw }
+{}
+
+/// By its own registers each region has moved once for so many of its stores; or once less, where one more move is due and
+/// the bank was worn out before it.
+pub fn registers_follow_stores()
+    ensures { GapsLaw }
+{}
+
+/// What the table's array line of each line is read as are its newest bytes, but for those of writes that were not stored; only
+/// the line of a head of the queue that gives every byte is excepted, whose store may have been broken off.
+pub fn lines_are_kept()
+    ensures { KeptLaw }
+{}
+
+/// The line that is excepted has a write that is queued in the end.
+pub fn excepted_lines_are_queued()
+    ensures { QueuedLaw }
+{}
+
+/// Where a stored row says that its line was stored, the line's slot of then is still; or it has a later spare since, and
+/// that place is worn.
+pub fn stored_rows_are_still_there()
+    ensures { StillThereLaw }
+{}
 
 /// Each line's newest accepted bytes stand where the bank's own registers and remap table say, or still in its queue.
 pub fn newest_bytes_are_kept()
     ensures { EndLaw }
 {}
+
+/// The laws are facts, and cost nothing to ask for.
+#[cfg(test)]
+#[test]
+fn laws_hold_of_every_history() {
+    slots_have_their_lines();
+    registers_follow_stores();
+    lines_are_kept();
+    excepted_lines_are_queued();
+    stored_rows_are_still_there();
+    newest_bytes_are_kept();
+}

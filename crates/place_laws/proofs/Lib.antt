@@ -1,18 +1,18 @@
-mod Asked
-mod Counts
-mod Working
-mod Moves
-mod Storing
-mod Tables
-mod Slots
-mod Splits
-mod Placed
+pub mod Asked
+pub mod Counts
+pub mod Working
+pub mod Moves
+pub mod Storing
+pub mod Tables
+pub mod Slots
+pub mod Splits
+pub mod Placed
 mod Owners
-mod WornOut
-mod Taken
+pub mod WornOut
+pub mod Taken
 mod Pulsing
 mod Trying
 mod Cancels
 mod Pulses
-mod Moved
+pub mod Moved
 mod Places

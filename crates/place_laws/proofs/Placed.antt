@@ -84,13 +84,13 @@ module _ {n m : ℕ} (shape : BankShape) where
   asked-more (Core (Iterate answer)) zs row line a = a
   asked-more (Core (Cut tearing)) zs row line a = a
 
-  asked-later : (later zs : List (Timed n m)) (row line : ℕ) → Asked (core zs) row line → Asked (core (later ++ zs)) row line
+  pub asked-later : (later zs : List (Timed n m)) (row line : ℕ) → Asked (core zs) row line → Asked (core (later ++ zs)) row line
   asked-later [] zs row line a = a
   asked-later (x ∷ later) zs row line a = asked-more x.happens (later ++ zs) row line (asked-later later zs row line a)
 
 module _ {n m : ℕ} (shape : BankShape) (pace : Pacing) (e : ℕ) (all : List (Timed n m)) (array : ArrayState n m) (sized : IsSized shape pace) (l : Lawful shape pace e all) (leaves : LeavesArray e shape all array) where
   -- a slot that was given a spare had a line that is worn in the end
-  home_worn : (slot : ℕ) → slot < slots_of shape → IsAway shape (core all) slot → is_worn_at e array (shape.base + slot) ≡ true
+  pub home_worn : (slot : ℕ) → slot < slots_of shape → IsAway shape (core all) slot → is_worn_at e array (shape.base + slot) ≡ true
   home_worn slot exists away =
       leaves.retired slot (omega (arith, exists)) (λ other in_it is.
       let table : Table = record { slots = slots_of shape; spares = shape.spares; replaced = retired (core all) } in
@@ -126,11 +126,11 @@ module _ {n m : ℕ} (shape : BankShape) (pace : Pacing) (e : ℕ) (all : List (
           (lt-ltb (shape.base + line_from (slots_of shape) slot (retired (core zs)) slot) (shape.base + slots_of shape + shape.spares) (omega (arith, spare.line_is, spare.given, few)))))
 
   -- these rows sum up as the table does
-  abbrev SumsUp : List (Row n) → Type 0
+  abbrev pub SumsUp : List (Row n) → Type 0
   SumsUp rows = (f : Row n → ℕ) → sum_by f rows ≡ sum_by f (table_of shape all)
 
   -- the stores of a region by the rows below the end of an action
-  stores-below : (rows : List (Row n)) (later : List (Timed n m)) (z : Timed n m) (zs : List (Timed n m)) (region : ℕ) → SumsUp rows → all ≡ later ++ z ∷ zs → ends_action z.happens ≡ true
+  pub stores-below : (rows : List (Row n)) (later : List (Timed n m)) (z : Timed n m) (zs : List (Timed n m)) (region : ℕ) → SumsUp rows → all ≡ later ++ z ∷ zs → ends_action z.happens ≡ true
       → region_stores (stored_before z.tick) shape region rows ≡ stored_in shape.lines (core zs) region
   stores-below rows later z zs region sums same ends =
       sums (λ q. one_if (asks_write q.asks && (line_of q.asks / shape.lines == region && stored_before z.tick q.outcome)))
@@ -138,7 +138,7 @@ module _ {n m : ℕ} (shape : BankShape) (pace : Pacing) (e : ℕ) (all : List (
       ∙ before-counted shape pace e all later z zs sized.read sized.iter l same ends (λ line. line / shape.lines == region)
       ∙ region-stored shape.lines (core zs) region
 
-  same_line : (later : List (Timed n m)) (z : Timed n m) (zs : List (Timed n m)) (row one other : ℕ) → all ≡ later ++ z ∷ zs → Asked (core zs) row one → Asked (core all) row other → one ≡ other
+  pub same_line : (later : List (Timed n m)) (z : Timed n m) (zs : List (Timed n m)) (row one other : ℕ) → all ≡ later ++ z ∷ zs → Asked (core zs) row one → Asked (core all) row other → one ≡ other
   same_line later z zs row one other same a b =
       let bound = above_all shape pace e all l in
       asked-one (core all) bound.0 row one other bound.1

@@ -87,10 +87,11 @@ module _ {n m : ℕ} (shape : BankShape) (pace : Pacing) (e : ℕ) (all later no
           ap (λ (o : Outcome n). answers.stored_by t (ended tick o)) kept ∙ le-leb s.0 t (omega (arith, at_most, up)) ∙ sym (ap is_stored s.2)
       by (inr none) = unstored_later row tick (λ u p s. absurd (cc (none, ap is_stored s))) ∙ sym none
 
-  unstored_is : (line : ℕ) (mid ys : List (Timed n m)) → now ≡ mid ++ ys → unstored (λ (o : Outcome n). answers.stored_by t o) line (rows_from shape all ys) ≡ since (core ys) line (floor_of (outcome_of shape now) (core ys) line)
-  unstored_is line mid [] split = refl
-  unstored_is line mid (z ∷ ys) split =
-      by z.happens z.cancels before.0 (onwards_at shape pace e all (later ++ mid) z ys l in_all) (unstored_is line (mid ++ z ∷ []) ys (split ∙ sym (append_assoc mid (z ∷ []) ys)))
+  -- which bytes no row that is out gives, by any test that says which row is stored by now
+  pub unstored_by : (is_out : Outcome n → Bool) → ((row tick : ℕ) → is_out (ended tick (outcome_of shape all row)) ≡ is_stored (outcome_of shape now row)) → (line : ℕ) (mid ys : List (Timed n m)) → now ≡ mid ++ ys → unstored is_out line (rows_from shape all ys) ≡ since (core ys) line (floor_of (outcome_of shape now) (core ys) line)
+  unstored_by is_out out_is line mid [] split = refl
+  unstored_by is_out out_is line mid (z ∷ ys) split =
+      by z.happens z.cancels before.0 (onwards_at shape pace e all (later ++ mid) z ys l in_all) (unstored_by is_out out_is line (mid ++ z ∷ []) ys (split ∙ sym (append_assoc mid (z ∷ []) ys)))
     where
       before : Lawful shape pace e (z ∷ ys)
       before = lawful_before shape pace e mid (z ∷ ys) (subst (λ (xs : List (Timed n m)). Lawful shape pace e xs) split here)
@@ -99,8 +100,8 @@ module _ {n m : ℕ} (shape : BankShape) (pace : Pacing) (e : ℕ) (all later no
       in_all = same ∙ ap (λ xs. later ++ xs) split ∙ sym (append_assoc later mid (z ∷ ys))
 
       by : (h : Happens n) (cancels : Bool) → MayCome shape pace e ys z h → Onwards shape all ys z.tick h
-          → unstored (λ (o : Outcome n). answers.stored_by t o) line (rows_from shape all ys) ≡ since (core ys) line (floor_of (outcome_of shape now) (core ys) line)
-          → unstored (λ (o : Outcome n). answers.stored_by t o) line (row_with shape all h z.tick cancels ++ rows_from shape all ys) ≡ since (core_of h (core ys)) line (floor_of (outcome_of shape now) (core_of h (core ys)) line)
+          → unstored is_out line (rows_from shape all ys) ≡ since (core ys) line (floor_of (outcome_of shape now) (core ys) line)
+          → unstored is_out line (row_with shape all h z.tick cancels ++ rows_from shape all ys) ≡ since (core_of h (core ys)) line (floor_of (outcome_of shape now) (core_of h (core ys)) line)
       by (Core (Write at k bytes given answer)) cancels may on ih = kind (eqb k line) refl (is_stored (outcome_of shape now at)) refl
         where
           agrees : accepts (ended z.tick (outcome_of shape all at)) ≡ accepting answer
@@ -110,24 +111,24 @@ module _ {n m : ℕ} (shape : BankShape) (pace : Pacing) (e : ℕ) (all later no
           low = floor-bound (outcome_of shape now) (core ys) at line may.asked
 
           kind : (b : Bool) → eqb k line ≡ b → (st : Bool) → is_stored (outcome_of shape now at) ≡ st
-              → cond (k == line && answers.stored_by t (ended z.tick (outcome_of shape all at))) (none_given n) (cond (k == line && accepts (ended z.tick (outcome_of shape all at))) (joined given (unstored (λ (o : Outcome n). answers.stored_by t o) line (rows_from shape all ys))) (unstored (λ (o : Outcome n). answers.stored_by t o) line (rows_from shape all ys)))
+              → cond (k == line && is_out (ended z.tick (outcome_of shape all at))) (none_given n) (cond (k == line && accepts (ended z.tick (outcome_of shape all at))) (joined given (unstored is_out line (rows_from shape all ys))) (unstored is_out line (rows_from shape all ys)))
               ≡ since (Write at k bytes given answer ∷ core ys) line (cond (k == line && is_stored (outcome_of shape now at)) (suc at) (floor_of (outcome_of shape now) (core ys) line))
           kind true own true st =
-              ap (λ c. cond c (none_given n) (cond (k == line && accepts (ended z.tick (outcome_of shape all at))) (joined given (unstored (λ (o : Outcome n). answers.stored_by t o) line (rows_from shape all ys))) (unstored (λ (o : Outcome n). answers.stored_by t o) line (rows_from shape all ys))))
-              (one_true (k == line) _ own ∙ stored_same at z.tick ∙ st)
+              ap (λ c. cond c (none_given n) (cond (k == line && accepts (ended z.tick (outcome_of shape all at))) (joined given (unstored is_out line (rows_from shape all ys))) (unstored is_out line (rows_from shape all ys))))
+              (one_true (k == line) _ own ∙ out_is at z.tick ∙ st)
               ∙ sym (ap (λ c. since (Write at k bytes given answer ∷ core ys) line (cond c (suc at) (floor_of (outcome_of shape now) (core ys) line))) (one_true (k == line) _ own ∙ st)
               ∙ since-none (Write at k bytes given answer ∷ core ys) (suc at) line (suc at) (omega arith, may.asked) (omega arith))
           kind true own false st =
-              ap (λ c. cond c (none_given n) (cond (k == line && accepts (ended z.tick (outcome_of shape all at))) (joined given (unstored (λ (o : Outcome n). answers.stored_by t o) line (rows_from shape all ys))) (unstored (λ (o : Outcome n). answers.stored_by t o) line (rows_from shape all ys))))
-              (and_none (k == line) _ (stored_same at z.tick ∙ st))
-              ∙ ap (λ c. cond c (joined given (unstored (λ (o : Outcome n). answers.stored_by t o) line (rows_from shape all ys))) (unstored (λ (o : Outcome n). answers.stored_by t o) line (rows_from shape all ys)))
+              ap (λ c. cond c (none_given n) (cond (k == line && accepts (ended z.tick (outcome_of shape all at))) (joined given (unstored is_out line (rows_from shape all ys))) (unstored is_out line (rows_from shape all ys))))
+              (and_none (k == line) _ (out_is at z.tick ∙ st))
+              ∙ ap (λ c. cond c (joined given (unstored is_out line (rows_from shape all ys))) (unstored is_out line (rows_from shape all ys)))
               (one_true (k == line) _ own ∙ agrees ∙ sym (three_true (accepting answer) (k == line) (nat_le (floor_of (outcome_of shape now) (core ys) line) at) own (le-leb (floor_of (outcome_of shape now) (core ys) line) at low)))
               ∙ ap (λ g. cond (accepting answer && (k == line && nat_le (floor_of (outcome_of shape now) (core ys) line) at)) (joined given g) g) ih
               ∙ sym (ap (λ f. since (Write at k bytes given answer ∷ core ys) line f) (floor-skip (k == line && is_stored (outcome_of shape now at)) at (floor_of (outcome_of shape now) (core ys) line) (and_none (k == line) _ st)))
           kind false ne st is =
-              ap (λ c. cond c (none_given n) (cond (k == line && accepts (ended z.tick (outcome_of shape all at))) (joined given (unstored (λ (o : Outcome n). answers.stored_by t o) line (rows_from shape all ys))) (unstored (λ (o : Outcome n). answers.stored_by t o) line (rows_from shape all ys))))
+              ap (λ c. cond c (none_given n) (cond (k == line && accepts (ended z.tick (outcome_of shape all at))) (joined given (unstored is_out line (rows_from shape all ys))) (unstored is_out line (rows_from shape all ys))))
               (and_first (k == line) _ ne)
-              ∙ ap (λ c. cond c (joined given (unstored (λ (o : Outcome n). answers.stored_by t o) line (rows_from shape all ys))) (unstored (λ (o : Outcome n). answers.stored_by t o) line (rows_from shape all ys))) (and_first (k == line) _ ne)
+              ∙ ap (λ c. cond c (joined given (unstored is_out line (rows_from shape all ys))) (unstored is_out line (rows_from shape all ys))) (and_first (k == line) _ ne)
               ∙ ih
               ∙ sym (since-other given (since (core ys) line (floor_of (outcome_of shape now) (core ys) line)) (accepting answer) k at line (floor_of (outcome_of shape now) (core ys) line) ne)
               ∙ sym (ap (λ f. since (Write at k bytes given answer ∷ core ys) line f) (floor-skip (k == line && is_stored (outcome_of shape now at)) at (floor_of (outcome_of shape now) (core ys) line) (and_first (k == line) _ ne)))
@@ -137,6 +138,9 @@ module _ {n m : ℕ} (shape : BankShape) (pace : Pacing) (e : ℕ) (all later no
       by (Core (Iterate answer)) cancels may on ih = ih
       by (Core (Cut tearing)) true may on ih = ih
       by (Core (Cut tearing)) false may on ih = ih
+
+  unstored_is : (line : ℕ) → unstored (λ (o : Outcome n). answers.stored_by t o) line (rows_from shape all now) ≡ since (core now) line (floor_of (outcome_of shape now) (core now) line)
+  unstored_is line = unstored_by (λ (o : Outcome n). answers.stored_by t o) stored_same line [] now refl
 
   -- no later row is stored by the tick
   none_after : (line : ℕ) (mid zs : List (Timed n m)) → Lawful shape pace e (mid ++ zs) → ((bound : ℕ) → RowsBelow (core zs) bound → RowsBelow (core now) bound)
@@ -162,4 +166,4 @@ module _ {n m : ℕ} (shape : BankShape) (pace : Pacing) (e : ℕ) (all later no
   pub cover_is : (line : ℕ) (mid zs : List (Timed n m)) → Lawful shape pace e (mid ++ zs) → ((bound : ℕ) → RowsBelow (core zs) bound → RowsBelow (core now) bound)
       → cover t line (rows_from shape all now) (rows_after shape all mid) ≡ since (core now) line (floor_of (outcome_of shape now) (core now) line)
   cover_is line mid zs lawful low =
-      ap (λ b. cond b (none_given n) (unstored (λ (o : Outcome n). answers.stored_by t o) line (rows_from shape all now))) (none_after line mid zs lawful low) ∙ unstored_is line [] now refl
+      ap (λ b. cond b (none_given n) (unstored (λ (o : Outcome n). answers.stored_by t o) line (rows_from shape all now))) (none_after line mid zs lawful low) ∙ unstored_is line
