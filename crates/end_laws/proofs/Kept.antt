@@ -1,0 +1,129 @@
+-- What the queue gives of a line is what its writes that were not stored give, but for a head that gives every byte; so the rest is in the array.
+use Rattle.std.proofs.Common.{◌≡◌, ℕ, ◌+◌, ◌*◌, ◌/◌, ◌<◌, ◌≤◌, ◌==◌, ◌||◌, ◌⊎◌, inl, inr, Bool, true, false, List, [], ◌∷◌, Option, Some, None, refl, sym, ap, ◌∙◌, subst, arith, cond, eqb, eqb-true}
+use Rattle.std.specs.Prelude.{IsTrue}
+use Rattle.result_rows.specs.declared.Outcome.{Outcome}
+use Rattle.result_rows.specs.declared.Outcome.TheVariants as out
+use Rattle.masked_bytes.specs.declared.entry.Entry.{Entry}
+use Rattle.masked_bytes.specs.Masked.{laid, gives_all}
+use Rattle.masked_bytes.specs.Entries.{layer_of}
+use Rattle.pcm_cells.specs.Device.{ArrayState}
+use Rattle.row_laws.specs.Answers.{is_stored}
+use Rattle.row_laws.specs.Rows as rows
+use Rattle.row_laws.specs.Queueing.{unstored}
+use Rattle.bank_shape.specs.declared.BankShape.{BankShape}
+use Rattle.bank_shape.specs.Shape.{slots_of}
+use Rattle.power_recovery.specs.Kept.{array_line, stands_at}
+use Rattle.bank_model.specs.Events.{newest}
+use Rattle.bank_model.specs.History.{queue, moved_in}
+use Rattle.bank_model.specs.Sensing.{most_steps}
+use Rattle.bank_model.specs.Timing.{Pacing, Timed, core, last_tick}
+use Rattle.bank_model.specs.Lawful.{Lawful}
+use Rattle.bank_laws.specs.Laws.{IsSized}
+use Rattle.bank_laws.specs.Pairs.{has_line, ArePaired}
+use Rattle.bank_laws.specs.Outcomes.{outcome_of, ended, table_of}
+use Rattle.bank_laws.proofs.Entries.{either}
+use Rattle.bank_laws.proofs.Fates.{or_first, or_second}
+use Rattle.bank_laws.proofs.Settling.{opens}
+use Rattle.bank_laws.proofs.Pairs.{AllLong, KeepsPairs, keeps_pairs}
+use Rattle.bank_laws.proofs.Serves.{same_bytes-same, newest_same}
+use Rattle.bank_laws.proofs.Waiting.{may_all}
+use Rattle.queue_laws.proofs.Spread.{spread, spread-layer, spread-alone, spread-other}
+use Rattle.queue_laws.proofs.Showing.{Front}
+use Rattle.queue_laws.proofs.Floors.{since, floor_of}
+use Rattle.queue_laws.proofs.Covering.{is_covered}
+use Rattle.queue_laws.proofs.Covers.{unstored_by}
+use Rattle.bank_invariant.specs.State.{BankState}
+use Rattle.bank_invariant.specs.Tied.{decoded}
+use Rattle.bank_invariant.specs.Holds.{Holds, stands_for}
+use Rattle.end_laws.specs.Ends.{is_excepted, is_kept_line, place_by_table}
+use Rattle.end_laws.specs.EndLaws.{KeptLaw, whole_head}
+use Rattle.end_laws.proofs.Leaving.{agreeing}
+
+-- bytes laid over a line once more change nothing
+laid-self : (bytes : List ℕ) (given : List Bool) → laid bytes given bytes ≡ bytes
+laid-self [] given = refl
+laid-self (b ∷ bytes) [] = refl
+laid-self (b ∷ bytes) (true ∷ given) = ap (λ rest. b ∷ rest) (laid-self bytes given)
+laid-self (b ∷ bytes) (false ∷ given) = ap (λ rest. b ∷ rest) (laid-self bytes given)
+
+laid-again : (bytes : List ℕ) (given : List Bool) (under : List ℕ) → laid (laid bytes given under) given under ≡ laid bytes given under
+laid-again [] given under = laid-self under given
+laid-again (b ∷ bytes) [] under = laid-self under []
+laid-again (b ∷ bytes) (g ∷ given) [] = refl
+laid-again (b ∷ bytes) (true ∷ given) (u ∷ under) = ap (λ rest. b ∷ rest) (laid-again bytes given under)
+laid-again (b ∷ bytes) (false ∷ given) (u ∷ under) = ap (λ rest. u ∷ rest) (laid-again bytes given under)
+
+module _ {n : ℕ} where
+  -- the entries of a line that isn't the head's, or whose head lacks a byte, give what the writes from the floor on give
+  spread-front : (s : ℕ → List Bool) (floor line : ℕ) (es : List (Entry n)) → AllLong es → ArePaired es → Front s floor line es → is_excepted (whole_head es) line ≡ false → spread es line ≡ s floor
+  spread-front s floor line [] long paired f free = sym f
+  spread-front s floor line (e ∷ es) long paired f free = by (eqb e.line line) refl
+    where
+      lacks : (b : Bool) → gives_all e.given ≡ b → (e.line == line) ≡ true → is_excepted (cond b (Some e.line) None) line ≡ false → gives_all e.given ≡ false
+      lacks true is own free = absurd (cc)
+      lacks false is own free = is
+
+      head : (e.line == line) ≡ true → gives_all e.given ≡ false → (e.given ≡ s floor) ⊎ (gives_all e.given ≡ true) → spread (e ∷ es) line ≡ s floor
+      head own few (inr full) = absurd (cc)
+      head own few (inl is) =
+          let alone : has_line es e.line ≡ false = either (has_line es e.line) (λ there. absurd (cc (paired.1 there, few))) (λ none. none) in
+          spread-alone e es line long own (subst (λ k. has_line es k ≡ false) (eqb-true e.line line own) alone) ∙ is
+
+      by : (b : Bool) → eqb e.line line ≡ b → spread (e ∷ es) line ≡ s floor
+      by true own = head own (lacks (gives_all e.given) refl own free) (f.1 own)
+      by false other = spread-other e es line other ∙ f.0 other
+
+  ended-stored : (tick : ℕ) (o : Outcome n) → is_stored (ended tick o) ≡ is_stored o
+  ended-stored tick out.Unset = refl
+  ended-stored tick _ = refl
+
+module _ {n m : ℕ} (shape : BankShape) (pace : Pacing) (e : ℕ) (all : List (Timed n m)) (sized : IsSized shape pace) (l : Lawful shape pace e all) where
+  -- which bytes of a line the rows show as not stored
+  unstored-since : (line : ℕ) → unstored is_stored line (table_of shape all) ≡ since (core all) line (floor_of (outcome_of shape all) (core all) line)
+  unstored-since line =
+      unstored_by shape pace e all [] all (last_tick all) sized.read sized.iter l refl (omega arith) tt is_stored (λ row tick. ended-stored tick (outcome_of shape all row)) line [] all refl
+
+  -- the queue gives those, but of the line of a head that gives every byte
+  pub given-unstored : (line : ℕ) → is_excepted (whole_head (queue shape (core all))) line ≡ false → (layer_of (queue shape (core all)) line).given ≡ unstored is_stored line (table_of shape all)
+  given-unstored line free =
+      let pairs : KeepsPairs shape (core all) = keeps_pairs shape (most_steps e) (core all) (may_all shape pace e all l) in
+      spread-layer (queue shape (core all)) line
+      ∙ spread-front (λ f. since (core all) line f) (floor_of (outcome_of shape all) (core all) line) line (queue shape (core all)) pairs.long pairs.paired
+      ((is_covered shape pace e all sized.read sized.iter l).front line) free
+      ∙ sym (unstored-since line)
+
+  pub newest-rows : (line : ℕ) → rows.newest (table_of shape all) line ≡ newest (core all) line
+  newest-rows line = newest_same shape pace e all [] all line l (opens shape pace e all l) refl
+
+-- where the given bytes laid over a line's make the newest, so do those of the newest
+kept_line : (new bytes held : List ℕ) (given free : List Bool) → laid bytes given held ≡ new → given ≡ free → laid new free held ≡ new
+kept_line new bytes held given free is same =
+    ap (λ g. laid new g held) (sym same) ∙ ap (λ k. laid k given held) (sym is) ∙ laid-again bytes given held ∙ is
+
+pub kept_law : KeptLaw
+kept_law n m e pace xs bank array line sized l holds exists = by (is_excepted (whole_head bank.kept.entries) line) refl
+  where
+    place : stands_at bank.kept line ≡ place_by_table bank.kept.shape (moved_in bank.kept.shape.lines (core xs)) (array_line bank.kept) line
+    place = ap (λ slot. array_line bank.kept slot) ((agreeing (core xs) bank array holds).slots line exists)
+
+    given : is_excepted (whole_head bank.kept.entries) line ≡ false → (layer_of bank.kept.entries line).given ≡ unstored is_stored line (table_of bank.kept.shape xs)
+    given free =
+        ap (λ (es : List (Entry n)). (layer_of es line).given) holds.entries
+        ∙ given-unstored bank.kept.shape pace e xs sized l line (subst (λ (es : List (Entry n)). is_excepted (whole_head es) line ≡ false) holds.entries free)
+
+    new : laid (layer_of bank.kept.entries line).bytes (layer_of bank.kept.entries line).given (decoded e array (stands_at bank.kept line)) ≡ rows.newest (table_of bank.kept.shape xs) line
+    new = holds.newest line exists ∙ sym (newest-rows bank.kept.shape pace e xs sized l line)
+
+    stands : is_excepted (whole_head bank.kept.entries) line ≡ false → is_kept_line (table_of bank.kept.shape xs) line (decoded e array (stands_at bank.kept line)) ≡ true
+    stands free =
+        same_bytes-same _ _ (kept_line (rows.newest (table_of bank.kept.shape xs) line) (layer_of bank.kept.entries line).bytes (decoded e array (stands_at bank.kept line))
+        (layer_of bank.kept.entries line).given (unstored is_stored line (table_of bank.kept.shape xs)) new (given free))
+
+    there : is_excepted (whole_head bank.kept.entries) line ≡ false
+        → is_kept_line (table_of bank.kept.shape xs) line (decoded e array (place_by_table bank.kept.shape (moved_in bank.kept.shape.lines (core xs)) (array_line bank.kept) line)) ≡ true
+    there free = subst (λ at. is_kept_line (table_of bank.kept.shape xs) line (decoded e array at) ≡ true) place (stands free)
+
+    by : (b : Bool) → is_excepted (whole_head bank.kept.entries) line ≡ b
+        → (is_excepted (whole_head bank.kept.entries) line || is_kept_line (table_of bank.kept.shape xs) line (decoded e array (place_by_table bank.kept.shape (moved_in bank.kept.shape.lines (core xs)) (array_line bank.kept) line))) ≡ true
+    by true is = or_first _ _ is
+    by false free = or_second _ _ (there free)
