@@ -1,5 +1,5 @@
 -- In the end each line's newest bytes are in the array or still in the queue.
-use Rattle.std.proofs.Common.{◌≡◌, ℕ, Bool, true, false, List, [], ◌∷◌, Option, Some, None, refl, cond}
+use Rattle.std.proofs.Common.{◌≡◌, ℕ, Bool, true, false, List, [], ◌∷◌, Some, None, refl, cond}
 use Rattle.std.specs.Prelude.{IsTrue, IfSome, IsSomeAnd, slice_get}
 use Rattle.masked_bytes.specs.declared.entry.Entry.{Entry}
 use Rattle.masked_bytes.specs.Masked.{gives_all}

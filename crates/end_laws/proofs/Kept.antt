@@ -1,17 +1,14 @@
 -- What the queue gives of a line is what its writes that were not stored give, but for a head that gives every byte; so the rest is in the array.
-use Rattle.std.proofs.Common.{◌≡◌, ℕ, ◌+◌, ◌*◌, ◌/◌, ◌<◌, ◌≤◌, ◌==◌, ◌||◌, ◌⊎◌, inl, inr, Bool, true, false, List, [], ◌∷◌, Option, Some, None, refl, sym, ap, ◌∙◌, subst, arith, cond, eqb, eqb-true}
-use Rattle.std.specs.Prelude.{IsTrue}
+use Rattle.std.proofs.Common.{◌≡◌, ℕ, ◌==◌, ◌||◌, ◌⊎◌, inl, inr, Bool, true, false, List, [], ◌∷◌, Some, None, refl, sym, ap, ◌∙◌, subst, arith, cond, eqb, eqb-true}
 use Rattle.result_rows.specs.declared.Outcome.{Outcome}
 use Rattle.result_rows.specs.declared.Outcome.TheVariants as out
 use Rattle.masked_bytes.specs.declared.entry.Entry.{Entry}
 use Rattle.masked_bytes.specs.Masked.{laid, gives_all}
 use Rattle.masked_bytes.specs.Entries.{layer_of}
-use Rattle.pcm_cells.specs.Device.{ArrayState}
 use Rattle.row_laws.specs.Answers.{is_stored}
 use Rattle.row_laws.specs.Rows as rows
 use Rattle.row_laws.specs.Queueing.{unstored}
 use Rattle.bank_shape.specs.declared.BankShape.{BankShape}
-use Rattle.bank_shape.specs.Shape.{slots_of}
 use Rattle.power_recovery.specs.Kept.{array_line, stands_at}
 use Rattle.bank_model.specs.Events.{newest}
 use Rattle.bank_model.specs.History.{queue, moved_in}
@@ -32,9 +29,7 @@ use Rattle.queue_laws.proofs.Showing.{Front}
 use Rattle.queue_laws.proofs.Floors.{since, floor_of}
 use Rattle.queue_laws.proofs.Covering.{is_covered}
 use Rattle.queue_laws.proofs.Covers.{unstored_by}
-use Rattle.bank_invariant.specs.State.{BankState}
 use Rattle.bank_invariant.specs.Tied.{decoded}
-use Rattle.bank_invariant.specs.Holds.{Holds, stands_for}
 use Rattle.end_laws.specs.Ends.{is_excepted, is_kept_line, place_by_table}
 use Rattle.end_laws.specs.EndLaws.{KeptLaw, whole_head}
 use Rattle.end_laws.proofs.Leaving.{agreeing}

@@ -2,7 +2,7 @@
 use Rattle.std.proofs.Common.{◌≡◌, ℕ, ◌<◌, List, [], ◌∷◌, Option, Some, None, refl, sym, ap, subst, ◌∙◌, arith}
 use Rattle.std.specs.Prelude.{IsTrue}
 use Rattle.masked_bytes.specs.declared.entry.Entry.{Entry}
-use Rattle.pcm_cells.specs.Device.{ArrayState, LineState}
+use Rattle.pcm_cells.specs.Device.{ArrayState}
 use Rattle.start_gap.specs.Rotation.{move_after}
 use Rattle.start_gap.proofs.Turning.{move-stands}
 use Rattle.spare_pool.specs.Table.{Table, line_by, used_by}

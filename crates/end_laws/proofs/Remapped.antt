@@ -2,7 +2,7 @@
 use Rattle.std.proofs.Common.{◌≡◌, ℕ, ◌+◌, ◌<◌, ◌≤◌, ◌⊎◌, inl, inr, ap, subst, arith}
 use Rattle.std.specs.Prelude.{IsTrue}
 use Rattle.pcm_cells.specs.Device.{ArrayState}
-use Rattle.spare_pool.specs.Table.{line_by, used_by}
+use Rattle.spare_pool.specs.Table.{line_by}
 use Rattle.spare_pool.proofs.Lines.{HasSpare, line_by-cases, only_own}
 use Rattle.bank_shape.specs.Shape.{slots_of}
 use Rattle.power_recovery.specs.Kept.{KeptState, IsKept, array_line}

@@ -1,5 +1,5 @@
 -- That a bank keeps each line's newest bytes to the end, part by part and whole.
-use Rattle.std.specs.Prelude.{◌≡◌, ℕ, ◌+◌, ◌*◌, ◌<◌, ◌||◌, if◌then◌else◌, List, [], ◌∷◌, Option, Some, None, IsTrue, IfSome, IsSomeAnd, slice_get}
+use Rattle.std.specs.Prelude.{◌≡◌, ℕ, ◌*◌, ◌<◌, ◌||◌, if◌then◌else◌, List, [], ◌∷◌, Option, Some, None, IsTrue, IfSome, IsSomeAnd, slice_get}
 use Rattle.masked_bytes.specs.Masked.{gives_all}
 use Rattle.masked_bytes.specs.declared.entry.Entry.{Entry}
 use Rattle.start_gap.specs.Rotation.{StandsFor}
@@ -53,7 +53,7 @@ KeptLaw =
     (n m e : ℕ) (pace : Pacing) (xs : List (Timed n m)) (bank : BankState n m e) (array : ArrayState n m) (line : ℕ)
     → IsSized bank.kept.shape pace → Lawful bank.kept.shape pace e xs → Holds (core xs) bank array → line < bank.kept.shape.regions * bank.kept.shape.lines
     → IsTrue (is_excepted (whole_head bank.kept.entries) line
-      || is_kept_line (table_of bank.kept.shape xs) line (decoded e array (place_by_table bank.kept.shape (moved_in bank.kept.shape.lines (core xs)) (array_line bank.kept) line)))
+    || is_kept_line (table_of bank.kept.shape xs) line (decoded e array (place_by_table bank.kept.shape (moved_in bank.kept.shape.lines (core xs)) (array_line bank.kept) line)))
 
 -- the line whose write gives every byte at the head of the queue has a row that is queued
 abbrev pub QueuedLaw : Type 0
@@ -76,4 +76,4 @@ EndLaw =
     (n m e : ℕ) (pace : Pacing) (xs : List (Timed n m)) (bank : BankState n m e) (array : ArrayState n m)
     → IsSized bank.kept.shape pace → Lawful bank.kept.shape pace e xs → IsIdle bank.kept.shape pace xs → Holds (core xs) bank array
     → (end : BankEnd) × IsEndOf bank.kept end
-      × EndsWith bank.kept.shape (is_worn_at e array) (decoded e array) (table_of bank.kept.shape xs) end
+    × EndsWith bank.kept.shape (is_worn_at e array) (decoded e array) (table_of bank.kept.shape xs) end

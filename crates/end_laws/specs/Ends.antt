@@ -35,7 +35,7 @@ has_place spares_from worn now place = now == place || (nat_lt place now && (nat
 abbrev pub outcome_ends : {n : ℕ} → BankShape → (ℕ → Bool) → (ℕ → ℕ) → ℕ → List (Row n) → Outcome n → Bool
 outcome_ends shape worn table line all (out.Stored tick place) =
     has_place (shape.base + slots_of shape) worn
-      (table (slot_moved shape line (region_stores (stored_before tick) shape (line / shape.lines) all / shape.psi))) place
+    (table (slot_moved shape line (region_stores (stored_before tick) shape (line / shape.lines) all / shape.psi))) place
 outcome_ends shape worn table line all outcome = true
 
 abbrev pub is_still_there : {n : ℕ} → BankShape → (ℕ → Bool) → (ℕ → ℕ) → RowTest n
