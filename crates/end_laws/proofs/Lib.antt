@@ -4,3 +4,5 @@ mod Following
 mod Kept
 mod Queued
 mod Ending
+mod Roles
+mod Used

@@ -3,6 +3,7 @@
 #![tactic(auto)]
 
 ghost use Rattle.end_laws.specs.EndLaws.{EndLaw, GapsLaw, KeptLaw, QueuedLaw, RemappedLaw, StillThereLaw};
+ghost use Rattle.end_laws.specs.Roles.{RoleLaw, UsedLaw};
 
 /// Each slot of a bank has an array line of its own: the one of its number, or a spare where that one is worn.
 pub fn slots_have_their_lines()
@@ -37,6 +38,17 @@ pub fn newest_bytes_are_kept()
     ensures { EndLaw }
 {}
 
+/// By the end of a bank each of its array lines is used for one thing: a line, a gap, a spare that isn't used, or one that
+/// was retired.
+pub fn lines_have_one_role()
+    ensures { RoleLaw }
+{}
+
+/// The used spares are those that were given to slots, though some are retired since.
+pub fn used_spares_were_given()
+    ensures { UsedLaw }
+{}
+
 /// The laws are facts, and cost nothing to ask for.
 #[cfg(test)]
 #[test]
@@ -47,4 +59,6 @@ fn laws_hold_of_every_history() {
     excepted_lines_are_queued();
     stored_rows_are_still_there();
     newest_bytes_are_kept();
+    lines_have_one_role();
+    used_spares_were_given();
 }
