@@ -9,8 +9,7 @@ use Rattle.row_laws.specs.Answers.{is_stored}
 use Rattle.row_laws.specs.Rows as rows
 use Rattle.row_laws.specs.Queueing.{unstored}
 use Rattle.bank_shape.specs.declared.BankShape.{BankShape}
-use Rattle.power_recovery.specs.Kept.{array_line, stands_at}
-use Rattle.bank_model.specs.Events.{newest}
+use Rattle.power_recovery.specs.Kept.{array_line}
 use Rattle.bank_model.specs.History.{queue, moved_in}
 use Rattle.bank_model.specs.Sensing.{most_steps}
 use Rattle.bank_model.specs.Timing.{Pacing, Timed, core, last_tick}
@@ -31,7 +30,7 @@ use Rattle.queue_laws.proofs.Covering.{is_covered}
 use Rattle.queue_laws.proofs.Covers.{unstored_by}
 use Rattle.bank_invariant.specs.Tied.{decoded}
 use Rattle.end_laws.specs.Ends.{is_excepted, is_kept_line, place_by_table}
-use Rattle.end_laws.specs.EndLaws.{KeptLaw, whole_head}
+use Rattle.end_laws.specs.EndLaws.{KeptLaw, StandsLaw, whole_head}
 use Rattle.end_laws.proofs.Leaving.{agreeing}
 
 -- bytes laid over a line once more change nothing
@@ -87,38 +86,34 @@ module _ {n m : ℕ} (shape : BankShape) (pace : Pacing) (e : ℕ) (all : List (
       ((is_covered shape pace e all sized.read sized.iter l).front line) free
       ∙ sym (unstored-since line)
 
-  pub newest-rows : (line : ℕ) → rows.newest (table_of shape all) line ≡ newest (core all) line
-  newest-rows line = newest_same shape pace e all [] all line l (opens shape pace e all l) refl
-
 -- where the given bytes laid over a line's make the newest, so do those of the newest
 kept_line : (new bytes held : List ℕ) (given free : List Bool) → laid bytes given held ≡ new → given ≡ free → laid new free held ≡ new
 kept_line new bytes held given free is same =
     ap (λ g. laid new g held) (sym same) ∙ ap (λ k. laid k given held) (sym is) ∙ laid-again bytes given held ∙ is
 
+pub stands_law : StandsLaw
+stands_law n m e pace xs bank array line l holds exists =
+    subst (λ at. laid (layer_of bank.kept.entries line).bytes (layer_of bank.kept.entries line).given (decoded e array at) ≡ rows.newest (table_of bank.kept.shape xs) line)
+    (ap (λ slot. array_line bank.kept slot) ((agreeing (core xs) bank array holds).slots line exists))
+    (holds.newest line exists ∙ sym (newest_same bank.kept.shape pace e xs [] xs line l (opens bank.kept.shape pace e xs l) refl))
+
 pub kept_law : KeptLaw
 kept_law n m e pace xs bank array line sized l holds exists = by (is_excepted (whole_head bank.kept.entries) line) refl
   where
-    place : stands_at bank.kept line ≡ place_by_table bank.kept.shape (moved_in bank.kept.shape.lines (core xs)) (array_line bank.kept) line
-    place = ap (λ slot. array_line bank.kept slot) ((agreeing (core xs) bank array holds).slots line exists)
+    at : ℕ
+    at = place_by_table bank.kept.shape (moved_in bank.kept.shape.lines (core xs)) (array_line bank.kept) line
 
     given : is_excepted (whole_head bank.kept.entries) line ≡ false → (layer_of bank.kept.entries line).given ≡ unstored is_stored line (table_of bank.kept.shape xs)
     given free =
         ap (λ (es : List (Entry n)). (layer_of es line).given) holds.entries
         ∙ given-unstored bank.kept.shape pace e xs sized l line (subst (λ (es : List (Entry n)). is_excepted (whole_head es) line ≡ false) holds.entries free)
 
-    new : laid (layer_of bank.kept.entries line).bytes (layer_of bank.kept.entries line).given (decoded e array (stands_at bank.kept line)) ≡ rows.newest (table_of bank.kept.shape xs) line
-    new = holds.newest line exists ∙ sym (newest-rows bank.kept.shape pace e xs sized l line)
-
-    stands : is_excepted (whole_head bank.kept.entries) line ≡ false → is_kept_line (table_of bank.kept.shape xs) line (decoded e array (stands_at bank.kept line)) ≡ true
-    stands free =
-        same_bytes-same _ _ (kept_line (rows.newest (table_of bank.kept.shape xs) line) (layer_of bank.kept.entries line).bytes (decoded e array (stands_at bank.kept line))
-        (layer_of bank.kept.entries line).given (unstored is_stored line (table_of bank.kept.shape xs)) new (given free))
-
-    there : is_excepted (whole_head bank.kept.entries) line ≡ false
-        → is_kept_line (table_of bank.kept.shape xs) line (decoded e array (place_by_table bank.kept.shape (moved_in bank.kept.shape.lines (core xs)) (array_line bank.kept) line)) ≡ true
-    there free = subst (λ at. is_kept_line (table_of bank.kept.shape xs) line (decoded e array at) ≡ true) place (stands free)
+    there : is_excepted (whole_head bank.kept.entries) line ≡ false → is_kept_line (table_of bank.kept.shape xs) line (decoded e array at) ≡ true
+    there free =
+        same_bytes-same _ _ (kept_line (rows.newest (table_of bank.kept.shape xs) line) (layer_of bank.kept.entries line).bytes (decoded e array at)
+        (layer_of bank.kept.entries line).given (unstored is_stored line (table_of bank.kept.shape xs)) (stands_law n m e pace xs bank array line l holds exists) (given free))
 
     by : (b : Bool) → is_excepted (whole_head bank.kept.entries) line ≡ b
-        → (is_excepted (whole_head bank.kept.entries) line || is_kept_line (table_of bank.kept.shape xs) line (decoded e array (place_by_table bank.kept.shape (moved_in bank.kept.shape.lines (core xs)) (array_line bank.kept) line))) ≡ true
+        → (is_excepted (whole_head bank.kept.entries) line || is_kept_line (table_of bank.kept.shape xs) line (decoded e array at)) ≡ true
     by true is = or_first _ _ is
     by false free = or_second _ _ (there free)

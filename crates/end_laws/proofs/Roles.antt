@@ -1,6 +1,5 @@
 -- Each array line has one role: a slot that has it is a line's or a gap, and one that no slot has is free or retired.
-use Rattle.std.proofs.Common.{◌≡◌, ◌≢◌, ℕ, zero, suc, ◌+◌, ◌-◌, ◌*◌, ◌/◌, ◌%◌, ◌<◌, ◌≤◌, ◌⊎◌, inl, inr, List, [], ◌∷◌, ◌++◌, length, length-append, slice_index, refl, sym, ap, ◌∙◌, subst, arith}
-use Rattle.std.specs.Prelude.{max}
+use Rattle.std.proofs.Common.{◌≡◌, ◌≢◌, ℕ, zero, suc, ◌+◌, ◌-◌, ◌*◌, ◌/◌, ◌%◌, ◌<◌, ◌≤◌, ◌⊎◌, inl, inr, refl, sym, ap, ◌∙◌, arith}
 use Rattle.std.proofs.lemmas.Bool.{cases_lt, cases_eq}
 use Rattle.std.proofs.lemmas.Nat.{mul-add-lt, mod_below, div_below, div-mul-add, mod-mul-add, div-add-mod'}
 use Rattle.wear_report.specs.declared.Role.{Role}
@@ -12,7 +11,7 @@ use Rattle.bank_shape.specs.declared.BankShape.{BankShape}
 use Rattle.bank_shape.specs.Shape.{slots_of, slot_at, slot_moved, IsBankShape}
 use Rattle.power_recovery.proofs.Placing.{slot_at-region, slot_at-place, same_line}
 use Rattle.place_laws.proofs.Slots.{slot_at-within, slot_moved-within, gap-within}
-use Rattle.end_laws.specs.Ends.{BankEnd, place_by_table}
+use Rattle.end_laws.specs.Ends.{BankEnd}
 use Rattle.end_laws.specs.Roles.{used_among, used_spares, IsRole, HasOneRole, RoleLaw}
 
 -- the used spares reach up to every slot's line
@@ -84,13 +83,12 @@ module _ (shape : BankShape) (range : IsBankShape shape) where
           let quotient : own / shape.lines ≡ region = div-mul-add region shape.lines l.0 l.1 in
           let offset : own % shape.lines ≡ l.0 = mod-mul-add region shape.lines l.0 l.1 in
           let below : own < shape.lines * shape.regions = mul-add-lt region shape.lines l.0 shape.regions within l.1 in
-          let swap : shape.lines * shape.regions ≡ shape.regions * shape.lines = grind arith in
-          (
+          let swap : shape.lines * shape.regions ≡ shape.regions * shape.lines = grind arith in (
             own,
             omega (arith, below, swap),
             ap (λ q. slot_at shape q (place_after shape.lines (own % shape.lines) (moves q))) quotient
-            ∙ ap (λ o. slot_at shape region (place_after shape.lines o (moves region))) offset
-            ∙ ap (λ p. slot_at shape region p) l.2 ∙ whole,
+                ∙ ap (λ o. slot_at shape region (place_after shape.lines o (moves region))) offset
+                ∙ ap (λ p. slot_at shape region p) l.2 ∙ whole,
           )
 
       by : (slot % (shape.lines + 1) ≡ gap_after shape.lines (moves region)) ⊎ (slot % (shape.lines + 1) ≢ gap_after shape.lines (moves region))

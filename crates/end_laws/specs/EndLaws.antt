@@ -1,10 +1,11 @@
 -- That a bank keeps each line's newest bytes to the end, part by part and whole.
 use Rattle.std.specs.Prelude.{◌≡◌, ℕ, ◌*◌, ◌<◌, ◌||◌, if◌then◌else◌, List, [], ◌∷◌, Option, Some, None, IsTrue, IfSome, IsSomeAnd, slice_get}
-use Rattle.masked_bytes.specs.Masked.{gives_all}
+use Rattle.masked_bytes.specs.Masked.{gives_all, laid}
+use Rattle.masked_bytes.specs.Entries.{layer_of}
 use Rattle.masked_bytes.specs.declared.entry.Entry.{Entry}
 use Rattle.start_gap.specs.Rotation.{StandsFor}
 use Rattle.pcm_cells.specs.Device.{ArrayState}
-use Rattle.row_laws.specs.Rows.{each_row}
+use Rattle.row_laws.specs.Rows.{each_row, newest}
 use Rattle.bank_shape.specs.Shape.{slots_of}
 use Rattle.power_recovery.specs.Kept.{KeptState, region_at, array_line}
 use Rattle.bank_model.specs.Events.{Event}
@@ -54,6 +55,15 @@ KeptLaw =
     → IsSized bank.kept.shape pace → Lawful bank.kept.shape pace e xs → Holds (core xs) bank array → line < bank.kept.shape.regions * bank.kept.shape.lines
     → IsTrue (is_excepted (whole_head bank.kept.entries) line
     || is_kept_line (table_of bank.kept.shape xs) line (decoded e array (place_by_table bank.kept.shape (moved_in bank.kept.shape.lines (core xs)) (array_line bank.kept) line)))
+
+-- what the queue's entries of a line give, over what the array line that the table gives it is read as, is the line's newest bytes
+abbrev pub StandsLaw : Type 0
+StandsLaw =
+    (n m e : ℕ) (pace : Pacing) (xs : List (Timed n m)) (bank : BankState n m e) (array : ArrayState n m) (line : ℕ)
+    → Lawful bank.kept.shape pace e xs → Holds (core xs) bank array → line < bank.kept.shape.regions * bank.kept.shape.lines
+    → laid (layer_of bank.kept.entries line).bytes (layer_of bank.kept.entries line).given
+    (decoded e array (place_by_table bank.kept.shape (moved_in bank.kept.shape.lines (core xs)) (array_line bank.kept) line))
+    ≡ newest (table_of bank.kept.shape xs) line
 
 -- the line whose write gives every byte at the head of the queue has a row that is queued
 abbrev pub QueuedLaw : Type 0

@@ -1,3 +1,4 @@
 pub mod Ends
 pub mod EndLaws
 pub mod Roles
+pub mod Worked

@@ -2,7 +2,10 @@
 //! is what a function here ensures; the functions do nothing when they run.
 #![tactic(auto)]
 
-ghost use Rattle.end_laws.specs.EndLaws.{EndLaw, GapsLaw, KeptLaw, QueuedLaw, RemappedLaw, StillThereLaw};
+#[cfg(test)]
+mod worked;
+
+ghost use Rattle.end_laws.specs.EndLaws.{EndLaw, GapsLaw, KeptLaw, QueuedLaw, RemappedLaw, StandsLaw, StillThereLaw};
 ghost use Rattle.end_laws.specs.Roles.{RoleLaw, UsedLaw};
 
 /// Each slot of a bank has an array line of its own: the one of its number, or a spare where that one is worn.
@@ -20,6 +23,12 @@ pub fn registers_follow_stores()
 /// the line of a head of the queue that gives every byte is excepted, whose store may have been broken off.
 pub fn lines_are_kept()
     ensures { KeptLaw }
+{}
+
+/// The bytes of a line that the queue's entries give, over what the table's array line of it is read as, are its newest: no
+/// line is excepted here, since the entries themselves are looked at.
+pub fn queue_and_array_give_the_newest()
+    ensures { StandsLaw }
 {}
 
 /// The line that is excepted has a write that is queued in the end.
@@ -48,17 +57,3 @@ pub fn lines_have_one_role()
 pub fn used_spares_were_given()
     ensures { UsedLaw }
 {}
-
-/// The laws are facts, and cost nothing to ask for.
-#[cfg(test)]
-#[test]
-fn laws_hold_of_every_history() {
-    slots_have_their_lines();
-    registers_follow_stores();
-    lines_are_kept();
-    excepted_lines_are_queued();
-    stored_rows_are_still_there();
-    newest_bytes_are_kept();
-    lines_have_one_role();
-    used_spares_were_given();
-}
