@@ -1,5 +1,5 @@
 -- What an action needs of its bank.
-use Rattle.std.proofs.Common.{◌≡◌, ℕ, ◌<◌, ◌==◌, ◌||◌, ◌&&◌, not, nat_lt, if◌then◌else◌, Bool, true, false, List, [], ◌∷◌, ◌++◌, length, Option, Some, None, is_some, refl, sym, ap, ◌∙◌, arith, eqb-true, eq-eqb, ltb-true}
+use Rattle.std.proofs.Common.{◌≡◌, ℕ, ◌<◌, ◌==◌, ◌||◌, ◌&&◌, not, nat_lt, if◌then◌else◌, Bool, true, false, List, [], ◌∷◌, ◌++◌, length, Option, Some, None, is_some, refl, ap, ◌∙◌, arith, ltb-true}
 use Rattle.std.specs.Prelude.{IfSome}
 use Rattle.std.specs.List.{list_any}
 use Rattle.std.proofs.lemmas.List.{length-append}
@@ -24,18 +24,7 @@ use Rattle.bank_invariant.specs.Serving.{kept_with, waits_too}
 use Rattle.bank_invariant.specs.Writes.{taken}
 use Rattle.clock_laws.specs.State.{or_else, started_at, chosen}
 use Rattle.clock_laws.specs.Fitting.{Fits, IsFit, ChosenLaw, FitWriteLaw, FitReadLaw}
-
-both_left : (a b : Bool) → (a && b) ≡ true → a ≡ true
-both_left true b h = refl
-both_left false b h = cc
-
-both_right : (a b : Bool) → (a && b) ≡ true → b ≡ true
-both_right true b h = h
-both_right false b h = cc
-
-both : (a b : Bool) → a ≡ true → b ≡ true → (a && b) ≡ true
-both true b h k = k
-both false b h k = cc
+use Rattle.clock_laws.proofs.Deciding.{both, both_left, both_right, not_false, turned}
 
 -- Choices
 
@@ -99,21 +88,10 @@ any-push at (v ∷ ws) w off none = by (v.line == at) none (any-push at ws w off
     by true none rest = cc
     by false none rest = rest none
 
-not-false : (b : Bool) → not b ≡ true → b ≡ false
-not-false true h = cc
-not-false false h = refl
-
-turned : (a b : ℕ) → (a == b) ≡ false → (b == a) ≡ false
-turned a b off = by (b == a) (eqb-true b a)
-  where
-    by : (t : Bool) → (t ≡ true → b ≡ a) → t ≡ false
-    by false is = refl
-    by true is = let same : (a == b) ≡ true = eq-eqb a b (sym (is refl)) in cc
-
 -- a work that may be begun may still be, where the read isn't of the line that it stores
 free-stays : {n : ℕ} (work : Work) (ws : List (Waiting n)) (w : Waiting n) → is_store_of w.line work ≡ false → is_free ws work ≡ true → is_free (ws ++ w ∷ []) work ≡ true
 free-stays Nothing ws w off free = cc
-free-stays (Store line slot) ws w off free = ap (λ b. not b) (any-push line ws w (turned line w.line off) (not-false _ free))
+free-stays (Store line slot) ws w off free = ap (λ b. not b) (any-push line ws w (turned line w.line off) (not_false _ free))
 free-stays (Copy region step) ws w off free = free
 
 fit-waits : {n m e : ℕ} (bank : BankState n m e) (row line first : ℕ) (doing : Doing) (b : Bool) → is_store_of line (next_work bank.kept) ≡ b → Fits bank doing
