@@ -17,7 +17,7 @@ use Rattle.command_line.specs.declared.job.MovesJob.{MovesJob}
 use Rattle.command_line.specs.declared.job.Input.{Input}
 use Rattle.command_line.specs.declared.job.Input.TheVariants.{Source, Drawn}
 use Rattle.command_line.specs.declared.job.Refusal.{Refusal}
-use Rattle.command_line.specs.declared.job.Refusal.TheVariants.{Usage, NoMemory}
+use Rattle.command_line.specs.declared.job.Refusal.TheVariants.{Usage}
 
 -- the job of `run` with these options; those of a generated trace are looked at whatever the input is
 unfoldable pub run_of : List Row → Option Job
