@@ -1,5 +1,5 @@
 -- How far the ticks of a bank may be behind an arrival, by what ended since.
-use Rattle.std.proofs.Common.{◌≡◌, ℕ, ◌+◌, ◌*◌, ◌<◌, ◌≤◌, ◌==◌, ◌&&◌, ◌||◌, ◌⊎◌, inl, inr, not, Bool, true, false, List, [], ◌∷◌, ◌++◌, Option, Some, None, refl, sym, ap, ◌∙◌, subst, arith, cond}
+use Rattle.std.proofs.Common.{◌≡◌, ℕ, ◌+◌, ◌*◌, ◌<◌, ◌≤◌, ◌&&◌, ◌⊎◌, inl, inr, Bool, true, false, List, ◌∷◌, Option, Some, None, refl, sym, ap, ◌∙◌, subst, arith, cond}
 use Rattle.std.specs.Prelude.{IfSome, IsTrue}
 use Rattle.std.proofs.lemmas.Bool.{and_parts}
 use Rattle.masked_bytes.specs.Entries.{has_row, layer_of}
@@ -11,17 +11,16 @@ use Rattle.bank_model.specs.declared.clock.Doing.{Doing}
 use Rattle.bank_model.specs.declared.clock.Doing.TheVariants.{Serving, Beginning, Iterating}
 use Rattle.bank_model.specs.declared.clock.Action.{Action}
 use Rattle.bank_model.specs.Events.{Event, Write, Read, Serve, Begin, Iterate, Cut, newest}
-use Rattle.bank_model.specs.History.{Awaited, awaited, queue, waits, has_exhausted, in_progress, iterated}
+use Rattle.bank_model.specs.History.{awaited, queue, waits, has_exhausted, in_progress, iterated}
 use Rattle.bank_model.specs.After.{work_after, is_store_of, may_begin_after}
-use Rattle.bank_model.specs.Sensing.{most_steps}
-use Rattle.bank_model.specs.Timing.{Pacing, Happens, Core, Timed, lasts, ends, is_doing, is_empty, core, core_of, last_tick}
+use Rattle.bank_model.specs.Timing.{Pacing, Happens, Core, Timed, lasts, ends, is_doing, core, core_of, last_tick}
 use Rattle.bank_model.specs.Running.{gives_way, choice, chosen_by, started, left_by, running, running_at, chosen_after}
 use Rattle.bank_model.specs.Lawful.{Lawful, MayCome}
 use Rattle.tick_laws.proofs.Actions.{since, since-started, since_of, reads_of, Fits, FitsAll, running_at-fits, not_begun}
 use Rattle.tick_laws.proofs.Turns.{chosen-reads}
 use Rattle.tick_laws.proofs.Waits.{work_time, few_times, times_more}
 use Rattle.tick_laws.proofs.Tallies.{stores_by, moves_by, retires_by, serves_by, cuts_by}
-use Rattle.tick_laws.proofs.Holdups.{HeldUp, IsHeld, held-reads, held-wait, held-push, held-merged, store-held, held-begins_none, works, not_begun-next}
+use Rattle.tick_laws.proofs.Holdups.{IsHeld, held-reads, held-wait, held-push, held-merged, store-held, held-begins_none, works, not_begun-next}
 
 -- the time that a line write in progress took so far, without the reads served in between
 abbrev pub spent : ℕ → ℕ → Bool → ℕ → ℕ

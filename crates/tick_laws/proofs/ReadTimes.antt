@@ -1,7 +1,7 @@
 -- A read is read or lost in time.
-use Rattle.std.proofs.Common.{◌≡◌, ◌≢◌, ℕ, ◌+◌, ◌*◌, ◌<◌, ◌≤◌, ◌==◌, ◌&&◌, ◌||◌, ◌⊎◌, inl, inr, not, Bool, true, false, List, [], ◌∷◌, ◌++◌, Option, Some, None, length, refl, sym, ap, ◌∙◌, subst, arith, cond, append_assoc}
-use Rattle.std.specs.Prelude.{IfSome, nat_le, nat_lt}
-use Rattle.std.specs.List.{list_any, list_all}
+use Rattle.std.proofs.Common.{◌≡◌, ◌≢◌, ℕ, ◌+◌, ◌*◌, ◌<◌, ◌≤◌, ◌==◌, ◌&&◌, ◌||◌, inl, inr, not, Bool, true, false, List, [], ◌∷◌, ◌++◌, Option, Some, None, length, refl, sym, ap, ◌∙◌, subst, arith, cond, append_assoc}
+use Rattle.std.specs.Prelude.{nat_le, nat_lt}
+use Rattle.std.specs.List.{list_any}
 use Rattle.std.proofs.lemmas.Bool.{le-leb, lt-ltb, eq-eqb, or_from}
 use Rattle.std.proofs.lemmas.List.Folds.{list_any-append, list_all-append}
 use Rattle.result_rows.specs.declared.Outcome.{Outcome}
@@ -16,20 +16,17 @@ use Rattle.bank_shape.specs.declared.BankShape.{BankShape}
 use Rattle.bank_model.specs.declared.answer.WriteAnswer.TheVariants as wrote
 use Rattle.bank_model.specs.declared.answer.ReadAnswer.TheVariants as came
 use Rattle.bank_model.specs.declared.answer.Step.TheVariants as did
-use Rattle.bank_model.specs.declared.answer.Served.{Served}
-use Rattle.bank_model.specs.declared.clock.Doing.{Doing}
-use Rattle.bank_model.specs.declared.clock.Doing.TheVariants.{Serving, Beginning, Iterating}
+use Rattle.bank_model.specs.declared.clock.Doing.TheVariants.{Serving, Beginning}
 use Rattle.bank_model.specs.declared.clock.Action.{Action}
-use Rattle.bank_model.specs.Events.{Event, Write, Read, Serve, Begin, Iterate, Cut, RowsBelow, newest}
+use Rattle.bank_model.specs.Events.{Write, Read, Serve, Begin, Iterate, Cut, newest}
 use Rattle.bank_model.specs.History.{Awaited, awaited, queue, waits, in_progress, iterated}
 use Rattle.masked_bytes.specs.Entries.{layer_of}
 use Rattle.bank_model.specs.After.{work_after, is_store_of}
-use Rattle.bank_model.specs.Sensing.{most_steps}
-use Rattle.bank_model.specs.Timing.{Pacing, Happens, Core, Timed, ends, is_doing, core, core_of, last_tick}
-use Rattle.bank_model.specs.Running.{gives_way, left_by, running, running_at}
-use Rattle.bank_model.specs.Lawful.{Lawful, MayCome, IsIdle}
+use Rattle.bank_model.specs.Timing.{Pacing, Happens, Core, Timed, is_doing, core, core_of, last_tick}
+use Rattle.bank_model.specs.Running.{gives_way, left_by, running_at}
+use Rattle.bank_model.specs.Lawful.{Lawful, MayCome}
 use Rattle.bank_laws.specs.Laws.{rules_of}
-use Rattle.bank_laws.specs.Outcomes.{on_row, outcome_with, outcome_of, row_with, rows_from}
+use Rattle.bank_laws.specs.Outcomes.{outcome_with, outcome_of, row_with, rows_from}
 use Rattle.bank_laws.specs.Standing.{has_wait}
 use Rattle.bank_laws.specs.Ticks.{ends_action}
 use Rattle.bank_laws.proofs.Standing.{stand_apart}
@@ -44,8 +41,8 @@ use Rattle.bank_laws.proofs.Waiting.{waits_length}
 use Rattle.tick_laws.specs.TickLaws.{reads_in_time, ReadTimeLaw}
 use Rattle.tick_laws.proofs.Actions.{since, since-up, FitsAll, running_at-fits, not-cancelled}
 use Rattle.tick_laws.proofs.Settings.{SetAt, row_set, setting, unset_before, unset_waits}
-use Rattle.tick_laws.proofs.Turns.{turn, turn-some, turn-new, NotFirst, NotEarly, not_early-new, owes, owes-most, paid, hold_up}
-use Rattle.tick_laws.proofs.Waits.{HasTurn, Turn, TurnAt, turn_at, TurnBy, step, work_time, few_times, fits_ending, ending, at_end, at_cut}
+use Rattle.tick_laws.proofs.Turns.{turn, turn-some, turn-new, NotEarly, not_early-new, owes-most, hold_up}
+use Rattle.tick_laws.proofs.Waits.{Turn, TurnAt, turn_at, TurnBy, step, work_time, few_times, fits_ending, ending, at_end, at_cut}
 use Rattle.tick_laws.proofs.Afterwards.{none-below, first-behind, rows_after-append, late-cuts}
 
 module _ {n : ℕ} where
@@ -152,7 +149,7 @@ module _ {n m : ℕ} (shape : BankShape) (pace : Pacing) (e : ℕ) (all : List (
           omega (arith, low, end),
           omega (arith, high, end),
           list_all-append (λ (q : Row n). not (is_cut q) || nat_le s.tick q.tick) (mids ++ []) lates
-          ∙ two _ _ (list_all-append (λ (q : Row n). not (is_cut q) || nat_le s.tick q.tick) mids [] ∙ two _ _ (none-below s.tick mids none) refl) late,
+              ∙ two _ _ (list_all-append (λ (q : Row n). not (is_cut q) || nat_le s.tick q.tick) mids [] ∙ two _ _ (none-below s.tick mids none) refl) late,
         )
       where
         two : (a b : Bool) → a ≡ true → b ≡ true → (a && b) ≡ true
@@ -171,9 +168,9 @@ module _ {n m : ℕ} (shape : BankShape) (pace : Pacing) (e : ℕ) (all : List (
     at_event (Core (Cut tearing)) o may whole there none late t is =
         as_set (Core (Cut tearing)) (out.Lost s.tick) o (lost (has_wait (waits shape (core zs)) row) is) (
           ap (first_cut_at s.tick) (append_assoc mids (row_with shape all (Core (Cut tearing)) s.tick s.cancels) lates)
-          ∙ first-behind s.tick mids _ none ∙ cut_row tearing s.cancels whole,
+              ∙ first-behind s.tick mids _ none ∙ cut_row tearing s.cancels whole,
           at_cut pace.read pace.iter (work_time pace e) most (gives_way pace.policy) (in_progress (core zs)) _ (iterated (core zs)) s.tick (turn pace.read row (waits shape (core zs))) (running_at shape pace zs s.tick) r
-          (turn-some pace.read row (waits shape (core zs)) there) (λ busy. few_times shape pace e zs l.1 busy) (running_at-fits shape pace e zs s.tick) may.on_time.0.2 t.high,
+              (turn-some pace.read row (waits shape (core zs)) there) (λ busy. few_times shape pace e zs l.1 busy) (running_at-fits shape pace e zs s.tick) may.on_time.0.2 t.high,
         )
       where
         lost : (b : Bool) → ◌≡◌ {A = Option (Outcome n)} (cond b (Some (out.Lost s.tick)) None) (Some o) → out.Lost s.tick ≡ o

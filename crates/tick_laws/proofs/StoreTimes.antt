@@ -1,20 +1,17 @@
 -- A write that is stored is stored in time.
-use Rattle.std.proofs.Common.{◌≡◌, ◌≢◌, ℕ, ◌+◌, ◌*◌, ◌<◌, ◌≤◌, ◌==◌, ◌&&◌, ◌||◌, ◌⊎◌, inl, inr, not, Bool, true, false, List, [], ◌∷◌, ◌++◌, Option, Some, None, refl, sym, ap, ◌∙◌, subst, arith, cond, append_assoc}
-use Rattle.std.specs.Prelude.{unwrap_or, nat_lt, nat_le, count_by}
+use Rattle.std.proofs.Common.{◌≡◌, ℕ, ◌+◌, ◌*◌, ◌<◌, ◌≤◌, ◌&&◌, ◌⊎◌, inl, inr, Bool, true, false, List, [], ◌∷◌, ◌++◌, Option, Some, None, refl, sym, ap, ◌∙◌, subst, arith, cond, append_assoc}
+use Rattle.std.specs.Prelude.{unwrap_or, count_by}
 use Rattle.std.proofs.lemmas.Bool.{lt-ltb, le-leb, and_from}
 use Rattle.std.proofs.Math.Nat.{mul-le-mul_left}
 use Rattle.result_rows.specs.declared.Outcome.{Outcome}
 use Rattle.result_rows.specs.declared.Outcome.TheVariants as out
 use Rattle.masked_bytes.specs.Entries.{has_row}
-use Rattle.row_laws.specs.declared.Asks.TheVariants.{Writes}
 use Rattle.row_laws.specs.declared.Row.{Row}
 use Rattle.row_laws.specs.Answers.{stored_after, stored_by, read_after, read_by}
-use Rattle.row_laws.specs.Rows.{asks_read, asks_write}
 use Rattle.row_laws.specs.Rules.{Rules}
-use Rattle.row_laws.specs.Ticking.{attempt, tries, longest, stores_in, reads_in, cuts_to, store_in_time}
+use Rattle.row_laws.specs.Ticking.{attempt, tries, longest, stores_in, reads_in, cuts_to}
 use Rattle.bank_shape.specs.Pausing.{Pausing, Pause, Plain, Cancel, is_cancelling}
 use Rattle.bank_shape.specs.declared.BankShape.{BankShape}
-use Rattle.bank_model.specs.declared.answer.WriteAnswer.{WriteAnswer}
 use Rattle.bank_model.specs.declared.answer.WriteAnswer.TheVariants as wrote
 use Rattle.bank_model.specs.declared.answer.ReadAnswer.TheVariants as came
 use Rattle.bank_model.specs.declared.answer.Step.TheVariants as did
@@ -28,26 +25,23 @@ use Rattle.bank_laws.specs.Laws.{rules_of}
 use Rattle.bank_laws.specs.Outcomes.{on_row, outcome_with, outcome_of, ended, row_with, rows_from}
 use Rattle.bank_laws.specs.Ticks.{ends_action}
 use Rattle.bank_laws.proofs.Entries.{either}
-use Rattle.bank_laws.proofs.Answering.{head-there, first-there, stored-head, served-first, merged-there}
+use Rattle.bank_laws.proofs.Answering.{head-there, first-there, stored-head, served-first}
 use Rattle.bank_laws.proofs.Settling.{opens, lawful_before}
 use Rattle.bank_laws.proofs.Ticks.{last_tick-rises, last-below}
-use Rattle.bank_laws.proofs.Fates.{new-push, new-merged}
-use Rattle.bank_laws.proofs.Walking.{Passes, walk, rows_after}
-use Rattle.bank_laws.proofs.Ending.{Onwards, own_row, own_answer}
-use Rattle.bank_laws.proofs.Serves.{may_at, onwards_at}
+use Rattle.bank_laws.proofs.Walking.{rows_after}
+use Rattle.bank_laws.proofs.Ending.{own_row}
 use Rattle.bank_laws.proofs.Counting.{among, hits}
 use Rattle.bank_laws.proofs.Wears.{exhausted-more, exhausted-stores_none}
 use Rattle.bank_laws.proofs.Waiting as waiting
 use Rattle.bank_laws.proofs.Waiting.{waits-asked}
 use Rattle.bank_laws.proofs.Pending.{writes_in, write_rows, queue-asked, last-later}
-use Rattle.tick_laws.specs.TickLaws.{stores_in_time, StoreTimeLaw}
 use Rattle.tick_laws.proofs.Actions.{since-up}
 use Rattle.tick_laws.proofs.Settings.{SetAt, row_set, setting, unset_before, unset_stands}
 use Rattle.tick_laws.proofs.Waits.{work_time}
 use Rattle.tick_laws.proofs.Afterwards.{rows_after-append}
 use Rattle.tick_laws.proofs.Tallies.{stores_by, moves_by, retires_by, serves_by, cuts_by, tally}
-use Rattle.tick_laws.proofs.Moves.{done_store, flag, flag-most, moves_few, retires_few}
-use Rattle.tick_laws.proofs.Delays.{gain, Delay, DelayAt, delay_at, step, store_tick}
+use Rattle.tick_laws.proofs.Moves.{flag, flag-most, moves_few, retires_few}
+use Rattle.tick_laws.proofs.Delays.{gain, Delay, delay_at, step, store_tick}
 use Rattle.tick_laws.proofs.Counts.{Sets, tallied_all, writes-counted, reads-counted, rows-counted, cuts-counted, count-append, among-later}
 
 -- the ticks that may have passed to an arrival at a and over some events
@@ -163,14 +157,22 @@ module _ {n m : ℕ} (shape : BankShape) (pace : Pacing) (e : ℕ) where
     store_event (Core (Read at line (came.Forwarded bytes))) may is = absurd (not_set at (out.Forwarded y.tick bytes) (λ u p k. absurd (cc)) is)
     store_event (Core (Serve answer)) may is = absurd (not_set answer.row (out.Read y.tick answer.place answer.bytes) (λ u p k. absurd (cc)) is)
     store_event (Core (Begin (did.Stored at place))) may is = record {
-      at = stored_now at place is; fine = of_store at place may.may.1; one = refl; moves = refl; ends = refl;
+      at = stored_now at place is;
+      fine = of_store at place may.may.1;
+      one = refl;
+      moves = refl;
+      ends = refl;
     }
     store_event (Core (Begin did.More)) may is = absurd (cc)
     store_event (Core (Begin (did.Moved move))) may is = absurd (cc)
     store_event (Core (Begin (did.Retired slot line))) may is = absurd (cc)
     store_event (Core (Begin did.Exhausted)) may is = absurd (cc)
     store_event (Core (Iterate (did.Stored at place))) may is = record {
-      at = stored_now at place is; fine = of_store at place may.may.1; one = refl; moves = refl; ends = refl;
+      at = stored_now at place is;
+      fine = of_store at place may.may.1;
+      one = refl;
+      moves = refl;
+      ends = refl;
     }
     store_event (Core (Iterate did.More)) may is = absurd (cc)
     store_event (Core (Iterate (did.Moved move))) may is = absurd (cc)
@@ -314,10 +316,10 @@ module _ {n m : ℕ} (shape : BankShape) (pace : Pacing) (e : ℕ) (all : List (
           (delay_at shape pace e (allowed pace.read (work_time pace e) x.tick at.mid) (at.mid ++ x ∷ ys) at.event.tick row (last_tick-rises shape pace e (at.mid ++ x ∷ ys) at.event r i here)
           (unset_stands shape pace e at.mid (x ∷ ys) row here.1 there at.unset) event.fine delay) in
           let sum : allowed pace.read (work_time pace e) x.tick (at.event ∷ at.mid)
-              ≡ ((pace.read + work_time pace e)
-              * (tally stores_by (at.event ∷ at.mid) + tally moves_by (at.event ∷ at.mid) + tally retires_by (at.event ∷ at.mid) + tally cuts_by (at.event ∷ at.mid))
-              + pace.read * (2 * tally serves_by (at.event ∷ at.mid) + tally cuts_by (at.event ∷ at.mid)))
-              + x.tick =
+          ≡ ((pace.read + work_time pace e)
+          * (tally stores_by (at.event ∷ at.mid) + tally moves_by (at.event ∷ at.mid) + tally retires_by (at.event ∷ at.mid) + tally cuts_by (at.event ∷ at.mid))
+          + pace.read * (2 * tally serves_by (at.event ∷ at.mid) + tally cuts_by (at.event ∷ at.mid)))
+          + x.tick =
           allowed-is pace.read (work_time pace e) x.tick (at.event ∷ at.mid) in
           let stores : tally stores_by (at.event ∷ at.mid) ≤ hits (λ row. stored_within x.tick u (outcome_of shape all row)) (writes_in all) =
           tallied_all shape pace e all stores_by (writes_in all) (stored_within x.tick u) refl (x ∷ ys) u (stores_set x.tick u (x ∷ ys) r i (omega arith)) r i at.late (at.event ∷ at.mid) split l here (omega (arith, now)) in

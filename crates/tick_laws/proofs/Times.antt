@@ -1,12 +1,11 @@
 -- The laws of the rows that are stored in time, and of all rows together.
-use Rattle.std.proofs.Common.{◌≡◌, ℕ, ◌≤◌, ◌&&◌, ◌==◌, Bool, true, false, List, [], ◌∷◌, ◌++◌, refl, sym, ap, ◌∙◌, subst, arith}
+use Rattle.std.proofs.Common.{◌≡◌, ℕ, ◌≤◌, Bool, true, false, List, [], ◌∷◌, ◌++◌, refl, sym, ◌∙◌}
 use Rattle.std.proofs.lemmas.Bool.{lt-ltb, le-leb, and_from}
 use Rattle.result_rows.specs.declared.Outcome.{Outcome}
 use Rattle.result_rows.specs.declared.Outcome.TheVariants as out
 use Rattle.masked_bytes.specs.Entries.{has_row}
 use Rattle.row_laws.specs.declared.Asks.TheVariants.{Writes}
 use Rattle.row_laws.specs.declared.Row.{Row}
-use Rattle.row_laws.specs.Rows.{each_row}
 use Rattle.row_laws.specs.Ticking.{store_in_time, is_in_time}
 use Rattle.bank_shape.specs.Pausing.{is_cancelling}
 use Rattle.bank_shape.specs.declared.BankShape.{BankShape}
@@ -26,7 +25,7 @@ use Rattle.bank_laws.proofs.Serves.{may_at, onwards_at, idle-waits}
 use Rattle.tick_laws.specs.TickLaws.{is_apart, reads_in_time, stores_in_time, StoreTimeLaw, InTimeLaw}
 use Rattle.tick_laws.proofs.Apart.{apart_at}
 use Rattle.tick_laws.proofs.ReadTimes.{read_at}
-use Rattle.tick_laws.proofs.StoreTimes.{IsInTime, Table, in_end}
+use Rattle.tick_laws.proofs.StoreTimes.{IsInTime, in_end}
 
 module _ {n m : ℕ} (shape : BankShape) (pace : Pacing) (e : ℕ) (all : List (Timed n m)) where
   store_at : 1 ≤ pace.read → 1 ≤ pace.iter → 1 ≤ shape.psi → is_cancelling pace.policy ≡ false → Lawful shape pace e all → (later : List (Timed n m)) (x : Timed n m) (ys : List (Timed n m)) → all ≡ later ++ x ∷ ys

@@ -1,5 +1,5 @@
 -- The laws on the ticks of a bank's rows.
-use Rattle.std.specs.Prelude.{◌≡◌, ℕ, Bool, false, not, ◌||◌, IsTrue, List, []}
+use Rattle.std.specs.Prelude.{◌≡◌, ℕ, false, not, ◌||◌, IsTrue, List, []}
 use Rattle.std.specs.List.{list_all}
 use Rattle.row_laws.specs.Rows.{RowTest, each_row, asks_read, asks_write}
 use Rattle.row_laws.specs.Rules.{Rules}
