@@ -8,6 +8,7 @@ mod Afterwards
 mod ReadTimes
 mod Tallies
 mod Moves
+mod Cancels
 mod Holdups
 mod Delays
 mod Counts

@@ -20,6 +20,7 @@ use Rattle.bank_model.specs.History.{queue, waits, due_after, has_exhausted}
 use Rattle.bank_model.specs.After.{work_after}
 use Rattle.bank_model.specs.Answers.{IsDone}
 use Rattle.bank_model.specs.Timing.{Pacing, Happens, Core, Timed, core, core_of, last_tick}
+use Rattle.bank_model.specs.Running.{cancels_with, cancels_after}
 use Rattle.bank_model.specs.Lawful.{Lawful, MayCome}
 use Rattle.bank_laws.specs.Laws.{rules_of}
 use Rattle.bank_laws.specs.Outcomes.{on_row, outcome_with, outcome_of, ended, row_with, rows_from}
@@ -31,15 +32,16 @@ use Rattle.bank_laws.proofs.Ticks.{last_tick-rises, last-below}
 use Rattle.bank_laws.proofs.Walking.{rows_after}
 use Rattle.bank_laws.proofs.Ending.{own_row}
 use Rattle.bank_laws.proofs.Counting.{among, hits}
-use Rattle.bank_laws.proofs.Wears.{exhausted-more, exhausted-stores_none}
+use Rattle.bank_laws.proofs.Wears.{exhausted-stores_none}
 use Rattle.bank_laws.proofs.Waiting as waiting
 use Rattle.bank_laws.proofs.Waiting.{waits-asked}
 use Rattle.bank_laws.proofs.Pending.{writes_in, write_rows, queue-asked, last-later}
 use Rattle.tick_laws.proofs.Actions.{since-up}
 use Rattle.tick_laws.proofs.Settings.{SetAt, row_set, setting, unset_before, unset_stands}
 use Rattle.tick_laws.proofs.Waits.{work_time}
+use Rattle.tick_laws.proofs.Cancels.{fine_before, tried_few}
 use Rattle.tick_laws.proofs.Afterwards.{rows_after-append}
-use Rattle.tick_laws.proofs.Tallies.{stores_by, moves_by, retires_by, serves_by, cuts_by, tally}
+use Rattle.tick_laws.proofs.Tallies.{stores_by, moves_by, retires_by, serves_by, cuts_by, cancelled_by, tally, tally_cuts}
 use Rattle.tick_laws.proofs.Moves.{flag, flag-most, moves_few, retires_few}
 use Rattle.tick_laws.proofs.Delays.{gain, Delay, delay_at, step, store_tick}
 use Rattle.tick_laws.proofs.Counts.{Sets, tallied_all, writes-counted, reads-counted, rows-counted, cuts-counted, count-append, among-later}
@@ -47,47 +49,39 @@ use Rattle.tick_laws.proofs.Counts.{Sets, tallied_all, writes-counted, reads-cou
 -- the ticks that may have passed to an arrival at a and over some events
 abbrev allowed : {n m : ℕ} → ℕ → ℕ → ℕ → List (Timed n m) → ℕ
 allowed read work a [] = a
-allowed read work a (y ∷ mid) = gain read work y.happens + allowed read work a mid
+allowed read work a (y ∷ mid) = gain read work y.happens y.cancels + allowed read work a mid
 
 times-add : (a x y : ℕ) → a * (x + y) ≡ a * x + a * y
 times-add a x y = grind arith
 
-spread : (a r b s m t c v ss mm tt cc vv : ℕ) → (a * (s + m + t + c) + r * (2 * v + c)) + ((a * (ss + mm + tt + cc) + r * (2 * vv + cc)) + b)
-    ≡ (a * ((s + ss) + (m + mm) + (t + tt) + (c + cc)) + r * (2 * (v + vv) + (c + cc))) + b
-spread a r b s m t c v ss mm tt cc vv =
-    let d : a * ((s + ss) + (m + mm) + (t + tt) + (c + cc)) ≡ a * (s + m + t + c) + a * (ss + mm + tt + cc) = ap (λ k. a * k) (omega arith) ∙ times-add a (s + m + t + c) (ss + mm + tt + cc) in
+spread : (a r b s m t c k v ss mm tt cc kk vv : ℕ) → (a * (s + m + t + c + k) + r * (2 * v + c)) + ((a * (ss + mm + tt + cc + kk) + r * (2 * vv + cc)) + b)
+    ≡ (a * ((s + ss) + (m + mm) + (t + tt) + (c + cc) + (k + kk)) + r * (2 * (v + vv) + (c + cc))) + b
+spread a r b s m t c k v ss mm tt cc kk vv =
+    let d : a * ((s + ss) + (m + mm) + (t + tt) + (c + cc) + (k + kk)) ≡ a * (s + m + t + c + k) + a * (ss + mm + tt + cc + kk) =
+    ap (λ k. a * k) (omega arith) ∙ times-add a (s + m + t + c + k) (ss + mm + tt + cc + kk) in
     let f : r * (2 * (v + vv) + (c + cc)) ≡ r * (2 * v + c) + r * (2 * vv + cc) = ap (λ k. r * k) (omega arith) ∙ times-add r (2 * v + c) (2 * vv + cc) in
     omega (arith, d, f)
 
 allowed-is : {n m : ℕ} (read work a : ℕ) (mid : List (Timed n m))
-    → allowed read work a mid ≡ ((read + work) * (tally stores_by mid + tally moves_by mid + tally retires_by mid + tally cuts_by mid) + read * (2 * tally serves_by mid + tally cuts_by mid)) + a
+    → allowed read work a mid
+    ≡ ((read + work) * (tally stores_by mid + tally moves_by mid + tally retires_by mid + tally_cuts cuts_by mid + tally_cuts cancelled_by mid) + read * (2 * tally serves_by mid + tally_cuts cuts_by mid)) + a
 allowed-is read work a [] = omega arith
 allowed-is read work a (y ∷ mid) =
-    ap (λ k. gain read work y.happens + k) (allowed-is read work a mid)
-    ∙ spread (read + work) read a (stores_by y.happens) (moves_by y.happens) (retires_by y.happens) (cuts_by y.happens) (serves_by y.happens)
-    (tally stores_by mid) (tally moves_by mid) (tally retires_by mid) (tally cuts_by mid) (tally serves_by mid)
+    ap (λ k. gain read work y.happens y.cancels + k) (allowed-is read work a mid)
+    ∙ spread (read + work) read a (stores_by y.happens) (moves_by y.happens) (retires_by y.happens) (cuts_by y.happens y.cancels) (cancelled_by y.happens y.cancels) (serves_by y.happens)
+    (tally stores_by mid) (tally moves_by mid) (tally retires_by mid) (tally_cuts cuts_by mid) (tally_cuts cancelled_by mid) (tally serves_by mid)
 
-longest-is : (rules : Rules) (w s c : ℕ) → is_cancelling rules.policy ≡ false → rules.twice ≡ false → longest rules w s c ≡ attempt rules * (2 * w + rules.spares + c) + rules.read * (2 * s + c)
-longest-is rules w s c none single =
-    ap (λ k. k * attempt rules * (cond rules.twice 2 1 * (2 * w + rules.spares) + c) + rules.read * (2 * s + c)) (once rules.policy none)
-    ∙ ap (λ b. 1 * attempt rules * (cond b 2 1 * (2 * w + rules.spares) + c) + rules.read * (2 * s + c)) single
-    ∙ ap (λ k. k * (1 * (2 * w + rules.spares) + c) + rules.read * (2 * s + c)) one
-    ∙ ap (λ k. attempt rules * k + rules.read * (2 * s + c)) (omega arith)
-  where
-    once : (p : Pausing) → is_cancelling p ≡ false → tries p ≡ 1
-    once Pause none = refl
-    once Plain none = refl
-    once Cancel none = absurd (cc)
+shuffle : (a q x : ℕ) → a * (q * x) ≡ q * a * x
+shuffle a q x = grind arith
 
-    one : 1 * attempt rules ≡ attempt rules
-    one = omega arith
-
-bounded : (a r b s m t c v w spares cuts reads : ℕ) → s ≤ w → m ≤ s → t ≤ spares → c ≤ cuts → v ≤ reads
-    → (a * (s + m + t + c) + r * (2 * v + c)) + b ≤ b + (a * (2 * w + spares + cuts) + r * (2 * reads + cuts))
-bounded a r b s m t c v w spares cuts reads sw ms ts cs vs =
-    let d : a * (s + m + t + c) ≤ a * (2 * w + spares + cuts) = mul-le-mul_left {m = s + m + t + c} {n = 2 * w + spares + cuts} a (omega arith) in
+bounded : (a r b q s m t c k v w spares cuts reads : ℕ) → s ≤ w → m ≤ s → t ≤ spares → c ≤ cuts → v ≤ reads → (s + m + t + c) + k ≤ q * (s + m + t + c)
+    → (a * (s + m + t + c + k) + r * (2 * v + c)) + b ≤ b + (q * a * (1 * (2 * w + spares) + cuts) + r * (2 * reads + cuts))
+bounded a r b q s m t c k v w spares cuts reads sw ms ts cs vs ks =
+    let more : q * (s + m + t + c) ≤ q * (1 * (2 * w + spares) + cuts) = mul-le-mul_left {m = s + m + t + c} {n = 1 * (2 * w + spares) + cuts} q (omega arith) in
+    let d : a * (s + m + t + c + k) ≤ a * (q * (1 * (2 * w + spares) + cuts)) = mul-le-mul_left {m = s + m + t + c + k} {n = q * (1 * (2 * w + spares) + cuts)} a (omega (arith, ks, more)) in
     let f : r * (2 * v + c) ≤ r * (2 * reads + cuts) = mul-le-mul_left {m = 2 * v + c} {n = 2 * reads + cuts} r (omega arith) in
-    omega (arith, d, f)
+    let same : a * (q * (1 * (2 * w + spares) + cuts)) ≡ q * a * (1 * (2 * w + spares) + cuts) = shuffle a q (1 * (2 * w + spares) + cuts) in
+    omega (arith, d, f, same)
 
 module _ {n : ℕ} where
   -- stored, or read, at a tick above a and up to u
@@ -110,9 +104,6 @@ module _ {n : ℕ} where
   ended-within a u tick (out.Lost at) = refl
   ended-within a u tick (out.Cut at) = refl
 
-  fine_before : (h : Happens n) (xs : List (Event n)) → has_exhausted (core_of h xs) ≡ false → has_exhausted xs ≡ false
-  fine_before (Core event) xs fine = either (has_exhausted xs) (λ ex. absurd (cc (exhausted-more event xs ex, fine))) (λ is. is)
-
 module _ {n m : ℕ} (shape : BankShape) (pace : Pacing) (e : ℕ) where
   -- while a write stands the ticks are in time
   delays : (a row : ℕ) (zs : List (Timed n m)) → 1 ≤ pace.read → 1 ≤ pace.iter → has_row (queue shape (core zs)) row ≡ true → Delay shape pace e a zs
@@ -133,6 +124,8 @@ module _ {n m : ℕ} (shape : BankShape) (pace : Pacing) (e : ℕ) where
     one : stores_by h ≡ 1
     moves : moves_by h ≡ 0
     ends : ends_action h ≡ true
+    after : has_exhausted (core_of h (core zs)) ≡ false
+    resets : (cancels : Bool) (count : ℕ) → cancels_with h cancels count ≡ 0
 
   module _ (zs : List (Timed n m)) (y : Timed n m) (row u p : ℕ) where
     not_set : (at : ℕ) (t : Outcome n) → ((u p : ℕ) → t ≡ out.Stored u p → ⊥) → on_row at row t ≡ Some (out.Stored u p) → ⊥
@@ -162,6 +155,8 @@ module _ {n m : ℕ} (shape : BankShape) (pace : Pacing) (e : ℕ) where
       one = refl;
       moves = refl;
       ends = refl;
+      after = of_store at place may.may.1;
+      resets = λ cancels count. refl;
     }
     store_event (Core (Begin did.More)) may is = absurd (cc)
     store_event (Core (Begin (did.Moved move))) may is = absurd (cc)
@@ -173,6 +168,8 @@ module _ {n m : ℕ} (shape : BankShape) (pace : Pacing) (e : ℕ) where
       one = refl;
       moves = refl;
       ends = refl;
+      after = of_store at place may.may.1;
+      resets = λ cancels count. refl;
     }
     store_event (Core (Iterate did.More)) may is = absurd (cc)
     store_event (Core (Iterate (did.Moved move))) may is = absurd (cc)
@@ -289,10 +286,10 @@ module _ {n m : ℕ} (shape : BankShape) (pace : Pacing) (e : ℕ) (all : List (
     pub late : a < u
     pub soon : u ≤ a + longest rules (stores_in a u table) (reads_in a u table) (cuts_to u after)
 
-  pub in_end : (later : List (Timed n m)) (x : Timed n m) (ys : List (Timed n m)) (row u p : ℕ) → 1 ≤ pace.read → 1 ≤ pace.iter → 1 ≤ shape.psi → is_cancelling pace.policy ≡ false → Lawful shape pace e all
+  pub in_end : (later : List (Timed n m)) (x : Timed n m) (ys : List (Timed n m)) (row u p : ℕ) → 1 ≤ pace.read → 1 ≤ pace.iter → 1 ≤ shape.psi → Lawful shape pace e all
       → all ≡ later ++ x ∷ ys → has_row (queue shape (core (x ∷ ys))) row ≡ true → outcome_of shape all row ≡ out.Stored u p
       → IsInTime (rules_of e shape pace) x.tick u (Table later x ys x.happens) (rows_after shape all later)
-  in_end later x ys row u p r i some none l same there is =
+  in_end later x ys row u p r i some l same there is =
       by (setting shape pace e later (x ∷ ys) row (out.Stored u p) total ((opens shape pace e (x ∷ ys) before).queued row there) (λ k. absurd (cc))
       (ap (λ (xs : List (Timed n m)). outcome_of shape xs row) (sym same) ∙ is))
     where
@@ -317,8 +314,8 @@ module _ {n m : ℕ} (shape : BankShape) (pace : Pacing) (e : ℕ) (all : List (
           (unset_stands shape pace e at.mid (x ∷ ys) row here.1 there at.unset) event.fine delay) in
           let sum : allowed pace.read (work_time pace e) x.tick (at.event ∷ at.mid)
           ≡ ((pace.read + work_time pace e)
-          * (tally stores_by (at.event ∷ at.mid) + tally moves_by (at.event ∷ at.mid) + tally retires_by (at.event ∷ at.mid) + tally cuts_by (at.event ∷ at.mid))
-          + pace.read * (2 * tally serves_by (at.event ∷ at.mid) + tally cuts_by (at.event ∷ at.mid)))
+          * (tally stores_by (at.event ∷ at.mid) + tally moves_by (at.event ∷ at.mid) + tally retires_by (at.event ∷ at.mid) + tally_cuts cuts_by (at.event ∷ at.mid) + tally_cuts cancelled_by (at.event ∷ at.mid))
+          + pace.read * (2 * tally serves_by (at.event ∷ at.mid) + tally_cuts cuts_by (at.event ∷ at.mid)))
           + x.tick =
           allowed-is pace.read (work_time pace e) x.tick (at.event ∷ at.mid) in
           let stores : tally stores_by (at.event ∷ at.mid) ≤ hits (λ row. stored_within x.tick u (outcome_of shape all row)) (writes_in all) =
@@ -334,16 +331,16 @@ module _ {n m : ℕ} (shape : BankShape) (pace : Pacing) (e : ℕ) (all : List (
           let one : stores_by at.event.happens ≡ 1 = event.one in
           let none_moved : moves_by at.event.happens ≡ 0 = event.moves in
           let retires : tally retires_by (at.event ∷ at.mid) ≤ shape.spares = retires_few shape pace e (at.event ∷ at.mid) (x ∷ ys) here in
-          let cuts : tally cuts_by (at.event ∷ at.mid) ≤ cuts_to u (rows_after shape all (at.event ∷ at.mid)) = cuts-counted shape all pace e u (at.event ∷ at.mid) (x ∷ ys) r i none here (omega (arith, now)) in
+          let cuts : tally_cuts cuts_by (at.event ∷ at.mid) ≤ cuts_to u (rows_after shape all (at.event ∷ at.mid)) = cuts-counted shape all pace e u (at.event ∷ at.mid) (x ∷ ys) r i here (omega (arith, now)) in
           let more : cuts_to u (rows_after shape all later) ≡ cuts_to u (rows_after shape all (at.event ∷ at.mid)) + cuts_to u (rows_after shape all at.late) =
           ap (λ (xs : List (Timed n m)). cuts_to u (rows_after shape all xs)) at.split ∙ ap (cuts_to u) (rows_after-append shape all at.late (at.event ∷ at.mid))
           ∙ count-append _ (rows_after shape all (at.event ∷ at.mid)) (rows_after shape all at.late) in
-          let all_in = bounded (pace.read + work_time pace e) pace.read x.tick
-          (tally stores_by (at.event ∷ at.mid)) (tally moves_by (at.event ∷ at.mid)) (tally retires_by (at.event ∷ at.mid)) (tally cuts_by (at.event ∷ at.mid)) (tally serves_by (at.event ∷ at.mid))
+          let tried = tried_few shape pace e (at.event ∷ at.mid) (x ∷ ys) here event.after (event.resets at.event.cancels (cancels_after (at.mid ++ x ∷ ys))) in
+          let all_in = bounded (pace.read + work_time pace e) pace.read x.tick (tries pace.policy)
+          (tally stores_by (at.event ∷ at.mid)) (tally moves_by (at.event ∷ at.mid)) (tally retires_by (at.event ∷ at.mid)) (tally_cuts cuts_by (at.event ∷ at.mid)) (tally_cuts cancelled_by (at.event ∷ at.mid)) (tally serves_by (at.event ∷ at.mid))
           (stores_in x.tick u (Table later x ys x.happens)) shape.spares (cuts_to u (rows_after shape all later)) (reads_in x.tick u (Table later x ys x.happens))
-          (omega (arith, stores, w)) (omega (arith, moves, most, one, none_moved)) retires (omega (arith, cuts, more)) (omega (arith, serves, v)) in
-          let long = longest-is (rules_of e shape pace) (stores_in x.tick u (Table later x ys x.happens)) (reads_in x.tick u (Table later x ys x.happens)) (cuts_to u (rows_after shape all later)) none refl in
+          (omega (arith, stores, w)) (omega (arith, moves, most, one, none_moved)) retires (omega (arith, cuts, more)) (omega (arith, serves, v)) tried in
           record {
             late = let lt = above x.tick u (x ∷ ys) r i (omega arith) at.mid at.event here event.ends in omega (arith, lt, now);
-            soon = omega (arith, now, ends, sum, all_in, long);
+            soon = omega (arith, now, ends, sum, all_in);
           }

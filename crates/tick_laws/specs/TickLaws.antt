@@ -37,7 +37,7 @@ stores_in_time rules before r after = not (asks_write r.asks) || store_in_time r
 abbrev pub StoreTimeLaw : Type 0
 StoreTimeLaw =
     (n m e : ℕ) (shape : BankShape) (pace : Pacing) (xs : List (Timed n m)) → IsSized shape pace → Lawful shape pace e xs
-    → is_cancelling pace.policy ≡ false → IsTrue (each_row (stores_in_time (rules_of e shape pace)) (table_of shape xs) [])
+    → IsTrue (each_row (stores_in_time (rules_of e shape pace)) (table_of shape xs) [])
 
 -- each row is read or stored in time, and apart from every row before it
 abbrev pub InTimeLaw : Type 0
