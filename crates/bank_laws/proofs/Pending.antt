@@ -170,7 +170,7 @@ module _ {n m : ℕ} (shape : BankShape) (pace : Pacing) (e : ℕ) where
       omega (arith, before, rises)
 
   -- what is stored by later events is stored above the last tick
-  stored_above : (later zs : List (Timed n m)) (row u p : ℕ) → 1 ≤ pace.read → 1 ≤ pace.iter → Lawful shape pace e (later ++ zs) → (outcome_of shape zs row ≡ out.Stored u p → ⊥)
+  pub stored_above : (later zs : List (Timed n m)) (row u p : ℕ) → 1 ≤ pace.read → 1 ≤ pace.iter → Lawful shape pace e (later ++ zs) → (outcome_of shape zs row ≡ out.Stored u p → ⊥)
       → outcome_of shape (later ++ zs) row ≡ out.Stored u p → last_tick zs < u
   stored_above [] zs row u p r i l isnt s = absurd (isnt s)
   stored_above (y ∷ later) zs row u p r i l isnt s =

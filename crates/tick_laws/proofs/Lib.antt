@@ -5,7 +5,6 @@ mod Settings
 mod Turns
 mod Waits
 mod Afterwards
-mod ReadTimes
 mod Tallies
 mod Moves
 mod Cancels
@@ -13,4 +12,6 @@ mod Holdups
 mod Delays
 mod Counts
 mod StoreTimes
+mod Cancelling
+mod ReadTimes
 mod Times

@@ -118,10 +118,10 @@ module _ {n m : ℕ} (shape : BankShape) (pace : Pacing) (e : ℕ) where
       (delays a row zs r i there d mid l.1 back before))
 
   -- what the event is by which a row is stored
-  record IsStore (zs : List (Timed n m)) (y : Timed n m) (h : Happens n) (u : ℕ) : Type 0 where
-    at : u ≡ y.tick
+  pub record IsStore (zs : List (Timed n m)) (y : Timed n m) (h : Happens n) (u : ℕ) : Type 0 where
+    pub at : u ≡ y.tick
     fine : has_exhausted (core zs) ≡ false
-    one : stores_by h ≡ 1
+    pub one : stores_by h ≡ 1
     moves : moves_by h ≡ 0
     ends : ends_action h ≡ true
     after : has_exhausted (core_of h (core zs)) ≡ false
@@ -140,7 +140,7 @@ module _ {n m : ℕ} (shape : BankShape) (pace : Pacing) (e : ℕ) where
     of_store : (at place : ℕ) → IsDone shape (core zs) (work_after shape (core zs)) (did.Stored at place) → has_exhausted (core zs) ≡ false
     of_store at place d = either (has_exhausted (core zs)) (λ ex. absurd (exhausted-stores_none shape (core zs) at place ex d)) (λ is. is)
 
-    store_event : (h : Happens n) → MayCome shape pace e zs y h → outcome_with shape zs h y.tick row ≡ Some (out.Stored u p) → IsStore zs y h u
+    pub store_event : (h : Happens n) → MayCome shape pace e zs y h → outcome_with shape zs h y.tick row ≡ Some (out.Stored u p) → IsStore zs y h u
     store_event (Core (Write at line bytes given wrote.Accepted)) may is = absurd (cc)
     store_event (Core (Write at line bytes given (wrote.Merged old))) may is = absurd (not_set old (out.Merged y.tick) (λ u p k. absurd (cc)) is)
     store_event (Core (Write at line bytes given wrote.Full)) may is = absurd (not_set at (out.Full y.tick) (λ u p k. absurd (cc)) is)
