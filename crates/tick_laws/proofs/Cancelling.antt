@@ -372,7 +372,7 @@ module _ {n m : ℕ} (shape : BankShape) (pace : Pacing) (e : ℕ) where
           omega (arith, lt, count, since, none)
 
       -- what runs as a read comes is no line write, then
-      idle_runs : (row line : ℕ) → is_cancelling pace.policy ≡ true → MayCome shape pace e ys x (Core (Read row line came.Waiting)) → stored_at (x ∷ ys) ≡ stored_at ys
+      pub idle_runs : (row line : ℕ) → is_cancelling pace.policy ≡ true → MayCome shape pace e ys x (Core (Read row line came.Waiting)) → stored_at (x ∷ ys) ≡ stored_at ys
           → nat_lt (came_since (last_store x.tick (rows_from shape all ys ++ rows_after shape all later)) (rows_from shape all ys)) 4 ≡ true → is_writing (running_at shape pace ys x.tick) ≡ false
       idle_runs row line cancelling may at few = false_from_ne_true _ (λ writes. clash writes (cancelled_or ys x.tick row line here.1 may.behind))
         where

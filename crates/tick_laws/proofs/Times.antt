@@ -90,7 +90,7 @@ store_time_law n m e shape pace xs sized l =
     walk shape xs (stores_in_time (rules_of e shape pace)) [] xs refl (store_at shape pace e xs sized.read sized.iter sized.psi l)
 
 pub in_time_law : InTimeLaw
-in_time_law n m e shape pace xs sized l idle none =
+in_time_law n m e shape pace xs sized l idle =
     walk shape xs (is_in_time (rules_of e shape pace)) [] xs refl (λ later x ys same.
     all_three shape pace e xs x.happens x.tick x.cancels _ _ (apart_at shape pace e xs later x ys sized.read sized.iter l same)
-    (read_at shape pace e xs sized.read sized.iter none l (idle-waits shape pace xs idle) later x ys same) (store_at shape pace e xs sized.read sized.iter sized.psi l later x ys same))
+    (read_at shape pace e xs sized.read sized.iter l (idle-waits shape pace xs idle) later x ys same) (store_at shape pace e xs sized.read sized.iter sized.psi l later x ys same))

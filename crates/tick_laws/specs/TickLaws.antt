@@ -28,7 +28,7 @@ reads_in_time rules before r after = not (asks_read r.asks) || read_in_time rule
 abbrev pub ReadTimeLaw : Type 0
 ReadTimeLaw =
     (n m e : ℕ) (shape : BankShape) (pace : Pacing) (xs : List (Timed n m)) → IsSized shape pace → Lawful shape pace e xs
-    → IsIdle shape pace xs → is_cancelling pace.policy ≡ false → IsTrue (each_row (reads_in_time (rules_of e shape pace)) (table_of shape xs) [])
+    → IsIdle shape pace xs → IsTrue (each_row (reads_in_time (rules_of e shape pace)) (table_of shape xs) [])
 
 -- a write is stored in time
 abbrev pub stores_in_time : {n : ℕ} → Rules → RowTest n
@@ -43,4 +43,4 @@ StoreTimeLaw =
 abbrev pub InTimeLaw : Type 0
 InTimeLaw =
     (n m e : ℕ) (shape : BankShape) (pace : Pacing) (xs : List (Timed n m)) → IsSized shape pace → Lawful shape pace e xs
-    → IsIdle shape pace xs → is_cancelling pace.policy ≡ false → IsTrue (each_row (is_in_time (rules_of e shape pace)) (table_of shape xs) [])
+    → IsIdle shape pace xs → IsTrue (each_row (is_in_time (rules_of e shape pace)) (table_of shape xs) [])
