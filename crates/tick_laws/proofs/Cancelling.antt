@@ -1,10 +1,10 @@
 -- Where a read finds a line write that it may not cancel, four reads came since the last store.
-use Rattle.std.proofs.Common.{◌≡◌, ℕ, ◌+◌, ◌<◌, ◌≤◌, ◌==◌, ◌&&◌, ◌||◌, ◌⊎◌, inl, inr, not, Bool, true, false, List, [], ◌∷◌, ◌++◌, Option, Some, None, refl, sym, ap, ◌∙◌, subst, arith, cond, eqb, append_assoc}
+use Rattle.std.proofs.Common.{◌≡◌, ℕ, ◌+◌, ◌<◌, ◌≤◌, ◌==◌, ◌&&◌, ◌||◌, ◌⊎◌, inl, inr, not, Bool, true, false, List, [], ◌∷◌, ◌++◌, Option, Some, None, refl, sym, ap, ◌∙◌, subst, arith, cond, append_assoc}
 use Rattle.std.specs.Prelude.{unwrap_or, nat_lt, nat_le, max, count_by, if◌then◌else◌}
-use Rattle.std.proofs.lemmas.Bool.{lt-ltb, le-ltb, le-leb, leb-true, ltb-true, ltb-false, eq-eqb, cases_lt, and_from, false_from_ne_true}
+use Rattle.std.proofs.lemmas.Bool.{le-ltb, le-leb, leb-true, ltb-true, ltb-false, eq-eqb, cases_lt, and_from, false_from_ne_true}
 use Rattle.result_rows.specs.declared.Outcome.{Outcome}
 use Rattle.result_rows.specs.declared.Outcome.TheVariants as out
-use Rattle.row_laws.specs.declared.Asks.TheVariants.{Reads, Writes, Cuts}
+use Rattle.row_laws.specs.declared.Asks.TheVariants.{Reads, Writes}
 use Rattle.row_laws.specs.declared.Row.{Row}
 use Rattle.row_laws.specs.Answers.{is_answered, is_lost}
 use Rattle.row_laws.specs.Rows.{asks_read}
@@ -22,19 +22,19 @@ use Rattle.bank_model.specs.History.{Awaited, awaited, queue, waits, in_progress
 use Rattle.bank_model.specs.After.{work_after, is_store_of, may_begin_after}
 use Rattle.bank_model.specs.Timing.{Pacing, Happens, Core, Timed, is_doing, is_writing, is_empty, core, core_of, last_tick}
 use Rattle.bank_model.specs.Running.{gives_way, choice, chosen_by, started, left_by, running, running_at, chosen_after, cancels_with, cancels_after}
-use Rattle.bank_model.specs.Lawful.{Lawful, MayCome, FollowsCancel, IsRead, would_cancel}
+use Rattle.bank_model.specs.Lawful.{Lawful, MayCome, FollowsCancel, IsRead}
 use Rattle.bank_laws.specs.Outcomes.{outcome_with, outcome_of, ended, row_with, rows_from}
-use Rattle.bank_laws.proofs.Settling.{lawful_before, stays}
+use Rattle.bank_laws.proofs.Settling.{lawful_before}
 use Rattle.bank_laws.proofs.Ticks.{last_tick-rises}
 use Rattle.bank_laws.proofs.Walking.{rows_after}
 use Rattle.bank_laws.proofs.Fates.{Awaits, IsSettled, ReadFate, awaits-new}
 use Rattle.bank_laws.proofs.Ending.{Onwards}
 use Rattle.bank_laws.proofs.Serves.{may_at, onwards_at}
 use Rattle.bank_laws.proofs.Pending.{stored_above}
-use Rattle.tick_laws.proofs.Actions.{reads_of, some-push}
+use Rattle.tick_laws.proofs.Actions.{reads_of}
 use Rattle.tick_laws.proofs.Tallies.{stores_by}
-use Rattle.tick_laws.proofs.Counts.{count-append, count-cons}
-use Rattle.tick_laws.proofs.StoreTimes.{IsStore, store_event}
+use Rattle.tick_laws.proofs.Counts.{count-cons}
+use Rattle.tick_laws.proofs.StoreTimes.{store_event}
 
 -- what gives way to reads lets none of its line writes start while they wait
 gives : (p : Pausing) → is_cancelling p ≡ true → gives_way p ≡ true

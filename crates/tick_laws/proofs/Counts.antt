@@ -9,7 +9,6 @@ use Rattle.row_laws.specs.declared.Asks.TheVariants.{Reads, Writes, Cuts}
 use Rattle.row_laws.specs.declared.Row.{Row}
 use Rattle.row_laws.specs.Rows.{asks_read, asks_write}
 use Rattle.row_laws.specs.Ticking.{cuts_to}
-use Rattle.bank_shape.specs.Pausing.{is_cancelling}
 use Rattle.bank_shape.specs.declared.BankShape.{BankShape}
 use Rattle.bank_model.specs.Events.{Write, Read, Serve, Begin, Iterate, Cut}
 use Rattle.bank_model.specs.Timing.{Pacing, Happens, Core, Timed, last_tick}
@@ -21,7 +20,6 @@ use Rattle.bank_laws.proofs.Walking.{rows_after}
 use Rattle.bank_laws.proofs.Counting.{among, hits}
 use Rattle.bank_laws.proofs.Waiting.{read_rows, reads_in}
 use Rattle.bank_laws.proofs.Pending.{write_rows, writes_in}
-use Rattle.tick_laws.proofs.Actions.{not-cancelled}
 use Rattle.tick_laws.proofs.Tallies.{cuts_by, tally, tally_cuts}
 
 hits-more : (p q : ℕ → Bool) (xs : List ℕ) → ((x : ℕ) → p x ≡ true → q x ≡ true) → hits p xs ≤ hits q xs

@@ -9,13 +9,12 @@ use Rattle.masked_bytes.specs.Entries.{has_row}
 use Rattle.row_laws.specs.declared.Row.{Row}
 use Rattle.row_laws.specs.Answers.{stored_after, stored_by, read_after, read_by}
 use Rattle.row_laws.specs.Rules.{Rules}
-use Rattle.row_laws.specs.Ticking.{attempt, tries, longest, stores_in, reads_in, cuts_to}
-use Rattle.bank_shape.specs.Pausing.{Pausing, Pause, Plain, Cancel, is_cancelling}
+use Rattle.row_laws.specs.Ticking.{tries, longest, stores_in, reads_in, cuts_to}
 use Rattle.bank_shape.specs.declared.BankShape.{BankShape}
 use Rattle.bank_model.specs.declared.answer.WriteAnswer.TheVariants as wrote
 use Rattle.bank_model.specs.declared.answer.ReadAnswer.TheVariants as came
 use Rattle.bank_model.specs.declared.answer.Step.TheVariants as did
-use Rattle.bank_model.specs.Events.{Event, Write, Read, Serve, Begin, Iterate, Cut}
+use Rattle.bank_model.specs.Events.{Write, Read, Serve, Begin, Iterate, Cut}
 use Rattle.bank_model.specs.History.{queue, waits, due_after, has_exhausted}
 use Rattle.bank_model.specs.After.{work_after}
 use Rattle.bank_model.specs.Answers.{IsDone}

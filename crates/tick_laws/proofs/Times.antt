@@ -7,7 +7,6 @@ use Rattle.masked_bytes.specs.Entries.{has_row}
 use Rattle.row_laws.specs.declared.Asks.TheVariants.{Writes}
 use Rattle.row_laws.specs.declared.Row.{Row}
 use Rattle.row_laws.specs.Ticking.{store_in_time, is_in_time}
-use Rattle.bank_shape.specs.Pausing.{is_cancelling}
 use Rattle.bank_shape.specs.declared.BankShape.{BankShape}
 use Rattle.bank_model.specs.declared.answer.WriteAnswer.{WriteAnswer}
 use Rattle.bank_model.specs.declared.answer.WriteAnswer.TheVariants as wrote

@@ -1,10 +1,9 @@
 -- The laws on the ticks of a bank's rows.
-use Rattle.std.specs.Prelude.{◌≡◌, ℕ, false, not, ◌||◌, IsTrue, List, []}
+use Rattle.std.specs.Prelude.{ℕ, not, ◌||◌, IsTrue, List, []}
 use Rattle.std.specs.List.{list_all}
 use Rattle.row_laws.specs.Rows.{RowTest, each_row, asks_read, asks_write}
 use Rattle.row_laws.specs.Rules.{Rules}
 use Rattle.row_laws.specs.Ticking.{apart, read_in_time, store_in_time, is_in_time}
-use Rattle.bank_shape.specs.Pausing.{is_cancelling}
 use Rattle.bank_shape.specs.declared.BankShape.{BankShape}
 use Rattle.bank_model.specs.Timing.{Pacing, Timed}
 use Rattle.bank_model.specs.Lawful.{Lawful, IsIdle}
