@@ -10,7 +10,7 @@ pub mod Ending
 pub mod Serves
 pub mod Wears
 mod Quiet
-pub mod Holding
+mod Holding
 mod Lines
 mod Merging
 pub mod Counting
