@@ -107,7 +107,7 @@ abbrev pub writes_in : {n m : ℕ} → List (Timed n m) → List ℕ
 writes_in [] = []
 writes_in (x ∷ xs) = write_rows x.happens ++ writes_in xs
 
-writes-fall : {n m : ℕ} (zs : List (Timed n m)) (bound : ℕ) → RowsBelow (core zs) bound → Falling (writes_in zs) bound
+pub writes-fall : {n m : ℕ} (zs : List (Timed n m)) (bound : ℕ) → RowsBelow (core zs) bound → Falling (writes_in zs) bound
 writes-fall [] bound b = tt
 writes-fall {n} {m} (z ∷ zs) bound b = by z.happens (λ bound b. writes-fall zs bound b) b
   where

@@ -247,7 +247,7 @@ abbrev pub reads_in : {n m : ℕ} → List (Timed n m) → List ℕ
 reads_in [] = []
 reads_in (x ∷ xs) = read_rows x.happens ++ reads_in xs
 
-reads-fall : {n m : ℕ} (zs : List (Timed n m)) (bound : ℕ) → RowsBelow (core zs) bound → Falling (reads_in zs) bound
+pub reads-fall : {n m : ℕ} (zs : List (Timed n m)) (bound : ℕ) → RowsBelow (core zs) bound → Falling (reads_in zs) bound
 reads-fall [] bound b = tt
 reads-fall {n} {m} (z ∷ zs) bound b = by z.happens (λ bound b. reads-fall zs bound b) b
   where
