@@ -43,15 +43,4 @@ pub fn banks_keep_their_room()
 }
 
 #[cfg(test)]
-mod tests {
-    use super::*;
-
-    /// The laws are facts, and cost nothing to ask for.
-    #[test]
-    fn laws_hold_of_every_bank() {
-        tables_keep_their_laws();
-        places_keep_their_laws();
-        logs_keep_their_laws();
-        banks_keep_their_room();
-    }
-}
+mod worked;
