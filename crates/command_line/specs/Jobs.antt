@@ -62,7 +62,7 @@ job_named name rows =
     else (if bytes_eq name (codes "map") then map_of rows
     else (if bytes_eq name (codes "moves") then moves_of rows else None)))
 
--- a job, or a faulty command line where there is none, or where `clap` refuses the words for any cause
+-- a job, or a faulty command line: where there is none, or where `clap` refuses the words for some cause
 abbrev pub or_usage : Option Job → Result Job Refusal
 or_usage None = Err Usage
 or_usage (Some job) = Ok job
@@ -75,7 +75,7 @@ answer_of (kind ∷ kinds) job = Err Usage
 abbrev pub job_met : Option (Text × List Row) → Option Job
 job_met met = with_some met (λ command. job_named command.0 command.1)
 
--- why `clap` refuses words, the first of which is the program's name; and the command that it finds in them, with its options
+-- why `clap` refuses words of which the first is the program's name, and the command and the options that it finds in them
 unfoldable pub faults_at : App → List Text → Kinds
 faults_at app words = fault_of app words
 
@@ -99,6 +99,7 @@ pub record IsMix (mix : Mix) : Type 0 where
   pub small_step : mix.step ≤ 65535
   pub few_hot : mix.hot ≤ 65536
 
+-- those of the rows that a run draws are
 abbrev pub IsInput : Input → Type 0
 IsInput Source = Unit {0}
 IsInput (Drawn mix) = IsMix mix
