@@ -10,11 +10,14 @@ use Rattle.command_line.specs.Options.{with_some, number_option, line_of, shape_
 use Rattle.command_line.specs.declared.job.Job.{Job}
 use Rattle.command_line.specs.declared.job.Job.TheVariants.{Run, Gen, Map, Moves}
 use Rattle.command_line.specs.declared.job.Mix.{Mix}
+use Rattle.command_line.specs.declared.job.RunJob.{RunJob}
+use Rattle.command_line.specs.declared.job.GenJob.{GenJob}
+use Rattle.command_line.specs.declared.job.MapJob.{MapJob}
 use Rattle.command_line.specs.declared.job.MovesJob.{MovesJob}
 use Rattle.command_line.specs.declared.job.Input.{Input}
 use Rattle.command_line.specs.declared.job.Input.TheVariants.{Source, Drawn}
 use Rattle.command_line.specs.declared.job.Refusal.{Refusal}
-use Rattle.command_line.specs.declared.job.Refusal.TheVariants.{Usage, NoMemory}
+use Rattle.command_line.specs.declared.job.Refusal.TheVariants.{Usage}
 
 -- the job of `run` with these options; those of a generated trace are looked at whatever the input is
 unfoldable pub run_of : List Row → Option Job
@@ -59,7 +62,7 @@ job_named name rows =
     else (if bytes_eq name (codes "map") then map_of rows
     else (if bytes_eq name (codes "moves") then moves_of rows else None)))
 
--- a job, or a faulty command line where there is none, or where `clap` refuses the words for any cause
+-- a job, or a faulty command line: where there is none, or where `clap` refuses the words for some cause
 abbrev pub or_usage : Option Job → Result Job Refusal
 or_usage None = Err Usage
 or_usage (Some job) = Ok job
@@ -72,7 +75,7 @@ answer_of (kind ∷ kinds) job = Err Usage
 abbrev pub job_met : Option (Text × List Row) → Option Job
 job_met met = with_some met (λ command. job_named command.0 command.1)
 
--- why `clap` refuses words, the first of which is the program's name; and the command that it finds in them, with its options
+-- why `clap` refuses words of which the first is the program's name, and the command and the options that it finds in them
 unfoldable pub faults_at : App → List Text → Kinds
 faults_at app words = fault_of app words
 
@@ -96,6 +99,7 @@ pub record IsMix (mix : Mix) : Type 0 where
   pub small_step : mix.step ≤ 65535
   pub few_hot : mix.hot ≤ 65536
 
+-- those of the rows that a run draws are
 abbrev pub IsInput : Input → Type 0
 IsInput Source = Unit {0}
 IsInput (Drawn mix) = IsMix mix
@@ -107,9 +111,23 @@ pub record IsMoves (job : MovesJob) : Type 0 where
   pub power_of_two : is_power_of_two job.lines ≡ true
   pub few_moves : job.from ≤ 16781312
 
--- a job whose numbers are in range
+-- the numbers of each job are in range
+pub record IsRun (job : RunJob) : Type 0 where
+  pub shape : IsShape job.shape
+  pub wear : IsWear job.wear
+  pub one_seed : job.wear.seed ≡ job.seed
+  pub input : IsInput job.input
+
+pub record IsGen (job : GenJob) : Type 0 where
+  pub shape : IsShape job.shape
+  pub mix : IsMix job.mix
+
+pub record IsMap (job : MapJob) : Type 0 where
+  pub shape : IsShape job.shape
+  pub few_moves : job.from ≤ 16781312
+
 abbrev pub IsJob : Job → Type 0
-IsJob (Run job) = IsShape job.shape × IsWear job.wear × (job.wear.seed ≡ job.seed) × IsInput job.input
-IsJob (Gen job) = IsShape job.shape × IsMix job.mix
-IsJob (Map job) = IsShape job.shape × (job.from ≤ 16781312)
+IsJob (Run job) = IsRun job
+IsJob (Gen job) = IsGen job
+IsJob (Map job) = IsMap job
 IsJob (Moves job) = IsMoves job

@@ -1,5 +1,5 @@
 -- What the options of a command mean.
-use Rattle.std.specs.Prelude.{ℕ, ◌&&◌, nat_le, if◌then◌else◌, List, codes, Option, Some, None}
+use Rattle.std.specs.Prelude.{ℕ, nat_le, if◌then◌else◌, List, codes, Option, Some, None}
 use Rattle.std.specs.Str.{bytes_eq}
 use Rattle.clap.specs.Words.{Row, Text, first_of}
 use Rattle.trace_reader.specs.Number.{number_of}
@@ -42,6 +42,7 @@ one_of_two first x second y None = Some x
 one_of_two first x second y (Some text) =
     if bytes_eq text first then Some x else (if bytes_eq text second then Some y else None)
 
+-- when a line write gives way, how long a line is, and where a run takes its trace from
 abbrev pub policy_of : Option Text → Option Policy
 policy_of text = one_of_two (codes "pause") policy.Pause (codes "plain") policy.Plain text
 
@@ -51,6 +52,7 @@ line_of text = one_of_two (codes "64") Bytes64 (codes "128") Bytes128 text
 abbrev pub input_of : Mix → Option Text → Option Input
 input_of mix text = one_of_two (codes "source") Source (codes "drawn") (Drawn mix) text
 
+-- what a run writes
 abbrev pub print_of : Option Text → Option Print
 print_of None = Some print.Results
 print_of (Some text) =
@@ -97,7 +99,7 @@ shape_of rows = with_some (raw_of rows) (λ raw. faultless raw (shape_fault raw)
 abbrev pub seed_of : List Row → Option ℕ
 seed_of rows = number_option (codes "seed") 0 0 18446744073709551615 rows
 
--- how the cells wear out
+-- how the cells wear out: the least number of changes isn't above the greatest
 unfoldable pub wear_of : ℕ → List Row → Option Wear
 wear_of seed rows =
     with_some (number_option (codes "lo") 100000000 1 4000000000 rows) (λ lo.
@@ -105,7 +107,7 @@ wear_of seed rows =
     with_some (number_option (codes "misses") 0 0 7 rows) (λ misses.
     if nat_le lo hi then Some (record { seed = seed; lo = lo; hi = hi; misses = misses }) else None)))
 
--- what the rows of a generated trace are
+-- what the rows of a generated trace are: no more cuts than rows
 unfoldable pub mix_of : List Row → Option Mix
 mix_of rows =
     with_some (number_option (codes "rows") 1000 1 400000 rows) (λ count.

@@ -1,20 +1,22 @@
 -- The commands and their options.
-use Rattle.std.specs.Prelude.{ℕ, List, [], ◌∷◌, codes, true, Some}
-use Rattle.clap.specs.Words.{App, Rule, Shape, Text, new_app, new_rule, with_rule, with_subcommand}
+use Rattle.std.specs.Prelude.{List, [], ◌∷◌, codes, true, Some}
+use Rattle.clap.specs.Words.{App, Rule, Text, new_app, new_rule, with_rule, with_subcommand}
 use Rattle.clap.specs.declared.builder.action.ArgAction.TheVariants.{Set}
 
 -- an option is written by its name, and takes one value
 abbrev pub option_rule : Text → Rule
 option_rule name = record (new_rule name) { long = Some name; action = Some Set }
 
+-- a command with more options
 abbrev pub with_options : App → List Text → App
 with_options app [] = app
 with_options app (name ∷ rest) = with_options (with_rule app (option_rule name)) rest
 
--- a command with these options
+-- a command of this name with these options
 unfoldable pub leaf_app : Text → List Text → App
 leaf_app name options = with_options (new_app name) options
 
+-- the options of each command
 abbrev pub run_options : List Text
 run_options =
     codes "banks" ∷ codes "regions" ∷ codes "lines" ∷ codes "line" ∷ codes "spares" ∷ codes "write-queue"
@@ -34,7 +36,7 @@ map_options =
 abbrev pub moves_options : List Text
 moves_options = codes "lines" ∷ codes "from" ∷ []
 
--- the program: no help, no version, no word but a command's name
+-- the program: it has no help
 abbrev pub top_app : App
 top_app = record (new_app (codes "pcm")) {
   top = record (new_app (codes "pcm")).top { disable_help_flag = true; disable_help_subcommand = true };

@@ -15,29 +15,40 @@ pub enum Job {
     Moves(MovesJob),
 }
 
+/// A run of a trace.
 #[derive(Clone, Copy, Drop)]
 pub struct RunJob {
+    /// The size of a line.
     pub line: LineSize,
+    /// The sizes and the pace of the module.
     pub shape: Shape,
     /// Picks the keys that mix the lines.
     pub seed: u64,
     /// How the cells wear out; its seed is the same.
     pub wear: Wear,
+    /// What is written.
     pub print: Print,
+    /// Where the trace comes from.
     pub input: Input,
 }
 
+/// A generated trace.
 #[derive(Clone, Copy, Drop)]
 pub struct GenJob {
+    /// The size of a line.
     pub line: LineSize,
+    /// The sizes of the module; a trace only knows how many lines it has.
     pub shape: Shape,
     /// Picks the rows.
     pub seed: u64,
+    /// What the rows are.
     pub mix: Mix,
 }
 
+/// Where every line of a module stands.
 #[derive(Clone, Copy, Drop)]
 pub struct MapJob {
+    /// The sizes of the module; no slot has a spare line.
     pub shape: Shape,
     /// Picks the keys that mix the lines.
     pub seed: u64,
@@ -45,6 +56,7 @@ pub struct MapJob {
     pub from: u64,
 }
 
+/// The gap moves of a full turn of a region.
 #[derive(Clone, Copy, Debug, Drop, PartialEq, Eq)]
 pub struct MovesJob {
     /// How many lines the region has: a power of two, 4 to 256.

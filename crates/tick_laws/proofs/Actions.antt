@@ -1,19 +1,19 @@
 -- Which action runs after a lawful history, since when, and what it fits.
-use Rattle.std.proofs.Common.{◌≡◌, ℕ, ◌+◌, ◌*◌, ◌<◌, ◌≤◌, ◌&&◌, not, Bool, true, false, List, [], ◌∷◌, ◌++◌, Option, Some, None, refl, sym, ap, ◌∙◌, subst, arith, cond}
-use Rattle.std.specs.Prelude.{IsTrue, IfSome, nat_lt}
+use Rattle.std.proofs.Common.{◌≡◌, ℕ, ◌+◌, ◌<◌, ◌≤◌, ◌&&◌, not, Bool, true, false, List, [], ◌∷◌, ◌++◌, Option, Some, None, refl, sym, ap, ◌∙◌, arith, cond}
+use Rattle.std.specs.Prelude.{IfSome, nat_lt}
 use Rattle.std.proofs.lemmas.Bool.{ltb-false}
-use Rattle.bank_shape.specs.Pausing.{Pausing, is_cancelling}
+use Rattle.bank_shape.specs.Pausing.{is_cancelling}
 use Rattle.bank_shape.specs.declared.BankShape.{BankShape}
 use Rattle.bank_model.specs.declared.answer.ReadAnswer.TheVariants as came
 use Rattle.bank_model.specs.declared.answer.Step.TheVariants as did
 use Rattle.bank_model.specs.declared.clock.Doing.{Doing}
 use Rattle.bank_model.specs.declared.clock.Doing.TheVariants.{Serving, Beginning, Iterating}
 use Rattle.bank_model.specs.declared.clock.Action.{Action}
-use Rattle.bank_model.specs.Events.{Event, Write, Read, Serve, Begin, Iterate, Cut}
+use Rattle.bank_model.specs.Events.{Write, Read, Serve, Begin, Iterate, Cut}
 use Rattle.bank_model.specs.History.{Awaited, waits, in_progress, iterated}
 use Rattle.bank_model.specs.After.{work_after, is_store_of, may_begin_after}
 use Rattle.bank_model.specs.Sensing.{most_steps}
-use Rattle.bank_model.specs.Timing.{Pacing, Happens, Core, Timed, lasts, ends, is_doing, is_empty, core, core_of, last_tick}
+use Rattle.bank_model.specs.Timing.{Pacing, Happens, Core, Timed, lasts, is_doing, is_empty, core, core_of, last_tick}
 use Rattle.bank_model.specs.Running.{gives_way, choice, chosen_by, started, left_by, running, running_at, chosen_after, cancels_after}
 use Rattle.bank_model.specs.Lawful.{Lawful, MayCome, IsEnd, would_cancel}
 use Rattle.bank_laws.proofs.Ticks.{last_tick-rises}

@@ -1,28 +1,26 @@
 -- What ended over some events is counted among the rows.
-use Rattle.std.proofs.Common.{◌≡◌, ◌≢◌, ℕ, ◌+◌, ◌<◌, ◌≤◌, ◌==◌, ◌&&◌, ◌||◌, ◌⊎◌, inl, inr, suc, Bool, true, false, List, [], ◌∷◌, ◌++◌, Option, Some, None, refl, sym, ap, ◌∙◌, subst, arith, cond, eqb, eqb-true, append_assoc}
-use Rattle.std.specs.Prelude.{unwrap_or, nat_le, count_by}
+use Rattle.std.proofs.Common.{◌≡◌, ◌≢◌, ℕ, ◌+◌, ◌≤◌, ◌==◌, ◌&&◌, ◌||◌, ◌⊎◌, inl, inr, suc, Bool, true, false, List, [], ◌∷◌, ◌++◌, refl, sym, ap, ◌∙◌, subst, arith, cond, eqb, eqb-true, append_assoc}
+use Rattle.std.specs.Prelude.{nat_le, count_by}
 use Rattle.std.proofs.lemmas.Bool.{le-leb, or_right}
 use Rattle.std.proofs.lemmas.List.Sums.{sum_by-append, sum_by-cons}
 use Rattle.result_rows.specs.declared.Outcome.{Outcome}
 use Rattle.result_rows.specs.declared.Outcome.TheVariants as out
 use Rattle.row_laws.specs.declared.Asks.TheVariants.{Reads, Writes, Cuts}
 use Rattle.row_laws.specs.declared.Row.{Row}
-use Rattle.row_laws.specs.Rows.{is_cut, asks_read, asks_write}
+use Rattle.row_laws.specs.Rows.{asks_read, asks_write}
 use Rattle.row_laws.specs.Ticking.{cuts_to}
-use Rattle.bank_shape.specs.Pausing.{is_cancelling}
 use Rattle.bank_shape.specs.declared.BankShape.{BankShape}
 use Rattle.bank_model.specs.Events.{Write, Read, Serve, Begin, Iterate, Cut}
-use Rattle.bank_model.specs.Timing.{Pacing, Happens, Core, Timed, core, last_tick}
-use Rattle.bank_model.specs.Lawful.{Lawful, MayCome}
-use Rattle.bank_laws.specs.Outcomes.{outcome_with, outcome_of, ended, row_with, rows_from}
+use Rattle.bank_model.specs.Timing.{Pacing, Happens, Core, Timed, last_tick}
+use Rattle.bank_model.specs.Lawful.{Lawful}
+use Rattle.bank_laws.specs.Outcomes.{outcome_of, ended, row_with, rows_from}
 use Rattle.bank_laws.proofs.Settling.{opens, step_stays, stays}
 use Rattle.bank_laws.proofs.Ticks.{last_tick-rises}
 use Rattle.bank_laws.proofs.Walking.{rows_after}
 use Rattle.bank_laws.proofs.Counting.{among, hits}
 use Rattle.bank_laws.proofs.Waiting.{read_rows, reads_in}
 use Rattle.bank_laws.proofs.Pending.{write_rows, writes_in}
-use Rattle.tick_laws.proofs.Actions.{not-cancelled}
-use Rattle.tick_laws.proofs.Tallies.{cuts_by, tally}
+use Rattle.tick_laws.proofs.Tallies.{cuts_by, tally, tally_cuts}
 
 hits-more : (p q : ℕ → Bool) (xs : List ℕ) → ((x : ℕ) → p x ≡ true → q x ≡ true) → hits p xs ≤ hits q xs
 hits-more p q [] more = omega arith
@@ -167,26 +165,26 @@ module _ {n m : ℕ} (shape : BankShape) (all : List (Timed n m)) where
       omega (arith, before, front, back)
 
   -- the cuts among some events
-  pub cuts-counted : (pace : Pacing) (e u : ℕ) (mid zs : List (Timed n m)) → 1 ≤ pace.read → 1 ≤ pace.iter → is_cancelling pace.policy ≡ false → Lawful shape pace e (mid ++ zs) → last_tick (mid ++ zs) ≤ u
-      → tally cuts_by mid ≤ cuts_to u (rows_after shape all mid)
-  cuts-counted pace e u [] zs r i none l le = omega arith
-  cuts-counted pace e u (y ∷ mid) zs r i none l le =
+  pub cuts-counted : (pace : Pacing) (e u : ℕ) (mid zs : List (Timed n m)) → 1 ≤ pace.read → 1 ≤ pace.iter → Lawful shape pace e (mid ++ zs) → last_tick (mid ++ zs) ≤ u
+      → tally_cuts cuts_by mid ≤ cuts_to u (rows_after shape all mid)
+  cuts-counted pace e u [] zs r i l le = omega arith
+  cuts-counted pace e u (y ∷ mid) zs r i l le =
       let rises : last_tick (mid ++ zs) ≤ y.tick = last_tick-rises shape pace e (mid ++ zs) y r i l in
-      let before : tally cuts_by mid ≤ cuts_to u (rows_after shape all mid) = cuts-counted pace e u mid zs r i none l.1 (omega (arith, rises, le)) in
+      let before : tally_cuts cuts_by mid ≤ cuts_to u (rows_after shape all mid) = cuts-counted pace e u mid zs r i l.1 (omega (arith, rises, le)) in
       let back : cuts_to u (rows_after shape all mid ++ row_with shape all y.happens y.tick y.cancels) ≡ cuts_to u (rows_after shape all mid) + cuts_to u (row_with shape all y.happens y.tick y.cancels) =
       count-append _ (rows_after shape all mid) (row_with shape all y.happens y.tick y.cancels) in
-      let own : cuts_by y.happens ≤ cuts_to u (row_with shape all y.happens y.tick y.cancels) = by y.happens y.cancels (not-cancelled shape pace e (mid ++ zs) y y.happens none l.0) in
+      let own : cuts_by y.happens y.cancels ≤ cuts_to u (row_with shape all y.happens y.tick y.cancels) = by y.happens y.cancels in
       omega (arith, before, back, own)
     where
       one : (b : Bool) → b ≡ true → 1 ≤ 0 + cond b 1 0
       one true is = omega arith
       one false is = absurd (cc)
 
-      by : (h : Happens n) (cancels : Bool) → cancels ≡ false → cuts_by h ≤ cuts_to u (row_with shape all h y.tick cancels)
-      by (Core (Write row line bytes given answer)) cancels whole = omega arith
-      by (Core (Read row line answer)) cancels whole = omega arith
-      by (Core (Serve answer)) cancels whole = omega arith
-      by (Core (Begin answer)) cancels whole = omega arith
-      by (Core (Iterate answer)) cancels whole = omega arith
-      by (Core (Cut tearing)) true whole = absurd (cc)
-      by (Core (Cut tearing)) false whole = one (nat_le y.tick u) (le-leb y.tick u le)
+      by : (h : Happens n) (cancels : Bool) → cuts_by h cancels ≤ cuts_to u (row_with shape all h y.tick cancels)
+      by (Core (Write row line bytes given answer)) cancels = omega arith
+      by (Core (Read row line answer)) cancels = omega arith
+      by (Core (Serve answer)) cancels = omega arith
+      by (Core (Begin answer)) cancels = omega arith
+      by (Core (Iterate answer)) cancels = omega arith
+      by (Core (Cut tearing)) true = omega arith
+      by (Core (Cut tearing)) false = one (nat_le y.tick u) (le-leb y.tick u le)

@@ -1,8 +1,9 @@
 -- How far the ticks of a bank may be behind an arrival, by what ended since.
-use Rattle.std.proofs.Common.{◌≡◌, ℕ, ◌+◌, ◌*◌, ◌<◌, ◌≤◌, ◌==◌, ◌&&◌, ◌||◌, ◌⊎◌, inl, inr, not, Bool, true, false, List, [], ◌∷◌, ◌++◌, Option, Some, None, refl, sym, ap, ◌∙◌, subst, arith, cond}
-use Rattle.std.specs.Prelude.{IfSome, IsTrue}
+use Rattle.std.proofs.Common.{◌≡◌, ℕ, ◌+◌, ◌*◌, ◌<◌, ◌≤◌, ◌&&◌, ◌⊎◌, inl, inr, Bool, true, false, List, ◌∷◌, Option, Some, None, refl, sym, ap, ◌∙◌, subst, arith, cond}
+use Rattle.std.specs.Prelude.{IfSome, IsTrue, nat_lt}
 use Rattle.std.proofs.lemmas.Bool.{and_parts}
 use Rattle.masked_bytes.specs.Entries.{has_row, layer_of}
+use Rattle.bank_shape.specs.Pausing.{is_cancelling, most_cancels}
 use Rattle.bank_shape.specs.declared.BankShape.{BankShape}
 use Rattle.bank_model.specs.declared.answer.WriteAnswer.TheVariants as wrote
 use Rattle.bank_model.specs.declared.answer.ReadAnswer.TheVariants as came
@@ -11,27 +12,27 @@ use Rattle.bank_model.specs.declared.clock.Doing.{Doing}
 use Rattle.bank_model.specs.declared.clock.Doing.TheVariants.{Serving, Beginning, Iterating}
 use Rattle.bank_model.specs.declared.clock.Action.{Action}
 use Rattle.bank_model.specs.Events.{Event, Write, Read, Serve, Begin, Iterate, Cut, newest}
-use Rattle.bank_model.specs.History.{Awaited, awaited, queue, waits, has_exhausted, in_progress, iterated}
+use Rattle.bank_model.specs.History.{awaited, queue, waits, has_exhausted, in_progress, iterated}
 use Rattle.bank_model.specs.After.{work_after, is_store_of, may_begin_after}
-use Rattle.bank_model.specs.Sensing.{most_steps}
-use Rattle.bank_model.specs.Timing.{Pacing, Happens, Core, Timed, lasts, ends, is_doing, is_empty, core, core_of, last_tick}
-use Rattle.bank_model.specs.Running.{gives_way, choice, chosen_by, started, left_by, running, running_at, chosen_after}
+use Rattle.bank_model.specs.Timing.{Pacing, Happens, Core, Timed, lasts, ends, is_doing, is_writing, is_empty, core, core_of, last_tick}
+use Rattle.bank_model.specs.Running.{gives_way, choice, chosen_by, started, left_by, running, running_at, chosen_after, cancels_after}
 use Rattle.bank_model.specs.Lawful.{Lawful, MayCome}
 use Rattle.tick_laws.proofs.Actions.{since, since-started, since_of, reads_of, Fits, FitsAll, running_at-fits, not_begun}
 use Rattle.tick_laws.proofs.Turns.{chosen-reads}
 use Rattle.tick_laws.proofs.Waits.{work_time, few_times, times_more}
-use Rattle.tick_laws.proofs.Tallies.{stores_by, moves_by, retires_by, serves_by, cuts_by}
-use Rattle.tick_laws.proofs.Holdups.{HeldUp, IsHeld, held-reads, held-wait, held-push, held-merged, store-held, held-begins_none, works, not_begun-next}
+use Rattle.tick_laws.proofs.Tallies.{stores_by, moves_by, retires_by, serves_by, cuts_by, cancelled_by}
+use Rattle.tick_laws.proofs.Holdups.{IsHeld, held-reads, held-wait, held-push, held-merged, store-held, held-begins_none, works, not_begun-next}
 
 -- the time that a line write in progress took so far, without the reads served in between
 abbrev pub spent : ℕ → ℕ → Bool → ℕ → ℕ
 spent read iter true count = read + count * iter
 spent read iter false count = 0
 
--- what an event adds to the ticks that may have passed since an arrival: an attempt for a store, a move, a retirement or a cut,
--- two senses for a serve and one for a cut
-abbrev pub gain : {n : ℕ} → ℕ → ℕ → Happens n → ℕ
-gain read work h = (read + work) * (stores_by h + moves_by h + retires_by h + cuts_by h) + read * (2 * serves_by h + cuts_by h)
+-- what an event adds to the ticks that may have passed since an arrival: an attempt for a store, a move, a retirement, a cut or a
+-- cancel, two senses for a serve, and one for a cut that is no cancel
+abbrev pub gain : {n : ℕ} → ℕ → ℕ → Happens n → Bool → ℕ
+gain read work h cancels =
+    (read + work) * (stores_by h + moves_by h + retires_by h + cuts_by h cancels + cancelled_by h cancels) + read * (2 * serves_by h + cuts_by h cancels)
 
 -- what runs began in time: by the time that the line write in progress took, or by a sense where its begin was dropped
 abbrev pub InTime : {n : ℕ} → BankShape → ℕ → ℕ → ℕ → List (Event n) → Option Action → ℕ → Type 0
@@ -57,19 +58,40 @@ spent-idle read iter false count is = refl
 -- a cut comes at most an attempt and a sense later
 at_cut : (read iter work base : ℕ) (way busy reads : Bool) (count tick : ℕ) (r : Option Action) → (busy ≡ true → count * iter + iter ≤ work) → IfSome r (λ a. Fits way busy reads a.doing)
     → IfSome r (λ a. tick < a.first + lasts read iter a.doing) → (since r tick ≤ base + spent read iter busy count) ⊎ ((busy ≡ false) × (since r tick ≤ base + read))
-    → tick ≤ ((read + work) * (0 + 0 + 0 + 1) + read * (2 * 0 + 1)) + base
+    → tick ≤ ((read + work) * 1 + read * 1) + base
 at_cut read iter work base way busy reads count tick None few f end (inl h) = let k : spent read iter busy count ≤ read + work = spent-most read iter work busy count few in omega arith
 at_cut read iter work base way busy reads count tick None few f end (inr h) = omega (arith, h.1)
 at_cut read iter work base way busy reads count tick (Some action) few f end h = by action.doing f end h
   where
     by : (doing : Doing) → Fits way busy reads doing → tick < action.first + lasts read iter doing → (action.first ≤ base + spent read iter busy count) ⊎ ((busy ≡ false) × (action.first ≤ base + read))
-        → tick ≤ ((read + work) * (0 + 0 + 0 + 1) + read * (2 * 0 + 1)) + base
+        → tick ≤ ((read + work) * 1 + read * 1) + base
     by Serving f end (inl h) = let k : spent read iter busy count ≤ read + work = spent-most read iter work busy count few in omega arith
     by Serving f end (inr h) = omega (arith, h.1)
     by Beginning f end (inl h) = let k : spent read iter busy count ≤ read + work = spent-most read iter work busy count few in omega arith
     by Beginning f end (inr h) = omega (arith, h.1)
     by Iterating f end (inl h) = let k : spent read iter busy count + iter ≤ read + work = spent-iterated read iter work busy count f (few f) in omega arith
     by Iterating f end (inr h) = let k : true ≡ false = sym f ∙ h.0 in absurd (cc)
+
+-- and at most an attempt later where it is a cancel, for then a line write runs
+at_cancel : (read iter work base : ℕ) (way busy reads : Bool) (count tick : ℕ) (r : Option Action) → (busy ≡ true → count * iter + iter ≤ work) → IfSome r (λ a. Fits way busy reads a.doing)
+    → IfSome r (λ a. tick < a.first + lasts read iter a.doing) → is_writing r ≡ true
+    → (since r tick ≤ base + spent read iter busy count) ⊎ ((busy ≡ false) × (is_doing Beginning r ≡ false) × (since r tick ≤ base + read)) → tick ≤ ((read + work) * 1 + read * 0) + base
+at_cancel read iter work base way busy reads count tick None few f end writes h = absurd (cc)
+at_cancel read iter work base way busy reads count tick (Some action) few f end writes h = by action.doing f end writes h
+  where
+    by : (doing : Doing) → Fits way busy reads doing → tick < action.first + lasts read iter doing → is_writing (Some (record { doing = doing; first = action.first })) ≡ true
+        → (action.first ≤ base + spent read iter busy count) ⊎ ((busy ≡ false) × (is_doing Beginning (Some (record { doing = doing; first = action.first })) ≡ false) × (action.first ≤ base + read))
+        → tick ≤ ((read + work) * 1 + read * 0) + base
+    by Serving f end writes h = absurd (cc)
+    by Beginning f end writes (inl h) = let k : spent read iter busy count ≡ 0 = spent-idle read iter busy count f in omega arith
+    by Beginning f end writes (inr h) = absurd (cc (h.1))
+    by Iterating f end writes (inl h) = let k : spent read iter busy count + iter ≤ read + work = spent-iterated read iter work busy count f (few f) in omega arith
+    by Iterating f end writes (inr h) = let k : true ≡ false = sym f ∙ h.0 in absurd (cc)
+
+writing_of : (a b c d : Bool) → (a && (b && (c && d))) ≡ true → b ≡ true
+writing_of true true c d h = refl
+writing_of true false c d h = absurd (cc)
+writing_of false b c d h = absurd (cc)
 
 module _ {n m : ℕ} (shape : BankShape) (pace : Pacing) (e : ℕ) where
   abbrev pub Delay : ℕ → List (Timed n m) → Type 0
@@ -108,7 +130,7 @@ module _ {n m : ℕ} (shape : BankShape) (pace : Pacing) (e : ℕ) where
   module _ (base : ℕ) (zs : List (Timed n m)) (y : Timed n m) (l : Lawful shape pace e (y ∷ zs)) where
     abbrev pub DelayBy : Happens n → Type 0
     DelayBy h =
-        InTime shape pace.read pace.iter (gain pace.read (work_time pace e) h + base) (core_of h (core zs)) (left_by shape (core zs) h (running_at shape pace zs y.tick))
+        InTime shape pace.read pace.iter (gain pace.read (work_time pace e) h y.cancels + base) (core_of h (core zs)) (left_by shape (core zs) h (running_at shape pace zs y.tick))
         (since (left_by shape (core zs) h (running_at shape pace zs y.tick)) y.tick)
 
     abbrev runs : Option Action
@@ -125,7 +147,7 @@ module _ {n m : ℕ} (shape : BankShape) (pace : Pacing) (e : ℕ) where
 
     at_read : (row line : ℕ) (b : Bool) (r : Option Action) → (b ≡ true → (is_doing Beginning r ≡ true) × (is_store_of line (work_after shape (core zs)) ≡ true)) → IfSome r (λ a. y.tick < ends pace a)
         → FitsAll shape pace zs r → InTime shape pace.read pace.iter base (core zs) r (since r y.tick)
-        → InTime shape pace.read pace.iter (gain {n = n} pace.read (work_time pace e) (Core (Read row line came.Waiting)) + base) (Read row line came.Waiting ∷ core zs) (cond b None r) (since (cond b None r) y.tick)
+        → InTime shape pace.read pace.iter (gain {n = n} pace.read (work_time pace e) (Core (Read row line came.Waiting)) y.cancels + base) (Read row line came.Waiting ∷ core zs) (cond b None r) (since (cond b None r) y.tick)
     at_read row line false r drops end f (inl h) = inl (omega (arith, h))
     at_read row line false r drops end f (inr h) =
         inr (record { idle = h.0.idle; due = h.0.due; held = held-wait (waits shape (core zs)) _ (queue shape (core zs)) h.0.held }, h.1, omega (arith, h.2))
@@ -135,7 +157,7 @@ module _ {n m : ℕ} (shape : BankShape) (pace : Pacing) (e : ℕ) where
       where
         by : (doing : Doing) → is_doing Beginning (Some (record { doing = doing; first = action.first })) ≡ true → y.tick < action.first + lasts pace.read pace.iter doing
             → Fits (gives_way pace.policy) (in_progress (core zs)) (reads_of shape pace zs) doing
-            → InTime shape pace.read pace.iter (gain {n = n} pace.read (work_time pace e) (Core (Read row line came.Waiting)) + base) (Read row line came.Waiting ∷ core zs) None y.tick
+            → InTime shape pace.read pace.iter (gain {n = n} pace.read (work_time pace e) (Core (Read row line came.Waiting)) y.cancels + base) (Read row line came.Waiting ∷ core zs) None y.tick
         by Serving d end f = absurd (cc)
         by Iterating d end f = absurd (cc)
         by Beginning d end f =
@@ -171,9 +193,22 @@ module _ {n m : ℕ} (shape : BankShape) (pace : Pacing) (e : ℕ) where
     at_serve end (inl h) = omega (arith, end, h)
     at_serve end (inr h) = omega (arith, end, h.2)
 
-    at_cut_by : DelayAt base zs y.tick → (since runs y.tick ≤ base + spent pace.read pace.iter (in_progress (core zs)) (iterated (core zs))) ⊎ ((in_progress (core zs) ≡ false) × (since runs y.tick ≤ base + pace.read))
-    at_cut_by (inl h) = inl h
-    at_cut_by (inr h) = inr (h.0.idle, h.2)
+    cut_by : (tearing cancels : Bool) → IfSome runs (λ a. y.tick < ends pace a) → (cancels ≡ true → is_writing runs ≡ true) → DelayAt base zs y.tick
+        → y.tick ≤ gain {n = n} pace.read (work_time pace e) (Core (Cut tearing)) cancels + base
+    cut_by tearing true end writes d =
+        at_cancel pace.read pace.iter (work_time pace e) base (gives_way pace.policy) (in_progress (core zs)) (reads_of shape pace zs) (iterated (core zs)) y.tick runs few (running_at-fits shape pace e zs y.tick)
+        end (writes refl) (by d)
+      where
+        by : DelayAt base zs y.tick → (since runs y.tick ≤ base + spent pace.read pace.iter (in_progress (core zs)) (iterated (core zs))) ⊎ ((in_progress (core zs) ≡ false) × (is_doing Beginning runs ≡ false) × (since runs y.tick ≤ base + pace.read))
+        by (inl h) = inl h
+        by (inr h) = inr (h.0.idle, h.1, h.2)
+    cut_by tearing false end writes d =
+        at_cut pace.read pace.iter (work_time pace e) base (gives_way pace.policy) (in_progress (core zs)) (reads_of shape pace zs) (iterated (core zs)) y.tick runs few (running_at-fits shape pace e zs y.tick)
+        end (by d)
+      where
+        by : DelayAt base zs y.tick → (since runs y.tick ≤ base + spent pace.read pace.iter (in_progress (core zs)) (iterated (core zs))) ⊎ ((in_progress (core zs) ≡ false) × (since runs y.tick ≤ base + pace.read))
+        by (inl h) = inl h
+        by (inr h) = inr (h.0.idle, h.2)
 
     pub step : (h : Happens n) → MayCome shape pace e zs y h → has_exhausted (core_of h (core zs)) ≡ false → DelayAt base zs y.tick → DelayBy h
     step (Core (Write row line bytes given wrote.Accepted)) may fine (inl h) = inl (omega (arith, h))
@@ -208,12 +243,12 @@ module _ {n m : ℕ} (shape : BankShape) (pace : Pacing) (e : ℕ) where
     step (Core (Iterate (did.Retired slot line))) may fine d = let h = iterate_end may.may.0 (iterate_by may.may.0 may.on_time.0.1 (ending Iterating may.on_time.0.0 d)) in inl (omega (arith, h))
     step (Core (Iterate did.Exhausted)) may fine d = absurd (cc)
     step (Core (Cut tearing)) may fine d =
-        let h = at_cut pace.read pace.iter (work_time pace e) base (gives_way pace.policy) (in_progress (core zs)) (reads_of shape pace zs) (iterated (core zs)) y.tick runs few (running_at-fits shape pace e zs y.tick)
-        may.on_time.0.2 (at_cut_by d) in
+        let h = cut_by tearing y.cancels may.on_time.0.2
+        (λ c. writing_of (is_cancelling pace.policy) (is_writing runs) (is_empty (waits shape (core zs))) (nat_lt (cancels_after zs) most_cancels) (may.on_time.2 c)) d in
         inl (omega (arith, h))
 
     -- a store is no later than an attempt
-    pub store_tick : (h : Happens n) → MayCome shape pace e zs y h → stores_by h ≡ 1 → DelayAt base zs y.tick → y.tick ≤ gain pace.read (work_time pace e) h + base
+    pub store_tick : (h : Happens n) → MayCome shape pace e zs y h → stores_by h ≡ 1 → DelayAt base zs y.tick → y.tick ≤ gain pace.read (work_time pace e) h y.cancels + base
     store_tick (Core (Write row line bytes given answer)) may one d = absurd (omega arith)
     store_tick (Core (Read row line answer)) may one d = absurd (omega arith)
     store_tick (Core (Serve answer)) may one d = absurd (omega arith)

@@ -1,5 +1,5 @@
 -- When a begin is held up by a read that waits, and when something is chosen.
-use Rattle.std.proofs.Common.{◌≡◌, ℕ, ◌==◌, ◌&&◌, ◌||◌, not, Bool, true, false, List, [], ◌∷◌, ◌++◌, Option, Some, None, refl, sym, ap, ◌∙◌, subst, arith, cond, eqb, eqb-true}
+use Rattle.std.proofs.Common.{◌≡◌, ℕ, ◌==◌, ◌&&◌, not, Bool, true, false, List, [], ◌∷◌, ◌++◌, Option, Some, None, refl, sym, ◌∙◌, cond, eqb, eqb-true}
 use Rattle.std.specs.Prelude.{nat_lt}
 use Rattle.std.specs.List.{list_any}
 use Rattle.std.proofs.lemmas.Bool.{eq-eqb, or_left, or_right}
@@ -70,7 +70,7 @@ module _ {n : ℕ} where
       by false None (e ∷ es) is = (
         refl,
         list_any-append (λ (w : Awaited). w.line == e.line) (waits shape h) (v ∷ [])
-        ∙ or_right _ _ (or_left (v.line == e.line) false (eq-eqb v.line e.line (own ∙ sym (eqb-true e.line line is)))),
+            ∙ or_right _ _ (or_left (v.line == e.line) false (eq-eqb v.line e.line (own ∙ sym (eqb-true e.line line is)))),
       )
 
   -- where the next store is held up nothing is begun

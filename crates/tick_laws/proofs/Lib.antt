@@ -5,11 +5,13 @@ mod Settings
 mod Turns
 mod Waits
 mod Afterwards
-mod ReadTimes
 mod Tallies
 mod Moves
+mod Cancels
 mod Holdups
 mod Delays
 mod Counts
 mod StoreTimes
+mod Cancelling
+mod ReadTimes
 mod Times

@@ -1,7 +1,7 @@
 -- A read is read or lost in time.
-use Rattle.std.proofs.Common.{◌≡◌, ◌≢◌, ℕ, ◌+◌, ◌*◌, ◌<◌, ◌≤◌, ◌==◌, ◌&&◌, ◌||◌, ◌⊎◌, inl, inr, not, Bool, true, false, List, [], ◌∷◌, ◌++◌, Option, Some, None, length, refl, sym, ap, ◌∙◌, subst, arith, cond, append_assoc}
-use Rattle.std.specs.Prelude.{IfSome, nat_le, nat_lt}
-use Rattle.std.specs.List.{list_any, list_all}
+use Rattle.std.proofs.Common.{◌≡◌, ◌≢◌, ℕ, ◌+◌, ◌*◌, ◌<◌, ◌≤◌, ◌==◌, ◌&&◌, ◌||◌, inl, inr, not, Bool, true, false, List, [], ◌∷◌, ◌++◌, Option, Some, None, length, refl, sym, ap, ◌∙◌, subst, arith, cond, append_assoc}
+use Rattle.std.specs.Prelude.{nat_le, nat_lt, max}
+use Rattle.std.specs.List.{list_any}
 use Rattle.std.proofs.lemmas.Bool.{le-leb, lt-ltb, eq-eqb, or_from}
 use Rattle.std.proofs.lemmas.List.Folds.{list_any-append, list_all-append}
 use Rattle.result_rows.specs.declared.Outcome.{Outcome}
@@ -10,26 +10,24 @@ use Rattle.row_laws.specs.declared.Row.{Row}
 use Rattle.row_laws.specs.Rows.{is_cut}
 use Rattle.row_laws.specs.Rules.{Rules}
 use Rattle.row_laws.specs.Queueing.{waiting}
-use Rattle.row_laws.specs.Ticking.{delay, bound, no_cut_below, first_cut_at, read_in_time}
-use Rattle.bank_shape.specs.Pausing.{Pausing, Pause, Plain, Cancel, is_cancelling}
+use Rattle.row_laws.specs.Ticking.{delay, bound, last_store, came_since, no_cut_below, first_cut_at, read_in_time}
+use Rattle.bank_shape.specs.Pausing.{Pausing, Pause, Plain, Cancel, is_cancelling, most_cancels}
 use Rattle.bank_shape.specs.declared.BankShape.{BankShape}
 use Rattle.bank_model.specs.declared.answer.WriteAnswer.TheVariants as wrote
 use Rattle.bank_model.specs.declared.answer.ReadAnswer.TheVariants as came
 use Rattle.bank_model.specs.declared.answer.Step.TheVariants as did
-use Rattle.bank_model.specs.declared.answer.Served.{Served}
 use Rattle.bank_model.specs.declared.clock.Doing.{Doing}
 use Rattle.bank_model.specs.declared.clock.Doing.TheVariants.{Serving, Beginning, Iterating}
 use Rattle.bank_model.specs.declared.clock.Action.{Action}
-use Rattle.bank_model.specs.Events.{Event, Write, Read, Serve, Begin, Iterate, Cut, RowsBelow, newest}
+use Rattle.bank_model.specs.Events.{Write, Read, Serve, Begin, Iterate, Cut, newest}
 use Rattle.bank_model.specs.History.{Awaited, awaited, queue, waits, in_progress, iterated}
 use Rattle.masked_bytes.specs.Entries.{layer_of}
 use Rattle.bank_model.specs.After.{work_after, is_store_of}
-use Rattle.bank_model.specs.Sensing.{most_steps}
-use Rattle.bank_model.specs.Timing.{Pacing, Happens, Core, Timed, ends, is_doing, core, core_of, last_tick}
-use Rattle.bank_model.specs.Running.{gives_way, left_by, running, running_at}
-use Rattle.bank_model.specs.Lawful.{Lawful, MayCome, IsIdle}
+use Rattle.bank_model.specs.Timing.{Pacing, Happens, Core, Timed, is_doing, is_writing, is_empty, core, core_of, last_tick}
+use Rattle.bank_model.specs.Running.{gives_way, left_by, running_at, cancels_after}
+use Rattle.bank_model.specs.Lawful.{Lawful, MayCome, would_cancel}
 use Rattle.bank_laws.specs.Laws.{rules_of}
-use Rattle.bank_laws.specs.Outcomes.{on_row, outcome_with, outcome_of, row_with, rows_from}
+use Rattle.bank_laws.specs.Outcomes.{outcome_with, outcome_of, row_with, rows_from}
 use Rattle.bank_laws.specs.Standing.{has_wait}
 use Rattle.bank_laws.specs.Ticks.{ends_action}
 use Rattle.bank_laws.proofs.Standing.{stand_apart}
@@ -42,10 +40,12 @@ use Rattle.bank_laws.proofs.Ending.{Onwards, own_answer}
 use Rattle.bank_laws.proofs.Serves.{may_at, onwards_at, idle-waits}
 use Rattle.bank_laws.proofs.Waiting.{waits_length}
 use Rattle.tick_laws.specs.TickLaws.{reads_in_time, ReadTimeLaw}
-use Rattle.tick_laws.proofs.Actions.{since, since-up, FitsAll, running_at-fits, not-cancelled}
+use Rattle.tick_laws.proofs.Actions.{since, since-up, FitsAll, running_at-fits}
 use Rattle.tick_laws.proofs.Settings.{SetAt, row_set, setting, unset_before, unset_waits}
-use Rattle.tick_laws.proofs.Turns.{turn, turn-some, turn-new, NotFirst, NotEarly, not_early-new, owes, owes-most, paid, hold_up}
-use Rattle.tick_laws.proofs.Waits.{HasTurn, Turn, TurnAt, turn_at, TurnBy, step, work_time, few_times, fits_ending, ending, at_end, at_cut}
+use Rattle.tick_laws.proofs.Turns.{turn, turn-some, turn-new, NotEarly, not_early-new, owes, owes-most}
+use Rattle.tick_laws.proofs.Waits.{Turn, TurnAt, turn_at, TurnBy, step, work_time, few_times, fits_ending, ending, at_end, at_cut, some-reads}
+use Rattle.tick_laws.proofs.Tallies.{stores_by}
+use Rattle.tick_laws.proofs.Cancelling.{stored_at, idle_runs}
 use Rattle.tick_laws.proofs.Afterwards.{none-below, first-behind, rows_after-append, late-cuts}
 
 module _ {n : ℕ} where
@@ -78,10 +78,50 @@ module _ {n : ℕ} where
       both false b h k = h
   in_time rules a most before after (out.Cut at) same h = refl
 
-  delay-is : (rules : Rules) (p : Pausing) (a : ℕ) (before after : List (Row n)) → is_cancelling p ≡ false → delay rules p a before after ≡ hold_up rules.read rules.iter (rules.steps * rules.iter) (gives_way p)
-  delay-is rules Pause a before after none = refl
-  delay-is rules Plain a before after none = refl
-  delay-is rules Cancel a before after none = absurd (cc)
+  -- a line write holds up a read that comes no longer than is said
+  delay-most : (rules : Rules) (p : Pausing) (a : ℕ) (before after : List (Row n)) (busy : Bool) (r : Option Action)
+      → (is_cancelling p ≡ true → nat_lt (came_since (last_store a (before ++ after)) before) 4 ≡ true → owes rules.read rules.iter (rules.steps * rules.iter) true busy r ≡ 0)
+      → owes rules.read rules.iter (rules.steps * rules.iter) (gives_way p) busy r ≤ delay rules p a before after
+  delay-most rules Pause a before after busy r few = owes-most rules.read rules.iter (rules.steps * rules.iter) true busy r
+  delay-most rules Plain a before after busy r few = owes-most rules.read rules.iter (rules.steps * rules.iter) false busy r
+  delay-most rules Cancel a before after busy r few = by (nat_lt (came_since (last_store a (before ++ after)) before) 4) (few refl)
+    where
+      by : (b : Bool) → (b ≡ true → owes rules.read rules.iter (rules.steps * rules.iter) true busy r ≡ 0) → owes rules.read rules.iter (rules.steps * rules.iter) true busy r ≤ cond b 0 (max rules.read rules.iter)
+      by true few = let k = few refl in omega (arith, k)
+      by false few = owes-most rules.read rules.iter (rules.steps * rules.iter) true busy r
+
+owes-idle : (read iter work : ℕ) (busy b : Bool) (r : Option Action) → is_writing r ≡ false → owes read iter work true busy (cond b None r) ≡ 0
+owes-idle read iter work busy true r h = refl
+owes-idle read iter work busy false None h = refl
+owes-idle read iter work busy false (Some action) h = by action.doing h
+  where
+    by : (doing : Doing) → is_writing (Some (record { doing = doing; first = action.first })) ≡ false → owes read iter work true busy (Some (record { doing = doing; first = action.first })) ≡ 0
+    by Serving h = refl
+    by Beginning h = absurd (cc)
+    by Iterating h = absurd (cc)
+
+-- a read that would cancel finds none that waits
+would_find : (a b c d : Bool) → (a && (b && (c && d))) ≡ true → c ≡ true
+would_find true true true d h = refl
+would_find true true false d h = absurd (cc)
+would_find true false c d h = absurd (cc)
+would_find false b c d h = absurd (cc)
+
+uncancelled : {n m : ℕ} (shape : BankShape) (pace : Pacing) (e : ℕ) (zs : List (Timed n m)) (s : Timed n m) (h : Happens n) (row : ℕ) → MayCome shape pace e zs s h → has_wait (waits shape (core zs)) row ≡ true → s.cancels ≡ false
+uncancelled shape pace e zs s (Core (Write at line bytes given answer)) row may there = may.on_time.1
+uncancelled shape pace e zs s (Core (Read at line answer)) row may there = may.on_time.1
+uncancelled shape pace e zs s (Core (Serve answer)) row may there = may.on_time.1
+uncancelled shape pace e zs s (Core (Begin answer)) row may there = may.on_time.1
+uncancelled shape pace e zs s (Core (Iterate answer)) row may there = may.on_time.1
+uncancelled shape pace e zs s (Core (Cut tearing)) row may there = by s.cancels may.on_time.2
+  where
+    by : (b : Bool) → (b ≡ true → would_cancel shape (core zs) pace.policy (running_at shape pace zs s.tick) (cancels_after zs) ≡ true) → b ≡ false
+    by true would =
+        let none : is_empty (waits shape (core zs)) ≡ true =
+        would_find (is_cancelling pace.policy) (is_writing (running_at shape pace zs s.tick)) (is_empty (waits shape (core zs))) (nat_lt (cancels_after zs) most_cancels) (would refl) in
+        let some : not (is_empty (waits shape (core zs))) ≡ true = some-reads (waits shape (core zs)) row there in
+        absurd (cc (ap not none, some))
+    by false would = refl
 
 module _ {n m : ℕ} (shape : BankShape) (pace : Pacing) (e : ℕ) (all : List (Timed n m)) where
   -- a read that waits is in time, and no cut came
@@ -152,7 +192,7 @@ module _ {n m : ℕ} (shape : BankShape) (pace : Pacing) (e : ℕ) (all : List (
           omega (arith, low, end),
           omega (arith, high, end),
           list_all-append (λ (q : Row n). not (is_cut q) || nat_le s.tick q.tick) (mids ++ []) lates
-          ∙ two _ _ (list_all-append (λ (q : Row n). not (is_cut q) || nat_le s.tick q.tick) mids [] ∙ two _ _ (none-below s.tick mids none) refl) late,
+              ∙ two _ _ (list_all-append (λ (q : Row n). not (is_cut q) || nat_le s.tick q.tick) mids [] ∙ two _ _ (none-below s.tick mids none) refl) late,
         )
       where
         two : (a b : Bool) → a ≡ true → b ≡ true → (a && b) ≡ true
@@ -171,9 +211,9 @@ module _ {n m : ℕ} (shape : BankShape) (pace : Pacing) (e : ℕ) (all : List (
     at_event (Core (Cut tearing)) o may whole there none late t is =
         as_set (Core (Cut tearing)) (out.Lost s.tick) o (lost (has_wait (waits shape (core zs)) row) is) (
           ap (first_cut_at s.tick) (append_assoc mids (row_with shape all (Core (Cut tearing)) s.tick s.cancels) lates)
-          ∙ first-behind s.tick mids _ none ∙ cut_row tearing s.cancels whole,
+              ∙ first-behind s.tick mids _ none ∙ cut_row tearing s.cancels whole,
           at_cut pace.read pace.iter (work_time pace e) most (gives_way pace.policy) (in_progress (core zs)) _ (iterated (core zs)) s.tick (turn pace.read row (waits shape (core zs))) (running_at shape pace zs s.tick) r
-          (turn-some pace.read row (waits shape (core zs)) there) (λ busy. few_times shape pace e zs l.1 busy) (running_at-fits shape pace e zs s.tick) may.on_time.0.2 t.high,
+              (turn-some pace.read row (waits shape (core zs)) there) (λ busy. few_times shape pace e zs l.1 busy) (running_at-fits shape pace e zs s.tick) may.on_time.0.2 t.high,
         )
       where
         lost : (b : Bool) → ◌≡◌ {A = Option (Outcome n)} (cond b (Some (out.Lost s.tick)) None) (Some o) → out.Lost s.tick ≡ o
@@ -181,10 +221,10 @@ module _ {n m : ℕ} (shape : BankShape) (pace : Pacing) (e : ℕ) (all : List (
         lost false is = absurd (cc)
 
   -- so a read that begins to wait is in time in the end
-  in_end : (a most row : ℕ) (owed : List ℕ) (later zs : List (Timed n m)) → 1 ≤ pace.read → 1 ≤ pace.iter → is_cancelling pace.policy ≡ false → Lawful shape pace e (later ++ zs)
+  in_end : (a most row : ℕ) (owed : List ℕ) (later zs : List (Timed n m)) → 1 ≤ pace.read → 1 ≤ pace.iter → Lawful shape pace e (later ++ zs)
       → Awaits (waits shape (core zs)) row owed → a ≤ last_tick zs → Turn shape pace e a most row zs → outcome_of shape (later ++ zs) row ≢ out.Unset
       → InTime pace.read a most (rows_after shape all later) (outcome_of shape (later ++ zs) row)
-  in_end a most row owed later zs r i none l waits_on up t set = by (setting shape pace e later zs row (outcome_of shape (later ++ zs) row) l unset set refl)
+  in_end a most row owed later zs r i l waits_on up t set = by (setting shape pace e later zs row (outcome_of shape (later ++ zs) row) l unset set refl)
     where
       before : Lawful shape pace e zs
       before = lawful_before shape pace e later zs l
@@ -200,7 +240,7 @@ module _ {n m : ℕ} (shape : BankShape) (pace : Pacing) (e : ℕ) (all : List (
           let past = turns a most row owed zs r i waits_on up t at.mid here.1 at.unset in
           let there : has_wait (waits shape (core (at.mid ++ zs))) row ≡ true = unset_waits shape pace e at.mid zs row owed here.1 waits_on at.unset in
           let behind = at_event a most row (at.mid ++ zs) at.event r i here (rows_after shape all at.mid) (rows_after shape all at.late) at.event.happens (outcome_of shape (later ++ zs) row) here.0
-          (not-cancelled shape pace e (at.mid ++ zs) at.event at.event.happens none here.0) there past.2
+          (uncancelled shape pace e (at.mid ++ zs) at.event at.event.happens row here.0 there) there past.2
           (late-cuts shape all pace e at.event.tick at.late (at.event ∷ (at.mid ++ zs)) r i whole (omega arith))
           (turn_at shape pace e a most row (at.mid ++ zs) at.event.tick (last_tick-rises shape pace e (at.mid ++ zs) at.event r i here) past.1 there past.0) at.sets in
           subst (λ (rows : List (Row n)). InTime pace.read a most rows (outcome_of shape (later ++ zs) row))
@@ -209,14 +249,14 @@ module _ {n m : ℕ} (shape : BankShape) (pace : Pacing) (e : ℕ) (all : List (
   sums : (s o t x hold k p : ℕ) → s ≤ x → o ≤ hold → t ≡ k → s + o + t ≤ x + hold + k + p
   sums s o t x hold k p top most is = omega arith
 
-  pub read_at : 1 ≤ pace.read → 1 ≤ pace.iter → is_cancelling pace.policy ≡ false → Lawful shape pace e all → waits shape (core all) ≡ [] → (later : List (Timed n m)) (x : Timed n m) (ys : List (Timed n m)) → all ≡ later ++ x ∷ ys
+  pub read_at : 1 ≤ pace.read → 1 ≤ pace.iter → Lawful shape pace e all → waits shape (core all) ≡ [] → (later : List (Timed n m)) (x : Timed n m) (ys : List (Timed n m)) → all ≡ later ++ x ∷ ys
       → Passes (reads_in_time (rules_of e shape pace)) (rows_from shape all ys) (row_with shape all x.happens x.tick x.cancels) (rows_after shape all later)
-  read_at r i none l idle later x ys same =
+  read_at r i l idle later x ys same =
       by x.happens x.cancels (may_at shape pace e all later x ys l same) (onwards_at shape pace e all later x ys l same) (λ arrives. waits_length shape pace e all later x ys r i l idle same arrives)
-      (since-up shape pace e (x ∷ ys) r i here)
+      (since-up shape pace e (x ∷ ys) r i here) (idle_runs shape pace e all r i l idle later x ys same)
       (λ most row owed waits_on t set.
       subst (λ (xs : List (Timed n m)). InTime pace.read x.tick most (rows_after shape all later) (outcome_of shape xs row)) (sym same)
-      (in_end x.tick most row owed later (x ∷ ys) r i none whole waits_on (omega arith) t (subst (λ (xs : List (Timed n m)). outcome_of shape xs row ≢ out.Unset) same set)))
+      (in_end x.tick most row owed later (x ∷ ys) r i whole waits_on (omega arith) t (subst (λ (xs : List (Timed n m)). outcome_of shape xs row ≢ out.Unset) same set)))
     where
       whole : Lawful shape pace e (later ++ x ∷ ys)
       whole = subst (λ (xs : List (Timed n m)). Lawful shape pace e xs) same l
@@ -228,31 +268,31 @@ module _ {n m : ℕ} (shape : BankShape) (pace : Pacing) (e : ℕ) (all : List (
       runs = running_at shape pace ys x.tick
 
       most : ℕ
-      most = x.tick + hold_up pace.read pace.iter (work_time pace e) (gives_way pace.policy) + (length (waits shape (core ys)) + 1) * pace.read
+      most = x.tick + delay (rules_of e shape pace) pace.policy x.tick (rows_from shape all ys) (rows_after shape all later) + (length (waits shape (core ys)) + 1) * pace.read
 
       drop_or : (b : Bool) → FitsAll shape pace ys runs → FitsAll shape pace ys (cond b None runs)
       drop_or true f = tt
       drop_or false f = f
 
       bound-is : length (waiting x.tick [] (rows_from shape all ys)) ≡ length (waits shape (core ys)) → bound (rules_of e shape pace) x.tick (rows_from shape all ys) (rows_after shape all later) ≡ most
-      bound-is count =
-          ap (λ k. x.tick + k + (length (waiting x.tick [] (rows_from shape all ys)) + 1) * pace.read) (delay-is (rules_of e shape pace) pace.policy x.tick (rows_from shape all ys) (rows_after shape all later) none)
-          ∙ ap (λ k. x.tick + hold_up pace.read pace.iter (work_time pace e) (gives_way pace.policy) + (k + 1) * pace.read) count
+      bound-is count = ap (λ k. x.tick + delay (rules_of e shape pace) pace.policy x.tick (rows_from shape all ys) (rows_after shape all later) + (k + 1) * pace.read) count
 
       by : (h : Happens n) (cancels : Bool) → MayCome shape pace e ys x h → Onwards shape all ys x.tick h
           → (ends_action h ≡ false → length (waiting x.tick [] (rows_from shape all ys)) ≡ length (waits shape (core ys)))
           → since (left_by shape (core ys) h runs) x.tick ≤ x.tick
+          → ((row line : ℕ) → is_cancelling pace.policy ≡ true → MayCome shape pace e ys x (Core (Read row line came.Waiting)) → cond (stores_by h == 1) x.tick (stored_at ys) ≡ stored_at ys
+          → nat_lt (came_since (last_store x.tick (rows_from shape all ys ++ rows_after shape all later)) (rows_from shape all ys)) 4 ≡ true → is_writing runs ≡ false)
           → ((most row : ℕ) (owed : List ℕ) → Awaits (waits shape (core_of h (core ys))) row owed → TurnBy shape pace e x.tick most row ys x here h (left_by shape (core ys) h runs)
           → outcome_of shape all row ≢ out.Unset → InTime pace.read x.tick most (rows_after shape all later) (outcome_of shape all row))
           → Passes (reads_in_time (rules_of e shape pace)) (rows_from shape all ys) (row_with shape all h x.tick cancels) (rows_after shape all later)
-      by (Core (Write row line bytes given answer)) cancels may on count top go = refl
-      by (Core (Read row line (came.Forwarded bytes))) cancels may on count top go =
+      by (Core (Write row line bytes given answer)) cancels may on count top free go = refl
+      by (Core (Read row line (came.Forwarded bytes))) cancels may on count top free go =
           ap (λ (o : Outcome n). read_in_time (rules_of e shape pace) x.tick o (rows_from shape all ys) (rows_after shape all later))
           (own_answer shape pace e all ys x (Core (Read row line (came.Forwarded bytes))) row (out.Forwarded x.tick bytes) on refl (λ is. absurd (cc)))
-      by (Core (Read row line came.Busy)) cancels may on count top go =
+      by (Core (Read row line came.Busy)) cancels may on count top free go =
           ap (λ (o : Outcome n). read_in_time (rules_of e shape pace) x.tick o (rows_from shape all ys) (rows_after shape all later))
           (own_answer shape pace e all ys x (Core (Read row line came.Busy)) row (out.Busy x.tick) on refl (λ is. absurd (cc)))
-      by (Core (Read row line came.Waiting)) cancels may on count top go =
+      by (Core (Read row line came.Waiting)) cancels may on count top free go =
           let v = awaited row line (newest (core ys) line) (layer_of (queue shape (core ys)) line) in
           let drops = is_doing Beginning runs && is_store_of line (work_after shape (core ys)) in
           let new : has_wait (waits shape (core ys)) row ≡ false = (stand_apart shape (core ys) row may.asked).waiting_below row (omega arith) in
@@ -261,8 +301,9 @@ module _ {n m : ℕ} (shape : BankShape) (pace : Pacing) (e : ℕ) (all : List (
           (go most row (newest (core ys) line) waits_on
           (record {
             low = not_early-new x.tick row (gives_way pace.policy) (in_progress (core ys)) (waits shape (core ys)) v (cond drops None runs) new (drop_or drops (running_at-fits shape pace e ys x.tick));
-            high = sums _ _ _ x.tick (hold_up pace.read pace.iter (work_time pace e) (gives_way pace.policy)) ((length (waits shape (core ys)) + 1) * pace.read) _ top
-                (owes-most pace.read pace.iter (work_time pace e) (gives_way pace.policy) (in_progress (core ys)) (cond drops None runs))
+            high = sums _ _ _ x.tick (delay (rules_of e shape pace) pace.policy x.tick (rows_from shape all ys) (rows_after shape all later)) ((length (waits shape (core ys)) + 1) * pace.read) _ top
+                (delay-most (rules_of e shape pace) pace.policy x.tick (rows_from shape all ys) (rows_after shape all later) (in_progress (core ys)) (cond drops None runs)
+                (λ cancelling few. owes-idle pace.read pace.iter (work_time pace e) (in_progress (core ys)) drops runs (free row line cancelling may refl few)))
                 (turn-new pace.read row (waits shape (core ys)) v new refl);
           })
           (ended_read row (newest (core ys) line) (on.reads row (newest (core ys) line) (inl waits_on))))
@@ -270,12 +311,12 @@ module _ {n m : ℕ} (shape : BankShape) (pace : Pacing) (e : ℕ) (all : List (
           ended_read : (row : ℕ) (owed : List ℕ) → ReadFate shape all row owed → outcome_of shape all row ≢ out.Unset
           ended_read row owed (inl a) un = subst (λ ws. Awaits ws row owed) idle a
           ended_read row owed (inr s) un = subst (λ (o : Outcome n). IsSettled owed o) un s
-      by (Core (Serve answer)) cancels may on count top go = tt
-      by (Core (Begin answer)) cancels may on count top go = tt
-      by (Core (Iterate answer)) cancels may on count top go = tt
-      by (Core (Cut tearing)) true may on count top go = tt
-      by (Core (Cut tearing)) false may on count top go = refl
+      by (Core (Serve answer)) cancels may on count top free go = tt
+      by (Core (Begin answer)) cancels may on count top free go = tt
+      by (Core (Iterate answer)) cancels may on count top free go = tt
+      by (Core (Cut tearing)) true may on count top free go = tt
+      by (Core (Cut tearing)) false may on count top free go = refl
 
 pub read_time_law : ReadTimeLaw
-read_time_law n m e shape pace xs sized l idle none =
-    walk shape xs (reads_in_time (rules_of e shape pace)) [] xs refl (read_at shape pace e xs sized.read sized.iter none l (idle-waits shape pace xs idle))
+read_time_law n m e shape pace xs sized l idle =
+    walk shape xs (reads_in_time (rules_of e shape pace)) [] xs refl (read_at shape pace e xs sized.read sized.iter l (idle-waits shape pace xs idle))

@@ -1,32 +1,18 @@
 -- A bank does one action at a time, and serves its reads in the order of their rows.
-use Rattle.std.proofs.Common.{◌≡◌, ℕ, ◌+◌, ◌<◌, ◌≤◌, ◌==◌, ◌&&◌, ◌||◌, ◌⊎◌, inl, inr, not, Bool, true, false, List, [], ◌∷◌, ◌++◌, Option, Some, None, drop, refl, sym, ap, ◌∙◌, subst, arith, cond, eqb, eqb-true}
+use Rattle.std.proofs.Common.{◌≡◌, ℕ, ◌+◌, ◌<◌, ◌≤◌, ◌==◌, ◌⊎◌, inl, inr, not, Bool, true, false, List, [], ◌∷◌, ◌++◌, Some, None, drop, refl, sym, ap, ◌∙◌, arith, cond, eqb, eqb-true}
 use Rattle.std.specs.Prelude.{unwrap_or, nat_le}
-use Rattle.std.specs.List.{list_all}
 use Rattle.std.proofs.lemmas.Bool.{le-leb, ne_eqb, eq-eqb, or_left, or_right}
 use Rattle.result_rows.specs.declared.Outcome.{Outcome}
 use Rattle.result_rows.specs.declared.Outcome.TheVariants as out
-use Rattle.row_laws.specs.declared.Row.{Row}
 use Rattle.row_laws.specs.Ticking.{apart}
 use Rattle.bank_shape.specs.declared.BankShape.{BankShape}
-use Rattle.bank_model.specs.declared.answer.WriteAnswer.TheVariants as wrote
 use Rattle.bank_model.specs.declared.answer.ReadAnswer.TheVariants as came
-use Rattle.bank_model.specs.declared.answer.Step.TheVariants as did
-use Rattle.bank_model.specs.declared.answer.Served.{Served}
-use Rattle.bank_model.specs.declared.clock.Doing.TheVariants.{Serving, Beginning, Iterating}
 use Rattle.bank_model.specs.Events.{Event, Write, Read, Serve, Begin, Iterate, Cut, RowsBelow}
-use Rattle.bank_model.specs.History.{Awaited, awaited, waits, queue, in_progress}
-use Rattle.bank_model.specs.Timing.{Pacing, Happens, Core, Timed, core, core_of}
-use Rattle.bank_model.specs.Lawful.{Lawful, MayCome}
-use Rattle.bank_laws.specs.Outcomes.{on_row, outcome_with, outcome_of, ended, row_with, rows_from}
+use Rattle.bank_model.specs.History.{Awaited, waits}
+use Rattle.bank_laws.specs.Outcomes.{on_row, ended}
 use Rattle.bank_laws.specs.Standing.{has_wait}
 use Rattle.bank_laws.proofs.Entries.{either, no_wait-push}
-use Rattle.bank_laws.proofs.Answering.{IsFirst, first-there, served-first}
 use Rattle.bank_laws.proofs.Standing.{stand_apart}
-use Rattle.bank_laws.proofs.Settling.{opens, above_all, rows_below-more}
-use Rattle.bank_laws.proofs.Walking.{Passes, walk, rows_after, and_both}
-use Rattle.bank_laws.proofs.Serves.{may_at}
-use Rattle.tick_laws.specs.TickLaws.{is_apart, ApartLaw}
-use Rattle.tick_laws.proofs.Actions.{since_of, since-rises, end-since, not_begun}
 
 -- each of these reads is above those before it
 abbrev pub Rising : List Awaited → Type 0
@@ -58,6 +44,7 @@ module _ {n : ℕ} where
     where
       leb_up : (a b : ℕ) → nat_le a b ≡ true → a ≤ b
       leb_up a b h = grind arith
+
       leb_down : (a b : ℕ) → nat_le a b ≡ false → b < a
       leb_down a b h = grind arith
   waits_rise shape (Read row line came.Busy ∷ h) next b = waits_rise shape h row b.1

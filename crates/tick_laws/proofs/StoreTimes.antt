@@ -1,99 +1,86 @@
 -- A write that is stored is stored in time.
-use Rattle.std.proofs.Common.{◌≡◌, ◌≢◌, ℕ, ◌+◌, ◌*◌, ◌<◌, ◌≤◌, ◌==◌, ◌&&◌, ◌||◌, ◌⊎◌, inl, inr, not, Bool, true, false, List, [], ◌∷◌, ◌++◌, Option, Some, None, refl, sym, ap, ◌∙◌, subst, arith, cond, append_assoc}
-use Rattle.std.specs.Prelude.{unwrap_or, nat_lt, nat_le, count_by}
+use Rattle.std.proofs.Common.{◌≡◌, ℕ, ◌+◌, ◌*◌, ◌<◌, ◌≤◌, ◌&&◌, ◌⊎◌, inl, inr, Bool, true, false, List, [], ◌∷◌, ◌++◌, Option, Some, None, refl, sym, ap, ◌∙◌, subst, arith, cond, append_assoc}
+use Rattle.std.specs.Prelude.{unwrap_or, count_by}
 use Rattle.std.proofs.lemmas.Bool.{lt-ltb, le-leb, and_from}
 use Rattle.std.proofs.Math.Nat.{mul-le-mul_left}
 use Rattle.result_rows.specs.declared.Outcome.{Outcome}
 use Rattle.result_rows.specs.declared.Outcome.TheVariants as out
 use Rattle.masked_bytes.specs.Entries.{has_row}
-use Rattle.row_laws.specs.declared.Asks.TheVariants.{Writes}
 use Rattle.row_laws.specs.declared.Row.{Row}
 use Rattle.row_laws.specs.Answers.{stored_after, stored_by, read_after, read_by}
-use Rattle.row_laws.specs.Rows.{asks_read, asks_write}
 use Rattle.row_laws.specs.Rules.{Rules}
-use Rattle.row_laws.specs.Ticking.{attempt, tries, longest, stores_in, reads_in, cuts_to, store_in_time}
-use Rattle.bank_shape.specs.Pausing.{Pausing, Pause, Plain, Cancel, is_cancelling}
+use Rattle.row_laws.specs.Ticking.{tries, longest, stores_in, reads_in, cuts_to}
 use Rattle.bank_shape.specs.declared.BankShape.{BankShape}
-use Rattle.bank_model.specs.declared.answer.WriteAnswer.{WriteAnswer}
 use Rattle.bank_model.specs.declared.answer.WriteAnswer.TheVariants as wrote
 use Rattle.bank_model.specs.declared.answer.ReadAnswer.TheVariants as came
 use Rattle.bank_model.specs.declared.answer.Step.TheVariants as did
-use Rattle.bank_model.specs.Events.{Event, Write, Read, Serve, Begin, Iterate, Cut}
+use Rattle.bank_model.specs.Events.{Write, Read, Serve, Begin, Iterate, Cut}
 use Rattle.bank_model.specs.History.{queue, waits, due_after, has_exhausted}
 use Rattle.bank_model.specs.After.{work_after}
 use Rattle.bank_model.specs.Answers.{IsDone}
 use Rattle.bank_model.specs.Timing.{Pacing, Happens, Core, Timed, core, core_of, last_tick}
+use Rattle.bank_model.specs.Running.{cancels_with, cancels_after}
 use Rattle.bank_model.specs.Lawful.{Lawful, MayCome}
 use Rattle.bank_laws.specs.Laws.{rules_of}
 use Rattle.bank_laws.specs.Outcomes.{on_row, outcome_with, outcome_of, ended, row_with, rows_from}
 use Rattle.bank_laws.specs.Ticks.{ends_action}
 use Rattle.bank_laws.proofs.Entries.{either}
-use Rattle.bank_laws.proofs.Answering.{head-there, first-there, stored-head, served-first, merged-there}
+use Rattle.bank_laws.proofs.Answering.{head-there, first-there, stored-head, served-first}
 use Rattle.bank_laws.proofs.Settling.{opens, lawful_before}
 use Rattle.bank_laws.proofs.Ticks.{last_tick-rises, last-below}
-use Rattle.bank_laws.proofs.Fates.{new-push, new-merged}
-use Rattle.bank_laws.proofs.Walking.{Passes, walk, rows_after}
-use Rattle.bank_laws.proofs.Ending.{Onwards, own_row, own_answer}
-use Rattle.bank_laws.proofs.Serves.{may_at, onwards_at}
+use Rattle.bank_laws.proofs.Walking.{rows_after}
+use Rattle.bank_laws.proofs.Ending.{own_row}
 use Rattle.bank_laws.proofs.Counting.{among, hits}
-use Rattle.bank_laws.proofs.Wears.{exhausted-more, exhausted-stores_none}
+use Rattle.bank_laws.proofs.Wears.{exhausted-stores_none}
 use Rattle.bank_laws.proofs.Waiting as waiting
 use Rattle.bank_laws.proofs.Waiting.{waits-asked}
 use Rattle.bank_laws.proofs.Pending.{writes_in, write_rows, queue-asked, last-later}
-use Rattle.tick_laws.specs.TickLaws.{stores_in_time, StoreTimeLaw}
 use Rattle.tick_laws.proofs.Actions.{since-up}
 use Rattle.tick_laws.proofs.Settings.{SetAt, row_set, setting, unset_before, unset_stands}
 use Rattle.tick_laws.proofs.Waits.{work_time}
+use Rattle.tick_laws.proofs.Cancels.{fine_before, tried_few}
 use Rattle.tick_laws.proofs.Afterwards.{rows_after-append}
-use Rattle.tick_laws.proofs.Tallies.{stores_by, moves_by, retires_by, serves_by, cuts_by, tally}
-use Rattle.tick_laws.proofs.Moves.{done_store, flag, flag-most, moves_few, retires_few}
-use Rattle.tick_laws.proofs.Delays.{gain, Delay, DelayAt, delay_at, step, store_tick}
+use Rattle.tick_laws.proofs.Tallies.{stores_by, moves_by, retires_by, serves_by, cuts_by, cancelled_by, tally, tally_cuts}
+use Rattle.tick_laws.proofs.Moves.{flag, flag-most, moves_few, retires_few}
+use Rattle.tick_laws.proofs.Delays.{gain, Delay, delay_at, step, store_tick}
 use Rattle.tick_laws.proofs.Counts.{Sets, tallied_all, writes-counted, reads-counted, rows-counted, cuts-counted, count-append, among-later}
 
 -- the ticks that may have passed to an arrival at a and over some events
 abbrev allowed : {n m : ℕ} → ℕ → ℕ → ℕ → List (Timed n m) → ℕ
 allowed read work a [] = a
-allowed read work a (y ∷ mid) = gain read work y.happens + allowed read work a mid
+allowed read work a (y ∷ mid) = gain read work y.happens y.cancels + allowed read work a mid
 
 times-add : (a x y : ℕ) → a * (x + y) ≡ a * x + a * y
 times-add a x y = grind arith
 
-spread : (a r b s m t c v ss mm tt cc vv : ℕ) → (a * (s + m + t + c) + r * (2 * v + c)) + ((a * (ss + mm + tt + cc) + r * (2 * vv + cc)) + b)
-    ≡ (a * ((s + ss) + (m + mm) + (t + tt) + (c + cc)) + r * (2 * (v + vv) + (c + cc))) + b
-spread a r b s m t c v ss mm tt cc vv =
-    let d : a * ((s + ss) + (m + mm) + (t + tt) + (c + cc)) ≡ a * (s + m + t + c) + a * (ss + mm + tt + cc) = ap (λ k. a * k) (omega arith) ∙ times-add a (s + m + t + c) (ss + mm + tt + cc) in
+spread : (a r b s m t c k v ss mm tt cc kk vv : ℕ) → (a * (s + m + t + c + k) + r * (2 * v + c)) + ((a * (ss + mm + tt + cc + kk) + r * (2 * vv + cc)) + b)
+    ≡ (a * ((s + ss) + (m + mm) + (t + tt) + (c + cc) + (k + kk)) + r * (2 * (v + vv) + (c + cc))) + b
+spread a r b s m t c k v ss mm tt cc kk vv =
+    let d : a * ((s + ss) + (m + mm) + (t + tt) + (c + cc) + (k + kk)) ≡ a * (s + m + t + c + k) + a * (ss + mm + tt + cc + kk) =
+    ap (λ k. a * k) (omega arith) ∙ times-add a (s + m + t + c + k) (ss + mm + tt + cc + kk) in
     let f : r * (2 * (v + vv) + (c + cc)) ≡ r * (2 * v + c) + r * (2 * vv + cc) = ap (λ k. r * k) (omega arith) ∙ times-add r (2 * v + c) (2 * vv + cc) in
     omega (arith, d, f)
 
 allowed-is : {n m : ℕ} (read work a : ℕ) (mid : List (Timed n m))
-    → allowed read work a mid ≡ ((read + work) * (tally stores_by mid + tally moves_by mid + tally retires_by mid + tally cuts_by mid) + read * (2 * tally serves_by mid + tally cuts_by mid)) + a
+    → allowed read work a mid
+    ≡ ((read + work) * (tally stores_by mid + tally moves_by mid + tally retires_by mid + tally_cuts cuts_by mid + tally_cuts cancelled_by mid) + read * (2 * tally serves_by mid + tally_cuts cuts_by mid)) + a
 allowed-is read work a [] = omega arith
 allowed-is read work a (y ∷ mid) =
-    ap (λ k. gain read work y.happens + k) (allowed-is read work a mid)
-    ∙ spread (read + work) read a (stores_by y.happens) (moves_by y.happens) (retires_by y.happens) (cuts_by y.happens) (serves_by y.happens)
-    (tally stores_by mid) (tally moves_by mid) (tally retires_by mid) (tally cuts_by mid) (tally serves_by mid)
+    ap (λ k. gain read work y.happens y.cancels + k) (allowed-is read work a mid)
+    ∙ spread (read + work) read a (stores_by y.happens) (moves_by y.happens) (retires_by y.happens) (cuts_by y.happens y.cancels) (cancelled_by y.happens y.cancels) (serves_by y.happens)
+    (tally stores_by mid) (tally moves_by mid) (tally retires_by mid) (tally_cuts cuts_by mid) (tally_cuts cancelled_by mid) (tally serves_by mid)
 
-longest-is : (rules : Rules) (w s c : ℕ) → is_cancelling rules.policy ≡ false → rules.twice ≡ false → longest rules w s c ≡ attempt rules * (2 * w + rules.spares + c) + rules.read * (2 * s + c)
-longest-is rules w s c none single =
-    ap (λ k. k * attempt rules * (cond rules.twice 2 1 * (2 * w + rules.spares) + c) + rules.read * (2 * s + c)) (once rules.policy none)
-    ∙ ap (λ b. 1 * attempt rules * (cond b 2 1 * (2 * w + rules.spares) + c) + rules.read * (2 * s + c)) single
-    ∙ ap (λ k. k * (1 * (2 * w + rules.spares) + c) + rules.read * (2 * s + c)) one
-    ∙ ap (λ k. attempt rules * k + rules.read * (2 * s + c)) (omega arith)
-  where
-    once : (p : Pausing) → is_cancelling p ≡ false → tries p ≡ 1
-    once Pause none = refl
-    once Plain none = refl
-    once Cancel none = absurd (cc)
+shuffle : (a q x : ℕ) → a * (q * x) ≡ q * a * x
+shuffle a q x = grind arith
 
-    one : 1 * attempt rules ≡ attempt rules
-    one = omega arith
-
-bounded : (a r b s m t c v w spares cuts reads : ℕ) → s ≤ w → m ≤ s → t ≤ spares → c ≤ cuts → v ≤ reads
-    → (a * (s + m + t + c) + r * (2 * v + c)) + b ≤ b + (a * (2 * w + spares + cuts) + r * (2 * reads + cuts))
-bounded a r b s m t c v w spares cuts reads sw ms ts cs vs =
-    let d : a * (s + m + t + c) ≤ a * (2 * w + spares + cuts) = mul-le-mul_left {m = s + m + t + c} {n = 2 * w + spares + cuts} a (omega arith) in
+bounded : (a r b q s m t c k v w spares cuts reads : ℕ) → s ≤ w → m ≤ s → t ≤ spares → c ≤ cuts → v ≤ reads → (s + m + t + c) + k ≤ q * (s + m + t + c)
+    → (a * (s + m + t + c + k) + r * (2 * v + c)) + b ≤ b + (q * a * (1 * (2 * w + spares) + cuts) + r * (2 * reads + cuts))
+bounded a r b q s m t c k v w spares cuts reads sw ms ts cs vs ks =
+    let more : q * (s + m + t + c) ≤ q * (1 * (2 * w + spares) + cuts) = mul-le-mul_left {m = s + m + t + c} {n = 1 * (2 * w + spares) + cuts} q (omega arith) in
+    let d : a * (s + m + t + c + k) ≤ a * (q * (1 * (2 * w + spares) + cuts)) = mul-le-mul_left {m = s + m + t + c + k} {n = q * (1 * (2 * w + spares) + cuts)} a (omega (arith, ks, more)) in
     let f : r * (2 * v + c) ≤ r * (2 * reads + cuts) = mul-le-mul_left {m = 2 * v + c} {n = 2 * reads + cuts} r (omega arith) in
-    omega (arith, d, f)
+    let same : a * (q * (1 * (2 * w + spares) + cuts)) ≡ q * a * (1 * (2 * w + spares) + cuts) = shuffle a q (1 * (2 * w + spares) + cuts) in
+    omega (arith, d, f, same)
 
 module _ {n : ℕ} where
   -- stored, or read, at a tick above a and up to u
@@ -116,9 +103,6 @@ module _ {n : ℕ} where
   ended-within a u tick (out.Lost at) = refl
   ended-within a u tick (out.Cut at) = refl
 
-  fine_before : (h : Happens n) (xs : List (Event n)) → has_exhausted (core_of h xs) ≡ false → has_exhausted xs ≡ false
-  fine_before (Core event) xs fine = either (has_exhausted xs) (λ ex. absurd (cc (exhausted-more event xs ex, fine))) (λ is. is)
-
 module _ {n m : ℕ} (shape : BankShape) (pace : Pacing) (e : ℕ) where
   -- while a write stands the ticks are in time
   delays : (a row : ℕ) (zs : List (Timed n m)) → 1 ≤ pace.read → 1 ≤ pace.iter → has_row (queue shape (core zs)) row ≡ true → Delay shape pace e a zs
@@ -133,12 +117,14 @@ module _ {n m : ℕ} (shape : BankShape) (pace : Pacing) (e : ℕ) where
       (delays a row zs r i there d mid l.1 back before))
 
   -- what the event is by which a row is stored
-  record IsStore (zs : List (Timed n m)) (y : Timed n m) (h : Happens n) (u : ℕ) : Type 0 where
-    at : u ≡ y.tick
+  pub record IsStore (zs : List (Timed n m)) (y : Timed n m) (h : Happens n) (u : ℕ) : Type 0 where
+    pub at : u ≡ y.tick
     fine : has_exhausted (core zs) ≡ false
-    one : stores_by h ≡ 1
+    pub one : stores_by h ≡ 1
     moves : moves_by h ≡ 0
     ends : ends_action h ≡ true
+    after : has_exhausted (core_of h (core zs)) ≡ false
+    resets : (cancels : Bool) (count : ℕ) → cancels_with h cancels count ≡ 0
 
   module _ (zs : List (Timed n m)) (y : Timed n m) (row u p : ℕ) where
     not_set : (at : ℕ) (t : Outcome n) → ((u p : ℕ) → t ≡ out.Stored u p → ⊥) → on_row at row t ≡ Some (out.Stored u p) → ⊥
@@ -153,7 +139,7 @@ module _ {n m : ℕ} (shape : BankShape) (pace : Pacing) (e : ℕ) where
     of_store : (at place : ℕ) → IsDone shape (core zs) (work_after shape (core zs)) (did.Stored at place) → has_exhausted (core zs) ≡ false
     of_store at place d = either (has_exhausted (core zs)) (λ ex. absurd (exhausted-stores_none shape (core zs) at place ex d)) (λ is. is)
 
-    store_event : (h : Happens n) → MayCome shape pace e zs y h → outcome_with shape zs h y.tick row ≡ Some (out.Stored u p) → IsStore zs y h u
+    pub store_event : (h : Happens n) → MayCome shape pace e zs y h → outcome_with shape zs h y.tick row ≡ Some (out.Stored u p) → IsStore zs y h u
     store_event (Core (Write at line bytes given wrote.Accepted)) may is = absurd (cc)
     store_event (Core (Write at line bytes given (wrote.Merged old))) may is = absurd (not_set old (out.Merged y.tick) (λ u p k. absurd (cc)) is)
     store_event (Core (Write at line bytes given wrote.Full)) may is = absurd (not_set at (out.Full y.tick) (λ u p k. absurd (cc)) is)
@@ -163,14 +149,26 @@ module _ {n m : ℕ} (shape : BankShape) (pace : Pacing) (e : ℕ) where
     store_event (Core (Read at line (came.Forwarded bytes))) may is = absurd (not_set at (out.Forwarded y.tick bytes) (λ u p k. absurd (cc)) is)
     store_event (Core (Serve answer)) may is = absurd (not_set answer.row (out.Read y.tick answer.place answer.bytes) (λ u p k. absurd (cc)) is)
     store_event (Core (Begin (did.Stored at place))) may is = record {
-      at = stored_now at place is; fine = of_store at place may.may.1; one = refl; moves = refl; ends = refl;
+      at = stored_now at place is;
+      fine = of_store at place may.may.1;
+      one = refl;
+      moves = refl;
+      ends = refl;
+      after = of_store at place may.may.1;
+      resets = λ cancels count. refl;
     }
     store_event (Core (Begin did.More)) may is = absurd (cc)
     store_event (Core (Begin (did.Moved move))) may is = absurd (cc)
     store_event (Core (Begin (did.Retired slot line))) may is = absurd (cc)
     store_event (Core (Begin did.Exhausted)) may is = absurd (cc)
     store_event (Core (Iterate (did.Stored at place))) may is = record {
-      at = stored_now at place is; fine = of_store at place may.may.1; one = refl; moves = refl; ends = refl;
+      at = stored_now at place is;
+      fine = of_store at place may.may.1;
+      one = refl;
+      moves = refl;
+      ends = refl;
+      after = of_store at place may.may.1;
+      resets = λ cancels count. refl;
     }
     store_event (Core (Iterate did.More)) may is = absurd (cc)
     store_event (Core (Iterate (did.Moved move))) may is = absurd (cc)
@@ -287,10 +285,10 @@ module _ {n m : ℕ} (shape : BankShape) (pace : Pacing) (e : ℕ) (all : List (
     pub late : a < u
     pub soon : u ≤ a + longest rules (stores_in a u table) (reads_in a u table) (cuts_to u after)
 
-  pub in_end : (later : List (Timed n m)) (x : Timed n m) (ys : List (Timed n m)) (row u p : ℕ) → 1 ≤ pace.read → 1 ≤ pace.iter → 1 ≤ shape.psi → is_cancelling pace.policy ≡ false → Lawful shape pace e all
+  pub in_end : (later : List (Timed n m)) (x : Timed n m) (ys : List (Timed n m)) (row u p : ℕ) → 1 ≤ pace.read → 1 ≤ pace.iter → 1 ≤ shape.psi → Lawful shape pace e all
       → all ≡ later ++ x ∷ ys → has_row (queue shape (core (x ∷ ys))) row ≡ true → outcome_of shape all row ≡ out.Stored u p
       → IsInTime (rules_of e shape pace) x.tick u (Table later x ys x.happens) (rows_after shape all later)
-  in_end later x ys row u p r i some none l same there is =
+  in_end later x ys row u p r i some l same there is =
       by (setting shape pace e later (x ∷ ys) row (out.Stored u p) total ((opens shape pace e (x ∷ ys) before).queued row there) (λ k. absurd (cc))
       (ap (λ (xs : List (Timed n m)). outcome_of shape xs row) (sym same) ∙ is))
     where
@@ -314,10 +312,10 @@ module _ {n m : ℕ} (shape : BankShape) (pace : Pacing) (e : ℕ) (all : List (
           (delay_at shape pace e (allowed pace.read (work_time pace e) x.tick at.mid) (at.mid ++ x ∷ ys) at.event.tick row (last_tick-rises shape pace e (at.mid ++ x ∷ ys) at.event r i here)
           (unset_stands shape pace e at.mid (x ∷ ys) row here.1 there at.unset) event.fine delay) in
           let sum : allowed pace.read (work_time pace e) x.tick (at.event ∷ at.mid)
-              ≡ ((pace.read + work_time pace e)
-              * (tally stores_by (at.event ∷ at.mid) + tally moves_by (at.event ∷ at.mid) + tally retires_by (at.event ∷ at.mid) + tally cuts_by (at.event ∷ at.mid))
-              + pace.read * (2 * tally serves_by (at.event ∷ at.mid) + tally cuts_by (at.event ∷ at.mid)))
-              + x.tick =
+          ≡ ((pace.read + work_time pace e)
+          * (tally stores_by (at.event ∷ at.mid) + tally moves_by (at.event ∷ at.mid) + tally retires_by (at.event ∷ at.mid) + tally_cuts cuts_by (at.event ∷ at.mid) + tally_cuts cancelled_by (at.event ∷ at.mid))
+          + pace.read * (2 * tally serves_by (at.event ∷ at.mid) + tally_cuts cuts_by (at.event ∷ at.mid)))
+          + x.tick =
           allowed-is pace.read (work_time pace e) x.tick (at.event ∷ at.mid) in
           let stores : tally stores_by (at.event ∷ at.mid) ≤ hits (λ row. stored_within x.tick u (outcome_of shape all row)) (writes_in all) =
           tallied_all shape pace e all stores_by (writes_in all) (stored_within x.tick u) refl (x ∷ ys) u (stores_set x.tick u (x ∷ ys) r i (omega arith)) r i at.late (at.event ∷ at.mid) split l here (omega (arith, now)) in
@@ -332,16 +330,16 @@ module _ {n m : ℕ} (shape : BankShape) (pace : Pacing) (e : ℕ) (all : List (
           let one : stores_by at.event.happens ≡ 1 = event.one in
           let none_moved : moves_by at.event.happens ≡ 0 = event.moves in
           let retires : tally retires_by (at.event ∷ at.mid) ≤ shape.spares = retires_few shape pace e (at.event ∷ at.mid) (x ∷ ys) here in
-          let cuts : tally cuts_by (at.event ∷ at.mid) ≤ cuts_to u (rows_after shape all (at.event ∷ at.mid)) = cuts-counted shape all pace e u (at.event ∷ at.mid) (x ∷ ys) r i none here (omega (arith, now)) in
+          let cuts : tally_cuts cuts_by (at.event ∷ at.mid) ≤ cuts_to u (rows_after shape all (at.event ∷ at.mid)) = cuts-counted shape all pace e u (at.event ∷ at.mid) (x ∷ ys) r i here (omega (arith, now)) in
           let more : cuts_to u (rows_after shape all later) ≡ cuts_to u (rows_after shape all (at.event ∷ at.mid)) + cuts_to u (rows_after shape all at.late) =
           ap (λ (xs : List (Timed n m)). cuts_to u (rows_after shape all xs)) at.split ∙ ap (cuts_to u) (rows_after-append shape all at.late (at.event ∷ at.mid))
           ∙ count-append _ (rows_after shape all (at.event ∷ at.mid)) (rows_after shape all at.late) in
-          let all_in = bounded (pace.read + work_time pace e) pace.read x.tick
-          (tally stores_by (at.event ∷ at.mid)) (tally moves_by (at.event ∷ at.mid)) (tally retires_by (at.event ∷ at.mid)) (tally cuts_by (at.event ∷ at.mid)) (tally serves_by (at.event ∷ at.mid))
+          let tried = tried_few shape pace e (at.event ∷ at.mid) (x ∷ ys) here event.after (event.resets at.event.cancels (cancels_after (at.mid ++ x ∷ ys))) in
+          let all_in = bounded (pace.read + work_time pace e) pace.read x.tick (tries pace.policy)
+          (tally stores_by (at.event ∷ at.mid)) (tally moves_by (at.event ∷ at.mid)) (tally retires_by (at.event ∷ at.mid)) (tally_cuts cuts_by (at.event ∷ at.mid)) (tally_cuts cancelled_by (at.event ∷ at.mid)) (tally serves_by (at.event ∷ at.mid))
           (stores_in x.tick u (Table later x ys x.happens)) shape.spares (cuts_to u (rows_after shape all later)) (reads_in x.tick u (Table later x ys x.happens))
-          (omega (arith, stores, w)) (omega (arith, moves, most, one, none_moved)) retires (omega (arith, cuts, more)) (omega (arith, serves, v)) in
-          let long = longest-is (rules_of e shape pace) (stores_in x.tick u (Table later x ys x.happens)) (reads_in x.tick u (Table later x ys x.happens)) (cuts_to u (rows_after shape all later)) none refl in
+          (omega (arith, stores, w)) (omega (arith, moves, most, one, none_moved)) retires (omega (arith, cuts, more)) (omega (arith, serves, v)) tried in
           record {
             late = let lt = above x.tick u (x ∷ ys) r i (omega arith) at.mid at.event here event.ends in omega (arith, lt, now);
-            soon = omega (arith, now, ends, sum, all_in, long);
+            soon = omega (arith, now, ends, sum, all_in);
           }

@@ -1,12 +1,11 @@
 -- How many line writes ended, reads were served and cuts came, over some events.
-use Rattle.std.proofs.Common.{◌≡◌, ℕ, ◌+◌, List, [], ◌∷◌}
-use Rattle.bank_model.specs.declared.answer.Step.{Step}
+use Rattle.std.proofs.Common.{ℕ, ◌+◌, Bool, true, false, List, [], ◌∷◌}
 use Rattle.bank_model.specs.declared.answer.Step.TheVariants as did
-use Rattle.bank_model.specs.Events.{Write, Read, Serve, Begin, Iterate, Cut}
+use Rattle.bank_model.specs.Events.{Serve, Begin, Iterate, Cut}
 use Rattle.bank_model.specs.Timing.{Happens, Core, Timed}
 
 module _ {n : ℕ} where
-  -- one for each store, move, retirement, serve or cut
+  -- one for each store, move, retirement or serve
   abbrev pub stores_by : Happens n → ℕ
   stores_by (Core (Begin (did.Stored row place))) = 1
   stores_by (Core (Iterate (did.Stored row place))) = 1
@@ -25,11 +24,20 @@ module _ {n : ℕ} where
   serves_by (Core (Serve answer)) = 1
   serves_by _ = 0
 
-  abbrev pub cuts_by : Happens n → ℕ
-  cuts_by (Core (Cut tearing)) = 1
-  cuts_by _ = 0
+  -- one for each cut, but for a cancel; and one for each cancel
+  abbrev pub cuts_by : Happens n → Bool → ℕ
+  cuts_by (Core (Cut tearing)) false = 1
+  cuts_by _ _ = 0
+
+  abbrev pub cancelled_by : Happens n → Bool → ℕ
+  cancelled_by (Core (Cut tearing)) true = 1
+  cancelled_by _ _ = 0
 
 -- the sum of that over some events
 abbrev pub tally : {n m : ℕ} → (Happens n → ℕ) → List (Timed n m) → ℕ
 tally by [] = 0
 tally by (x ∷ xs) = by x.happens + tally by xs
+
+abbrev pub tally_cuts : {n m : ℕ} → (Happens n → Bool → ℕ) → List (Timed n m) → ℕ
+tally_cuts by [] = 0
+tally_cuts by (x ∷ xs) = by x.happens x.cancels + tally_cuts by xs

@@ -1,14 +1,12 @@
 -- The laws of the rows that are stored in time, and of all rows together.
-use Rattle.std.proofs.Common.{◌≡◌, ℕ, ◌≤◌, ◌&&◌, ◌==◌, Bool, true, false, List, [], ◌∷◌, ◌++◌, refl, sym, ap, ◌∙◌, subst, arith}
+use Rattle.std.proofs.Common.{◌≡◌, ℕ, ◌≤◌, Bool, true, false, List, [], ◌∷◌, ◌++◌, refl, sym, ◌∙◌}
 use Rattle.std.proofs.lemmas.Bool.{lt-ltb, le-leb, and_from}
 use Rattle.result_rows.specs.declared.Outcome.{Outcome}
 use Rattle.result_rows.specs.declared.Outcome.TheVariants as out
 use Rattle.masked_bytes.specs.Entries.{has_row}
 use Rattle.row_laws.specs.declared.Asks.TheVariants.{Writes}
 use Rattle.row_laws.specs.declared.Row.{Row}
-use Rattle.row_laws.specs.Rows.{each_row}
 use Rattle.row_laws.specs.Ticking.{store_in_time, is_in_time}
-use Rattle.bank_shape.specs.Pausing.{is_cancelling}
 use Rattle.bank_shape.specs.declared.BankShape.{BankShape}
 use Rattle.bank_model.specs.declared.answer.WriteAnswer.{WriteAnswer}
 use Rattle.bank_model.specs.declared.answer.WriteAnswer.TheVariants as wrote
@@ -26,14 +24,14 @@ use Rattle.bank_laws.proofs.Serves.{may_at, onwards_at, idle-waits}
 use Rattle.tick_laws.specs.TickLaws.{is_apart, reads_in_time, stores_in_time, StoreTimeLaw, InTimeLaw}
 use Rattle.tick_laws.proofs.Apart.{apart_at}
 use Rattle.tick_laws.proofs.ReadTimes.{read_at}
-use Rattle.tick_laws.proofs.StoreTimes.{IsInTime, Table, in_end}
+use Rattle.tick_laws.proofs.StoreTimes.{IsInTime, in_end}
 
 module _ {n m : ℕ} (shape : BankShape) (pace : Pacing) (e : ℕ) (all : List (Timed n m)) where
-  store_at : 1 ≤ pace.read → 1 ≤ pace.iter → 1 ≤ shape.psi → is_cancelling pace.policy ≡ false → Lawful shape pace e all → (later : List (Timed n m)) (x : Timed n m) (ys : List (Timed n m)) → all ≡ later ++ x ∷ ys
+  store_at : 1 ≤ pace.read → 1 ≤ pace.iter → 1 ≤ shape.psi → Lawful shape pace e all → (later : List (Timed n m)) (x : Timed n m) (ys : List (Timed n m)) → all ≡ later ++ x ∷ ys
       → Passes (stores_in_time (rules_of e shape pace)) (rows_from shape all ys) (row_with shape all x.happens x.tick x.cancels) (rows_after shape all later)
-  store_at r i some none l later x ys same =
+  store_at r i some l later x ys same =
       by x.happens x.cancels (may_at shape pace e all later x ys l same) (onwards_at shape pace e all later x ys l same)
-      (λ row u p there is. in_end shape pace e all later x ys row u p r i some none l same there is)
+      (λ row u p there is. in_end shape pace e all later x ys row u p r i some l same there is)
     where
       -- a write that was refused isn't stored
       stands : (row line : ℕ) (bytes : List ℕ) (given : List Bool) (answer : WriteAnswer) → MayCome shape pace e ys x (Core (Write row line bytes given answer))
@@ -87,11 +85,11 @@ module _ {n m : ℕ} (shape : BankShape) (pace : Pacing) (e : ℕ) (all : List (
   all_three (Core (Cut tearing)) tick false before after far read store = and_from _ _ refl far
 
 pub store_time_law : StoreTimeLaw
-store_time_law n m e shape pace xs sized l none =
-    walk shape xs (stores_in_time (rules_of e shape pace)) [] xs refl (store_at shape pace e xs sized.read sized.iter sized.psi none l)
+store_time_law n m e shape pace xs sized l =
+    walk shape xs (stores_in_time (rules_of e shape pace)) [] xs refl (store_at shape pace e xs sized.read sized.iter sized.psi l)
 
 pub in_time_law : InTimeLaw
-in_time_law n m e shape pace xs sized l idle none =
+in_time_law n m e shape pace xs sized l idle =
     walk shape xs (is_in_time (rules_of e shape pace)) [] xs refl (λ later x ys same.
     all_three shape pace e xs x.happens x.tick x.cancels _ _ (apart_at shape pace e xs later x ys sized.read sized.iter l same)
-    (read_at shape pace e xs sized.read sized.iter none l (idle-waits shape pace xs idle) later x ys same) (store_at shape pace e xs sized.read sized.iter sized.psi none l later x ys same))
+    (read_at shape pace e xs sized.read sized.iter l (idle-waits shape pace xs idle) later x ys same) (store_at shape pace e xs sized.read sized.iter sized.psi l later x ys same))

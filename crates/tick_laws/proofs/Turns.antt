@@ -1,15 +1,15 @@
 -- How long a read that waits still waits at most.
-use Rattle.std.proofs.Common.{◌≡◌, ℕ, ◌+◌, ◌*◌, ◌<◌, ◌≤◌, ◌==◌, ◌&&◌, ◌||◌, ◌⊎◌, inl, inr, not, suc, Bool, true, false, List, [], ◌∷◌, ◌++◌, Option, Some, None, drop, length, refl, sym, ap, ◌∙◌, subst, arith, cond, eqb, eqb-true}
+use Rattle.std.proofs.Common.{◌≡◌, ℕ, ◌+◌, ◌*◌, ◌≤◌, ◌==◌, ◌||◌, ◌⊎◌, inl, inr, not, suc, Bool, true, false, List, [], ◌∷◌, ◌++◌, Option, Some, None, length, refl, sym, ap, ◌∙◌, subst, arith, cond, eqb, eqb-true}
 use Rattle.std.specs.Prelude.{IfSome, max, nat_lt, if◌then◌else◌}
 use Rattle.std.proofs.lemmas.Bool.{eq-eqb}
 use Rattle.bank_model.specs.declared.clock.Doing.{Doing}
 use Rattle.bank_model.specs.declared.clock.Doing.TheVariants.{Serving, Beginning, Iterating}
 use Rattle.bank_model.specs.declared.clock.Action.{Action}
 use Rattle.bank_model.specs.History.{Awaited}
-use Rattle.bank_model.specs.Timing.{same_doing, is_doing, is_empty, lasts}
+use Rattle.bank_model.specs.Timing.{same_doing, is_empty}
 use Rattle.bank_model.specs.Running.{choice, chosen_by, started}
 use Rattle.bank_laws.specs.Standing.{has_wait, WaitsApart}
-use Rattle.tick_laws.proofs.Actions.{since, Fits}
+use Rattle.tick_laws.proofs.Actions.{Fits}
 
 -- how long the reads up to one with this row take
 abbrev pub turn : ℕ → ℕ → List Awaited → ℕ

@@ -1,22 +1,14 @@
 -- Each event leaves a read that waits in time, and the one that ends its wait comes in time.
-use Rattle.std.proofs.Common.{◌≡◌, ℕ, ◌+◌, ◌*◌, ◌<◌, ◌≤◌, ◌==◌, ◌&&◌, ◌⊎◌, inl, inr, not, Bool, true, false, List, [], ◌∷◌, ◌++◌, Option, Some, None, drop, length, refl, sym, ap, ◌∙◌, subst, arith, cond, eqb}
+use Rattle.std.proofs.Common.{◌≡◌, ℕ, ◌+◌, ◌*◌, ◌<◌, ◌≤◌, ◌&&◌, not, Bool, true, false, List, [], ◌∷◌, ◌++◌, Option, Some, None, drop, refl, sym, ap, ◌∙◌, subst, arith, cond}
 use Rattle.std.specs.Prelude.{IfSome}
 use Rattle.std.proofs.Math.Nat.{mul-le-mul_right}
-use Rattle.std.specs.List.{list_any}
-use Rattle.std.proofs.lemmas.List.Folds.{list_any-append}
-use Rattle.result_rows.specs.declared.Outcome.{Outcome}
-use Rattle.result_rows.specs.declared.Outcome.TheVariants as out
-use Rattle.row_laws.specs.declared.Row.{Row}
-use Rattle.row_laws.specs.Rows.{is_cut}
-use Rattle.bank_shape.specs.Pausing.{is_cancelling}
 use Rattle.bank_shape.specs.declared.BankShape.{BankShape}
 use Rattle.bank_model.specs.declared.answer.ReadAnswer.TheVariants as came
-use Rattle.bank_model.specs.declared.answer.Step.TheVariants as did
 use Rattle.bank_model.specs.declared.clock.Doing.{Doing}
 use Rattle.bank_model.specs.declared.clock.Doing.TheVariants.{Serving, Beginning, Iterating}
 use Rattle.bank_model.specs.declared.clock.Action.{Action}
-use Rattle.bank_model.specs.Events.{Event, Write, Read, Serve, Begin, Iterate, Cut, RowsBelow}
-use Rattle.bank_model.specs.History.{Awaited, awaited, waits, in_progress, iterated, goes_on}
+use Rattle.bank_model.specs.Events.{Write, Read, Serve, Begin, Iterate, Cut}
+use Rattle.bank_model.specs.History.{Awaited, waits, in_progress, iterated, goes_on}
 use Rattle.bank_model.specs.After.{work_after, is_store_of, may_begin_after}
 use Rattle.bank_model.specs.Sensing.{most_steps}
 use Rattle.bank_model.specs.Timing.{Pacing, Happens, Core, Timed, lasts, ends_with, ends, is_doing, is_empty, core, core_of, last_tick}
@@ -25,10 +17,8 @@ use Rattle.bank_model.specs.Lawful.{Lawful, MayCome}
 use Rattle.bank_laws.specs.Standing.{has_wait, WaitsApart}
 use Rattle.bank_laws.proofs.Standing.{stand_apart}
 use Rattle.bank_laws.proofs.Settling.{above_all}
-use Rattle.bank_laws.proofs.Ticks.{last_tick-rises}
-use Rattle.bank_laws.proofs.Answering.{IsFirst, served-first}
-use Rattle.tick_laws.proofs.Actions.{since, since-started, since_of, reads_of, Fits, FitsAll, running_at-fits, not_begun, iterated-few}
-use Rattle.tick_laws.proofs.Turns.{turn, NotFirst, turn-some, turn-push, turn-served, owed_by, owes, paid, chosen-reads, owes-started, NotEarly, started-not_early, not_early-push}
+use Rattle.tick_laws.proofs.Actions.{since, since-started, since_of, reads_of, Fits, FitsAll, running_at-fits, iterated-few}
+use Rattle.tick_laws.proofs.Turns.{turn, turn-push, turn-served, owed_by, owes, paid, chosen-reads, owes-started, NotEarly, started-not_early, not_early-push}
 
 module _ (read iter work bound : ℕ) where
   after_begin : (way busy next : Bool) (count first t : ℕ) → busy ≡ false → first + owed_by read iter work way Beginning + t ≤ bound + paid iter way busy count

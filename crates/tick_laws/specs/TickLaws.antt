@@ -1,10 +1,9 @@
 -- The laws on the ticks of a bank's rows.
-use Rattle.std.specs.Prelude.{◌≡◌, ℕ, Bool, false, not, ◌||◌, IsTrue, List, []}
+use Rattle.std.specs.Prelude.{ℕ, not, ◌||◌, IsTrue, List, []}
 use Rattle.std.specs.List.{list_all}
 use Rattle.row_laws.specs.Rows.{RowTest, each_row, asks_read, asks_write}
 use Rattle.row_laws.specs.Rules.{Rules}
 use Rattle.row_laws.specs.Ticking.{apart, read_in_time, store_in_time, is_in_time}
-use Rattle.bank_shape.specs.Pausing.{is_cancelling}
 use Rattle.bank_shape.specs.declared.BankShape.{BankShape}
 use Rattle.bank_model.specs.Timing.{Pacing, Timed}
 use Rattle.bank_model.specs.Lawful.{Lawful, IsIdle}
@@ -28,7 +27,7 @@ reads_in_time rules before r after = not (asks_read r.asks) || read_in_time rule
 abbrev pub ReadTimeLaw : Type 0
 ReadTimeLaw =
     (n m e : ℕ) (shape : BankShape) (pace : Pacing) (xs : List (Timed n m)) → IsSized shape pace → Lawful shape pace e xs
-    → IsIdle shape pace xs → is_cancelling pace.policy ≡ false → IsTrue (each_row (reads_in_time (rules_of e shape pace)) (table_of shape xs) [])
+    → IsIdle shape pace xs → IsTrue (each_row (reads_in_time (rules_of e shape pace)) (table_of shape xs) [])
 
 -- a write is stored in time
 abbrev pub stores_in_time : {n : ℕ} → Rules → RowTest n
@@ -37,10 +36,10 @@ stores_in_time rules before r after = not (asks_write r.asks) || store_in_time r
 abbrev pub StoreTimeLaw : Type 0
 StoreTimeLaw =
     (n m e : ℕ) (shape : BankShape) (pace : Pacing) (xs : List (Timed n m)) → IsSized shape pace → Lawful shape pace e xs
-    → is_cancelling pace.policy ≡ false → IsTrue (each_row (stores_in_time (rules_of e shape pace)) (table_of shape xs) [])
+    → IsTrue (each_row (stores_in_time (rules_of e shape pace)) (table_of shape xs) [])
 
 -- each row is read or stored in time, and apart from every row before it
 abbrev pub InTimeLaw : Type 0
 InTimeLaw =
     (n m e : ℕ) (shape : BankShape) (pace : Pacing) (xs : List (Timed n m)) → IsSized shape pace → Lawful shape pace e xs
-    → IsIdle shape pace xs → is_cancelling pace.policy ≡ false → IsTrue (each_row (is_in_time (rules_of e shape pace)) (table_of shape xs) [])
+    → IsIdle shape pace xs → IsTrue (each_row (is_in_time (rules_of e shape pace)) (table_of shape xs) [])

@@ -10,19 +10,18 @@ pub fn actions_stand_apart()
     ensures { ApartLaw }
 {}
 
-/// Unless reads cancel writes, a read is read a sense or more after its arrival, and within the time of the reads before it,
-/// its own, and what a line write may take that doesn't give way; or it is lost at the first cut, before that time is up.
+/// A read is read a sense or more after its arrival, and within the time of the reads before it, its own, and what a line
+/// write may still take; or it is lost at the first cut, before that time is up.
 pub fn reads_wait_little()
     ensures { ReadTimeLaw }
 {}
 
-/// Unless reads cancel writes, a write that is stored is stored after its arrival, and within the time of the line writes,
-/// reads and cuts since.
+/// A write that is stored is stored after its arrival, and within the time of the line writes, reads and cuts since.
 pub fn writes_wait_little()
     ensures { StoreTimeLaw }
 {}
 
-/// Unless reads cancel writes, each row is read or stored in time, and apart from every row before it.
+/// Each row is read or stored in time, and apart from every row before it.
 pub fn rows_are_in_time()
     ensures { InTimeLaw }
 {}

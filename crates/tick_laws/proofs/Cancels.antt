@@ -1,0 +1,114 @@
+-- How often line writes were cancelled.
+use Rattle.std.proofs.Common.{◌≡◌, ℕ, ◌+◌, ◌*◌, ◌<◌, ◌≤◌, ◌&&◌, Bool, true, false, List, [], ◌∷◌, ◌++◌, refl, arith}
+use Rattle.std.specs.Prelude.{nat_lt}
+use Rattle.std.proofs.lemmas.Bool.{ltb-true}
+use Rattle.row_laws.specs.Ticking.{tries}
+use Rattle.bank_shape.specs.Pausing.{Pausing, Pause, Plain, Cancel, is_cancelling, most_cancels}
+use Rattle.bank_shape.specs.declared.BankShape.{BankShape}
+use Rattle.bank_model.specs.declared.answer.Step.TheVariants as did
+use Rattle.bank_model.specs.Events.{Event, Write, Read, Serve, Begin, Iterate, Cut}
+use Rattle.bank_model.specs.History.{waits, has_exhausted}
+use Rattle.bank_model.specs.Timing.{Pacing, Happens, Core, Timed, is_writing, is_empty, core, core_of}
+use Rattle.bank_model.specs.Running.{running_at, cancels_with, cancels_after}
+use Rattle.bank_model.specs.Lawful.{Lawful, MayCome, would_cancel}
+use Rattle.tick_laws.proofs.Actions.{not-cancelled}
+use Rattle.bank_laws.proofs.Entries.{either}
+use Rattle.bank_laws.proofs.Wears.{exhausted-more}
+use Rattle.tick_laws.proofs.Tallies.{stores_by, moves_by, retires_by, cuts_by, cancelled_by, tally, tally_cuts}
+
+few_of : (a b c d : Bool) → (a && (b && (c && d))) ≡ true → d ≡ true
+few_of true true true d h = h
+few_of true true false d h = absurd (cc)
+few_of true false c d h = absurd (cc)
+few_of false b c d h = absurd (cc)
+
+module _ {n : ℕ} where
+  pub fine_before : (h : Happens n) (xs : List (Event n)) → has_exhausted (core_of h xs) ≡ false → has_exhausted xs ≡ false
+  fine_before (Core event) xs fine = either (has_exhausted xs) (λ ex. absurd (cc (exhausted-more event xs ex, fine))) (λ is. is)
+
+module _ {n m : ℕ} (shape : BankShape) (pace : Pacing) (e : ℕ) where
+  -- the present line write was cancelled at most as often as may be
+  pub few_cancels : (zs : List (Timed n m)) → Lawful shape pace e zs → cancels_after zs ≤ 4
+  few_cancels [] l = omega arith
+  few_cancels (z ∷ zs) l = by z.happens l.0 (few_cancels zs l.1)
+    where
+      cut : (tearing b : Bool) → (b ≡ true → would_cancel shape (core zs) pace.policy (running_at shape pace zs z.tick) (cancels_after zs) ≡ true) → cancels_after zs ≤ 4
+          → cancels_with {n = n} (Core (Cut tearing)) b (cancels_after zs) ≤ 4
+      cut tearing true would le =
+          let k : cancels_after zs < 4 = ltb-true (cancels_after zs) 4 (few_of (is_cancelling pace.policy) (is_writing (running_at shape pace zs z.tick)) (is_empty (waits shape (core zs))) (nat_lt (cancels_after zs) most_cancels) (would refl)) in
+          omega (arith, k)
+      cut tearing false would le = omega arith
+
+      by : (h : Happens n) → MayCome shape pace e zs z h → cancels_after zs ≤ 4 → cancels_with h z.cancels (cancels_after zs) ≤ 4
+      by (Core (Write row line bytes given answer)) may le = le
+      by (Core (Read row line answer)) may le = le
+      by (Core (Serve answer)) may le = le
+      by (Core (Begin did.More)) may le = le
+      by (Core (Begin (did.Stored row place))) may le = omega arith
+      by (Core (Begin (did.Moved move))) may le = omega arith
+      by (Core (Begin (did.Retired slot line))) may le = omega arith
+      by (Core (Begin did.Exhausted)) may le = omega arith
+      by (Core (Iterate did.More)) may le = le
+      by (Core (Iterate (did.Stored row place))) may le = omega arith
+      by (Core (Iterate (did.Moved move))) may le = omega arith
+      by (Core (Iterate (did.Retired slot line))) may le = omega arith
+      by (Core (Iterate did.Exhausted)) may le = omega arith
+      by (Core (Cut tearing)) may le = cut tearing z.cancels may.on_time.2 le
+
+  -- four cancels at most come to each line write that ends, and to the present one
+  cancels_few : (mid zs : List (Timed n m)) → Lawful shape pace e (mid ++ zs) → has_exhausted (core (mid ++ zs)) ≡ false
+      → tally_cuts cancelled_by mid ≤ 4 * (tally stores_by mid + tally moves_by mid + tally retires_by mid + tally_cuts cuts_by mid) + cancels_after (mid ++ zs)
+  cancels_few [] zs l fine = omega arith
+  cancels_few (y ∷ mid) zs l fine =
+      by y.happens y.cancels l.0 fine (few_cancels (mid ++ zs) l.1) (cancels_few mid zs l.1 (fine_before y.happens (core (mid ++ zs)) fine))
+    where
+      by : (h : Happens n) (cancels : Bool) → MayCome shape pace e (mid ++ zs) y h → has_exhausted (core_of h (core (mid ++ zs))) ≡ false → cancels_after (mid ++ zs) ≤ 4
+          → tally_cuts cancelled_by mid ≤ 4 * (tally stores_by mid + tally moves_by mid + tally retires_by mid + tally_cuts cuts_by mid) + cancels_after (mid ++ zs)
+          → cancelled_by h cancels + tally_cuts cancelled_by mid
+          ≤ 4 * ((stores_by h + tally stores_by mid) + (moves_by h + tally moves_by mid) + (retires_by h + tally retires_by mid) + (cuts_by h cancels + tally_cuts cuts_by mid)) + cancels_with h cancels (cancels_after (mid ++ zs))
+      by (Core (Write row line bytes given answer)) cancels may fine le ih = omega (arith, ih)
+      by (Core (Read row line answer)) cancels may fine le ih = omega (arith, ih)
+      by (Core (Serve answer)) cancels may fine le ih = omega (arith, ih)
+      by (Core (Begin did.More)) cancels may fine le ih = omega (arith, ih)
+      by (Core (Begin (did.Stored row place))) cancels may fine le ih = omega (arith, ih, le)
+      by (Core (Begin (did.Moved move))) cancels may fine le ih = omega (arith, ih, le)
+      by (Core (Begin (did.Retired slot line))) cancels may fine le ih = absurd may.may.1
+      by (Core (Begin did.Exhausted)) cancels may fine le ih = absurd (cc)
+      by (Core (Iterate did.More)) cancels may fine le ih = omega (arith, ih)
+      by (Core (Iterate (did.Stored row place))) cancels may fine le ih = omega (arith, ih, le)
+      by (Core (Iterate (did.Moved move))) cancels may fine le ih = omega (arith, ih, le)
+      by (Core (Iterate (did.Retired slot line))) cancels may fine le ih = omega (arith, ih, le)
+      by (Core (Iterate did.Exhausted)) cancels may fine le ih = absurd (cc)
+      by (Core (Cut tearing)) true may fine le ih = omega (arith, ih)
+      by (Core (Cut tearing)) false may fine le ih = omega (arith, ih, le)
+
+  none_cancelled : (mid zs : List (Timed n m)) → is_cancelling pace.policy ≡ false → Lawful shape pace e (mid ++ zs) → tally_cuts cancelled_by mid ≡ 0
+  none_cancelled [] zs none l = refl
+  none_cancelled (y ∷ mid) zs none l =
+      let before : tally_cuts cancelled_by mid ≡ 0 = none_cancelled mid zs none l.1 in
+      let own : cancelled_by y.happens y.cancels ≡ 0 = by y.happens y.cancels (not-cancelled shape pace e (mid ++ zs) y y.happens none l.0) in
+      omega (arith, before, own)
+    where
+      by : (h : Happens n) (cancels : Bool) → cancels ≡ false → cancelled_by h cancels ≡ 0
+      by h true whole = absurd (cc)
+      by (Core (Write row line bytes given answer)) false whole = refl
+      by (Core (Read row line answer)) false whole = refl
+      by (Core (Serve answer)) false whole = refl
+      by (Core (Begin answer)) false whole = refl
+      by (Core (Iterate answer)) false whole = refl
+      by (Core (Cut tearing)) false whole = refl
+
+  -- the attempts, with those that were cancelled, where the present line write was not
+  pub tried_few : (mid zs : List (Timed n m)) → Lawful shape pace e (mid ++ zs) → has_exhausted (core (mid ++ zs)) ≡ false → cancels_after (mid ++ zs) ≡ 0
+      → (tally stores_by mid + tally moves_by mid + tally retires_by mid + tally_cuts cuts_by mid) + tally_cuts cancelled_by mid
+      ≤ tries pace.policy * (tally stores_by mid + tally moves_by mid + tally retires_by mid + tally_cuts cuts_by mid)
+  tried_few mid zs l fine whole = by pace.policy (λ none. none_cancelled mid zs none l)
+    where
+      few : tally_cuts cancelled_by mid ≤ 4 * (tally stores_by mid + tally moves_by mid + tally retires_by mid + tally_cuts cuts_by mid) + cancels_after (mid ++ zs)
+      few = cancels_few mid zs l fine
+
+      by : (p : Pausing) → (is_cancelling p ≡ false → tally_cuts cancelled_by mid ≡ 0) → (tally stores_by mid + tally moves_by mid + tally retires_by mid + tally_cuts cuts_by mid) + tally_cuts cancelled_by mid
+          ≤ tries p * (tally stores_by mid + tally moves_by mid + tally retires_by mid + tally_cuts cuts_by mid)
+      by Pause none = let k : tally_cuts cancelled_by mid ≡ 0 = none refl in omega (arith, k)
+      by Plain none = let k : tally_cuts cancelled_by mid ≡ 0 = none refl in omega (arith, k)
+      by Cancel none = omega (arith, few, whole)
