@@ -1,15 +1,15 @@
 pub mod Asked
-pub mod Counts
-pub mod Working
+mod Counts
+mod Working
 pub mod Moves
-pub mod Storing
+mod Storing
 pub mod Tables
 pub mod Slots
 pub mod Splits
 pub mod Placed
 mod Owners
-pub mod WornOut
-pub mod Taken
+mod WornOut
+mod Taken
 mod Pulsing
 mod Trying
 mod Cancels

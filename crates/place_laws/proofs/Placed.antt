@@ -90,7 +90,7 @@ module _ {n m : ℕ} (shape : BankShape) where
 
 module _ {n m : ℕ} (shape : BankShape) (pace : Pacing) (e : ℕ) (all : List (Timed n m)) (array : ArrayState n m) (sized : IsSized shape pace) (l : Lawful shape pace e all) (leaves : LeavesArray e shape all array) where
   -- a slot that was given a spare had a line that is worn in the end
-  pub home_worn : (slot : ℕ) → slot < slots_of shape → IsAway shape (core all) slot → is_worn_at e array (shape.base + slot) ≡ true
+  home_worn : (slot : ℕ) → slot < slots_of shape → IsAway shape (core all) slot → is_worn_at e array (shape.base + slot) ≡ true
   home_worn slot exists away =
       leaves.retired slot (omega (arith, exists)) (λ other in_it is.
       let table : Table = record { slots = slots_of shape; spares = shape.spares; replaced = retired (core all) } in
