@@ -1,0 +1,5 @@
+-- What the contracts of a run's summary cite.
+pub mod Counting
+pub mod Pulses
+pub mod Shortfall
+pub mod SummaryText
