@@ -3,11 +3,13 @@
 #![tactic(auto)]
 
 mod counts;
+mod laws;
 mod print;
 mod pulses;
 mod shortfall;
 
 pub use counts::Counts;
+pub use laws::{each_row_is_counted_once, short_rows_are_counted};
 pub use print::print_summary;
 pub use pulses::{add_pulses, sum_pulses};
 pub use shortfall::{any_short, is_short};

@@ -1,8 +1,34 @@
+ghost use Rattle.std.specs.Prelude.{◌≡◌, ◌<◌};
+ghost use Rattle.pcm_cells.specs.Device.{IsShape};
+
 use super::*;
-use pcm_cells::{CellArray, Cells, PlainArray, Wear};
+use pcm_cells::{CellArray, Cells, MemArray, ScriptArray, Wear};
 use pcm_io::Text;
 use result_rows::{Outcome, Results};
 use std::test::Fail;
+
+// Pulses the cells of the line that differ, if any do.
+fn overwrite<A: CellArray<B, M>, const B: usize, const M: usize>(
+    array: &mut A,
+    line: u32,
+    want: &Cells<B, M>,
+)
+    requires exists { line < (A.state array.old).lines }
+    requires shape { IsShape B M }
+    ensures { (A.state array.new).lines ≡ (A.state array.old).lines }
+{
+    let mask = array.sense(line, 0).differ(want);
+    if !mask.is_none() {
+        array.pulse(line, &mask, want, 0);
+    }
+}
+
+const LASTING: Wear = Wear {
+    seed: 0,
+    lo: 1000,
+    hi: 1000,
+    misses: 0,
+};
 
 #[test]
 fn a_write_and_a_read_forwarded_from_the_queue(rt: HostRuntime) -> Result<(), Fail> {
@@ -53,7 +79,10 @@ fn a_refused_write_and_a_queued_one_fall_short(rt: HostRuntime) -> Result<(), Fa
     results.set(2, Outcome::Full { tick: 0 });
     assert!(rt; any_short(&results));
     let counts = Counts::of(&results);
-    assert_eq!(rt; (counts.merged, counts.full, counts.cut, counts.lost), (1, 1, 1, 0));
+    assert_eq!(rt;
+        (counts.merged, counts.full, counts.cut, counts.lost),
+        (1, 1, 1, 0)
+    );
     assert!(rt; is_short(&Outcome::<64>::Queued { tick: 7 }));
     assert!(rt; !is_short(&Outcome::<64>::Merged { tick: 7 }));
     Ok(())
@@ -64,4 +93,35 @@ fn a_sum_of_pulses_stays_at_the_greatest_number(rt: HostRuntime) {
     assert_eq!(rt; add_pulses(66, 1), 67);
     assert_eq!(rt; add_pulses(u64::MAX, 1), u64::MAX);
     assert_eq!(rt; add_pulses(1, u64::MAX), u64::MAX);
+}
+
+#[test]
+fn pulses_of_all_lines_are_summed(rt: HostRuntime) -> Result<(), Fail> {
+    let mut array: MemArray<64, 8> = MemArray::new();
+    assert_eq!(rt; sum_pulses(&array), 0, "no lines");
+    array.power_up(rt.alloc(), 3, LASTING)?;
+    assert_eq!(rt; sum_pulses(&array), 0);
+    let ones = Cells {
+        bits: [0xff; 64],
+        meta: [0; 8],
+    };
+    overwrite(&mut array, 0, &ones);
+    overwrite(&mut array, 2, &ones);
+    overwrite(&mut array, 2, &Cells::zero());
+    assert_eq!(rt; sum_pulses(&array), 3);
+    let mut wide: ScriptArray<128, 16> = ScriptArray::new(Vec::new(rt.alloc()));
+    wide.power_up(rt.alloc(), 1, LASTING)?;
+    let one = Cells {
+        bits: [1; 128],
+        meta: [0; 16],
+    };
+    overwrite(&mut wide, 0, &one);
+    assert_eq!(rt; sum_pulses(&wide), 1);
+    Ok(())
+}
+
+#[test]
+fn counts_and_rows_agree() {
+    each_row_is_counted_once();
+    short_rows_are_counted();
 }
