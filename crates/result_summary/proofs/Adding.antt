@@ -1,5 +1,5 @@
 -- The ten counts of a table add up to its rows, and some row falls short where a count says so.
-use Rattle.std.proofs.Common.{ℕ, suc, ◌+◌, ◌<◌, ◌≡◌, Bool, true, false, ◌||◌, cond, nat_lt, List, [], ◌∷◌, length, sum_by, count_by, zero-add, ap, sym, ◌∙◌, refl, arith}
+use Rattle.std.proofs.Common.{ℕ, suc, ◌+◌, ◌≡◌, Bool, true, false, ◌||◌, cond, nat_lt, List, [], ◌∷◌, length, count_by, zero-add, ap, sym, ◌∙◌, refl, arith}
 use Rattle.std.specs.List.{list_any}
 use Rattle.std.proofs.lemmas.Bool.{lt-ltb}
 use Rattle.std.proofs.lemmas.List.Sums.{sum_by-cons}
@@ -7,7 +7,7 @@ use Rattle.result_rows.specs.declared.Outcome.{Outcome}
 use Rattle.result_rows.specs.declared.Outcome.TheVariants as out
 use Rattle.row_laws.specs.Answers.{is_stored, is_merged, is_queued, is_full, is_worn, is_answered, is_forwarded, is_busy, is_lost}
 use Rattle.result_summary.specs.Counting.{is_cut, counts_of}
-use Rattle.result_summary.specs.Shortfall.{is_short, any_short}
+use Rattle.result_summary.specs.Shortfall.{is_short}
 use Rattle.result_summary.specs.Laws.{is_unset, rows_counted, rows_short, EachRowIsCountedOnce, ShortRowsAreCounted}
 
 -- 1 for what passes a test, and else 0

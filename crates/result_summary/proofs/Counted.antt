@@ -1,5 +1,5 @@
 -- What one more row does to the counts of a table, and to whether some row falls short.
-use Rattle.std.proofs.Common.{ℕ, get_or, ◌+◌, ◌-◌, ◌<◌, ◌≤◌, ◌≡◌, Bool, true, false, ◌||◌, cond, List, length, take, Some, ap, sym, ◌∙◌, refl, arith}
+use Rattle.std.proofs.Common.{ℕ, get_or, ◌+◌, ◌-◌, ◌<◌, ◌≡◌, Bool, true, false, ◌||◌, cond, List, length, take, Some, ap, sym, ◌∙◌, refl, arith}
 use Rattle.std.specs.List.{count_by, list_any}
 use Rattle.std.proofs.lemmas.List.Sums.{count_by_more_yes, count_by_more_no}
 use Rattle.std.proofs.lemmas.List.Folds.{list_any_more, list_any_at}

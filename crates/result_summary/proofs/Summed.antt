@@ -1,5 +1,5 @@
 -- What one more line does to the sum of the pulses of an array.
-use Rattle.std.proofs.Common.{ℕ, suc, ◌+◌, ◌≡◌, refl, add-one, sym, arith}
+use Rattle.std.proofs.Common.{ℕ, ◌+◌, ◌≡◌, refl, add-one, arith}
 use Rattle.pcm_cells.specs.Device.{ArrayState}
 use Rattle.result_summary.specs.Pulses.{at_most_u64, pulses_of_first}
 

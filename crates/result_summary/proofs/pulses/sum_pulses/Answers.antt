@@ -1,4 +1,4 @@
-use Rattle.std.proofs.Common.{◌≡◌, ◌∙◌, sym, ap}
+use Rattle.std.proofs.Common.{◌∙◌, sym, ap}
 use Rattle.result_summary.specs.Pulses.{at_most_u64}
 use Rattle.result_summary.proofs.Summed.{pulses_of_none, capped_sum_more}
 use Rattle.result_summary.proofs.pulses.sum_pulses.Goals as goal

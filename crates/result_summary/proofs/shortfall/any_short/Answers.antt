@@ -1,4 +1,4 @@
-use Rattle.std.proofs.Common.{◌≡◌, ◌||◌, ◌∙◌, ◌<◌, length, true, false, sym, ap, arith}
+use Rattle.std.proofs.Common.{◌||◌, ◌∙◌, ◌<◌, length, sym, ap, arith}
 use Rattle.result_summary.specs.Shortfall.{is_short}
 use Rattle.result_summary.proofs.Counted.{any-more, any-here}
 use Rattle.result_summary.proofs.shortfall.any_short.Goals as goal
