@@ -13,8 +13,7 @@ use Rattle.result_summary.specs.Counting.{is_cut, counts_of}
 -- a count of the rows up to one, by that of the rows before it
 count-row : {X : Type 0} (p : X → Bool) (xs : List X) (row : ℕ) (x : X) → HasRow xs row → outcome_at xs row ≡ Some x
     → count_by p (take row xs) ≡ cond (p x) (count_by p (take (row - 1) xs) + 1) (count_by p (take (row - 1) xs))
-count-row {X = X} p xs row x has at =
-    let within : row - 1 < length xs = omega (arith, has.above, has.within) in
+count-row p xs row x has at =
     let number : row ≡ (row - 1) + 1 = omega (arith, has.above) in
     let it : x ≡ get_or xs (row - 1) x = sym (get_or_from_slice_get xs (row - 1) x x at) in
     ap (λ n. count_by p (take n xs)) number
