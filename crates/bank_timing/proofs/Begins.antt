@@ -1,0 +1,111 @@
+-- The begin of a line write ends.
+use Rattle.std.proofs.Common.{◌≡◌, ℕ, ◌<◌, ◌≤◌, ◌&&◌, not, Bool, true, false, List, ◌∷◌, Option, Some, None, is_some, refl, sym, ap, subst, ◌∙◌}
+use Rattle.std.proofs.lemmas.Bool.{false≢true}
+use Rattle.std.specs.Prelude.{IsTrue}
+use Rattle.pcm_cells.specs.Device.{ArrayState, LineState}
+use Rattle.ecp_line.specs.Reading.{decode}
+use Rattle.result_rows.specs.declared.Outcome.{Outcome}
+use Rattle.bank_shape.specs.declared.Work.{Work}
+use Rattle.bank_shape.specs.declared.Work.TheVariants.{Nothing, Store, Copy}
+use Rattle.line_writer.specs.declared.writer.LineWriter.{LineWriter}
+use Rattle.line_writer.specs.declared.writer.Progress.{Progress}
+use Rattle.line_writer.specs.declared.writer.Progress.TheVariants as progress
+use Rattle.line_writer.specs.Writing.{IsProgress}
+use Rattle.power_recovery.specs.Kept.{KeptState, next_work}
+use Rattle.bank_model.specs.declared.answer.Step.{Step}
+use Rattle.bank_model.specs.declared.clock.Doing.{Doing}
+use Rattle.bank_model.specs.declared.clock.Doing.TheVariants.{Beginning}
+use Rattle.bank_model.specs.declared.clock.Action.{Action}
+use Rattle.bank_model.specs.Events.{Event, Begin}
+use Rattle.bank_model.specs.Timing.{Timed, core, ends}
+use Rattle.bank_model.specs.Touching.{Touches}
+use Rattle.bank_invariant.specs.State.{BankState, is_free, may_begin}
+use Rattle.bank_invariant.specs.Tied.{decoded}
+use Rattle.bank_invariant.specs.Holds.{Holds}
+use Rattle.bank_core.specs.Stepping.{step_from}
+use Rattle.bank_core.specs.Beginning.{IsBegin, lines_sensed}
+use Rattle.clock_laws.specs.State.{ClockState, next_action}
+use Rattle.clock_laws.specs.Leads.{Leads}
+use Rattle.clock_laws.specs.Fitting.{Fits, IsFit}
+use Rattle.clock_laws.specs.Completing.{after_action}
+use Rattle.clock_laws.specs.Actions.{IsCompletion, GoesOn, begin_lines, LeavesBegun}
+use Rattle.clock_laws.proofs.Ending.{begin_ends_law}
+use Rattle.clock_laws.proofs.Others.{apart_law}
+use Rattle.bank_timing.specs.Extending.{AreOpen}
+use Rattle.bank_timing.specs.Completing.{Completes, step_recorded}
+use Rattle.bank_timing.proofs.Acting.{next-fits, next-ends}
+use Rattle.bank_timing.proofs.LineWrites.{Steps, step-completes, begin-steps, begin-leaves}
+
+same_lines : {n : ℕ} (kept : KeptState n) (work : Work) → lines_sensed kept work ≡ begin_lines kept work
+same_lines kept Nothing = refl
+same_lines kept (Store line slot) = refl
+same_lines kept (Copy region step) = refl
+
+-- where a line write may be begun, none is in progress, and the work is free
+free-parts : {A : Type 0} (r : Option A) (free : Bool) → (not (is_some r) && free) ≡ true → (r ≡ None) × (free ≡ true)
+free-parts None free may = (refl, may)
+free-parts (Some x) free may = absurd (false≢true may)
+
+-- a line is read as what was stored in it
+pub stored-reads : {n m e : ℕ} (writer : LineWriter n m e) (line : LineState n m) (p : Progress) → IsProgress writer line p → p ≡ progress.Stored → decode e line.held ≡ writer.bytes
+stored-reads writer line progress.More own is = absurd (cc)
+stored-reads writer line progress.Stored own is = own.2
+stored-reads writer line (progress.Worn cause) own is = absurd (cc)
+
+module _ {n m e : ℕ} (clock : ClockState n m e) (action : Action) (next : next_action clock ≡ Some action) (doing : action.doing ≡ Beginning) (fit : IsFit clock.bank clock.action) where
+  pub begin-ready : IsTrue (may_begin clock.bank)
+  begin-ready = subst (λ (d : Doing). Fits clock.bank d) doing (next-fits clock action next fit)
+
+  module _ (old new : ArrayState n m) (results : List (Outcome n)) (answer : Step) (bank : BankState n m e) (led : (xs : List (Timed n m)) × Leads xs clock old)
+      (unset : AreOpen clock.bank results) (begins : IsBegin clock.bank bank answer old new) where
+    pub begun-steps : Steps clock.bank bank answer (ends clock.pace action) results
+    begun-steps =
+        let free = free-parts clock.bank.running (is_free clock.bank.waiting (next_work clock.bank.kept)) begin-ready in
+        let ready : is_free clock.bank.waiting begins.op.work ≡ true = ap (λ work. is_free clock.bank.waiting work) begins.work ∙ free.1 in
+        subst (λ (a : Step). Steps clock.bank bank a (ends clock.pace action) results) (sym begins.is)
+        (subst (λ (b : BankState n m e). Steps clock.bank b (step_from clock.bank.kept begins.op begins.op.writer.progress) (ends clock.pace action) results) (sym begins.leaves)
+        (begin-steps clock.bank old (ends clock.pace action) results begins.op.target begins.op.writer led.1.holds.kept free.0 (apart_law n m e led.0 clock old led.1) unset begins.few
+        begins.op.work begins.op.writer.progress (sym begins.work) ready begins.begun))
+
+    pub begun-whole : 1 ≤ clock.pace.read → 1 ≤ clock.pace.iter → Touches (ends clock.pace action) (lines_sensed clock.bank.kept (next_work clock.bank.kept)) None false old new
+        → ((h : List (Event n)) → Holds h clock.bank old → Holds (Begin answer ∷ h) bank new)
+        → Completes clock (after_action clock bank action (Begin answer)) action old new results (step_recorded answer (ends clock.pace action) results)
+    begun-whole read iter touches holds =
+        step-completes clock action answer bank old new results (Begin answer) (λ ws tick row. refl) (λ row. refl) later begun-steps goes
+      where
+        later : clock.tick < ends clock.pace action
+        later = next-ends clock action next led.0 old led.1 read iter
+
+        free : (clock.bank.running ≡ None) × (is_free clock.bank.waiting (next_work clock.bank.kept) ≡ true)
+        free = free-parts clock.bank.running (is_free clock.bank.waiting (next_work clock.bank.kept)) begin-ready
+
+        ready : is_free clock.bank.waiting begins.op.work ≡ true
+        ready = ap (λ work. is_free clock.bank.waiting work) begins.work ∙ free.1
+
+        reads : begins.op.writer.progress ≡ progress.Stored → decoded e old begins.op.target ≡ begins.op.writer.bytes
+        reads is =
+            ap (λ (line : LineState n m). decode e line.held) (sym (touches.others begins.op.target refl))
+            ∙ stored-reads begins.op.writer (new.line begins.op.target) begins.op.writer.progress begins.writes.answer is
+
+        leaves : LeavesBegun {e = e} clock.bank.kept begins.op.work old bank.running answer
+        leaves =
+            subst (λ (a : Step). LeavesBegun {e = e} clock.bank.kept begins.op.work old bank.running a) (sym begins.is)
+            (subst (λ (b : BankState n m e). LeavesBegun {e = e} clock.bank.kept begins.op.work old b.running (step_from clock.bank.kept begins.op begins.op.writer.progress)) (sym begins.leaves)
+            (begin-leaves clock.bank old (ends clock.pace action) results begins.op.target begins.op.writer led.1.holds.kept free.0 (apart_law n m e led.0 clock old led.1) unset begins.few
+            begins.op.work begins.op.writer.progress (sym begins.work) ready begins.begun begins.bytes begins.target reads))
+
+        goes : (xs : List (Timed n m)) → Leads xs clock old → GoesOn xs clock bank (Begin answer) action old new
+        goes xs leads =
+            let lines : lines_sensed clock.bank.kept (next_work clock.bank.kept) ≡ begin_lines clock.bank.kept begins.op.work =
+            same_lines clock.bank.kept (next_work clock.bank.kept) ∙ ap (λ work. begin_lines clock.bank.kept work) (sym begins.work) in
+            let end : IsCompletion xs clock bank (Begin answer) action (begin_lines clock.bank.kept begins.op.work) None old new =
+            record {
+              next = next;
+              doing = doing;
+              later = later;
+              holds = holds (core xs) leads.holds;
+              shape = begun-steps.shape;
+              taken = begun-steps.lost ∙ leads.taken;
+              touches = subst (λ (sensed : List ℕ). Touches (ends clock.pace action) sensed None false old new) lines touches;
+            } in
+            begin_ends_law n m e answer action begins.op.work xs clock bank old new leads (sym begins.work) end leaves

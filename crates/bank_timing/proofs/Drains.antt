@@ -1,0 +1,126 @@
+-- What a drain leaves: a settled bank, whose queued writes are told.
+use Rattle.std.proofs.Common.{◌≡◌, ℕ, ◌==◌, ◌||◌, if◌then◌else◌, Bool, true, false, List, [], ◌∷◌, ◌++◌, length, drop, map, Option, Some, None, refl, sym, ap, ◌∙◌, arith, eq-eqb}
+use Rattle.std.specs.Prelude.{unwrap_or}
+use Rattle.std.proofs.lemmas.List.{length-map}
+use Rattle.pcm_cells.specs.Device.{ArrayState}
+use Rattle.result_rows.specs.declared.Outcome.{Outcome}
+use Rattle.result_rows.specs.declared.Outcome.TheVariants.{Queued}
+use Rattle.masked_bytes.specs.declared.entry.Entry.{Entry}
+use Rattle.masked_bytes.specs.Entries.{has_row}
+use Rattle.bank_shape.specs.declared.BankShape.{BankShape}
+use Rattle.bank_model.specs.declared.answer.Step.TheVariants as did
+use Rattle.bank_model.specs.Events.{Event, Write, Read, Serve, Begin, Iterate, Cut, newest}
+use Rattle.bank_model.specs.History.{queue, begun, due_after}
+use Rattle.bank_model.specs.Timing.{Happens, Core, Timed, core, core_of}
+use Rattle.bank_model.specs.Told.{tick_of_row}
+use Rattle.clock_laws.specs.State.{ClockState, next_action}
+use Rattle.clock_laws.specs.Leads.{Leads}
+use Rattle.clock_laws.specs.Standing.{is_arrival_of, arrives_with}
+use Rattle.clock_laws.proofs.Others.{apart_law}
+use Rattle.clock_laws.proofs.Passing.{idle_law}
+use Rattle.bank_timing.specs.Extending.{RunsOn, LeavesOthers, IsQuiet, outcome_in}
+use Rattle.bank_timing.specs.Draining.{Drains, AreQueueable, AreQueued, queued_outcome}
+use Rattle.bank_timing.proofs.Standing.{clash}
+use Rattle.bank_timing.proofs.Running.{ran-others}
+use Rattle.bank_timing.proofs.Queued.{none-left, queued-told}
+
+neither-left : (a b : Bool) → (a || b) ≡ false → a ≡ false
+neither-left true b h = absurd (cc)
+neither-left false b h = refl
+
+neither-right : (a b : Bool) → (a || b) ≡ false → b ≡ false
+neither-right true b h = absurd (cc)
+neither-right false b h = h
+
+-- A row that doesn't stand in the queue does not come to stand there where none arrives
+
+module _ {n : ℕ} where
+  out-drop : (es : List (Entry n)) (row : ℕ) → has_row es row ≡ false → has_row (drop 1 es) row ≡ false
+  out-drop [] row none = none
+  out-drop (e ∷ es) row none = neither-right (e.row == row) _ none
+
+  out-begun : (due : Option ℕ) (newest_of : ℕ → List ℕ) (es : List (Entry n)) (row : ℕ) → has_row es row ≡ false → has_row (begun due newest_of es) row ≡ false
+  out-begun (Some region) newest_of es row none = none
+  out-begun None newest_of [] row none = none
+  out-begun None newest_of (e ∷ es) row none = none
+
+  out-by : (shape : BankShape) (row : ℕ) (h : Happens n) (past : List (Event n)) → ((at : ℕ) → is_arrival_of h at ≡ false)
+      → has_row (queue shape past) row ≡ false → has_row (queue shape (core_of h past)) row ≡ false
+  out-by shape row (Core (Write at line bytes given answer)) past quiet none = absurd (clash (at == at) (eq-eqb at at refl) (quiet at))
+  out-by shape row (Core (Read at line answer)) past quiet none = none
+  out-by shape row (Core (Serve answer)) past quiet none = none
+  out-by shape row (Core (Begin (did.Stored at place))) past quiet none = out-drop (queue shape past) row none
+  out-by shape row (Core (Begin did.More)) past quiet none = out-begun (due_after shape past) (newest past) (queue shape past) row none
+  out-by shape row (Core (Begin (did.Moved step))) past quiet none = out-begun (due_after shape past) (newest past) (queue shape past) row none
+  out-by shape row (Core (Begin (did.Retired slot line))) past quiet none = out-begun (due_after shape past) (newest past) (queue shape past) row none
+  out-by shape row (Core (Begin did.Exhausted)) past quiet none = out-begun (due_after shape past) (newest past) (queue shape past) row none
+  out-by shape row (Core (Iterate (did.Stored at place))) past quiet none = out-drop (queue shape past) row none
+  out-by shape row (Core (Iterate did.More)) past quiet none = none
+  out-by shape row (Core (Iterate (did.Moved step))) past quiet none = none
+  out-by shape row (Core (Iterate (did.Retired slot line))) past quiet none = none
+  out-by shape row (Core (Iterate did.Exhausted)) past quiet none = none
+  out-by shape row (Core (Cut tearing)) past quiet none = none
+
+stays-out : {n m : ℕ} (shape : BankShape) (row : ℕ) (added xs : List (Timed n m)) → IsQuiet added
+    → has_row (queue shape (core xs)) row ≡ false → has_row (queue shape (core (added ++ xs))) row ≡ false
+stays-out shape row [] xs quiet none = none
+stays-out shape row (x ∷ added) xs quiet none =
+    out-by shape row x.happens (core (added ++ xs)) (λ at. neither-left (is_arrival_of x.happens at) (arrives_with added at) (quiet at))
+    (stays-out shape row added xs (λ at. neither-right (is_arrival_of x.happens at) (arrives_with added at) (quiet at)) none)
+
+module _ {n m e : ℕ} where
+  -- a clock to which nothing may come any more
+  abbrev pub drained : ClockState n m e → ClockState n m e
+  drained clock = record { bank = clock.bank; pace = clock.pace; tick = clock.tick; action = clock.action; arrivals = clock.arrivals; drained = true }
+
+  still-leads : (xs : List (Timed n m)) (clock : ClockState n m e) (array : ArrayState n m) → Leads xs clock array → Leads xs (drained clock) array
+  still-leads xs clock array leads =
+      record { lawful = leads.lawful; holds = leads.holds; told = leads.told; pulses = leads.pulses; copying = leads.copying; taken = leads.taken }
+
+  ticks-are : (xs : List (Timed n m)) (clock : ClockState n m e) (array : ArrayState n m) → Leads xs clock array
+      → clock.arrivals ≡ map (λ (entry : Entry n). tick_of_row entry.row xs) clock.bank.kept.entries
+  ticks-are xs clock array leads = leads.told.arrived ∙ ap (λ (es : List (Entry n)). map (λ (entry : Entry n). tick_of_row entry.row xs) es) (sym leads.holds.entries)
+
+  module _ (old clock : ClockState n m e) (before after : ArrayState n m) (results between : List (Outcome n)) (ran : RunsOn old clock before after results between) where
+    -- what stands in the queue of a settled bank may be queued
+    pub queueable : AreQueueable clock.bank.kept.entries clock.arrivals between
+    queueable = record {
+      told = ap (λ (ticks : List ℕ). length ticks) (ticks-are ran.led.0 clock after ran.led.1) ∙ length-map clock.bank.kept.entries (λ (entry : Entry n). tick_of_row entry.row ran.led.0);
+      apart = (apart_law n m e ran.led.0 clock after ran.led.1).queued_apart;
+      unset = ran.unset.queued;
+    }
+
+    module _ (recorded : List (Outcome n)) (queued : AreQueued clock.bank.kept.entries clock.arrivals between recorded) where
+      pub drains : next_action clock ≡ None → (xs : List (Timed n m)) → Leads xs old before
+          → (added : List (Timed n m)) × Drains xs added old (drained clock) before after results recorded
+      drains rests xs leads =
+          let by = ran.extends xs leads in
+          let added = by.0 in (
+            added,
+            record {
+              leads = still-leads (added ++ xs) clock after by.1.leads;
+              idle = idle_law n m e (added ++ xs) clock after by.1.leads rests;
+              shape = by.1.shape;
+              pace = by.1.pace;
+              adds = by.1.adds;
+              rows = queued.rows ∙ by.1.rows;
+              outcomes = λ row there.
+                  let same = by.1.rows in
+                  queued.outcomes row (record { above = there.above; within = omega (arith, same, there.within) })
+                  ∙ ap (λ (ticks : List ℕ). unwrap_or (queued_outcome clock.bank.kept.entries ticks row) (outcome_in between row)) (ticks-are (added ++ xs) clock after by.1.leads)
+                  ∙ queued-told (λ row. tick_of_row row (added ++ xs)) clock.bank.kept.entries row (outcome_in between row)
+                  ∙ ap (λ (o : Outcome n). if has_row clock.bank.kept.entries row then Queued (tick_of_row row (added ++ xs)) else o) (by.1.outcomes row there);
+            },
+          )
+
+      -- no other row is touched
+      pub drain-others : ((xs : List (Timed n m)) × Leads xs old before) → LeavesOthers old.bank results recorded
+      drain-others led row there unqueued unawaited =
+          let by = ran.extends led.0 led.1 in
+          let none : has_row (queue old.bank.kept.shape (core (by.0 ++ led.0))) row ≡ false =
+          stays-out old.bank.kept.shape row by.0 led.0 by.2 (ap (λ (es : List (Entry n)). has_row es row) (sym led.1.holds.entries) ∙ unqueued) in
+          let lacks : has_row clock.bank.kept.entries row ≡ false =
+          ap (λ (es : List (Entry n)). has_row es row) by.1.leads.holds.entries ∙ ap (λ (shape : BankShape). has_row (queue shape (core (by.0 ++ led.0))) row) by.1.shape ∙ none in
+          let same = by.1.rows in
+          none-left clock.bank.kept.entries clock.arrivals between recorded row (record { above = there.above; within = omega (arith, same, there.within) }) lacks queued
+          ∙ ran-others old clock before after results between led ran row there unqueued unawaited

@@ -1,0 +1,16 @@
+mod Sizes
+mod Rows
+mod Standing
+mod Acting
+mod Serves
+mod LineWrites
+mod Begins
+mod Iterations
+mod Running
+mod ReadArrivals
+mod Settling
+mod Queued
+mod Drains
+mod Places
+mod WriteArrivals
+mod Losses

@@ -1,0 +1,195 @@
+-- A power cut: what becomes of the clock, the array and the results.
+use Rattle.std.proofs.Common.{◌≡◌, ℕ, ◌<◌, ◌==◌, ◌||◌, Bool, true, false, List, [], ◌∷◌, length, map, drop, Option, Some, None, is_some, refl, sym, ap, subst, ◌∙◌, arith, eq-eqb}
+use Rattle.std.proofs.lemmas.Bool.{false≢true}
+use Rattle.std.specs.Prelude.{unwrap_or, IsTrue, if◌then◌else◌, slice_get}
+use Rattle.pcm_cells.specs.Device.{ArrayState}
+use Rattle.result_rows.specs.declared.Outcome.{Outcome}
+use Rattle.result_rows.specs.declared.Outcome.TheVariants as out
+use Rattle.result_rows.specs.Table.{HasRow, with_outcome}
+use Rattle.bank_model.specs.declared.clock.Doing.{Doing}
+use Rattle.bank_model.specs.declared.clock.Doing.TheVariants.{Serving, Beginning, Iterating}
+use Rattle.bank_model.specs.declared.clock.Action.{Action}
+use Rattle.bank_model.specs.Events.{Event, Cut}
+use Rattle.bank_model.specs.History.{waits}
+use Rattle.bank_model.specs.Timing.{Timed, core, is_doing, same_doing}
+use Rattle.bank_model.specs.Touching.{Touches}
+use Rattle.bank_invariant.specs.declared.Waiting.{Waiting}
+use Rattle.bank_invariant.specs.State.{BankState, Operation}
+use Rattle.bank_invariant.specs.Holds.{Holds}
+use Rattle.bank_invariant.specs.Steps.{cut_off}
+use Rattle.bank_core.specs.Cutting.{torn_line}
+use Rattle.clock_laws.specs.State.{ClockState}
+use Rattle.clock_laws.specs.Leads.{Leads}
+use Rattle.clock_laws.specs.Fitting.{Fits, IsFit}
+use Rattle.clock_laws.specs.Cutting.{cut, after_cut}
+use Rattle.clock_laws.specs.Actions.{torn_line as line_torn, LeadsOn as CutEnds}
+use Rattle.clock_laws.specs.Standing.{has_waiting, WaitingApart, AreApart}
+use Rattle.clock_laws.proofs.Ending.{cut_ends_law}
+use Rattle.clock_laws.proofs.Others.{apart_law, same_wait, other_rows_law}
+use Rattle.bank_timing.specs.Extending.{Extends, AreOpen, IsOpen, LeavesOthers, outcome_in}
+use Rattle.pace.specs.declared.Pace.{Pace}
+use Rattle.pace.specs.Policies.{pacing_of}
+use Rattle.bank_timing.specs.Clock.{IsClock}
+use Rattle.bank_timing.specs.Losing.{lost_recorded, LosesOpen, bank_with_lost}
+use Rattle.bank_timing.proofs.Rows.{rows-set, has-set, in-set, open-set}
+use Rattle.bank_timing.proofs.Standing.{or-right, waits-head, apart-by}
+
+-- the rows of waiting reads
+abbrev pub rows_of : {n : ℕ} → List (Waiting n) → List ℕ
+rows_of ws = map (λ w. w.row) ws
+
+module _ {n : ℕ} (tick : ℕ) where
+  lost-rows : (rows : List ℕ) (results : List (Outcome n)) → length (lost_recorded tick rows results) ≡ length results
+  lost-rows [] results = refl
+  lost-rows (row ∷ rows) results = lost-rows rows (with_outcome results row (out.Lost tick)) ∙ rows-set results row (out.Lost tick)
+
+  -- those that wait are open, also once the first is lost
+  rest-open : (w : Waiting n) (ws : List (Waiting n)) (results : List (Outcome n)) → WaitingApart (w ∷ ws) → ((row : ℕ) → has_waiting (w ∷ ws) row ≡ true → IsOpen results row)
+      → (row : ℕ) → has_waiting ws row ≡ true → IsOpen (with_outcome results w.row (out.Lost tick)) row
+  rest-open w ws results apart unset row there =
+      open-set results w.row (out.Lost tick) row (unset w.row (waits-head w ws)).exists (apart-by (has_waiting ws) row w.row there apart.0) (unset row (or-right (w.row == row) (has_waiting ws row) there))
+
+  pub loses-open : (ws : List (Waiting n)) (results : List (Outcome n)) → WaitingApart ws → ((row : ℕ) → has_waiting ws row ≡ true → IsOpen results row) → LosesOpen tick (rows_of ws) results
+  loses-open [] results apart unset = tt
+  loses-open (w ∷ ws) results apart unset =
+      (unset w.row (waits-head w ws), loses-open ws (with_outcome results w.row (out.Lost tick)) apart.1 (rest-open w ws results apart unset))
+
+  -- a row that doesn't wait keeps what it has
+  kept-open : (ws : List (Waiting n)) (results : List (Outcome n)) (row : ℕ) → WaitingApart ws → ((row : ℕ) → has_waiting ws row ≡ true → IsOpen results row)
+      → has_waiting ws row ≡ false → IsOpen results row → IsOpen (lost_recorded tick (rows_of ws) results) row
+  kept-open [] results row apart unset none own = own
+  kept-open (w ∷ ws) results row apart unset none own =
+      kept-open ws (with_outcome results w.row (out.Lost tick)) row apart.1 (rest-open w ws results apart unset) (right (w.row == row) _ none)
+      (open-set results w.row (out.Lost tick) row (unset w.row (waits-head w ws)).exists (λ same. absurd (differ (w.row == row) (left (w.row == row) _ none) (eq-eqb w.row row (sym same)))) own)
+    where
+      right : (a b : Bool) → (a || b) ≡ false → b ≡ false
+      right true b h = absurd (cc)
+      right false b h = h
+
+      left : (a b : Bool) → (a || b) ≡ false → a ≡ false
+      left true b h = h
+      left false b h = refl
+
+      differ : (a : Bool) → a ≡ false → a ≡ true → ⊥
+      differ true h k = cc
+      differ false h k = cc
+
+  -- a row is lost exactly if it waited
+  lost-in : (ws : List (Waiting n)) (results : List (Outcome n)) (row : ℕ) → WaitingApart ws → ((row : ℕ) → has_waiting ws row ≡ true → IsOpen results row) → HasRow results row
+      → outcome_in (lost_recorded tick (rows_of ws) results) row ≡ unwrap_or (if has_waiting ws row then Some (out.Lost tick) else None) (outcome_in results row)
+  lost-in [] results row apart unset there = refl
+  lost-in (w ∷ ws) results row apart unset there =
+      lost-in ws (with_outcome results w.row (out.Lost tick)) row apart.1 (rest-open w ws results apart unset) (has-set results w.row (out.Lost tick) row there)
+      ∙ ap (λ (o : Outcome n). unwrap_or (if has_waiting ws row then Some (out.Lost tick) else None) o) (in-set results w.row (out.Lost tick) row (unset w.row (waits-head w ws)).exists there)
+      ∙ by (w.row == row) (has_waiting ws row)
+    where
+      by : (a b : Bool) → unwrap_or (if b then Some (out.Lost tick) else None) (unwrap_or (if a then Some (out.Lost tick) else None) (outcome_in results row))
+          ≡ unwrap_or (if (a || b) then Some (out.Lost tick) else None) (outcome_in results row)
+      by true true = refl
+      by true false = refl
+      by false true = refl
+      by false false = refl
+
+pub lose-next : {n : ℕ} (tick : ℕ) (lost : List ℕ) (row : ℕ) (results : List (Outcome n)) → slice_get lost 0 ≡ Some row → LosesOpen tick lost results
+    → IsOpen results row × LosesOpen tick (drop 1 lost) (with_outcome results row (out.Lost tick))
+    × (lost_recorded tick (drop 1 lost) (with_outcome results row (out.Lost tick)) ≡ lost_recorded tick lost results) × (length (drop 1 lost) < length lost)
+lose-next tick [] row results head loses = absurd (cc)
+lose-next {n = n} tick (at ∷ lost) row results head loses =
+    let same : at ≡ row = cc in
+    subst (λ (row : ℕ). IsOpen results row × LosesOpen tick lost (with_outcome results row (out.Lost tick))
+    × (lost_recorded tick lost (with_outcome results row (out.Lost tick)) ≡ lost_recorded tick (at ∷ lost) results) × (length lost < length (at ∷ lost))) same
+    (loses.0, loses.1, refl, omega arith)
+
+-- where no row is left to take, none is lost
+pub lose-none : {n : ℕ} (tick : ℕ) (lost : List ℕ) (results : List (Outcome n)) → slice_get lost 0 ≡ None → (lost ≡ []) × (lost_recorded tick lost results ≡ results)
+lose-none tick [] results none = (refl, refl)
+lose-none tick (at ∷ lost) results none = absurd (cc)
+
+-- a bank with its clock, as contracts see it
+abbrev pub view_by : {n m e : ℕ} → BankState n m e → Pace → ℕ → Option Action → List ℕ → Bool → ClockState n m e
+view_by bank pace tick action arrivals drained = record { bank = bank; pace = pacing_of pace; tick = tick; action = action; arrivals = arrivals; drained = drained }
+
+-- what the lost rows are doesn't matter to an action
+pub lost-clock : {n m e : ℕ} (rows : List ℕ) (bank : BankState n m e) (pace : Pace) (tick places : ℕ) (action : Option Action) → IsClock bank pace tick action places
+    → IsClock (bank_with_lost rows bank) pace tick action places
+lost-clock rows bank pace tick places action inv = record { layout = inv.layout; paced = inv.paced; room = inv.room; begun = inv.begun; fit = by action inv.fit }
+  where
+    same : (d : Doing) → Fits bank d → Fits (bank_with_lost rows bank) d
+    same Serving own = own
+    same Beginning own = own
+    same Iterating own = own
+
+    by : (action : Option Action) → IsFit bank action → IsFit (bank_with_lost rows bank) action
+    by None fit = tt
+    by (Some action) fit = same action.doing fit
+
+same_torn : {n m e : ℕ} (tearing : Bool) (running : Option (Operation n m e)) → torn_line tearing running ≡ line_torn tearing running
+same_torn true None = refl
+same_torn true (Some op) = refl
+same_torn false running = refl
+
+module _ {n m e : ℕ} (clock : ClockState n m e) (tearing : Bool) (same : tearing ≡ is_doing Iterating clock.action) (old new : ArrayState n m) (results : List (Outcome n))
+    (led : (xs : List (Timed n m)) × Leads xs clock old) (unset : AreOpen clock.bank results) where
+  apart : AreApart clock.bank.kept.entries clock.bank.waiting clock.bank.rows_below
+  apart = apart_law n m e led.0 clock old led.1
+
+  -- an iteration runs only where a line write is in progress
+  pub cut-ready : IsFit clock.bank clock.action → IsTrue tearing → IsTrue (is_some clock.bank.running)
+  cut-ready fit torn = by clock.action fit (sym same ∙ torn)
+    where
+      by : (a : Option Action) → IsFit clock.bank a → is_doing Iterating a ≡ true → is_some clock.bank.running ≡ true
+      by None fit is = absurd (cc)
+      by (Some a) fit is = iterates a.doing fit is
+        where
+          iterates : (d : Doing) → Fits clock.bank d → same_doing Iterating d ≡ true → is_some clock.bank.running ≡ true
+          iterates Serving fit is = absurd (cc)
+          iterates Beginning fit is = absurd (cc)
+          iterates Iterating fit is = fit
+
+  pub cut-open : LosesOpen clock.tick (rows_of clock.bank.waiting) results
+  cut-open = loses-open clock.tick clock.bank.waiting results apart.waiting_apart unset.waiting
+
+  abbrev after : BankState n m e
+  after = bank_with_lost [] (cut_off clock.bank)
+
+  abbrev recorded : List (Outcome n)
+  recorded = lost_recorded clock.tick (rows_of clock.bank.waiting) results
+
+  pub cut-unset : AreOpen after recorded
+  cut-unset = record {
+    queued = λ row there. kept-open clock.tick clock.bank.waiting results row apart.waiting_apart unset.waiting (apart.one_place row there) (unset.queued row there);
+    waiting = λ row there. absurd (false≢true there);
+  }
+
+  module _ (holds : (h : List (Event n)) → Holds h clock.bank old → Holds (Cut tearing ∷ h) after new) (touches : Touches clock.tick [] (torn_line tearing clock.bank.running) tearing old new) where
+    pub cut-extends : (xs : List (Timed n m)) → Leads xs clock old
+        → Extends xs (cut xs clock (is_doing Iterating clock.action) ∷ []) clock (after_cut clock after) old new results recorded
+    cut-extends xs leads =
+        subst (λ (b : Bool). Extends xs (cut xs clock b ∷ []) clock (after_cut clock after) old new results recorded) same
+        (record {
+          leads = ends.leads;
+          shape = refl;
+          pace = refl;
+          adds = ends.adds;
+          rows = lost-rows clock.tick (rows_of clock.bank.waiting) results;
+          outcomes = λ row there.
+              lost-in clock.tick clock.bank.waiting results row apart.waiting_apart unset.waiting there
+              ∙ ap (λ (b : Bool). unwrap_or (if b then Some (out.Lost clock.tick) else None) (outcome_in results row))
+              (ap (λ (ws : List (Waiting n)). has_waiting ws row) leads.holds.waiting ∙ same_wait n (waits clock.bank.kept.shape (core xs)) row);
+        })
+      where
+        ends : CutEnds clock.bank.kept.shape xs (cut xs clock tearing) (after_cut clock after) old new
+        ends =
+            cut_ends_law n m e tearing xs clock after old new leads same (holds (core xs) leads.holds) refl refl refl
+            (subst (λ (pulsed : Option ℕ). Touches clock.tick [] pulsed tearing old new) (same_torn tearing clock.bank.running) touches)
+
+    pub cut-others : LeavesOthers clock.bank results recorded
+    cut-others row there unqueued unawaited =
+        let extends = cut-extends led.0 led.1 in
+        extends.outcomes row there
+        ∙ other_rows_law n m e row (cut led.0 clock (is_doing Iterating clock.action) ∷ []) led.0 clock old (outcome_in results) led.1 extends.leads.lawful unqueued unawaited refl
+
+-- what a cut promises of every history that led to the clock
+abbrev pub CutExtends : {n m e : ℕ} → ClockState n m e → ClockState n m e → ArrayState n m → ArrayState n m → List (Outcome n) → List (Outcome n) → Type 0
+CutExtends {n} {m} clock new before after results recorded =
+    (xs : List (Timed n m)) → Leads xs clock before → Extends xs (cut xs clock (is_doing Iterating clock.action) ∷ []) clock new before after results recorded

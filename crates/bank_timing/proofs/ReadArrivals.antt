@@ -1,0 +1,170 @@
+-- A read arrives: what becomes of the clock and of the results.
+use Rattle.std.proofs.Common.{◌≡◌, ◌≢◌, ℕ, ◌+◌, ◌≤◌, ◌==◌, ◌||◌, Bool, true, false, List, [], ◌∷◌, ◌++◌, length, Option, Some, None, ◌⊎◌, inl, inr, refl, sym, ap, subst, ◌∙◌, eqb-true}
+use Rattle.std.specs.Prelude.{unwrap_or, IfSome, if◌then◌else◌}
+use Rattle.std.proofs.lemmas.Bool.{ne_eqb}
+use Rattle.pcm_cells.specs.Device.{ArrayState}
+use Rattle.result_rows.specs.declared.Outcome.{Outcome}
+use Rattle.result_rows.specs.declared.Outcome.TheVariants as out
+use Rattle.result_rows.specs.Table.{HasRow, with_outcome}
+use Rattle.masked_bytes.specs.Entries.{layer_of}
+use Rattle.bank_shape.specs.declared.BankShape.{BankShape}
+use Rattle.bank_shape.specs.Pausing.{is_cancelling}
+use Rattle.bank_model.specs.declared.answer.ReadAnswer.{ReadAnswer}
+use Rattle.bank_model.specs.declared.answer.ReadAnswer.TheVariants as came
+use Rattle.bank_model.specs.Events.{Event, Read}
+use Rattle.bank_model.specs.History.{Awaited, waits}
+use Rattle.bank_model.specs.Timing.{Timed, Pacing, Core, core}
+use Rattle.bank_model.specs.Lawful.{Lawful}
+use Rattle.bank_laws.specs.Outcomes.{outcome_by}
+use Rattle.bank_invariant.specs.declared.Waiting.{Waiting}
+use Rattle.bank_invariant.specs.State.{BankState}
+use Rattle.bank_invariant.specs.Holds.{Holds}
+use Rattle.bank_invariant.specs.Serving.{kept_with, read_from}
+use Rattle.bank_invariant.proofs.Quiet.{RowsBelow-more}
+use Rattle.bank_core.specs.Steps.{after_read as bank_after_read}
+use Rattle.clock_laws.specs.State.{ClockState}
+use Rattle.clock_laws.specs.Leads.{Leads}
+use Rattle.pace.specs.declared.Pace.{Pace}
+use Rattle.bank_model.specs.declared.clock.Doing.{Doing}
+use Rattle.bank_model.specs.declared.clock.Doing.TheVariants.{Serving, Beginning, Iterating}
+use Rattle.bank_model.specs.declared.clock.Action.{Action}
+use Rattle.clock_laws.specs.Fitting.{Fits, IsFit}
+use Rattle.clock_laws.proofs.Fitting.{fit_read_law}
+use Rattle.clock_laws.specs.Arriving.{arrival, action_after_read, after_read, KeepsWork}
+use Rattle.clock_laws.specs.Standing.{has_waiting, AreApart, is_arrival_of}
+use Rattle.clock_laws.proofs.Arriving.{read_law}
+use Rattle.clock_laws.proofs.Extending.{arrival_added_law}
+use Rattle.clock_laws.proofs.Others.{other_rows_law}
+use Rattle.bank_timing.specs.Extending.{Extends, AreOpen, IsOpen, StandOpen, LeavesOthersThan, outcome_in}
+use Rattle.bank_timing.proofs.Rows.{rows-set, in-set}
+use Rattle.bank_timing.specs.Clock.{IsClock}
+use Rattle.bank_timing.proofs.Standing.{stay-unset}
+
+-- the results after a read was answered
+abbrev pub read_recorded : {n : ℕ} → ReadAnswer n → ℕ → ℕ → List (Outcome n) → List (Outcome n)
+read_recorded (came.Forwarded bytes) tick row results = with_outcome results row (out.Forwarded tick bytes)
+read_recorded came.Waiting tick row results = results
+read_recorded came.Busy tick row results = with_outcome results row (out.Busy tick)
+
+pub no-other : (arrives row : ℕ) → row ≢ arrives → ((arrives == row) || false) ≡ false
+no-other arrives row other = ap (λ b. b || false) (ne_eqb arrives row (λ same. other (sym same)))
+
+plain-or : (b : Bool) → (b || false) ≡ true → b ≡ true
+plain-or true h = refl
+plain-or false h = h
+
+-- where the one before isn't the row, it is one behind
+skip-or : {A : Type 0} (b after before : Bool) → (b || after) ≡ true → (b || before) ≡ false → (after ≡ true → before ≡ false → A) → A
+skip-or true after before h k next = absurd (cc)
+skip-or false after before h k next = next h k
+
+module _ {n : ℕ} (w : Waiting n) (row : ℕ) where
+  last-pushed : (ws : List (Waiting n)) → has_waiting (ws ++ w ∷ []) row ≡ true → has_waiting ws row ≡ false → row ≡ w.row
+  last-pushed [] there is = sym (eqb-true w.row row (plain-or (w.row == row) there))
+  last-pushed (v ∷ vs) there is = skip-or (v.row == row) (has_waiting (vs ++ w ∷ []) row) (has_waiting vs row) there is (last-pushed vs)
+
+  has-pushed : (ws : List (Waiting n)) → has_waiting (ws ++ w ∷ []) row ≡ true → (b : Bool) → has_waiting ws row ≡ b → (has_waiting ws row ≡ true) ⊎ (row ≡ w.row)
+  has-pushed ws there true is = inl is
+  has-pushed ws there false is = inr (last-pushed ws there is)
+
+-- a bank with the same queue, line write and waiting reads has what an action needs
+pub fit-same : {n m e : ℕ} (old : BankState n m e) (bound : ℕ) (action : Option Action) → IsFit old action
+    → IsFit (record { kept = old.kept; running = old.running; waiting = old.waiting; lost = old.lost; rows_below = bound }) action
+fit-same old bound None fit = tt
+fit-same old bound (Some action) fit = by action.doing fit
+  where
+    by : (d : Doing) → Fits old d → Fits (record { kept = old.kept; running = old.running; waiting = old.waiting; lost = old.lost; rows_below = bound }) d
+    by Serving own = own
+    by Beginning own = own
+    by Iterating own = own
+
+module _ {n m e : ℕ} where
+  -- an arrival leaves each other row
+  pub arrival-others : (arrives : ℕ) (event : Event n) (clock new : ClockState n m e) (array : ArrayState n m) (results recorded : List (Outcome n))
+      → ((row : ℕ) → row ≢ arrives → (is_arrival_of (Core event) row || false) ≡ false)
+      → (xs : List (Timed n m)) → Leads xs clock array → Extends xs (arrival clock.tick event ∷ []) clock new array array results recorded
+      → LeavesOthersThan arrives clock.bank results recorded
+  arrival-others arrives event clock new array results recorded quiet xs leads extends row there other unqueued unawaited =
+      let lawful : Lawful clock.bank.kept.shape clock.pace e (arrival clock.tick event ∷ xs) =
+      subst (λ (shape : BankShape). Lawful shape clock.pace e (arrival clock.tick event ∷ xs)) extends.shape
+      (subst (λ (pace : Pacing). Lawful new.bank.kept.shape pace e (arrival clock.tick event ∷ xs)) extends.pace extends.leads.lawful) in
+      extends.outcomes row there
+      ∙ other_rows_law n m e row (arrival clock.tick event ∷ []) xs clock array (outcome_in results) leads lawful unqueued unawaited (quiet row other)
+
+module _ {n m e : ℕ} (row line : ℕ) (clock : ClockState n m e) (results : List (Outcome n)) (quiet : is_cancelling clock.pace.policy ≡ false)
+    (rises : clock.bank.rows_below ≤ row) (unset : AreOpen clock.bank results) (fresh : IsOpen results row) where
+  read-rows : (answer : ReadAnswer n) → length (read_recorded answer clock.tick row results) ≡ length results
+  read-rows (came.Forwarded bytes) = rows-set results row (out.Forwarded clock.tick bytes)
+  read-rows came.Waiting = refl
+  read-rows came.Busy = rows-set results row (out.Busy clock.tick)
+
+  read-outcomes : (answer : ReadAnswer n) (ws : List Awaited) (at : ℕ) → HasRow results at
+      → outcome_in (read_recorded answer clock.tick row results) at ≡ unwrap_or (outcome_by ws (Read row line answer) clock.tick at) (outcome_in results at)
+  read-outcomes (came.Forwarded bytes) ws at there = in-set results row (out.Forwarded clock.tick bytes) at fresh.exists there
+  read-outcomes came.Waiting ws at there = refl
+  read-outcomes came.Busy ws at there = in-set results row (out.Busy clock.tick) at fresh.exists there
+
+  read-keeps : (answer : ReadAnswer n) → KeepsWork clock.bank (bank_after_read clock.bank row line answer)
+  read-keeps (came.Forwarded bytes) = record { shape = refl; running = refl; lost = refl }
+  read-keeps came.Waiting = record { shape = refl; running = refl; lost = refl }
+  read-keeps came.Busy = record { shape = refl; running = refl; lost = refl }
+
+  module _ (answer : ReadAnswer n) (is : read_from clock.bank line ≡ answer) (bank : BankState n m e) (left : bank ≡ bank_after_read clock.bank row line answer) where
+    pub read-extends : ((h : List (Event n)) (array : ArrayState n m) → Holds h clock.bank array → Holds (Read row line answer ∷ h) bank array)
+        → (xs : List (Timed n m)) (array : ArrayState n m) → Leads xs clock array
+        → Extends xs (arrival clock.tick (Read row line (read_from clock.bank line)) ∷ []) clock (after_read clock bank line answer) array array results (read_recorded answer clock.tick row results)
+    read-extends holds xs array leads =
+        subst (λ (a : ReadAnswer n). Extends xs (arrival clock.tick (Read row line a) ∷ []) clock (after_read clock bank line answer) array array results (read_recorded answer clock.tick row results)) (sym is)
+        (record {
+          leads = read_law n m e row line answer xs clock bank array leads quiet (RowsBelow-more (core xs) clock.bank.rows_below row rises leads.holds.rows) keeps (holds (core xs) array leads.holds);
+          shape = keeps.shape;
+          pace = refl;
+          adds = arrival_added_law n m clock.tick clock.bank.kept.shape (Read row line answer) array refl;
+          rows = read-rows answer;
+          outcomes = λ at there. read-outcomes answer (waits clock.bank.kept.shape (core xs)) at there;
+        })
+      where
+        keeps : KeepsWork clock.bank bank
+        keeps = subst (λ (b : BankState n m e). KeepsWork clock.bank b) (sym left) (read-keeps answer)
+
+    pub read-unset : AreApart clock.bank.kept.entries clock.bank.waiting clock.bank.rows_below → AreOpen bank (read_recorded answer clock.tick row results)
+    read-unset apart = subst (λ (b : BankState n m e). AreOpen b (read_recorded answer clock.tick row results)) (sym left) (by answer)
+      where
+        stay : (o : Outcome n) → StandOpen clock.bank.kept.entries clock.bank.waiting (with_outcome results row o)
+        stay o = stay-unset clock.bank.kept.entries clock.bank.waiting results row o fresh.exists (apart.queued_below row rises) (apart.waiting_below row rises) unset
+
+        by : (answer : ReadAnswer n) → AreOpen (bank_after_read clock.bank row line answer) (read_recorded answer clock.tick row results)
+        by (came.Forwarded bytes) = stay (out.Forwarded clock.tick bytes)
+        by came.Busy = stay (out.Busy clock.tick)
+        by came.Waiting = record {
+          queued = unset.queued;
+          waiting = λ at there.
+              elim (has-pushed (kept_with row line (layer_of clock.bank.kept.entries line)) at clock.bank.waiting there (has_waiting clock.bank.waiting at) refl) [
+                | inl old ↦ unset.waiting at old
+                | inr own ↦ subst (λ (at : ℕ). IsOpen results at) (sym own) fresh
+              ];
+        }
+
+    pub read-clock : (pace : Pace) (places : ℕ) → IsClock clock.bank pace clock.tick clock.action places → IsClock bank pace clock.tick (action_after_read clock.bank.kept line answer clock.action) places
+    read-clock pace places inv = subst (λ (b : BankState n m e). IsClock b pace clock.tick (action_after_read clock.bank.kept line answer clock.action) places) (sym left) (by answer)
+      where
+        begun-still : (b : Bool) → IfSome clock.action (λ a. a.first ≤ clock.tick) → IfSome (if b then None else clock.action) (λ a. a.first ≤ clock.tick)
+        begun-still true own = tt
+        begun-still false own = own
+
+        by : (answer : ReadAnswer n) → IsClock (bank_after_read clock.bank row line answer) pace clock.tick (action_after_read clock.bank.kept line answer clock.action) places
+        by (came.Forwarded bytes) = record { layout = inv.layout; paced = inv.paced; room = inv.room; begun = inv.begun; fit = fit-same clock.bank (row + 1) clock.action inv.fit }
+        by came.Waiting = record {
+          layout = inv.layout;
+          paced = inv.paced;
+          room = inv.room;
+          begun = begun-still _ inv.begun;
+          fit = fit_read_law n m e row line clock.action clock.bank inv.fit;
+        }
+        by came.Busy = record { layout = inv.layout; paced = inv.paced; room = inv.room; begun = inv.begun; fit = fit-same clock.bank (row + 1) clock.action inv.fit }
+
+    pub read-others : ((h : List (Event n)) (array : ArrayState n m) → Holds h clock.bank array → Holds (Read row line answer ∷ h) bank array)
+        → ((xs : List (Timed n m)) × (array : ArrayState n m) × Leads xs clock array) → LeavesOthersThan row clock.bank results (read_recorded answer clock.tick row results)
+    read-others holds led =
+        arrival-others row (Read row line (read_from clock.bank line)) clock (after_read clock bank line answer) led.1 results (read_recorded answer clock.tick row results)
+        (λ at other. no-other row at other) led.0 led.2 (read-extends holds led.0 led.1 led.2)

@@ -1,0 +1,96 @@
+-- A bank runs on: action after action, and time between them.
+use Rattle.std.proofs.Common.{◌≡◌, ℕ, ◌+◌, ◌^◌, ◌<◌, ◌≤◌, ◌||◌, Bool, true, false, List, [], ◌∷◌, ◌++◌, refl, ap, subst, ◌∙◌, arith}
+use Rattle.std.specs.Prelude.{unwrap_or}
+use Rattle.pcm_cells.specs.Device.{ArrayState}
+use Rattle.result_rows.specs.declared.Outcome.{Outcome}
+use Rattle.result_rows.specs.Table.{HasRow}
+use Rattle.bank_shape.specs.declared.BankShape.{BankShape}
+use Rattle.bank_model.specs.declared.clock.Action.{Action}
+use Rattle.bank_model.specs.Timing.{Timed, Pacing}
+use Rattle.bank_model.specs.Lawful.{Lawful}
+use Rattle.bank_model.specs.Adding.{Adds}
+use Rattle.bank_laws.specs.Outcomes.{outcome_with}
+use Rattle.clock_laws.specs.State.{ClockState, next_action}
+use Rattle.clock_laws.specs.Leads.{Leads}
+use Rattle.clock_laws.specs.Passing.{at_tick}
+use Rattle.clock_laws.specs.Standing.{arrives_with}
+use Rattle.clock_laws.proofs.Extending.{nothing_added_law, both_added_law}
+use Rattle.clock_laws.proofs.Others.{other_rows_law}
+use Rattle.bank_timing.specs.Extending.{Extends, RunsOn, AreOpen, LeavesOthers, outcome_in}
+use Rattle.bank_timing.specs.Completing.{Completes}
+
+pub le-same : (a : ℕ) → a ≤ a
+le-same a = omega arith
+
+pub ends-by : (new end to lasts : ℕ) → new ≡ lasts → end ≡ lasts → end ≤ to → new ≤ to
+ends-by new end to lasts is same by = omega (arith, is, same, by)
+
+pub first-fits : (first tick to : ℕ) → first ≤ tick → tick < to → to ≤ 2 ^ 40 → first + 4294967296 < 18446744073709551616
+first-fits first tick to begun before within = omega (arith, begun, before, within)
+
+or-none : (a b : Bool) → (a || false) ≡ false → b ≡ false → (a || b) ≡ false
+or-none true b h k = h
+or-none false b h k = k
+
+module _ {n m e : ℕ} where
+  pub no-events : (xs : List (Timed n m)) (clock : ClockState n m e) (array : ArrayState n m) (results : List (Outcome n)) → Leads xs clock array
+      → Extends xs [] clock clock array array results results
+  no-events xs clock array results leads =
+      record { leads = leads; shape = refl; pace = refl; adds = nothing_added_law n m clock.bank.kept.shape array; rows = refl; outcomes = λ row there. refl }
+
+  -- one event more
+  pub one-more : (xs added : List (Timed n m)) (x : Timed n m) (old now new : ClockState n m e) (before mid after : ArrayState n m) (results between recorded : List (Outcome n))
+      → Extends xs added old now before mid results between → Extends (added ++ xs) (x ∷ []) now new mid after between recorded
+      → Extends xs (x ∷ added) old new before after results recorded
+  one-more xs added x old now new before mid after results between recorded first second = record {
+    leads = second.leads;
+    shape = second.shape ∙ first.shape;
+    pace = second.pace ∙ first.pace;
+    adds = both_added_law n m old.bank.kept.shape (x ∷ []) added before mid after first.adds (subst (λ (shape : BankShape). Adds shape (x ∷ []) mid after) first.shape second.adds);
+    rows = second.rows ∙ first.rows;
+    outcomes = λ row there.
+        let still : HasRow between row = (let same = first.rows in record { above = there.above; within = omega (arith, same, there.within) }) in
+        second.outcomes row still
+        ∙ ap (λ (shape : BankShape). unwrap_or (outcome_with shape (added ++ xs) x.happens x.tick row) (outcome_in between row)) first.shape
+        ∙ ap (λ (o : Outcome n). unwrap_or (outcome_with old.bank.kept.shape (added ++ xs) x.happens x.tick row) o) (first.outcomes row there);
+  }
+
+  pub ran-none : (clock : ClockState n m e) (array : ArrayState n m) (results : List (Outcome n)) → ((xs : List (Timed n m)) × Leads xs clock array) → AreOpen clock.bank results
+      → RunsOn clock clock array array results results
+  ran-none clock array results led unset = record { led = led; extends = λ xs leads. ([], no-events xs clock array results leads, λ row. refl); unset = unset }
+
+  pub ran-more : (action : Action) (old now new : ClockState n m e) (before mid after : ArrayState n m) (results between recorded : List (Outcome n))
+      → RunsOn old now before mid results between → Completes now new action mid after between recorded → RunsOn old new before after results recorded
+  ran-more action old now new before mid after results between recorded ran step = record {
+    led =
+        let by = step.extends ran.led.0 ran.led.1 in
+        (by.0 ∷ ran.led.0, by.1.leads);
+    extends = λ xs leads.
+        let first = ran.extends xs leads in
+        let second = step.extends (first.0 ++ xs) first.1.leads in
+        (second.0 ∷ first.0, one-more xs first.0 second.0 old now new before mid after results between recorded first.1 second.1, λ row. or-none _ (arrives_with first.0 row) (second.2 row) (first.2 row));
+    unset = step.unset;
+  }
+
+  pub ran-pass : (to : ℕ) (old now : ClockState n m e) (before mid : ArrayState n m) (results between : List (Outcome n))
+      → RunsOn old now before mid results between → ((xs : List (Timed n m)) (array : ArrayState n m) → Leads xs now array → Leads xs (at_tick to (next_action now) now) array)
+      → RunsOn old (at_tick to (next_action now) now) before mid results between
+  ran-pass to old now before mid results between ran leads-on = record {
+    led = (ran.led.0, leads-on ran.led.0 mid ran.led.1);
+    extends = λ xs leads.
+        let first = ran.extends xs leads in (
+          first.0,
+          record { leads = leads-on (first.0 ++ xs) mid first.1.leads; shape = first.1.shape; pace = first.1.pace; adds = first.1.adds; rows = first.1.rows; outcomes = first.1.outcomes },
+          first.2,
+        );
+    unset = ran.unset;
+  }
+
+  -- no other row is touched
+  pub ran-others : (old new : ClockState n m e) (before after : ArrayState n m) (results recorded : List (Outcome n)) → ((xs : List (Timed n m)) × Leads xs old before)
+      → RunsOn old new before after results recorded → LeavesOthers old.bank results recorded
+  ran-others old new before after results recorded led ran row there unqueued unawaited =
+      let by = ran.extends led.0 led.1 in
+      let lawful : Lawful old.bank.kept.shape old.pace e (by.0 ++ led.0) =
+      subst (λ (shape : BankShape). Lawful shape old.pace e (by.0 ++ led.0)) by.1.shape (subst (λ (pace : Pacing). Lawful new.bank.kept.shape pace e (by.0 ++ led.0)) by.1.pace by.1.leads.lawful) in
+      by.1.outcomes row there ∙ other_rows_law n m e row by.0 led.0 old before (outcome_in results) led.1 lawful unqueued unawaited (by.2 row)

@@ -1,0 +1,305 @@
+-- A write arrives: what becomes of the clock and of the results.
+use Rattle.std.proofs.Common.{◌≡◌, ◌≢◌, ℕ, ◌+◌, ◌<◌, ◌≤◌, ◌==◌, ◌||◌, Bool, true, false, List, [], ◌∷◌, ◌++◌, length, Option, Some, None, ◌⊎◌, inl, inr, refl, sym, ap, subst, ◌∙◌, arith, eqb-true, eq-eqb, length-append}
+use Rattle.std.specs.Prelude.{unwrap_or, if◌then◌else◌}
+use Rattle.std.proofs.lemmas.List.{length-map}
+use Rattle.std.proofs.lemmas.Bool.{ne_eqb, false≢true}
+use Rattle.pcm_cells.specs.Device.{ArrayState}
+use Rattle.result_rows.specs.declared.Outcome.{Outcome}
+use Rattle.result_rows.specs.declared.Outcome.TheVariants as out
+use Rattle.result_rows.specs.Table.{HasRow, with_outcome}
+use Rattle.masked_bytes.specs.declared.entry.Entry.{Entry}
+use Rattle.masked_bytes.specs.Entries.{has_row, merged, laid_on, newest_row, or_this, candidate, RowsApart}
+use Rattle.bank_shape.specs.declared.BankShape.{BankShape}
+use Rattle.line_writer.specs.Writing.{most_steps}
+use Rattle.pace.specs.declared.Pace.{Pace}
+use Rattle.bank_model.specs.declared.answer.WriteAnswer.{WriteAnswer}
+use Rattle.bank_model.specs.declared.answer.WriteAnswer.TheVariants as wrote
+use Rattle.bank_model.specs.Events.{Event, Write}
+use Rattle.bank_model.specs.History.{Awaited, queue, waits, has_exhausted}
+use Rattle.bank_model.specs.Answers.{MayAll, head_busy_after}
+use Rattle.bank_model.specs.Timing.{Timed, core}
+use Rattle.bank_laws.specs.Outcomes.{outcome_by}
+use Rattle.bank_invariant.specs.declared.Waiting.{Waiting}
+use Rattle.bank_invariant.specs.State.{BankState}
+use Rattle.bank_invariant.specs.Holds.{Holds}
+use Rattle.bank_invariant.proofs.Quiet.{RowsBelow-more}
+use Rattle.bank_invariant.proofs.Taking.{answer_merged}
+use Rattle.bank_core.specs.Steps.{write_from, after_write as bank_after_write}
+use Rattle.clock_laws.specs.State.{ClockState}
+use Rattle.clock_laws.specs.Leads.{Leads}
+use Rattle.clock_laws.specs.Fitting.{IsFit}
+use Rattle.clock_laws.specs.Arriving.{arrival, after_write, KeepsWork, IsPlaceOf}
+use Rattle.clock_laws.specs.Standing.{has_waiting, AreApart}
+use Rattle.clock_laws.proofs.Arriving.{write_law}
+use Rattle.clock_laws.proofs.Fitting.{fit_write_law}
+use Rattle.clock_laws.proofs.Extending.{arrival_added_law}
+use Rattle.clock_laws.proofs.Others.{apart_law}
+use Rattle.bank_timing.specs.Clock.{IsClock}
+use Rattle.bank_timing.specs.Extending.{Extends, AreOpen, IsOpen, StandOpen, LeavesOthersThan, outcome_in}
+use Rattle.bank_timing.proofs.Rows.{rows-set, in-set, open-set}
+use Rattle.bank_timing.proofs.Standing.{or-left, or-right, clash, apart-by, stay-unset}
+use Rattle.bank_timing.proofs.ReadArrivals.{no-other, fit-same, arrival-others}
+
+-- the results after a write was answered
+abbrev pub write_recorded : {n : ℕ} → WriteAnswer → ℕ → ℕ → List (Outcome n) → List (Outcome n)
+write_recorded wrote.Accepted tick row results = results
+write_recorded (wrote.Merged old) tick row results = with_outcome results old (out.Merged tick)
+write_recorded wrote.Full tick row results = with_outcome results row (out.Full tick)
+write_recorded wrote.Exhausted tick row results = with_outcome results row (out.Worn tick)
+
+none-or : (a b : Bool) → a ≡ false → b ≡ false → (a || b) ≡ false
+none-or true b h k = h
+none-or false b h k = k
+
+left-none : (a b : Bool) → (a || b) ≡ false → a ≡ false
+left-none true b h = h
+left-none false b h = refl
+
+right-none : (a b : Bool) → (a || b) ≡ false → b ≡ false
+right-none true b h = absurd (cc)
+right-none false b h = h
+
+module _ {n : ℕ} where
+  -- the rows of a queue that took a write
+  lacks-push : (es : List (Entry n)) (x : Entry n) (r : ℕ) → has_row es r ≡ false → (x.row == r) ≡ false → has_row (es ++ x ∷ []) r ≡ false
+  lacks-push [] x r h k = none-or (x.row == r) false k refl
+  lacks-push (e ∷ es) x r h k = none-or (e.row == r) _ (left-none (e.row == r) _ h) (lacks-push es x r (right-none (e.row == r) _ h) k)
+
+  lacks-merged : (old row : ℕ) (bytes : List ℕ) (given : List Bool) (es : List (Entry n)) (r : ℕ) → has_row es r ≡ false → (row == r) ≡ false → has_row (merged old row bytes given es) r ≡ false
+  lacks-merged old row bytes given [] r h k = refl
+  lacks-merged old row bytes given (e ∷ es) r h k = by (e.row == old) (lacks-merged old row bytes given es r (right-none (e.row == r) _ h) k)
+    where
+      by : (b : Bool) → has_row (merged old row bytes given es) r ≡ false → has_row (if b then laid_on row bytes given e ∷ es else e ∷ merged old row bytes given es) r ≡ false
+      by true rest = none-or (row == r) _ k (right-none (e.row == r) _ h)
+      by false rest = none-or (e.row == r) _ (left-none (e.row == r) _ h) rest
+
+  lacks-old : (old row : ℕ) (bytes : List ℕ) (given : List Bool) (es : List (Entry n)) → RowsApart es → (row == old) ≡ false → has_row (merged old row bytes given es) old ≡ false
+  lacks-old old row bytes given [] a h = refl
+  lacks-old old row bytes given (e ∷ es) a h = by (e.row == old) refl (lacks-old old row bytes given es a.1 h)
+    where
+      by : (b : Bool) → (e.row == old) ≡ b → has_row (merged old row bytes given es) old ≡ false → has_row (if b then laid_on row bytes given e ∷ es else e ∷ merged old row bytes given es) old ≡ false
+      by true is rest = none-or (row == old) _ h (subst (λ (r : ℕ). has_row es r ≡ false) (eqb-true e.row old is) a.0)
+      by false is rest = none-or (e.row == old) _ is rest
+
+  -- the row that a write is merged into stands in the queue
+  newest-there : (es : List (Entry n)) (line old : ℕ) → newest_row es line ≡ Some old → has_row es old ≡ true
+  newest-there [] line old is = absurd (cc)
+  newest-there (e ∷ es) line old is = by (newest_row es line) (newest-there es line old) (e.line == line) is
+    where
+      by : (found : Option ℕ) → (found ≡ Some old → has_row es old ≡ true) → (b : Bool) → or_this found (if b then Some e.row else None) ≡ Some old → (e.row == old || has_row es old) ≡ true
+      by (Some row) there b is = or-right (e.row == old) (has_row es old) (there is)
+      by None there true is = or-left (e.row == old) (has_row es old) (eq-eqb e.row old (cc))
+      by None there false is = absurd (cc)
+
+  candidate-there : (busy : Bool) (es : List (Entry n)) (line old : ℕ) → candidate busy es line ≡ Some old → has_row es old ≡ true
+  candidate-there busy [] line old is = absurd (cc)
+  candidate-there busy (e ∷ es) line old is = by (newest_row es line) (newest-there es line old) _ is
+    where
+      by : (found : Option ℕ) → (found ≡ Some old → has_row es old ≡ true) → (b : Bool) → or_this found (if b then Some e.row else None) ≡ Some old → (e.row == old || has_row es old) ≡ true
+      by (Some row) there b is = or-right (e.row == old) (has_row es old) (there is)
+      by None there true is = or-left (e.row == old) (has_row es old) (eq-eqb e.row old (cc))
+      by None there false is = absurd (cc)
+
+  new-merged : (old row : ℕ) (bytes : List ℕ) (given : List Bool) (es : List (Entry n)) → has_row es old ≡ true → has_row (merged old row bytes given es) row ≡ true
+  new-merged old row bytes given [] there = absurd (false≢true there)
+  new-merged old row bytes given (e ∷ es) there = by (e.row == old) (new-merged old row bytes given es) there
+    where
+      by : (b : Bool) → (has_row es old ≡ true → has_row (merged old row bytes given es) row ≡ true) → (b || has_row es old) ≡ true
+          → has_row (if b then laid_on row bytes given e ∷ es else e ∷ merged old row bytes given es) row ≡ true
+      by true rest there = or-left (row == row) (has_row es row) (eq-eqb row row refl)
+      by false rest there = or-right (e.row == row) (has_row (merged old row bytes given es) row) (rest there)
+
+  -- a row of the queue then is one of before, or the new one
+  old-or-new : (before after : List (Entry n)) (row r : ℕ) → (has_row before r ≡ false → (row == r) ≡ false → has_row after r ≡ false) → has_row after r ≡ true
+      → (has_row before r ≡ true) ⊎ (r ≡ row)
+  old-or-new before after row r lacks there = by (has_row before r) (row == r) refl refl
+    where
+      by : (b d : Bool) → has_row before r ≡ b → (row == r) ≡ d → (has_row before r ≡ true) ⊎ (r ≡ row)
+      by true d is same = inl is
+      by false true is same = inr (sym (eqb-true row r same))
+      by false false is same = absurd (clash (has_row after r) there (lacks is same))
+
+module _ {n : ℕ} (es : List (Entry n)) (ws : List (Waiting n)) (next row : ℕ) (bytes : List ℕ) (given : List Bool) (results : List (Outcome n))
+    (apart : AreApart es ws next) (rises : next ≤ row) (unset : StandOpen es ws results) (fresh : IsOpen results row) where
+  here-or-new : (r : ℕ) → (has_row es r ≡ true) ⊎ (r ≡ row) → IsOpen results r
+  here-or-new r (inl there) = unset.queued r there
+  here-or-new r (inr same) = subst (λ (r : ℕ). IsOpen results r) (sym same) fresh
+
+  pushed-unset : (x : Entry n) → x.row ≡ row → StandOpen (es ++ x ∷ []) ws results
+  pushed-unset x own = record {
+    queued = λ r there. here-or-new r (old-or-new es (es ++ x ∷ []) row r (λ h k. lacks-push es x r h (subst (λ (at : ℕ). (at == r) ≡ false) (sym own) k)) there);
+    waiting = unset.waiting;
+  }
+
+  merged-unset : (old : ℕ) (o : Outcome n) → has_row es old ≡ true → StandOpen (merged old row bytes given es) ws (with_outcome results old o)
+  merged-unset old o stands =
+      let has = (unset.queued old stands).exists in
+      let other : row ≢ old = λ same. clash (has_row es old) stands (subst (λ (r : ℕ). has_row es r ≡ false) same (apart.queued_below row rises)) in
+      record {
+        queued = λ r there.
+            open-set results old o r has (apart-by (has_row (merged old row bytes given es)) r old there (lacks-old old row bytes given es apart.queued_apart (ne_eqb row old other)))
+            (here-or-new r (old-or-new es (merged old row bytes given es) row r (lacks-merged old row bytes given es r) there));
+        waiting = λ r there. open-set results old o r has (apart-by (has_waiting ws) r old there (apart.one_place old stands)) (unset.waiting r there);
+      }
+
+module _ {n m e : ℕ} (row line : ℕ) (bytes : List ℕ) (given : List Bool) (clock : ClockState n m e) (results : List (Outcome n)) (rises : clock.bank.rows_below ≤ row)
+    (unset : AreOpen clock.bank results) (fresh : IsOpen results row) where
+  abbrev entry_of : Entry n
+  entry_of = record { row = row; line = line; bytes = bytes; given = given }
+
+  -- a write is merged into the entry of a row that stands in the queue
+  merges-into : (old : ℕ) (bank : BankState n m e) (array : ArrayState n m) (xs : List (Timed n m)) → Leads xs clock array → bank.kept.shape ≡ clock.bank.kept.shape
+      → Holds (Write row line bytes given (wrote.Merged old) ∷ core xs) bank array → has_row clock.bank.kept.entries old ≡ true
+  merges-into old bank array xs leads same holds =
+      let shape : BankShape = clock.bank.kept.shape in
+      let h : List (Event n) = core xs in
+      let may = (subst (λ (shape : BankShape). MayAll shape (most_steps e) (Write row line bytes given (wrote.Merged old) ∷ h)) same holds.past).0 in
+      let told = answer_merged shape h (has_exhausted h) (candidate (head_busy_after shape h) (queue shape h) line) old may.2 in
+      subst (λ (es : List (Entry n)). has_row es old ≡ true) (sym leads.holds.entries) (candidate-there (head_busy_after shape h) (queue shape h) line old told.1)
+
+  write-rows : (answer : WriteAnswer) → length (write_recorded answer clock.tick row results) ≡ length results
+  write-rows wrote.Accepted = refl
+  write-rows (wrote.Merged old) = rows-set results old (out.Merged clock.tick)
+  write-rows wrote.Full = rows-set results row (out.Full clock.tick)
+  write-rows wrote.Exhausted = rows-set results row (out.Worn clock.tick)
+
+  -- the row that a write is merged into, if there is one
+  abbrev Stands : WriteAnswer → Type 0
+  Stands (wrote.Merged old) = has_row clock.bank.kept.entries old ≡ true
+  Stands _ = Unit {0}
+
+  write-outcomes : (answer : WriteAnswer) → Stands answer → (ws : List Awaited) (at : ℕ) → HasRow results at
+      → outcome_in (write_recorded answer clock.tick row results) at ≡ unwrap_or (outcome_by ws (Write row line bytes given answer) clock.tick at) (outcome_in results at)
+  write-outcomes wrote.Accepted stands ws at there = refl
+  write-outcomes (wrote.Merged old) stands ws at there = in-set results old (out.Merged clock.tick) at (unset.queued old stands).exists there
+  write-outcomes wrote.Full stands ws at there = in-set results row (out.Full clock.tick) at fresh.exists there
+  write-outcomes wrote.Exhausted stands ws at there = in-set results row (out.Worn clock.tick) at fresh.exists there
+
+  write-keeps : (answer : WriteAnswer) → KeepsWork clock.bank (bank_after_write clock.bank entry_of answer)
+  write-keeps wrote.Accepted = record { shape = refl; running = refl; lost = refl }
+  write-keeps (wrote.Merged old) = record { shape = refl; running = refl; lost = refl }
+  write-keeps wrote.Full = record { shape = refl; running = refl; lost = refl }
+  write-keeps wrote.Exhausted = record { shape = refl; running = refl; lost = refl }
+
+  module _ (answer : WriteAnswer) (bank : BankState n m e) (left : bank ≡ bank_after_write clock.bank entry_of answer)
+      (holds : (h : List (Event n)) (array : ArrayState n m) → Holds h clock.bank array → Holds (Write row line bytes given answer ∷ h) bank array) where
+    keeps : KeepsWork clock.bank bank
+    keeps = subst (λ (b : BankState n m e). KeepsWork clock.bank b) (sym left) (write-keeps answer)
+
+    stands-by : (xs : List (Timed n m)) (array : ArrayState n m) → Leads xs clock array → Stands answer
+    stands-by xs array leads = by answer (holds (core xs) array leads.holds)
+      where
+        by : (answer : WriteAnswer) → Holds (Write row line bytes given answer ∷ core xs) bank array → Stands answer
+        by wrote.Accepted after = tt
+        by (wrote.Merged old) after = merges-into old bank array xs leads keeps.shape after
+        by wrote.Full after = tt
+        by wrote.Exhausted after = tt
+
+    pub write-extends : (place : ℕ) → IsPlaceOf bank.kept row place answer → write_from clock.bank line ≡ answer → (xs : List (Timed n m)) (array : ArrayState n m) → Leads xs clock array
+        → Extends xs (arrival clock.tick (Write row line bytes given (write_from clock.bank line)) ∷ []) clock (after_write clock bank place answer) array array results (write_recorded answer clock.tick row results)
+    write-extends place at is xs array leads =
+        subst (λ (a : WriteAnswer). Extends xs (arrival clock.tick (Write row line bytes given a) ∷ []) clock (after_write clock bank place answer) array array results (write_recorded answer clock.tick row results)) (sym is)
+        (record {
+          leads = write_law n m e row line place bytes given answer xs clock bank array leads (RowsBelow-more (core xs) clock.bank.rows_below row rises leads.holds.rows) keeps (holds (core xs) array leads.holds) at;
+          shape = keeps.shape;
+          pace = refl;
+          adds = arrival_added_law n m clock.tick clock.bank.kept.shape (Write row line bytes given answer) array refl;
+          rows = write-rows answer;
+          outcomes = λ at there. write-outcomes answer (stands-by xs array leads) (waits clock.bank.kept.shape (core xs)) at there;
+        })
+
+    pub write-others : (place : ℕ) → IsPlaceOf bank.kept row place answer → write_from clock.bank line ≡ answer → ((xs : List (Timed n m)) × (array : ArrayState n m) × Leads xs clock array)
+        → LeavesOthersThan row clock.bank results (write_recorded answer clock.tick row results)
+    write-others place at is led =
+        arrival-others row (Write row line bytes given (write_from clock.bank line)) clock (after_write clock bank place answer) led.1 results (write_recorded answer clock.tick row results)
+        (λ other apart. no-other row other apart) led.0 led.2 (write-extends place at is led.0 led.1 led.2)
+
+    -- the entries are those of the history that the write extends
+    entries-then : (xs : List (Timed n m)) (array : ArrayState n m) → Leads xs clock array → bank.kept.entries ≡ queue clock.bank.kept.shape (Write row line bytes given answer ∷ core xs)
+    entries-then xs array leads = (holds (core xs) array leads.holds).entries ∙ ap (λ shape. queue shape (Write row line bytes given answer ∷ core xs)) keeps.shape
+
+    waiting-then : bank.waiting ≡ clock.bank.waiting
+    waiting-then = ap (λ (b : BankState n m e). b.waiting) left ∙ by answer
+      where
+        by : (answer : WriteAnswer) → (bank_after_write clock.bank entry_of answer).waiting ≡ clock.bank.waiting
+        by wrote.Accepted = refl
+        by (wrote.Merged old) = refl
+        by wrote.Full = refl
+        by wrote.Exhausted = refl
+
+    pub write-unset : ((xs : List (Timed n m)) × (array : ArrayState n m) × Leads xs clock array) → AreOpen bank (write_recorded answer clock.tick row results)
+    write-unset led =
+        subst (λ (ws : List (Waiting n)). StandOpen bank.kept.entries ws (write_recorded answer clock.tick row results)) (sym waiting-then)
+        (subst (λ (es : List (Entry n)). StandOpen es clock.bank.waiting (write_recorded answer clock.tick row results)) (sym (entries-then led.0 led.1 led.2 ∙ now answer))
+        (by answer (stands-by led.0 led.1 led.2)))
+      where
+        apart : AreApart clock.bank.kept.entries clock.bank.waiting clock.bank.rows_below
+        apart = apart_law n m e led.0 clock led.1 led.2
+
+        -- the queue then, over that of before
+        after : WriteAnswer → List (Entry n) → List (Entry n)
+        after wrote.Accepted es = es ++ entry_of ∷ []
+        after (wrote.Merged old) es = merged old row bytes given es
+        after wrote.Full es = es
+        after wrote.Exhausted es = es
+
+        now : (answer : WriteAnswer) → queue clock.bank.kept.shape (Write row line bytes given answer ∷ core led.0) ≡ after answer clock.bank.kept.entries
+        now wrote.Accepted = ap (λ (es : List (Entry n)). es ++ entry_of ∷ []) (sym led.2.holds.entries)
+        now (wrote.Merged old) = ap (λ (es : List (Entry n)). merged old row bytes given es) (sym led.2.holds.entries)
+        now wrote.Full = sym led.2.holds.entries
+        now wrote.Exhausted = sym led.2.holds.entries
+
+        stay : (o : Outcome n) → StandOpen clock.bank.kept.entries clock.bank.waiting (with_outcome results row o)
+        stay o = stay-unset clock.bank.kept.entries clock.bank.waiting results row o fresh.exists (apart.queued_below row rises) (apart.waiting_below row rises) unset
+
+        by : (answer : WriteAnswer) → Stands answer → StandOpen (after answer clock.bank.kept.entries) clock.bank.waiting (write_recorded answer clock.tick row results)
+        by wrote.Accepted stands = pushed-unset clock.bank.kept.entries clock.bank.waiting clock.bank.rows_below row bytes given results apart rises unset fresh entry_of refl
+        by (wrote.Merged old) stands = merged-unset clock.bank.kept.entries clock.bank.waiting clock.bank.rows_below row bytes given results apart rises unset fresh old (out.Merged clock.tick) stands
+        by wrote.Full stands = stay (out.Full clock.tick)
+        by wrote.Exhausted stands = stay (out.Worn clock.tick)
+
+    pub write-clock : (pace : Pace) (places : ℕ) → IsClock clock.bank pace clock.tick clock.action places → IsClock bank pace clock.tick clock.action places
+    write-clock pace places inv =
+        record {
+          layout = inv.layout;
+          paced = inv.paced;
+          room = inv.room ∙ ap (λ shape. shape.writes) (sym keeps.shape);
+          begun = inv.begun;
+          fit = subst (λ (b : BankState n m e). IsFit b clock.action) (sym left) (by answer);
+        }
+      where
+        by : (answer : WriteAnswer) → IsFit (bank_after_write clock.bank entry_of answer) clock.action
+        by wrote.Accepted = fit_write_law n m e entry_of clock.action clock.bank inv.fit
+        by (wrote.Merged old) = fit_write_law n m e entry_of clock.action clock.bank inv.fit
+        by wrote.Full = fit-same clock.bank (row + 1) clock.action inv.fit
+        by wrote.Exhausted = fit-same clock.bank (row + 1) clock.action inv.fit
+
+  -- the row that a merge ends has no outcome yet, and the row that it brings stands in the queue
+  pub merge-unset : (old : ℕ) (bank : BankState n m e) → bank ≡ bank_after_write clock.bank entry_of (wrote.Merged old)
+      → ((h : List (Event n)) (array : ArrayState n m) → Holds h clock.bank array → Holds (Write row line bytes given (wrote.Merged old) ∷ h) bank array)
+      → ((xs : List (Timed n m)) × (array : ArrayState n m) × Leads xs clock array) → IsOpen results old
+  merge-unset old bank left holds led = unset.queued old (stands-by (wrote.Merged old) bank left holds led.0 led.1 led.2)
+
+  pub merge-there : (old : ℕ) (bank : BankState n m e) → bank ≡ bank_after_write clock.bank entry_of (wrote.Merged old)
+      → ((h : List (Event n)) (array : ArrayState n m) → Holds h clock.bank array → Holds (Write row line bytes given (wrote.Merged old) ∷ h) bank array)
+      → ((xs : List (Timed n m)) × (array : ArrayState n m) × Leads xs clock array) → has_row bank.kept.entries row ≡ true
+  merge-there old bank left holds led =
+      let queue-then = entries-then (wrote.Merged old) bank left holds led.0 led.1 led.2 in
+      let there : has_row (queue clock.bank.kept.shape (core led.0)) old ≡ true =
+      subst (λ (es : List (Entry n)). has_row es old ≡ true) led.2.holds.entries (stands-by (wrote.Merged old) bank left holds led.0 led.1 led.2) in
+      subst (λ (es : List (Entry n)). has_row es row ≡ true) (sym queue-then) (new-merged old row bytes given (queue clock.bank.kept.shape (core led.0)) there)
+
+  -- there is room for the arrival tick of a write that is accepted
+  pub accept-room : (bank : BankState n m e) → bank ≡ bank_after_write clock.bank entry_of wrote.Accepted
+      → ((h : List (Event n)) (array : ArrayState n m) → Holds h clock.bank array → Holds (Write row line bytes given wrote.Accepted ∷ h) bank array)
+      → ((xs : List (Timed n m)) × (array : ArrayState n m) × Leads xs clock array) → length clock.arrivals < bank.kept.shape.writes
+  accept-room bank left holds led =
+      let after = holds (core led.0) led.1 led.2.holds in
+      let told = ap length led.2.told.arrived in
+      let queued-now = ap length (entries-then wrote.Accepted bank left holds led.0 led.1 led.2) in
+      let few = after.kept.few_entries in
+      plain (length clock.arrivals) (length (queue clock.bank.kept.shape (core led.0))) bank.kept.shape.writes (length bank.kept.entries) (told ∙ length-map (queue clock.bank.kept.shape (core led.0)) _)
+      (queued-now ∙ length-append (queue clock.bank.kept.shape (core led.0)) (entry_of ∷ [])) few
+    where
+      plain : (arrivals queued writes entries : ℕ) → arrivals ≡ queued → entries ≡ queued + 1 → entries ≤ writes → arrivals < writes
+      plain arrivals queued writes entries told is few = omega (arith, told, is, few)

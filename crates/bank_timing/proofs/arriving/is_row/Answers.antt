@@ -1,0 +1,5 @@
+use Rattle.bank_timing.proofs.Sizes.{kept_fits, entry_fits}
+use Rattle.bank_timing.proofs.arriving.is_row.Goals as goal
+
+pub at-requires : goal.at-requires
+at-requires g c = (kept_fits, entry_fits g.row.B c.requires)

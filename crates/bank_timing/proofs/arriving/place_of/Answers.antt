@@ -1,0 +1,9 @@
+use Rattle.std.proofs.Common.{◌≡◌, false, slice_get, sym, ◌∙◌}
+use Rattle.bank_timing.specs.Queueing.{entry_has_row}
+use Rattle.bank_timing.proofs.Places.{drop-next}
+use Rattle.bank_timing.proofs.arriving.place_of.Goals as goal
+
+pub loop-place-preserved : goal.loop-place-preserved
+loop-place-preserved g c =
+    let no : entry_has_row c.args.row (slice_get c.args.kept.now.entries c.loop-place.place) ≡ false = sym c.is_row.ensures ∙ c.if-is_row.false in
+    drop-next c.args.row c.args.kept.now.entries c.loop-place.place no c.loop-place.invariant

@@ -1,0 +1,43 @@
+use Rattle.pace.specs.Policies.{pacing_of}
+use Rattle.clock_laws.specs.State.{ClockState}
+use Rattle.bank_timing.proofs.Sizes.{bank_fits, kept_fits, row_fits}
+use Rattle.bank_timing.proofs.Drains.{queueable, drains, drain-others}
+use Rattle.bank_timing.proofs.timed.Timed.drain.Goals as goal
+
+pub kept-requires : goal.kept-requires
+kept-requires g c = (bank_fits g.row.B g.row.M g.row.E c.self.invariant.layout, kept_fits)
+
+pub leave_queued-requires : goal.leave_queued-requires
+leave_queued-requires g c =
+    let t = c.self.inside in
+    let clock : ClockState g.row.B g.row.M g.row.E =
+    record { bank = t.bank; pace = pacing_of t.pace; tick = t.tick; action = t.action; arrivals = t.arrivals.items; drained = t.drained } in
+    let ran = rw (← c.self.view_is) at c.settle.ensures.ran in (
+      kept_fits,
+      (
+        row_fits,
+        (
+          c.self.invariant.layout.shape.1,
+          rw c.kept.ensures.kept (queueable c.args.self.now clock (g.A.CellArray.state c.args.array.now) (g.A.CellArray.state c.settle.new.array) c.args.results.now c.settle.new.results ran),
+        ),
+      ),
+    )
+
+pub returns-clause-drains : goal.returns-clause-drains
+returns-clause-drains g c =
+    let t = c.self.inside in
+    let clock : ClockState g.row.B g.row.M g.row.E =
+    record { bank = t.bank; pace = pacing_of t.pace; tick = t.tick; action = t.action; arrivals = t.arrivals.items; drained = t.drained } in
+    let ran = rw (← c.self.view_is) at c.settle.ensures.ran in
+    let rests = rw (← c.self.view_is) at c.settle.ensures.rests in
+    let queued = rw c.kept.ensures.kept at c.leave_queued.ensures in
+    drains c.args.self.now clock (g.A.CellArray.state c.args.array.now) (g.A.CellArray.state c.settle.new.array) c.args.results.now c.settle.new.results ran c.leave_queued.new.results queued rests
+
+pub returns-clause-others : goal.returns-clause-others
+returns-clause-others g c =
+    let t = c.self.inside in
+    let clock : ClockState g.row.B g.row.M g.row.E =
+    record { bank = t.bank; pace = pacing_of t.pace; tick = t.tick; action = t.action; arrivals = t.arrivals.items; drained = t.drained } in
+    let ran = rw (← c.self.view_is) at c.settle.ensures.ran in
+    let queued = rw c.kept.ensures.kept at c.leave_queued.ensures in
+    drain-others c.args.self.now clock (g.A.CellArray.state c.args.array.now) (g.A.CellArray.state c.settle.new.array) c.args.results.now c.settle.new.results ran c.leave_queued.new.results queued c.requires.led

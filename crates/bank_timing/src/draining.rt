@@ -1,0 +1,86 @@
+// The end of a run.
+ghost use Rattle.std.specs.Prelude.{◌≡◌, ◌<◌, ◌≤◌, List, length, None, IsSomeAnd, slice_get, true, false};
+ghost use Rattle.result_rows.specs.Table.{with_outcome};
+ghost use Rattle.result_rows.specs.declared.Outcome.TheVariants.{Queued};
+ghost use Rattle.bank_model.specs.Timing.{Timed as TimedEvent};
+ghost use Rattle.clock_laws.specs.State.{next_action};
+ghost use Rattle.clock_laws.specs.Leads.{Leads};
+ghost use Rattle.bank_timing.specs.Extending.{RunsOn, AreOpen, IsOpen, LeavesOthers, last_tick};
+ghost use Rattle.bank_timing.specs.Draining.{Drains, AreQueueable, AreQueued};
+
+use crate::timed::Timed;
+use circular_buffer::HeapCircularBuffer;
+use pcm_cells::CellArray;
+use power_recovery::kept::Kept;
+use result_rows::{Outcome, Results};
+
+impl<const B: usize, const M: usize, const E: usize> Timed<B, M, E> {
+    /// The clock goes on until nothing runs and nothing would be chosen; the writes that stand in the queue then are queued, with
+    /// the ticks of their arrival. Nothing may come any more.
+    pub fn drain<A: CellArray<B, M>>(&mut self, array: &mut A, results: &mut Results<B>)
+        requires going { self.old.drained ≡ false }
+        requires led { (xs : List (TimedEvent B M)) × Leads xs self.old (A.state array.old) }
+        requires within { self.old.tick ≤ last_tick }
+        requires unset { AreOpen self.old.bank results.old }
+        ensures drained { self.new.drained ≡ true }
+        ensures drains { (xs : List (TimedEvent B M)) → Leads xs self.old (A.state array.old)
+            → (added : List (TimedEvent B M)) × Drains xs added self.old self.new (A.state array.old) (A.state array.new) results.old results.new }
+        ensures others { LeavesOthers self.old.bank results.old results.new }
+    {
+        self.settle(array, results);
+        leave_queued(self.bank.kept(), &self.arrivals, results);
+        self.drained = true;
+    }
+
+    // Runs until nothing runs and nothing would be chosen.
+    fn settle<A: CellArray<B, M>>(&mut self, array: &mut A, results: &mut Results<B>)
+        requires led { (xs : List (TimedEvent B M)) × Leads xs self.old (A.state array.old) }
+        requires within { self.old.tick ≤ last_tick }
+        requires unset { AreOpen self.old.bank results.old }
+        ensures ran { RunsOn self.old self.new (A.state array.old) (A.state array.new) results.old results.new }
+        ensures rests { next_action self.new ≡ None }
+    {
+        // A field that is read makes known what is true of every clock.
+        let _drained = self.drained;
+        while let Some(action) = self.next_action() {
+            let _tick = self.tick;
+            self.complete(array, action, results);
+        }
+    }
+}
+
+// Each write that stands in the queue is queued, with the tick of its arrival.
+fn leave_queued<const B: usize>(
+    kept: &Kept<B>,
+    arrivals: &HeapCircularBuffer<u64>,
+    results: &mut Results<B>,
+)
+    requires few { B ≤ 128 }
+    requires ready { AreQueueable kept.now.entries arrivals.now.items results.old }
+    ensures { AreQueued kept.now.entries arrivals.now.items results.old results.new }
+{
+    for place in 0..kept.len() {
+        queue_at(kept, arrivals, place, results);
+    }
+}
+
+// The write at a place of the queue is queued.
+fn queue_at<const B: usize>(
+    kept: &Kept<B>,
+    arrivals: &HeapCircularBuffer<u64>,
+    place: usize,
+    results: &mut Results<B>,
+)
+    requires few { B ≤ 128 }
+    requires there { place < length kept.now.entries }
+    requires told { place < length arrivals.now.items }
+    requires unset { IsSomeAnd (slice_get kept.now.entries place) (λ entry. IsOpen results.old entry.row) }
+    ensures { IsSomeAnd (slice_get kept.now.entries place) (λ entry. IsSomeAnd (slice_get arrivals.now.items place) (λ tick.
+        results.new ≡ with_outcome results.old entry.row (Queued tick))) }
+{
+    if let Some(entry) = kept.at(place) {
+        if let Some(tick) = arrivals.get(place) {
+            results.set(entry.row, Outcome::Queued { tick: *tick });
+        }
+    }
+}

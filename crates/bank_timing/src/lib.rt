@@ -1,0 +1,9 @@
+//! The clock that runs a bank: at each tick it completes the action that ends, takes what arrives, and chooses what to do
+//! next. Each call extends the bank's history by the events that it makes, at the ticks that the rule gives, and by nothing else.
+#![tactic(auto)]
+
+mod arriving;
+mod completing;
+mod cutting;
+mod draining;
+pub mod timed;

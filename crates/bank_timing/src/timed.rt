@@ -1,0 +1,147 @@
+//! A bank with its clock.
+ghost use Rattle.std.specs.Prelude.{◌≡◌, ◌+◌, ◌*◌, ◌^◌, ◌<◌, ◌≤◌, List, [], ◌++◌, IfOk, IfSome, false};
+ghost use Rattle.pcm_cells.specs.Device.{ArrayState};
+ghost use Rattle.ecp_line.specs.Layout.{IsLayout};
+ghost use Rattle.bank_shape.specs.Shape.{IsBankShape};
+ghost use Rattle.bank_model.specs.Timing.{Timed as TimedEvent, ends};
+ghost use Rattle.bank_core.specs.Steps.{IsFreshFor};
+ghost use Rattle.pace.specs.Policies.{IsPace, pacing_of};
+ghost use Rattle.clock_laws.specs.State.{next_action};
+ghost use Rattle.clock_laws.specs.Leads.{Leads};
+ghost use Rattle.clock_laws.specs.Passing.{at_tick};
+ghost use Rattle.bank_timing.specs.Extending.{Extends, AreOpen, IsQuiet, LeavesOthers, first_clock, last_tick};
+
+use bank_core::bank::Bank;
+use bank_model::clock::{Action, Doing, choose};
+use bank_shape::BankShape;
+use circular_buffer::HeapCircularBuffer;
+use pace::Pace;
+use pcm_cells::CellArray;
+use result_rows::Results;
+use std::alloc::{AllocError, Global};
+use std::marker::Model;
+
+/// A bank with its clock, of lines of `B` bytes with `M` check bytes and `E` error-correcting pointers. Ticks are numbers of
+/// the simulation.
+#[derive(Drop)]
+pub struct Timed<const B: usize, const M: usize, const E: usize> {
+    pub(crate) bank: Bank<B, M, E>,
+    pub(crate) pace: Pace,
+    pub(crate) tick: u64,
+    pub(crate) action: Option<Action>,
+    // The arrival tick of each entry of the queue.
+    pub(crate) arrivals: HeapCircularBuffer<u64>,
+    pub(crate) drained: bool,
+}
+
+impl<const B: usize, const M: usize, const E: usize> Model for Timed<B, M, E> {
+    ghost use Rattle.clock_laws.specs.State.{ClockState};
+
+    ghost Value = { ClockState B M E };
+
+    ghost use Rattle.bank_timing.specs.Clock.{IsClock};
+    ghost use Rattle.pace.specs.Policies.{pacing_of};
+
+    ghost view = { λ t. record { bank = t.bank; pace = pacing_of t.pace; tick = t.tick; action = t.action; arrivals = t.arrivals.items; drained = t.drained } };
+
+    ghost invariant = { λ t. IsClock t.bank t.pace t.tick t.action t.arrivals.capacity };
+}
+
+impl<const B: usize, const M: usize, const E: usize> Timed<B, M, E> {
+    /// A bank with its clock at tick 0, for array lines that were just powered up.
+    pub fn new(alloc: Global, shape: BankShape, pace: Pace) -> Result<Timed<B, M, E>, AllocError>
+        requires layout { IsLayout B M E }
+        requires limits { IsBankShape shape }
+        requires paced { IsPace pace }
+        ensures first { IfOk result (λ timed. timed ≡ first_clock shape (pacing_of pace)) }
+        ensures leads { IfOk result (λ timed. (array : ArrayState B M) → IsFreshFor shape array → Leads [] timed array) }
+    {
+        let bank = Bank::new(alloc, shape)?;
+        let arrivals = HeapCircularBuffer::with_capacity(alloc, shape.writes as usize)?;
+        Ok(Timed {
+            bank,
+            pace,
+            tick: 0,
+            action: None,
+            arrivals,
+            drained: false,
+        })
+    }
+
+    /// The present tick.
+    pub fn now(&self) -> u64
+        ensures { result ≡ self.now.tick }
+    {
+        self.tick
+    }
+
+    /// The bank.
+    pub fn bank(&self) -> &Bank<B, M, E>
+        ensures { result.now ≡ self.now.bank }
+    {
+        &self.bank
+    }
+
+    /// The clock goes on to a tick: each action that ends by then is completed, and of the rows of that tick none is taken yet.
+    pub fn advance<A: CellArray<B, M>>(&mut self, array: &mut A, to: u64, results: &mut Results<B>)
+        requires going { self.old.drained ≡ false }
+        requires led { (xs : List (TimedEvent B M)) × Leads xs self.old (A.state array.old) }
+        requires forward { self.old.tick ≤ to }
+        requires within { to ≤ last_tick }
+        requires unset { AreOpen self.old.bank results.old }
+        ensures now { self.new.tick ≡ to }
+        ensures going { self.new.drained ≡ false }
+        ensures extends { (xs : List (TimedEvent B M)) → Leads xs self.old (A.state array.old)
+            → (added : List (TimedEvent B M)) × Extends xs added self.old self.new (A.state array.old) (A.state array.new) results.old results.new × IsQuiet added }
+        ensures unset { AreOpen self.new.bank results.new }
+        ensures others { LeavesOthers self.old.bank results.old results.new }
+    {
+        while self.tick < to {
+            match self.next_action() {
+                None => self.pass(None, to),
+                Some(action) => {
+                    let end = action.ends(self.pace.read, self.pace.iter);
+                    if end <= to {
+                        self.complete(array, action, results);
+                    } else {
+                        self.pass(Some(action), to);
+                    }
+                }
+            }
+        }
+    }
+
+    // The action that runs from now on: that which runs, or the one that is chosen now.
+    pub(crate) fn next_action(&self) -> Option<Action>
+        ensures { result ≡ next_action self.now }
+    {
+        if let Some(action) = self.action {
+            return Some(action);
+        }
+        let chosen = choose(
+            self.pace.policy.gives_way(),
+            self.bank.waiting() > 0,
+            self.bank.running(),
+            self.bank.may_begin(),
+        );
+        match chosen {
+            None => None,
+            Some(doing) => Some(Action {
+                doing,
+                first: self.tick,
+            }),
+        }
+    }
+
+    // Time passes to a tick at which the action that runs from now on hasn't ended.
+    fn pass(&mut self, action: Option<Action>, to: u64)
+        requires next { action ≡ next_action self.old }
+        requires later { self.old.tick < to }
+        requires runs { IfSome action (λ a. to < ends self.old.pace a) }
+        ensures clock { self.new ≡ at_tick to (next_action self.old) self.old }
+        ensures leads { (xs : List (TimedEvent B M)) (array : ArrayState B M) → Leads xs self.old array → Leads xs self.new array }
+    {
+        self.action = action;
+        self.tick = to;
+    }
+}
