@@ -14,3 +14,4 @@ mod Drains
 mod Places
 mod WriteArrivals
 mod Losses
+mod Firsts

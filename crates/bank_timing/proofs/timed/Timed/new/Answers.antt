@@ -1,5 +1,15 @@
+use Rattle.std.proofs.Common.{◌≡◌, sym, subst, []}
+use Rattle.bank_invariant.specs.State.{BankState}
+use Rattle.bank_invariant.specs.Holds.{Holds}
 use Rattle.bank_timing.proofs.Sizes.{bank_fits}
+use Rattle.bank_timing.proofs.Firsts.{first_leads}
 use Rattle.bank_timing.proofs.timed.Timed.new.Goals as goal
 
 pub new-requires : goal.new-requires
 new-requires g c = (bank_fits g.row.B g.row.M g.row.E c.requires.layout, (c.requires.layout, c.requires.limits))
+
+pub returns-clause-leads : goal.returns-clause-leads
+returns-clause-leads g c =
+    rw (c.in_ok-bank.ensures.first, c.in_ok-arrivals.ensures)
+    (λ array fresh. first_leads c.args.shape _ array
+    (subst (λ (b : BankState g.row.B g.row.M g.row.E). Holds [] b array) c.in_ok-bank.ensures.first (c.in_ok-bank.ensures.holds array fresh)) fresh)
