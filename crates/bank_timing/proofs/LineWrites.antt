@@ -1,7 +1,8 @@
 -- A begin or an iteration of a line write ends: what becomes of the clock, the array and the results.
-use Rattle.std.proofs.Common.{◌≡◌, ℕ, ◌+◌, ◌<◌, ◌≤◌, ◌||◌, nat_lt, if◌then◌else◌, Bool, true, false, List, [], ◌∷◌, length, drop, Option, Some, None, refl, sym, ap, subst, ◌∙◌, arith, ltb-true}
+use Rattle.std.proofs.Common.{◌≡◌, ℕ, ◌+◌, ◌<◌, ◌≤◌, nat_lt, if◌then◌else◌, Bool, true, false, List, [], ◌∷◌, length, drop, Option, Some, None, refl, sym, ap, subst, ◌∙◌, arith, ltb-true}
 use Rattle.std.proofs.lemmas.Bool.{false≢true}
-use Rattle.std.specs.Prelude.{unwrap_or, IsSomeAnd, slice_get}
+use Rattle.std.specs.Prelude.{unwrap_or, IsSomeAnd, IsTrue, slice_get}
+use Rattle.std.proofs.lemmas.List.Elements.{All-nil, All-cons}
 use Rattle.masked_bytes.specs.Masked.{laid}
 use Rattle.masked_bytes.specs.declared.entry.Entry.{Entry}
 use Rattle.masked_bytes.specs.Entries.{head_row, completed}
@@ -27,6 +28,7 @@ use Rattle.bank_model.specs.Events.{Event}
 use Rattle.bank_model.specs.History.{Awaited}
 use Rattle.bank_model.specs.Timing.{Timed, Core, ends}
 use Rattle.bank_laws.specs.Outcomes.{outcome_by, step_outcome}
+use Rattle.bank_laws.specs.Ticks.{ends_action}
 use Rattle.bank_invariant.specs.State.{BankState, Operation, is_free, target_of}
 use Rattle.bank_invariant.specs.Tied.{decoded}
 use Rattle.bank_core.specs.Stepping.{with_kept, step_from, left_by}
@@ -35,18 +37,14 @@ use Rattle.clock_laws.specs.State.{ClockState}
 use Rattle.clock_laws.specs.Leads.{Leads}
 use Rattle.clock_laws.specs.Completing.{completed as completed_event, after_action}
 use Rattle.clock_laws.specs.Actions.{GoesOn, LeavesBegun, LeavesIterated}
-use Rattle.clock_laws.specs.Standing.{AreApart, is_arrival_of}
+use Rattle.clock_laws.specs.Standing.{AreApart}
 use Rattle.clock_laws.specs.Remaining.{actions_left}
 use Rattle.clock_laws.proofs.Remaining.{falling_law}
-use Rattle.bank_timing.specs.Extending.{outcome_in, StandOpen, AreOpen}
+use Rattle.bank_timing.specs.Extending.{outcome_in, StandOpen, AreOpen, EndsAction}
 use Rattle.bank_timing.specs.Completing.{Completes, IsRecordable, step_recorded}
 use Rattle.bank_timing.proofs.Rows.{rows-set, in-set}
 use Rattle.bank_timing.proofs.Standing.{head-there, completed-unset, stored-unset}
 use Rattle.bank_timing.proofs.Serves.{end-extends}
-
-none-more : (b : Bool) → b ≡ false → (b || false) ≡ false
-none-more true is = is
-none-more false is = refl
 
 -- What is recorded
 
@@ -76,11 +74,11 @@ pub record Steps {n m e : ℕ} (old new : BankState n m e) (answer : Step) (tick
 
 module _ {n m e : ℕ} (clock : ClockState n m e) (action : Action) (answer : Step) (bank : BankState n m e) (old new : ArrayState n m) (results : List (Outcome n)) where
   pub step-completes : (event : Event n) → ((ws : List Awaited) (tick row : ℕ) → outcome_by ws event tick row ≡ step_outcome answer tick row)
-      → ((row : ℕ) → is_arrival_of (Core event) row ≡ false)
+      → IsTrue (ends_action (Core event))
       → clock.tick < ends clock.pace action → Steps clock.bank bank answer (ends clock.pace action) results
       → ((xs : List (Timed n m)) → Leads xs clock old → GoesOn xs clock bank event action old new)
       → Completes clock (after_action clock bank action event) action old new results (step_recorded answer (ends clock.pace action) results)
-  step-completes event outcome quiet later steps goes = record {
+  step-completes event outcome ends_one later steps goes = record {
     now = refl;
     later = later;
     pace = refl;
@@ -90,7 +88,7 @@ module _ {n m e : ℕ} (clock : ClockState n m e) (action : Action) (answer : St
       completed_event xs clock action event new,
       end-extends xs clock bank action event old new results (step_recorded answer (ends clock.pace action) results) (goes xs leads) steps.shape (step-rows results (ends clock.pace action) answer)
           (λ row there. step-outcomes results (ends clock.pace action) answer steps.unset row there ∙ ap (λ (o : Option (Outcome n)). unwrap_or o (outcome_in results row)) (sym (outcome _ (ends clock.pace action) row))),
-      λ row. none-more (is_arrival_of (Core event) row) (quiet row),
+      All-cons (λ (x : Timed n m). EndsAction x) (completed_event xs clock action event new) [] ends_one (All-nil (λ (x : Timed n m). EndsAction x)),
     );
     unset = steps.left;
     less = steps.less;
