@@ -68,6 +68,7 @@ module _ {n : ℕ} (results : List (Outcome n)) (tick : ℕ) where
 pub record Steps {n m e : ℕ} (old new : BankState n m e) (answer : Step) (tick : ℕ) (results : List (Outcome n)) : Type 0 where
   pub shape : new.kept.shape ≡ old.kept.shape
   pub lost : new.lost ≡ old.lost
+  pub bound : new.rows_below ≡ old.rows_below
   pub unset : IsRecordable answer results
   pub left : AreOpen new (step_recorded answer tick results)
   pub less : actions_left new < actions_left old
@@ -91,6 +92,7 @@ module _ {n m e : ℕ} (clock : ClockState n m e) (action : Action) (answer : St
       All-cons (λ (x : Timed n m). EndsAction x) (completed_event xs clock action event new) [] ends_one (All-nil (λ (x : Timed n m). EndsAction x)),
     );
     unset = steps.left;
+    bound = steps.bound;
     less = steps.less;
   }
 
@@ -110,6 +112,7 @@ module _ {n m e : ℕ} (bank : BankState n m e) (array : ArrayState n m) (tick :
   begin-steps (Store line slot) progress.More is free begun = record {
     shape = refl;
     lost = refl;
+    bound = refl;
     unset = tt;
     left = completed-unset _ bank.kept.entries bank.waiting results unset;
     less = (falling_law n m e bank).after_begin_of_store _ (op_of (Store line slot)) none few;
@@ -119,6 +122,7 @@ module _ {n m e : ℕ} (bank : BankState n m e) (array : ArrayState n m) (tick :
       record {
         shape = refl;
         lost = refl;
+        bound = refl;
         unset = unset.queued (head_row bank.kept.entries) (head-there bank.kept.entries next.2);
         left = subst (λ (es : List (Entry n)). StandOpen es bank.waiting (with_outcome results (head_row bank.kept.entries) (out.Stored tick target))) (sym (rest-completed _ bank.kept.entries))
             (stored-unset bank.kept.entries bank.waiting bank.rows_below results (out.Stored tick target) next.2 apart unset);
@@ -132,6 +136,7 @@ module _ {n m e : ℕ} (bank : BankState n m e) (array : ArrayState n m) (tick :
   begin-steps (Copy region step) progress.More is free begun = record {
     shape = refl;
     lost = refl;
+    bound = refl;
     unset = tt;
     left = unset;
     less = (falling_law n m e bank).after_begin_of_copy (op_of (Copy region step)) none few;
@@ -139,6 +144,7 @@ module _ {n m e : ℕ} (bank : BankState n m e) (array : ArrayState n m) (tick :
   begin-steps (Copy region step) progress.Stored is free begun = record {
     shape = refl;
     lost = refl;
+    bound = refl;
     unset = tt;
     left = unset;
     less = (falling_law n m e bank).after_copy range (ap is_copy is);
@@ -180,17 +186,19 @@ module _ {n m e : ℕ} (bank : BankState n m e) (array : ArrayState n m) (tick :
   worn-steps slot true is = record {
     shape = refl;
     lost = refl;
+    bound = refl;
     unset = tt;
     left = unset;
     less = (falling_law n m e bank).after_retirement slot (subst (λ (spares : ℕ). used_by bank.kept.table < spares) (sym range.spares) (ltb-true (used_by bank.kept.table) bank.kept.shape.spares is));
   }
-  worn-steps slot false is = record { shape = refl; lost = refl; unset = tt; left = unset; less = (falling_law n m e bank).after_exhaustion going }
+  worn-steps slot false is = record { shape = refl; lost = refl; bound = refl; unset = tt; left = unset; less = (falling_law n m e bank).after_exhaustion going }
 
   pub iterate-steps : (work : Work) (p : Progress) → next_work bank.kept ≡ work → bank.running ≡ Some (run_of work) → (work ≡ Nothing → ⊥)
       → Steps bank (left_by bank (run_of work) now p) (step_from bank.kept (run_of work) p) tick results
   iterate-steps work progress.More is running some = record {
     shape = refl;
     lost = refl;
+    bound = refl;
     unset = tt;
     left = unset;
     less = (falling_law n m e bank).after_iteration (run_of work) now running fewer;
@@ -201,6 +209,7 @@ module _ {n m e : ℕ} (bank : BankState n m e) (array : ArrayState n m) (tick :
       record {
         shape = refl;
         lost = refl;
+        bound = refl;
         unset = unset.queued (head_row bank.kept.entries) (head-there bank.kept.entries next.2);
         left = stored-unset bank.kept.entries bank.waiting bank.rows_below results (out.Stored tick target) next.2 apart unset;
         less = (falling_law n m e bank).after_store (ap is_store is);
@@ -208,6 +217,7 @@ module _ {n m e : ℕ} (bank : BankState n m e) (array : ArrayState n m) (tick :
   iterate-steps (Copy region step) progress.Stored is running some = record {
     shape = refl;
     lost = refl;
+    bound = refl;
     unset = tt;
     left = unset;
     less = (falling_law n m e bank).after_copy range (ap is_copy is);

@@ -78,7 +78,7 @@ module _ {n m e : ℕ} where
 
   pub ran-none : (clock : ClockState n m e) (array : ArrayState n m) (results : List (Outcome n)) → ((xs : List (Timed n m)) × Leads xs clock array) → AreOpen clock.bank results
       → RunsOn clock clock array array results results
-  ran-none clock array results led unset = record { led = led; extends = λ xs leads. ([], no-events xs clock array results leads, All-nil Ends); unset = unset }
+  ran-none clock array results led unset = record { led = led; extends = λ xs leads. ([], no-events xs clock array results leads, All-nil Ends); unset = unset; bound = refl }
 
   pub ran-more : (action : Action) (old now new : ClockState n m e) (before mid after : ArrayState n m) (results between recorded : List (Outcome n))
       → RunsOn old now before mid results between → Completes now new action mid after between recorded → RunsOn old new before after results recorded
@@ -91,6 +91,7 @@ module _ {n m e : ℕ} where
         let second = step.extends (first.0 ++ xs) first.1.leads in
         (second.0 ∷ first.0, one-more xs first.0 second.0 old now new before mid after results between recorded first.1 second.1, All-cons Ends second.0 first.0 (All-head Ends second.0 [] second.2) first.2);
     unset = step.unset;
+    bound = step.bound ∙ ran.bound;
   }
 
   pub ran-pass : (to : ℕ) (old now : ClockState n m e) (before mid : ArrayState n m) (results between : List (Outcome n))
@@ -105,6 +106,7 @@ module _ {n m e : ℕ} where
           first.2,
         );
     unset = ran.unset;
+    bound = ran.bound;
   }
 
   -- no other row is touched

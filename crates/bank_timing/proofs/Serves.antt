@@ -80,6 +80,7 @@ module _ {n m e : ℕ} (clock : ClockState n m e) (action : Action) (old new : A
       All-cons (λ (x : Timed n m). EndsAction x) (completed_event xs clock action (Serve answer_of) new) [] refl (All-nil (λ (x : Timed n m). EndsAction x)),
     );
     unset = served-open first led waiting unset;
+    bound = refl;
     less = (falling_law n m e clock.bank).after_serve (some clock.bank.waiting waiting);
   }
     where

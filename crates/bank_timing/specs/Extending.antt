@@ -77,9 +77,10 @@ pub record Extends {n m e : ℕ} (xs added : List (Timed n m)) (old new : ClockS
   pub outcomes : (row : ℕ) → HasRow results row → outcome_in recorded row ≡ outcome_on old.bank.kept.shape added xs (outcome_in results) row
 
 -- a bank ran on: some history leads to what it is now, each history that led to what it was is extended by events that end actions,
--- and the rows that stand have no outcome yet
+-- the rows that stand have no outcome yet, and the bound below which rows came is the same
 pub record RunsOn {n m e : ℕ} (old new : ClockState n m e) (before after : ArrayState n m) (results recorded : List (Outcome n)) : Type 0 where
   pub led : (xs : List (Timed n m)) × Leads xs new after
   pub extends : (xs : List (Timed n m)) → Leads xs old before
       → (added : List (Timed n m)) × Extends xs added old new before after results recorded × IsQuiet added
   pub unset : AreOpen new.bank recorded
+  pub bound : new.bank.rows_below ≡ old.bank.rows_below
