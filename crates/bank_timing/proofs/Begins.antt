@@ -71,7 +71,7 @@ module _ {n m e : ℕ} (clock : ClockState n m e) (action : Action) (next : next
         → ((h : List (Event n)) → Holds h clock.bank old → Holds (Begin answer ∷ h) bank new)
         → Completes clock (after_action clock bank action (Begin answer)) action old new results (step_recorded answer (ends clock.pace action) results)
     begun-whole read iter touches holds =
-        step-completes clock action answer bank old new results (Begin answer) (λ ws tick row. refl) (λ row. refl) later begun-steps goes
+        step-completes clock action answer bank old new results (Begin answer) (λ ws tick row. refl) refl later begun-steps goes
       where
         later : clock.tick < ends clock.pace action
         later = next-ends clock action next led.0 old led.1 read iter

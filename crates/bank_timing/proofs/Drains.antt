@@ -1,7 +1,8 @@
 -- What a drain leaves: a settled bank, whose queued writes are told.
-use Rattle.std.proofs.Common.{◌≡◌, ℕ, ◌==◌, ◌||◌, if◌then◌else◌, Bool, true, false, List, [], ◌∷◌, ◌++◌, length, drop, map, Option, Some, None, refl, sym, ap, ◌∙◌, arith, eq-eqb}
-use Rattle.std.specs.Prelude.{unwrap_or}
+use Rattle.std.proofs.Common.{◌≡◌, ℕ, ◌==◌, ◌||◌, if◌then◌else◌, Bool, true, false, List, [], ◌∷◌, ◌++◌, length, drop, map, Option, Some, None, sym, ap, ◌∙◌, arith}
+use Rattle.std.specs.Prelude.{IsTrue, unwrap_or}
 use Rattle.std.proofs.lemmas.List.{length-map}
+use Rattle.std.proofs.lemmas.List.Elements.{All-head, All-tail}
 use Rattle.pcm_cells.specs.Device.{ArrayState}
 use Rattle.result_rows.specs.declared.Outcome.{Outcome}
 use Rattle.result_rows.specs.declared.Outcome.TheVariants.{Queued}
@@ -13,26 +14,21 @@ use Rattle.bank_model.specs.Events.{Event, Write, Read, Serve, Begin, Iterate, C
 use Rattle.bank_model.specs.History.{queue, begun, due_after}
 use Rattle.bank_model.specs.Timing.{Happens, Core, Timed, core, core_of}
 use Rattle.bank_model.specs.Told.{tick_of_row}
+use Rattle.bank_laws.specs.Ticks.{ends_action}
 use Rattle.clock_laws.specs.State.{ClockState, next_action}
 use Rattle.clock_laws.specs.Leads.{Leads}
-use Rattle.clock_laws.specs.Standing.{is_arrival_of, arrives_with}
 use Rattle.clock_laws.proofs.Others.{apart_law}
 use Rattle.clock_laws.proofs.Passing.{idle_law}
-use Rattle.bank_timing.specs.Extending.{RunsOn, LeavesOthers, IsQuiet, outcome_in}
+use Rattle.bank_timing.specs.Extending.{RunsOn, LeavesOthers, EndsAction, IsQuiet, outcome_in}
 use Rattle.bank_timing.specs.Draining.{Drains, AreQueueable, AreQueued, queued_outcome}
-use Rattle.bank_timing.proofs.Standing.{clash}
 use Rattle.bank_timing.proofs.Running.{ran-others}
 use Rattle.bank_timing.proofs.Queued.{none-left, queued-told}
-
-neither-left : (a b : Bool) → (a || b) ≡ false → a ≡ false
-neither-left true b h = absurd (cc)
-neither-left false b h = refl
 
 neither-right : (a b : Bool) → (a || b) ≡ false → b ≡ false
 neither-right true b h = absurd (cc)
 neither-right false b h = h
 
--- A row that doesn't stand in the queue does not come to stand there where none arrives
+-- A row that doesn't stand in the queue does not come to stand there where actions end
 
 module _ {n : ℕ} where
   out-drop : (es : List (Entry n)) (row : ℕ) → has_row es row ≡ false → has_row (drop 1 es) row ≡ false
@@ -44,9 +40,9 @@ module _ {n : ℕ} where
   out-begun None newest_of [] row none = none
   out-begun None newest_of (e ∷ es) row none = none
 
-  out-by : (shape : BankShape) (row : ℕ) (h : Happens n) (past : List (Event n)) → ((at : ℕ) → is_arrival_of h at ≡ false)
+  out-by : (shape : BankShape) (row : ℕ) (h : Happens n) (past : List (Event n)) → IsTrue (ends_action h)
       → has_row (queue shape past) row ≡ false → has_row (queue shape (core_of h past)) row ≡ false
-  out-by shape row (Core (Write at line bytes given answer)) past quiet none = absurd (clash (at == at) (eq-eqb at at refl) (quiet at))
+  out-by shape row (Core (Write at line bytes given answer)) past quiet none = absurd (cc)
   out-by shape row (Core (Read at line answer)) past quiet none = none
   out-by shape row (Core (Serve answer)) past quiet none = none
   out-by shape row (Core (Begin (did.Stored at place))) past quiet none = out-drop (queue shape past) row none
@@ -64,9 +60,9 @@ module _ {n : ℕ} where
 stays-out : {n m : ℕ} (shape : BankShape) (row : ℕ) (added xs : List (Timed n m)) → IsQuiet added
     → has_row (queue shape (core xs)) row ≡ false → has_row (queue shape (core (added ++ xs))) row ≡ false
 stays-out shape row [] xs quiet none = none
-stays-out shape row (x ∷ added) xs quiet none =
-    out-by shape row x.happens (core (added ++ xs)) (λ at. neither-left (is_arrival_of x.happens at) (arrives_with added at) (quiet at))
-    (stays-out shape row added xs (λ at. neither-right (is_arrival_of x.happens at) (arrives_with added at) (quiet at)) none)
+stays-out {n} {m} shape row (x ∷ added) xs quiet none =
+    out-by shape row x.happens (core (added ++ xs)) (All-head (λ (x : Timed n m). EndsAction x) x added quiet)
+    (stays-out shape row added xs (All-tail (λ (x : Timed n m). EndsAction x) x added quiet) none)
 
 module _ {n m e : ℕ} where
   -- a clock to which nothing may come any more
@@ -99,6 +95,7 @@ module _ {n m e : ℕ} where
             added,
             record {
               leads = still-leads (added ++ xs) clock after by.1.leads;
+              quiet = by.2;
               idle = idle_law n m e (added ++ xs) clock after by.1.leads rests;
               shape = by.1.shape;
               pace = by.1.pace;

@@ -68,7 +68,7 @@ module _ {n m e : ℕ} (clock : ClockState n m e) (action : Action) (next : next
           → ((h : List (Event n)) → Holds h clock.bank old → Holds (Iterate answer ∷ h) bank new)
           → Completes clock (after_action clock bank action (Iterate answer)) action old new results (step_recorded answer (ends clock.pace action) results)
       whole-by read iter touches holds =
-          step-completes clock action answer bank old new results (Iterate answer) (λ ws tick row. refl) (λ row. refl) later steps-by goes
+          step-completes clock action answer bank old new results (Iterate answer) (λ ws tick row. refl) refl later steps-by goes
         where
           later : clock.tick < ends clock.pace action
           later = next-ends clock action next led.0 old led.1 read iter

@@ -1,7 +1,8 @@
 -- A begin or an iteration of a line write ends: what becomes of the clock, the array and the results.
-use Rattle.std.proofs.Common.{◌≡◌, ℕ, ◌+◌, ◌<◌, ◌≤◌, ◌||◌, nat_lt, if◌then◌else◌, Bool, true, false, List, [], ◌∷◌, length, drop, Option, Some, None, refl, sym, ap, subst, ◌∙◌, arith, ltb-true}
+use Rattle.std.proofs.Common.{◌≡◌, ℕ, ◌+◌, ◌<◌, ◌≤◌, nat_lt, if◌then◌else◌, Bool, true, false, List, [], ◌∷◌, length, drop, Option, Some, None, refl, sym, ap, subst, ◌∙◌, arith, ltb-true}
 use Rattle.std.proofs.lemmas.Bool.{false≢true}
-use Rattle.std.specs.Prelude.{unwrap_or, IsSomeAnd, slice_get}
+use Rattle.std.specs.Prelude.{unwrap_or, IsSomeAnd, IsTrue, slice_get}
+use Rattle.std.proofs.lemmas.List.Elements.{All-nil, All-cons}
 use Rattle.masked_bytes.specs.Masked.{laid}
 use Rattle.masked_bytes.specs.declared.entry.Entry.{Entry}
 use Rattle.masked_bytes.specs.Entries.{head_row, completed}
@@ -27,6 +28,7 @@ use Rattle.bank_model.specs.Events.{Event}
 use Rattle.bank_model.specs.History.{Awaited}
 use Rattle.bank_model.specs.Timing.{Timed, Core, ends}
 use Rattle.bank_laws.specs.Outcomes.{outcome_by, step_outcome}
+use Rattle.bank_laws.specs.Ticks.{ends_action}
 use Rattle.bank_invariant.specs.State.{BankState, Operation, is_free, target_of}
 use Rattle.bank_invariant.specs.Tied.{decoded}
 use Rattle.bank_core.specs.Stepping.{with_kept, step_from, left_by}
@@ -35,18 +37,14 @@ use Rattle.clock_laws.specs.State.{ClockState}
 use Rattle.clock_laws.specs.Leads.{Leads}
 use Rattle.clock_laws.specs.Completing.{completed as completed_event, after_action}
 use Rattle.clock_laws.specs.Actions.{GoesOn, LeavesBegun, LeavesIterated}
-use Rattle.clock_laws.specs.Standing.{AreApart, is_arrival_of}
+use Rattle.clock_laws.specs.Standing.{AreApart}
 use Rattle.clock_laws.specs.Remaining.{actions_left}
 use Rattle.clock_laws.proofs.Remaining.{falling_law}
-use Rattle.bank_timing.specs.Extending.{outcome_in, StandOpen, AreOpen}
+use Rattle.bank_timing.specs.Extending.{outcome_in, StandOpen, AreOpen, EndsAction}
 use Rattle.bank_timing.specs.Completing.{Completes, IsRecordable, step_recorded}
 use Rattle.bank_timing.proofs.Rows.{rows-set, in-set}
 use Rattle.bank_timing.proofs.Standing.{head-there, completed-unset, stored-unset}
 use Rattle.bank_timing.proofs.Serves.{end-extends}
-
-none-more : (b : Bool) → b ≡ false → (b || false) ≡ false
-none-more true is = is
-none-more false is = refl
 
 -- What is recorded
 
@@ -70,17 +68,18 @@ module _ {n : ℕ} (results : List (Outcome n)) (tick : ℕ) where
 pub record Steps {n m e : ℕ} (old new : BankState n m e) (answer : Step) (tick : ℕ) (results : List (Outcome n)) : Type 0 where
   pub shape : new.kept.shape ≡ old.kept.shape
   pub lost : new.lost ≡ old.lost
+  pub bound : new.rows_below ≡ old.rows_below
   pub unset : IsRecordable answer results
   pub left : AreOpen new (step_recorded answer tick results)
   pub less : actions_left new < actions_left old
 
 module _ {n m e : ℕ} (clock : ClockState n m e) (action : Action) (answer : Step) (bank : BankState n m e) (old new : ArrayState n m) (results : List (Outcome n)) where
   pub step-completes : (event : Event n) → ((ws : List Awaited) (tick row : ℕ) → outcome_by ws event tick row ≡ step_outcome answer tick row)
-      → ((row : ℕ) → is_arrival_of (Core event) row ≡ false)
+      → IsTrue (ends_action (Core event))
       → clock.tick < ends clock.pace action → Steps clock.bank bank answer (ends clock.pace action) results
       → ((xs : List (Timed n m)) → Leads xs clock old → GoesOn xs clock bank event action old new)
       → Completes clock (after_action clock bank action event) action old new results (step_recorded answer (ends clock.pace action) results)
-  step-completes event outcome quiet later steps goes = record {
+  step-completes event outcome ends_one later steps goes = record {
     now = refl;
     later = later;
     pace = refl;
@@ -90,9 +89,10 @@ module _ {n m e : ℕ} (clock : ClockState n m e) (action : Action) (answer : St
       completed_event xs clock action event new,
       end-extends xs clock bank action event old new results (step_recorded answer (ends clock.pace action) results) (goes xs leads) steps.shape (step-rows results (ends clock.pace action) answer)
           (λ row there. step-outcomes results (ends clock.pace action) answer steps.unset row there ∙ ap (λ (o : Option (Outcome n)). unwrap_or o (outcome_in results row)) (sym (outcome _ (ends clock.pace action) row))),
-      λ row. none-more (is_arrival_of (Core event) row) (quiet row),
+      All-cons (λ (x : Timed n m). EndsAction x) (completed_event xs clock action event new) [] ends_one (All-nil (λ (x : Timed n m). EndsAction x)),
     );
     unset = steps.left;
+    bound = steps.bound;
     less = steps.less;
   }
 
@@ -112,6 +112,7 @@ module _ {n m e : ℕ} (bank : BankState n m e) (array : ArrayState n m) (tick :
   begin-steps (Store line slot) progress.More is free begun = record {
     shape = refl;
     lost = refl;
+    bound = refl;
     unset = tt;
     left = completed-unset _ bank.kept.entries bank.waiting results unset;
     less = (falling_law n m e bank).after_begin_of_store _ (op_of (Store line slot)) none few;
@@ -121,6 +122,7 @@ module _ {n m e : ℕ} (bank : BankState n m e) (array : ArrayState n m) (tick :
       record {
         shape = refl;
         lost = refl;
+        bound = refl;
         unset = unset.queued (head_row bank.kept.entries) (head-there bank.kept.entries next.2);
         left = subst (λ (es : List (Entry n)). StandOpen es bank.waiting (with_outcome results (head_row bank.kept.entries) (out.Stored tick target))) (sym (rest-completed _ bank.kept.entries))
             (stored-unset bank.kept.entries bank.waiting bank.rows_below results (out.Stored tick target) next.2 apart unset);
@@ -134,6 +136,7 @@ module _ {n m e : ℕ} (bank : BankState n m e) (array : ArrayState n m) (tick :
   begin-steps (Copy region step) progress.More is free begun = record {
     shape = refl;
     lost = refl;
+    bound = refl;
     unset = tt;
     left = unset;
     less = (falling_law n m e bank).after_begin_of_copy (op_of (Copy region step)) none few;
@@ -141,6 +144,7 @@ module _ {n m e : ℕ} (bank : BankState n m e) (array : ArrayState n m) (tick :
   begin-steps (Copy region step) progress.Stored is free begun = record {
     shape = refl;
     lost = refl;
+    bound = refl;
     unset = tt;
     left = unset;
     less = (falling_law n m e bank).after_copy range (ap is_copy is);
@@ -182,17 +186,19 @@ module _ {n m e : ℕ} (bank : BankState n m e) (array : ArrayState n m) (tick :
   worn-steps slot true is = record {
     shape = refl;
     lost = refl;
+    bound = refl;
     unset = tt;
     left = unset;
     less = (falling_law n m e bank).after_retirement slot (subst (λ (spares : ℕ). used_by bank.kept.table < spares) (sym range.spares) (ltb-true (used_by bank.kept.table) bank.kept.shape.spares is));
   }
-  worn-steps slot false is = record { shape = refl; lost = refl; unset = tt; left = unset; less = (falling_law n m e bank).after_exhaustion going }
+  worn-steps slot false is = record { shape = refl; lost = refl; bound = refl; unset = tt; left = unset; less = (falling_law n m e bank).after_exhaustion going }
 
   pub iterate-steps : (work : Work) (p : Progress) → next_work bank.kept ≡ work → bank.running ≡ Some (run_of work) → (work ≡ Nothing → ⊥)
       → Steps bank (left_by bank (run_of work) now p) (step_from bank.kept (run_of work) p) tick results
   iterate-steps work progress.More is running some = record {
     shape = refl;
     lost = refl;
+    bound = refl;
     unset = tt;
     left = unset;
     less = (falling_law n m e bank).after_iteration (run_of work) now running fewer;
@@ -203,6 +209,7 @@ module _ {n m e : ℕ} (bank : BankState n m e) (array : ArrayState n m) (tick :
       record {
         shape = refl;
         lost = refl;
+        bound = refl;
         unset = unset.queued (head_row bank.kept.entries) (head-there bank.kept.entries next.2);
         left = stored-unset bank.kept.entries bank.waiting bank.rows_below results (out.Stored tick target) next.2 apart unset;
         less = (falling_law n m e bank).after_store (ap is_store is);
@@ -210,6 +217,7 @@ module _ {n m e : ℕ} (bank : BankState n m e) (array : ArrayState n m) (tick :
   iterate-steps (Copy region step) progress.Stored is running some = record {
     shape = refl;
     lost = refl;
+    bound = refl;
     unset = tt;
     left = unset;
     less = (falling_law n m e bank).after_copy range (ap is_copy is);

@@ -1,22 +1,25 @@
 -- A bank runs on: action after action, and time between them.
 use Rattle.std.proofs.Common.{◌≡◌, ℕ, ◌+◌, ◌^◌, ◌<◌, ◌≤◌, ◌||◌, Bool, true, false, List, [], ◌∷◌, ◌++◌, refl, ap, subst, ◌∙◌, arith}
-use Rattle.std.specs.Prelude.{unwrap_or}
+use Rattle.std.specs.Prelude.{IsTrue, unwrap_or}
+use Rattle.std.proofs.lemmas.List.Elements.{All-nil, All-cons, All-head, All-tail}
 use Rattle.pcm_cells.specs.Device.{ArrayState}
 use Rattle.result_rows.specs.declared.Outcome.{Outcome}
 use Rattle.result_rows.specs.Table.{HasRow}
 use Rattle.bank_shape.specs.declared.BankShape.{BankShape}
 use Rattle.bank_model.specs.declared.clock.Action.{Action}
-use Rattle.bank_model.specs.Timing.{Timed, Pacing}
+use Rattle.bank_model.specs.Events.{Write, Read, Serve, Begin, Iterate, Cut}
+use Rattle.bank_model.specs.Timing.{Happens, Core, Timed, Pacing}
 use Rattle.bank_model.specs.Lawful.{Lawful}
 use Rattle.bank_model.specs.Adding.{Adds}
 use Rattle.bank_laws.specs.Outcomes.{outcome_with}
+use Rattle.bank_laws.specs.Ticks.{ends_action}
 use Rattle.clock_laws.specs.State.{ClockState, next_action}
 use Rattle.clock_laws.specs.Leads.{Leads}
 use Rattle.clock_laws.specs.Passing.{at_tick}
-use Rattle.clock_laws.specs.Standing.{arrives_with}
+use Rattle.clock_laws.specs.Standing.{is_arrival_of, arrives_with}
 use Rattle.clock_laws.proofs.Extending.{nothing_added_law, both_added_law}
 use Rattle.clock_laws.proofs.Others.{other_rows_law}
-use Rattle.bank_timing.specs.Extending.{Extends, RunsOn, AreOpen, LeavesOthers, outcome_in}
+use Rattle.bank_timing.specs.Extending.{Extends, RunsOn, AreOpen, EndsAction, IsQuiet, LeavesOthers, outcome_in}
 use Rattle.bank_timing.specs.Completing.{Completes}
 
 pub le-same : (a : ℕ) → a ≤ a
@@ -28,9 +31,27 @@ ends-by new end to lasts is same by = omega (arith, is, same, by)
 pub first-fits : (first tick to : ℕ) → first ≤ tick → tick < to → to ≤ 2 ^ 40 → first + 4294967296 < 18446744073709551616
 first-fits first tick to begun before within = omega (arith, begun, before, within)
 
-or-none : (a b : Bool) → (a || false) ≡ false → b ≡ false → (a || b) ≡ false
+or-none : (a b : Bool) → a ≡ false → b ≡ false → (a || b) ≡ false
 or-none true b h k = h
 or-none false b h k = k
+
+module _ {n m : ℕ} where
+  abbrev Ends : Timed n m → Type 0
+  Ends x = EndsAction x
+
+  -- no row arrives with the end of an action
+  none-arrives : (added : List (Timed n m)) (row : ℕ) → IsQuiet added → arrives_with added row ≡ false
+  none-arrives [] row quiet = refl
+  none-arrives (x ∷ added) row quiet =
+      or-none (is_arrival_of x.happens row) _ (by x.happens (All-head Ends x added quiet)) (none-arrives added row (All-tail Ends x added quiet))
+    where
+      by : (h : Happens n) → IsTrue (ends_action h) → is_arrival_of h row ≡ false
+      by (Core (Write at line bytes given answer)) ends = absurd (cc)
+      by (Core (Read at line answer)) ends = absurd (cc)
+      by (Core (Serve answer)) ends = refl
+      by (Core (Begin answer)) ends = refl
+      by (Core (Iterate answer)) ends = refl
+      by (Core (Cut tearing)) ends = refl
 
 module _ {n m e : ℕ} where
   pub no-events : (xs : List (Timed n m)) (clock : ClockState n m e) (array : ArrayState n m) (results : List (Outcome n)) → Leads xs clock array
@@ -57,7 +78,7 @@ module _ {n m e : ℕ} where
 
   pub ran-none : (clock : ClockState n m e) (array : ArrayState n m) (results : List (Outcome n)) → ((xs : List (Timed n m)) × Leads xs clock array) → AreOpen clock.bank results
       → RunsOn clock clock array array results results
-  ran-none clock array results led unset = record { led = led; extends = λ xs leads. ([], no-events xs clock array results leads, λ row. refl); unset = unset }
+  ran-none clock array results led unset = record { led = led; extends = λ xs leads. ([], no-events xs clock array results leads, All-nil Ends); unset = unset; bound = refl }
 
   pub ran-more : (action : Action) (old now new : ClockState n m e) (before mid after : ArrayState n m) (results between recorded : List (Outcome n))
       → RunsOn old now before mid results between → Completes now new action mid after between recorded → RunsOn old new before after results recorded
@@ -68,8 +89,9 @@ module _ {n m e : ℕ} where
     extends = λ xs leads.
         let first = ran.extends xs leads in
         let second = step.extends (first.0 ++ xs) first.1.leads in
-        (second.0 ∷ first.0, one-more xs first.0 second.0 old now new before mid after results between recorded first.1 second.1, λ row. or-none _ (arrives_with first.0 row) (second.2 row) (first.2 row));
+        (second.0 ∷ first.0, one-more xs first.0 second.0 old now new before mid after results between recorded first.1 second.1, All-cons Ends second.0 first.0 (All-head Ends second.0 [] second.2) first.2);
     unset = step.unset;
+    bound = step.bound ∙ ran.bound;
   }
 
   pub ran-pass : (to : ℕ) (old now : ClockState n m e) (before mid : ArrayState n m) (results between : List (Outcome n))
@@ -84,6 +106,7 @@ module _ {n m e : ℕ} where
           first.2,
         );
     unset = ran.unset;
+    bound = ran.bound;
   }
 
   -- no other row is touched
@@ -93,4 +116,4 @@ module _ {n m e : ℕ} where
       let by = ran.extends led.0 led.1 in
       let lawful : Lawful old.bank.kept.shape old.pace e (by.0 ++ led.0) =
       subst (λ (shape : BankShape). Lawful shape old.pace e (by.0 ++ led.0)) by.1.shape (subst (λ (pace : Pacing). Lawful new.bank.kept.shape pace e (by.0 ++ led.0)) by.1.pace by.1.leads.lawful) in
-      by.1.outcomes row there ∙ other_rows_law n m e row by.0 led.0 old before (outcome_in results) led.1 lawful unqueued unawaited (by.2 row)
+      by.1.outcomes row there ∙ other_rows_law n m e row by.0 led.0 old before (outcome_in results) led.1 lawful unqueued unawaited (none-arrives by.0 row by.2)

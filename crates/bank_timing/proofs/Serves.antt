@@ -1,6 +1,7 @@
 -- An action ends: what becomes of the clock, the array and the results.
 use Rattle.std.proofs.Common.{◌≡◌, ℕ, ◌<◌, ◌≤◌, true, false, List, [], ◌∷◌, length, drop, Some, None, refl, sym, ap, subst, arith}
 use Rattle.std.specs.Prelude.{unwrap_or, IfSome, slice_get}
+use Rattle.std.proofs.lemmas.List.Elements.{All-nil, All-cons}
 use Rattle.pcm_cells.specs.Device.{ArrayState}
 use Rattle.result_rows.specs.declared.Outcome.{Outcome}
 use Rattle.result_rows.specs.declared.Outcome.TheVariants as out
@@ -27,7 +28,7 @@ use Rattle.clock_laws.specs.Standing.{AreApart, has_waiting}
 use Rattle.clock_laws.proofs.Ending.{serve_ends_law}
 use Rattle.clock_laws.proofs.Others.{apart_law}
 use Rattle.clock_laws.proofs.Remaining.{falling_law}
-use Rattle.bank_timing.specs.Extending.{Extends, outcome_in, IsOpen, StandOpen, AreOpen}
+use Rattle.bank_timing.specs.Extending.{Extends, outcome_in, IsOpen, StandOpen, AreOpen, EndsAction}
 use Rattle.bank_timing.specs.Completing.{Completes}
 use Rattle.bank_timing.proofs.Rows.{rows-set, in-set}
 use Rattle.bank_timing.proofs.Acting.{next-fits, next-ends}
@@ -73,8 +74,13 @@ module _ {n m e : ℕ} (clock : ClockState n m e) (action : Action) (old new : A
     pace = refl;
     drained = refl;
     none = refl;
-    extends = λ xs leads. (completed_event xs clock action (Serve answer_of) new, extended xs leads, λ row. refl);
+    extends = λ xs leads. (
+      completed_event xs clock action (Serve answer_of) new,
+      extended xs leads,
+      All-cons (λ (x : Timed n m). EndsAction x) (completed_event xs clock action (Serve answer_of) new) [] refl (All-nil (λ (x : Timed n m). EndsAction x)),
+    );
     unset = served-open first led waiting unset;
+    bound = refl;
     less = (falling_law n m e clock.bank).after_serve (some clock.bank.waiting waiting);
   }
     where

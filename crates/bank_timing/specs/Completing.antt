@@ -28,8 +28,8 @@ abbrev pub with_arrivals : {n m e : ℕ} → List ℕ → ClockState n m e → C
 with_arrivals arrivals clock =
     record { bank = clock.bank; pace = clock.pace; tick = clock.tick; action = clock.action; arrivals = arrivals; drained = clock.drained }
 
--- the action ended at its last tick, and no action runs; each history that led to the bank is extended by one event, which is no
--- arrival; and less is left to do
+-- the action ended at its last tick, and no action runs; each history that led to the bank is extended by one event, which ends an
+-- action; no row came, and less is left to do
 pub record Completes {n m e : ℕ} (old new : ClockState n m e) (action : Action) (before after : ArrayState n m) (results recorded : List (Outcome n)) : Type 0 where
   pub now : new.tick ≡ ends old.pace action
   pub later : old.tick < new.tick
@@ -39,4 +39,5 @@ pub record Completes {n m e : ℕ} (old new : ClockState n m e) (action : Action
   pub extends : (xs : List (Timed n m)) → Leads xs old before
       → (x : Timed n m) × Extends xs (x ∷ []) old new before after results recorded × IsQuiet (x ∷ [])
   pub unset : AreOpen new.bank recorded
+  pub bound : new.bank.rows_below ≡ old.bank.rows_below
   pub less : actions_left new.bank < actions_left old.bank

@@ -1,5 +1,5 @@
 -- What a call makes of a bank with its clock, of its array and of the results, by the events that it adds to the history.
-use Rattle.std.specs.Prelude.{◌≡◌, ◌≢◌, ℕ, ◌^◌, true, false, List, [], ◌++◌, length, None, Some, unwrap_or}
+use Rattle.std.specs.Prelude.{◌≡◌, ◌≢◌, ℕ, ◌^◌, true, false, IsTrue, List, [], ◌++◌, length, None, Some, All, unwrap_or}
 use Rattle.pcm_cells.specs.Device.{ArrayState}
 use Rattle.result_rows.specs.declared.Outcome.{Outcome}
 use Rattle.result_rows.specs.declared.Outcome.TheVariants.{Unset}
@@ -9,12 +9,13 @@ use Rattle.masked_bytes.specs.Entries.{has_row}
 use Rattle.bank_shape.specs.declared.BankShape.{BankShape}
 use Rattle.bank_model.specs.Timing.{Pacing, Timed}
 use Rattle.bank_model.specs.Adding.{Adds}
+use Rattle.bank_laws.specs.Ticks.{ends_action}
 use Rattle.bank_invariant.specs.declared.Waiting.{Waiting}
 use Rattle.bank_invariant.specs.State.{BankState, first_bank}
 use Rattle.clock_laws.specs.State.{ClockState}
 use Rattle.clock_laws.specs.Leads.{Leads}
 use Rattle.clock_laws.specs.Recording.{outcome_on}
-use Rattle.clock_laws.specs.Standing.{has_waiting, arrives_with}
+use Rattle.clock_laws.specs.Standing.{has_waiting}
 
 -- a bank that was just made, at tick 0
 abbrev pub first_clock : {n m e : ℕ} → BankShape → Pacing → ClockState n m e
@@ -57,9 +58,13 @@ LeavesOthersThan arrives bank results recorded =
     (row : ℕ) → HasRow results row → row ≢ arrives → has_row bank.kept.entries row ≡ false → has_waiting bank.waiting row ≡ false
     → outcome_in recorded row ≡ outcome_in results row
 
--- no event of these is the arrival of a row
+-- an event ends an action: it is a serve, a begin or an iteration
+abbrev pub EndsAction : {n m : ℕ} → Timed n m → Type 0
+EndsAction x = IsTrue (ends_action x.happens)
+
+-- each of these events ends an action: none is an arrival or a power cut
 abbrev pub IsQuiet : {n m : ℕ} → List (Timed n m) → Type 0
-IsQuiet added = (row : ℕ) → arrives_with added row ≡ false
+IsQuiet added = All (λ x. EndsAction x) added
 
 -- these events extend the history: they lead to what the call leaves, they are all that it did to the array, and each row has the
 -- outcome that they make of it, or else the one that it had
@@ -71,10 +76,11 @@ pub record Extends {n m e : ℕ} (xs added : List (Timed n m)) (old new : ClockS
   pub rows : length recorded ≡ length results
   pub outcomes : (row : ℕ) → HasRow results row → outcome_in recorded row ≡ outcome_on old.bank.kept.shape added xs (outcome_in results) row
 
--- a bank ran on: some history leads to what it is now, each history that led to what it was is extended by events of which none is
--- an arrival, and the rows that stand have no outcome yet
+-- a bank ran on: some history leads to what it is now, each history that led to what it was is extended by events that end actions,
+-- the rows that stand have no outcome yet, and the bound below which rows came is the same
 pub record RunsOn {n m e : ℕ} (old new : ClockState n m e) (before after : ArrayState n m) (results recorded : List (Outcome n)) : Type 0 where
   pub led : (xs : List (Timed n m)) × Leads xs new after
   pub extends : (xs : List (Timed n m)) → Leads xs old before
       → (added : List (Timed n m)) × Extends xs added old new before after results recorded × IsQuiet added
   pub unset : AreOpen new.bank recorded
+  pub bound : new.bank.rows_below ≡ old.bank.rows_below

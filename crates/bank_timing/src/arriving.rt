@@ -1,5 +1,5 @@
 //! What arrives at a bank.
-ghost use Rattle.std.specs.Prelude.{◌≡◌, ◌<◌, ◌≤◌, List, [], ◌∷◌, false, None, ◌&&◌, ◌++◌, ℕ, true, length, IsSomeAnd, slice_get, slice_set, if◌then◌else◌};
+ghost use Rattle.std.specs.Prelude.{◌≡◌, ◌+◌, ◌<◌, ◌≤◌, List, [], ◌∷◌, false, None, ◌&&◌, ◌++◌, ℕ, true, length, IsSomeAnd, slice_get, slice_set, if◌then◌else◌};
 ghost use Rattle.masked_bytes.specs.Masked.{IsMasked};
 ghost use Rattle.pcm_cells.specs.Device.{ArrayState};
 ghost use Rattle.power_recovery.specs.Slots.{bank_lines};
@@ -44,6 +44,7 @@ impl<const B: usize, const M: usize, const E: usize> Timed<B, M, E> {
         requires fresh { IsOpen results.old row }
         ensures now { self.new.tick ≡ self.old.tick }
         ensures going { self.new.drained ≡ false }
+        ensures rows { self.new.bank.rows_below ≡ row + 1 }
         ensures extends { (xs : List (TimedEvent B M)) (array : ArrayState B M) → Leads xs self.old array
             → Extends xs (arrival self.old.tick (Write row line bytes.entry given.entry (write_from self.old.bank line)) ∷ []) self.old self.new array array results.old results.new }
         ensures unset { AreOpen self.new.bank results.new }
@@ -94,6 +95,7 @@ impl<const B: usize, const M: usize, const E: usize> Timed<B, M, E> {
         requires fresh { IsOpen results.old row }
         ensures now { self.new.tick ≡ self.old.tick }
         ensures going { self.new.drained ≡ false }
+        ensures rows { self.new.bank.rows_below ≡ row + 1 }
         ensures extends { (xs : List (TimedEvent B M)) (array : ArrayState B M) → Leads xs self.old array
             → Extends xs (arrival self.old.tick (Read row line (read_from self.old.bank line)) ∷ []) self.old self.new array array results.old results.new }
         ensures unset { AreOpen self.new.bank results.new }

@@ -26,6 +26,7 @@ impl<const B: usize, const M: usize, const E: usize> Timed<B, M, E> {
         requires within { self.old.tick ≤ last_tick }
         requires unset { AreOpen self.old.bank results.old }
         ensures drained { self.new.drained ≡ true }
+        ensures rows { self.new.bank.rows_below ≡ self.old.bank.rows_below }
         ensures drains { (xs : List (TimedEvent B M)) → Leads xs self.old (A.state array.old)
             → (added : List (TimedEvent B M)) × Drains xs added self.old self.new (A.state array.old) (A.state array.new) results.old results.new }
         ensures others { LeavesOthers self.old.bank results.old results.new }

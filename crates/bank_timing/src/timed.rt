@@ -91,6 +91,7 @@ impl<const B: usize, const M: usize, const E: usize> Timed<B, M, E> {
         requires unset { AreOpen self.old.bank results.old }
         ensures now { self.new.tick ≡ to }
         ensures going { self.new.drained ≡ false }
+        ensures rows { self.new.bank.rows_below ≡ self.old.bank.rows_below }
         ensures extends { (xs : List (TimedEvent B M)) → Leads xs self.old (A.state array.old)
             → (added : List (TimedEvent B M)) × Extends xs added self.old self.new (A.state array.old) (A.state array.new) results.old results.new × IsQuiet added }
         ensures unset { AreOpen self.new.bank results.new }

@@ -53,3 +53,6 @@ loop-self-preserved g c =
 pub returns-clause-others : goal.returns-clause-others
 returns-clause-others g c =
     ran-others c.args.self.now c.loop-self.self (g.A.CellArray.state c.args.array.now) (g.A.CellArray.state c.loop-self.array) c.args.results.now c.loop-self.results c.requires.led c.loop-self.invariant.0
+
+pub returns-clause-rows : goal.returns-clause-rows
+returns-clause-rows g c = c.loop-self.invariant.0.bound

@@ -1,8 +1,9 @@
-use Rattle.std.proofs.Common.{◌≡◌, sym, ◌∙◌}
+use Rattle.std.proofs.Common.{◌≡◌, sym, ap, ◌∙◌}
 use Rattle.pace.specs.Policies.{pacing_of}
 use Rattle.pace.proofs.Cancelling.{never_cancels}
 use Rattle.bank_model.specs.declared.answer.ReadAnswer.TheVariants as came
 use Rattle.bank_invariant.specs.Serving.{read_from}
+use Rattle.bank_invariant.specs.State.{BankState}
 use Rattle.clock_laws.specs.State.{ClockState}
 use Rattle.clock_laws.proofs.Others.{apart_law}
 use Rattle.bank_timing.proofs.Sizes.{bank_fits, outcome_fits, read_fits, row_fits}
@@ -188,3 +189,18 @@ invariant_of-self-in-Busy g c =
     let is : read_from t.bank c.args.line ≡ came.Busy = sym c.read.ensures.answer ∙ c.in-Busy.is in
     let left = rw c.in-Busy.is at c.read.ensures.bank in
     (read-clock c.args.row c.args.line clock c.args.results.now (never_cancels t.pace.policy) rises unset c.requires.fresh came.Busy is c.read.new.self left t.pace t.arrivals.capacity c.self.invariant)
+
+pub returns-in-Forwarded-clause-rows : goal.returns-in-Forwarded-clause-rows
+returns-in-Forwarded-clause-rows g c =
+    let left = rw c.in-Forwarded.is at c.read.ensures.bank in
+    ap (λ (bank : BankState g.row.B g.row.M g.row.E). bank.rows_below) left
+
+pub returns-in-Waiting-clause-rows : goal.returns-in-Waiting-clause-rows
+returns-in-Waiting-clause-rows g c =
+    let left = rw c.in-Waiting.is at c.read.ensures.bank in
+    ap (λ (bank : BankState g.row.B g.row.M g.row.E). bank.rows_below) left
+
+pub returns-in-Busy-clause-rows : goal.returns-in-Busy-clause-rows
+returns-in-Busy-clause-rows g c =
+    let left = rw c.in-Busy.is at c.read.ensures.bank in
+    ap (λ (bank : BankState g.row.B g.row.M g.row.E). bank.rows_below) left

@@ -1,7 +1,8 @@
-use Rattle.std.proofs.Common.{◌≡◌, sym, ◌∙◌}
+use Rattle.std.proofs.Common.{◌≡◌, sym, ap, ◌∙◌}
 use Rattle.pace.specs.Policies.{pacing_of}
 use Rattle.bank_model.specs.declared.answer.WriteAnswer.TheVariants as wrote
 use Rattle.bank_core.specs.Steps.{write_from}
+use Rattle.bank_invariant.specs.State.{BankState}
 use Rattle.clock_laws.specs.State.{ClockState}
 use Rattle.bank_timing.proofs.Sizes.{bank_fits, timed_fits, outcome_fits, bytes_fits, row_fits}
 use Rattle.bank_timing.proofs.WriteArrivals.{write-extends, write-unset, write-others, write-clock, merge-unset, merge-there, accept-room}
@@ -273,3 +274,23 @@ returns-in-Exhausted-clause-others g c =
     let is : write_from t.bank c.args.line ≡ wrote.Exhausted = sym c.write.ensures.answer ∙ c.in-Exhausted.is in
     rw (c.set-in-Exhausted.ensures, ← c.self.view_is)
     (write-others c.args.row c.args.line c.args.bytes c.args.given clock c.args.results.now rises unset c.requires.fresh wrote.Exhausted c.write.new.self left holds 0 tt is led)
+
+pub returns-in-Accepted-clause-rows : goal.returns-in-Accepted-clause-rows
+returns-in-Accepted-clause-rows g c =
+    let left = rw c.in-Accepted.is at c.write.ensures.bank in
+    rw (c.arrive_last.ensures) (ap (λ (bank : BankState g.row.B g.row.M g.row.E). bank.rows_below) left)
+
+pub returns-in-Merged-clause-rows : goal.returns-in-Merged-clause-rows
+returns-in-Merged-clause-rows g c =
+    let left = rw c.in-Merged.is at c.write.ensures.bank in
+    rw (c.arrive_again.ensures.2) (ap (λ (bank : BankState g.row.B g.row.M g.row.E). bank.rows_below) left)
+
+pub returns-in-Full-clause-rows : goal.returns-in-Full-clause-rows
+returns-in-Full-clause-rows g c =
+    let left = rw c.in-Full.is at c.write.ensures.bank in
+    ap (λ (bank : BankState g.row.B g.row.M g.row.E). bank.rows_below) left
+
+pub returns-in-Exhausted-clause-rows : goal.returns-in-Exhausted-clause-rows
+returns-in-Exhausted-clause-rows g c =
+    let left = rw c.in-Exhausted.is at c.write.ensures.bank in
+    ap (λ (bank : BankState g.row.B g.row.M g.row.E). bank.rows_below) left

@@ -25,6 +25,11 @@ leave_queued-requires g c =
       ),
     )
 
+pub returns-clause-rows : goal.returns-clause-rows
+returns-clause-rows g c =
+    let ran = rw (← c.self.view_is) at c.settle.ensures.ran in
+    ran.bound
+
 pub returns-clause-drains : goal.returns-clause-drains
 returns-clause-drains g c =
     let t = c.self.inside in

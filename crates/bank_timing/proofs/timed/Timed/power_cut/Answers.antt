@@ -74,3 +74,6 @@ returns-clause-others g c =
     let holds = rw c.cut.ensures.bank at c.cut.ensures.holds in
     rw (c.lose.ensures.results, c.cut.ensures.bank, ← c.self.view_is)
     (cut-others clock c.is_iterating-tearing.result c.is_iterating-tearing.ensures (g.A.CellArray.state c.args.array.now) (g.A.CellArray.state c.cut.new.array) c.args.results.now led unset (λ h was. lost (Cut c.is_iterating-tearing.result ∷ h) (g.A.CellArray.state c.cut.new.array) (holds h was)) c.cut.ensures.touches)
+
+pub returns-clause-rows : goal.returns-clause-rows
+returns-clause-rows g c = rw (c.lose.ensures.clock, c.cut.ensures.bank, ← c.self.view_is) refl
