@@ -17,4 +17,5 @@ mod Uncovering
 mod Storing
 mod Reading
 mod Sensed
+pub mod Within
 mod Whole

@@ -31,6 +31,12 @@ SensedLaw =
     → IsSized shape pace → Lawful shape pace e xs → IsIdle shape pace xs → log_of shape log ≡ senses_of xs ++ extra
     → IsTrue (each_row (has_sense (decode e) log) (table_of shape xs) [])
 
+-- each sense of a bank's history is of one of its lines
+abbrev pub WithinLaw : Type 0
+WithinLaw =
+    (n m e : ℕ) (shape : BankShape) (pace : Pacing) (xs : List (Timed n m)) → 1 ≤ shape.regions → 1 ≤ shape.lines → Lawful shape pace e xs
+    → All (λ s. (shape.base ≤ s.line) × (s.line < shape.base + lines_in shape)) (senses_of xs)
+
 -- the law of the log, whatever the sizes of a line
 abbrev pub WholeLogLaw : Type 0
 WholeLogLaw = (n m : ℕ) → LogLaw n m
