@@ -1,4 +1,0 @@
-use Rattle.pcm_module.proofs.bank.arrive_read.Goals as goal
-
-pub returns-clause-rows : goal.returns-clause-rows
-returns-clause-rows g c = ?

@@ -1,9 +1,0 @@
-pub mod Asking
-pub mod State
-pub mod Stepping
-pub mod Following
-pub mod Runs
-pub mod Taking
-pub mod Finishing
-pub mod Shaped
-pub mod Draining
