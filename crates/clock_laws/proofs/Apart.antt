@@ -9,7 +9,7 @@ use Rattle.bank_model.specs.History.{Awaited}
 use Rattle.bank_laws.specs.Standing.{has_wait, WaitsApart, AreRowsApart}
 use Rattle.bank_laws.proofs.Standing as rows
 use Rattle.bank_invariant.specs.declared.Waiting.{Waiting}
-use Rattle.clock_laws.specs.Standing.{has_waiting, WaitingApart, AreApart, StayApart, StayApartLaw}
+use Rattle.clock_laws.specs.Standing.{has_waiting, WaitingApart, AreApart, StayApartLaw}
 
 -- a read that waits, as a history tells it
 abbrev awaiting_of : {n : ℕ} → Waiting n → Awaited

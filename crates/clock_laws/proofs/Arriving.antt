@@ -1,5 +1,5 @@
 -- A write or a read that arrives, and a power cut.
-use Rattle.std.proofs.Common.{◌≡◌, ℕ, ◌<◌, ◌==◌, ◌||◌, ◌&&◌, nat_lt, Bool, true, false, cond, if◌then◌else◌, List, [], ◌∷◌, ◌++◌, zero, suc, map, slice_get, slice_set, Option, Some, None, refl, sym, ap, subst, ◌∙◌, arith, eqb-true, eq-eqb, append-nil}
+use Rattle.std.proofs.Common.{◌≡◌, ℕ, ◌<◌, ◌==◌, ◌&&◌, nat_lt, Bool, true, false, cond, if◌then◌else◌, List, [], ◌∷◌, ◌++◌, zero, suc, map, slice_get, slice_set, Option, Some, None, refl, sym, ap, subst, ◌∙◌, arith, eq-eqb, append-nil}
 use Rattle.std.specs.Prelude.{IfSome, IsSomeAnd}
 use Rattle.std.proofs.lemmas.List.{map_push}
 use Rattle.masked_bytes.specs.declared.entry.Entry.{Entry}
@@ -30,23 +30,9 @@ use Rattle.clock_laws.specs.Arriving.{WriteLaw, ReadLaw, arrivals_after, IsPlace
 use Rattle.clock_laws.specs.Cutting.{PowerCutLaw}
 use Rattle.clock_laws.proofs.Ties.{agrees}
 use Rattle.clock_laws.proofs.Stepping.{stepped, stepped-leads}
+use Rattle.clock_laws.proofs.Deciding.{or_left, or_right, turned}
 
 -- Arrival ticks
-
-differs : (a b : ℕ) → (a == b) ≡ false → (b == a) ≡ false
-differs a b off = by (b == a) (eqb-true b a)
-  where
-    by : (t : Bool) → (t ≡ true → b ≡ a) → t ≡ false
-    by false is = refl
-    by true is = let same : (a == b) ≡ true = eq-eqb a b (sym (is refl)) in cc
-
-or_left : (a b : Bool) → (a || b) ≡ false → a ≡ false
-or_left true b h = cc
-or_left false b h = refl
-
-or_right : (a b : Bool) → (a || b) ≡ false → b ≡ false
-or_right true b h = cc
-or_right false b h = h
 
 -- the arrival tick of a row, where this row arrives at this tick
 abbrev with_row : ℕ → ℕ → (ℕ → ℕ) → ℕ → ℕ
@@ -57,7 +43,7 @@ module _ {n : ℕ} (row tick : ℕ) (ticks : ℕ → ℕ) where
   ticks-others : (es : List (Entry n)) → has_row es row ≡ false → map (λ entry. ticks entry.row) es ≡ map (λ entry. with_row row tick ticks entry.row) es
   ticks-others [] none = refl
   ticks-others (entry ∷ es) none =
-      let off : (row == entry.row) ≡ false = differs entry.row row (or_left (entry.row == row) (has_row es row) none) in
+      let off : (row == entry.row) ≡ false = turned entry.row row (or_left (entry.row == row) (has_row es row) none) in
       ap (λ b. cond b tick (ticks entry.row) ∷ map (λ entry. ticks entry.row) es) (sym off)
       ∙ ap (λ rest. with_row row tick ticks entry.row ∷ rest) (ticks-others es (or_right (entry.row == row) (has_row es row) none))
 
@@ -105,7 +91,7 @@ module _ {n : ℕ} (row tick : ℕ) (ticks : ℕ → ℕ) where
       by true (suc place) next has = absurd (not-at es place rest has)
       by false zero next has = let is : (entry.row == row) ≡ true = eq-eqb entry.row row has in absurd (cc)
       by false (suc place) next has =
-          ap (λ b. cond b tick (ticks entry.row) ∷ slice_set (map (λ entry. ticks entry.row) es) place tick) (sym (differs entry.row row off))
+          ap (λ b. cond b tick (ticks entry.row) ∷ slice_set (map (λ entry. ticks entry.row) es) place tick) (sym (turned entry.row row off))
           ∙ ap (λ rest. with_row row tick ticks entry.row ∷ rest) (next place has)
 
 -- Writes and reads

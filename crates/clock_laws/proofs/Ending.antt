@@ -42,7 +42,7 @@ use Rattle.clock_laws.specs.Leads.{Leads, CopiesWhatItSensed}
 use Rattle.clock_laws.specs.Completing.{completed, EndsDoing}
 use Rattle.clock_laws.specs.Extending.{is_tear}
 use Rattle.clock_laws.specs.Cutting.{cut}
-use Rattle.clock_laws.specs.Actions.{IsEnd, GoesOn, ServeEndsLaw, sources, begin_lines, WritesCopy, ReadsAsHead, BeginEndsLaw, IterateEndsLaw, torn_line, CutEndsLaw}
+use Rattle.clock_laws.specs.Actions.{IsCompletion, GoesOn, ServeEndsLaw, sources, begin_lines, WritesCopy, ReadsAsHead, BeginEndsLaw, IterateEndsLaw, torn_line, CutEndsLaw}
 use Rattle.clock_laws.proofs.Ties.{agrees}
 use Rattle.clock_laws.proofs.Ranges.{pulsed-in}
 use Rattle.clock_laws.proofs.Completing.{completion_law}
@@ -101,7 +101,7 @@ no_tear (Iterate answer) doing is = refl
 no_tear (Cut tearing) doing is = absurd is
 
 module _ {n m e : ℕ} (xs : List (Timed n m)) (clock : ClockState n m e) (bank : BankState n m e) (event : Event n) (action : Action) (sensed : List ℕ) (pulsed : Option ℕ) (old new : ArrayState n m)
-    (leads : Leads xs clock old) (end : IsEnd xs clock bank event action sensed pulsed old new) where
+    (leads : Leads xs clock old) (end : IsCompletion xs clock bank event action sensed pulsed old new) where
   -- it may happen
   may-end : MayHappen clock.bank.kept.shape (core xs) (most_steps e) event
   may-end =
@@ -223,7 +223,7 @@ module _ {n m e : ℕ} (action : Action) (xs : List (Timed n m)) (clock : ClockS
       subst (λ (sensed : List ℕ). IsSomeAnd (begun_with (Core (Begin did.More)) (shown tick sensed new) (copied xs)) (λ source. bytes ≡ decode e source)) lines (writes ∙ sym (same source))
 
   begun-more : (work : Work) → next_work clock.bank.kept ≡ work
-      → IsEnd xs clock bank (Begin did.More) action (begin_lines clock.bank.kept work) None old new
+      → IsCompletion xs clock bank (Begin did.More) action (begin_lines clock.bank.kept work) None old new
       → IsSomeAnd bank.running (λ op. (op.work ≡ work) × WritesCopy e clock.bank.kept old op.writer.bytes work) → GoesOn xs clock bank (Begin did.More) action old new
   begun-more work next end leaves =
       finish xs clock bank (Begin did.More) action (begin_lines clock.bank.kept work) None old new leads end lines refl tt (by bank.running leaves)
@@ -239,14 +239,14 @@ module _ {n m e : ℕ} (action : Action) (xs : List (Timed n m)) (clock : ClockS
           (λ line. same-read xs clock bank (Begin did.More) action (begin_lines clock.bank.kept work) None old new leads end line refl) own.1
           (ap (λ work. is_copy work) (sym own.0) ∙ copies)
 
-  begun-done : (answer : Step) (work : Work) (sensed : List ℕ) → next_work clock.bank.kept ≡ work → IsEnd xs clock bank (Begin answer) action sensed None old new
+  begun-done : (answer : Step) (work : Work) (sensed : List ℕ) → next_work clock.bank.kept ≡ work → IsCompletion xs clock bank (Begin answer) action sensed None old new
       → IsDone clock.bank.kept.shape (core xs) work answer
   begun-done answer work sensed next end =
       subst (λ (work : Work). IsDone clock.bank.kept.shape (core xs) work answer) (sym (agrees xs clock old leads).work ∙ next)
       (may-end xs clock bank (Begin answer) action sensed None old new leads end).1
 
   begun-stored : (row place : ℕ) (work : Work) → next_work clock.bank.kept ≡ work
-      → IsEnd xs clock bank (Begin (did.Stored row place)) action (begin_lines clock.bank.kept work) None old new
+      → IsCompletion xs clock bank (Begin (did.Stored row place)) action (begin_lines clock.bank.kept work) None old new
       → bank.running ≡ None → ReadsAsHead e clock.bank.kept old work → GoesOn xs clock bank (Begin (did.Stored row place)) action old new
   begun-stored row place Nothing next end none reads =
       let done : ⊥ = begun-done (did.Stored row place) Nothing (begin_lines clock.bank.kept Nothing) next end in absurd done
@@ -262,7 +262,7 @@ module _ {n m e : ℕ} (action : Action) (xs : List (Timed n m)) (clock : ClockS
       let done : ⊥ = begun-done (did.Stored row place) (Copy region step) (begin_lines clock.bank.kept (Copy region step)) next end in absurd done
 
   begun-moved : (moved : Move) (work : Work) → next_work clock.bank.kept ≡ work
-      → IsEnd xs clock bank (Begin (did.Moved moved)) action (begin_lines clock.bank.kept work) None old new
+      → IsCompletion xs clock bank (Begin (did.Moved moved)) action (begin_lines clock.bank.kept work) None old new
       → bank.running ≡ None → WritesCopy e clock.bank.kept old (decoded e old (target_of clock.bank.kept work)) work → GoesOn xs clock bank (Begin (did.Moved moved)) action old new
   begun-moved moved Nothing next end none writes =
       let done : ⊥ = begun-done (did.Moved moved) Nothing (begin_lines clock.bank.kept Nothing) next end in absurd done
@@ -299,20 +299,20 @@ module _ {n m e : ℕ} (action : Action) (op : Operation n m e) (xs : List (Time
   iterated-pulses : Some op.target ≡ Some (target_after clock.bank.kept.shape (core xs))
   iterated-pulses = ap (λ line. Some line) (op-target xs clock old leads op is)
 
-  iterated-may : (answer : Step) → IsEnd xs clock bank (Iterate answer) action (op.target ∷ []) (Some op.target) old new
+  iterated-may : (answer : Step) → IsCompletion xs clock bank (Iterate answer) action (op.target ∷ []) (Some op.target) old new
       → IsIterated clock.bank.kept.shape (core xs) op.work answer
   iterated-may answer end =
       let may = may-end xs clock bank (Iterate answer) action (op.target ∷ []) (Some op.target) old new leads end in
       subst (λ (work : Work). IsIterated clock.bank.kept.shape (core xs) work answer) (sym (op-work xs clock old leads op is)) may.1
 
   -- an iteration that leaves no line write
-  iterated-none : (answer : Step) → IsEnd xs clock bank (Iterate answer) action (op.target ∷ []) (Some op.target) old new → bank.running ≡ None
+  iterated-none : (answer : Step) → IsCompletion xs clock bank (Iterate answer) action (op.target ∷ []) (Some op.target) old new → bank.running ≡ None
       → IsReadRight e clock.bank.kept.shape xs (Iterate answer) (shown (ends clock.pace action) (op.target ∷ []) new) → GoesOn xs clock bank (Iterate answer) action old new
   iterated-none answer end none right =
       finish xs clock bank (Iterate answer) action (op.target ∷ []) (Some op.target) old new leads end iterated-senses iterated-pulses right
       (none-copies xs clock bank (Iterate answer) action (op.target ∷ []) (Some op.target) old new leads end (completed xs clock action (Iterate answer) new) none)
 
-  iterated-more : IsEnd xs clock bank (Iterate did.More) action (op.target ∷ []) (Some op.target) old new
+  iterated-more : IsCompletion xs clock bank (Iterate did.More) action (op.target ∷ []) (Some op.target) old new
       → IsSomeAnd bank.running (λ later. (later.work ≡ op.work) × (later.writer.bytes ≡ op.writer.bytes)) → GoesOn xs clock bank (Iterate did.More) action old new
   iterated-more end leaves =
       finish xs clock bank (Iterate did.More) action (op.target ∷ []) (Some op.target) old new leads end iterated-senses iterated-pulses tt (by bank.running leaves)

@@ -1,5 +1,5 @@
 -- What an action needs of its bank.
-use Rattle.std.proofs.Common.{◌≡◌, ℕ, ◌<◌, ◌==◌, ◌||◌, ◌&&◌, not, nat_lt, if◌then◌else◌, Bool, true, false, List, [], ◌∷◌, ◌++◌, length, Option, Some, None, is_some, refl, sym, ap, ◌∙◌, arith, eqb-true, eq-eqb, ltb-true}
+use Rattle.std.proofs.Common.{◌≡◌, ℕ, ◌<◌, ◌==◌, ◌||◌, ◌&&◌, not, nat_lt, if◌then◌else◌, Bool, true, false, List, [], ◌∷◌, ◌++◌, length, Option, Some, None, is_some, refl, sym, ap, ◌∙◌, arith, ltb-true, lt-ltb}
 use Rattle.std.specs.Prelude.{IfSome}
 use Rattle.std.specs.List.{list_any}
 use Rattle.std.proofs.lemmas.List.{length-append}
@@ -23,19 +23,8 @@ use Rattle.bank_invariant.specs.State.{BankState, is_free, may_begin}
 use Rattle.bank_invariant.specs.Serving.{kept_with, waits_too}
 use Rattle.bank_invariant.specs.Writes.{taken}
 use Rattle.clock_laws.specs.State.{or_else, started_at, chosen}
-use Rattle.clock_laws.specs.Fitting.{Fits, IsFit, ChosenLaw, FitWriteLaw, FitReadLaw}
-
-both_left : (a b : Bool) → (a && b) ≡ true → a ≡ true
-both_left true b h = refl
-both_left false b h = cc
-
-both_right : (a b : Bool) → (a && b) ≡ true → b ≡ true
-both_right true b h = h
-both_right false b h = cc
-
-both : (a b : Bool) → a ≡ true → b ≡ true → (a && b) ≡ true
-both true b h k = k
-both false b h k = cc
+use Rattle.clock_laws.specs.Fitting.{Fits, IsFit, ChosenLaw, RestLaw, FitWriteLaw, FitReadLaw}
+use Rattle.clock_laws.proofs.Deciding.{both, both_left, both_right, not_false, turned}
 
 -- Choices
 
@@ -63,6 +52,47 @@ chosen_law n m e clock fit =
     by : (r : Option Action) → IsFit clock.bank r → IfSome (chosen clock) (λ doing. Fits clock.bank doing) → IsFit clock.bank (or_else r (started_at clock.tick (chosen clock)))
     by (Some action) own next = own
     by None own next = later (chosen clock) next
+
+-- Rest
+
+-- where nothing is chosen, there is nothing to choose
+none-by : (gives reads busy ready : Bool) → chosen_by gives reads (choice busy ready) ≡ None → (reads ≡ false) × (busy ≡ false) × (ready ≡ false)
+none-by true true busy ready none = cc
+none-by true false true ready none = cc
+none-by true false false true none = cc
+none-by true false false false none = (refl, refl, refl)
+none-by false reads true ready none = cc
+none-by false true false ready none = cc
+none-by false false false true none = cc
+none-by false false false false none = (refl, refl, refl)
+
+none-else : (r : Option Action) (d : Option Doing) (now : ℕ) → or_else r (started_at now d) ≡ None → (r ≡ None) × (d ≡ None)
+none-else (Some action) d now none = cc
+none-else None (Some doing) now none = cc
+none-else None None now none = (refl, refl)
+
+none-waits : {n : ℕ} (ws : List (Waiting n)) → nat_lt 0 (length ws) ≡ false → ws ≡ []
+none-waits [] none = refl
+none-waits (w ∷ ws) none = let some : nat_lt 0 (length (w ∷ ws)) ≡ true = lt-ltb 0 (length (w ∷ ws)) (omega arith) in cc
+
+none-free : (n : ℕ) (work : Work) → is_free {n = n} [] work ≡ false → work ≡ Nothing
+none-free n Nothing none = refl
+none-free n (Store line slot) none = cc
+none-free n (Copy region step) none = cc
+
+none-runs : {A : Type 0} (o : Option A) → is_some o ≡ false → o ≡ None
+none-runs None none = refl
+none-runs (Some x) none = cc
+
+pub rest_law : RestLaw
+rest_law n m e clock none =
+    let idle = none-else clock.action (chosen clock) clock.tick none in
+    let no = none-by (gives_way clock.pace.policy) (nat_lt 0 (length clock.bank.waiting)) (is_some clock.bank.running) (may_begin clock.bank) idle.1 in
+    let reads : clock.bank.waiting ≡ [] = none-waits clock.bank.waiting no.0 in
+    let free : is_free {n = n} [] (next_work clock.bank.kept) ≡ false =
+    ap (λ (ws : List (Waiting n)). is_free ws (next_work clock.bank.kept)) (sym reads)
+    ∙ ap (λ b. not b && is_free clock.bank.waiting (next_work clock.bank.kept)) (sym no.1) ∙ no.2 in
+    (idle.0, reads, none-runs clock.bank.running no.1, none-free n (next_work clock.bank.kept) free)
 
 -- Writes
 
@@ -99,21 +129,10 @@ any-push at (v ∷ ws) w off none = by (v.line == at) none (any-push at ws w off
     by true none rest = cc
     by false none rest = rest none
 
-not-false : (b : Bool) → not b ≡ true → b ≡ false
-not-false true h = cc
-not-false false h = refl
-
-turned : (a b : ℕ) → (a == b) ≡ false → (b == a) ≡ false
-turned a b off = by (b == a) (eqb-true b a)
-  where
-    by : (t : Bool) → (t ≡ true → b ≡ a) → t ≡ false
-    by false is = refl
-    by true is = let same : (a == b) ≡ true = eq-eqb a b (sym (is refl)) in cc
-
 -- a work that may be begun may still be, where the read isn't of the line that it stores
 free-stays : {n : ℕ} (work : Work) (ws : List (Waiting n)) (w : Waiting n) → is_store_of w.line work ≡ false → is_free ws work ≡ true → is_free (ws ++ w ∷ []) work ≡ true
 free-stays Nothing ws w off free = cc
-free-stays (Store line slot) ws w off free = ap (λ b. not b) (any-push line ws w (turned line w.line off) (not-false _ free))
+free-stays (Store line slot) ws w off free = ap (λ b. not b) (any-push line ws w (turned line w.line off) (not_false _ free))
 free-stays (Copy region step) ws w off free = free
 
 fit-waits : {n m e : ℕ} (bank : BankState n m e) (row line first : ℕ) (doing : Doing) (b : Bool) → is_store_of line (next_work bank.kept) ≡ b → Fits bank doing

@@ -19,27 +19,7 @@ use Rattle.bank_laws.proofs.Standing.{stand_apart}
 use Rattle.bank_invariant.proofs.Taking.{answer_merged}
 use Rattle.clock_laws.specs.Newest.{GiveNewest, EntryLaw}
 use Rattle.bank_invariant.proofs.Awaiting.{length-newest}
-
--- Tests
-
-or_left : (a b : Bool) → (a || b) ≡ false → a ≡ false
-or_left true b h = cc
-or_left false b h = refl
-
-or_right : (a b : Bool) → (a || b) ≡ false → b ≡ false
-or_right true b h = cc
-or_right false b h = h
-
-or_none : (a b : Bool) → a ≡ false → b ≡ false → (a || b) ≡ false
-or_none true b h k = cc
-or_none false b h k = k
-
-turned : (a b : ℕ) → (a == b) ≡ false → (b == a) ≡ false
-turned a b off = by (b == a) (eqb-true b a)
-  where
-    by : (t : Bool) → (t ≡ true → b ≡ a) → t ≡ false
-    by false is = refl
-    by true is = let same : (a == b) ≡ true = eq-eqb a b (sym (is refl)) in cc
+use Rattle.clock_laws.proofs.Deciding.{or_back, or_left, or_none, or_right, turned}
 
 -- Bytes
 
@@ -172,10 +152,6 @@ module _ {n : ℕ} where
         by : (rest : Option ℕ) → (rest ≡ Some old → (has_row es old ≡ true) × (has_line es line ≡ true)) → (b : Bool) → (e.line == line) ≡ b
             → or_this rest (cond b (Some e.row) None) ≡ Some old → (has_row (e ∷ es) old ≡ true) × (has_line (e ∷ es) line ≡ true)
         by (Some row) there b at is = let rest = there is in (or_back (e.row == old) (has_row es old) rest.0, or_back (e.line == line) (has_line es line) rest.1)
-          where
-            or_back : (a b : Bool) → b ≡ true → (a || b) ≡ true
-            or_back true b h = refl
-            or_back false b h = h
         by None there true at is =
             let same : e.row ≡ old = cc in
             (ap (λ b. b || has_row es old) (eq-eqb e.row old same), ap (λ b. b || has_line es line) at)

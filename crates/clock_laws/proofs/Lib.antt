@@ -1,3 +1,4 @@
+mod Deciding
 pub mod Ties
 pub mod Ranges
 pub mod Stepping

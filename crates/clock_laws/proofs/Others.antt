@@ -26,6 +26,7 @@ use Rattle.bank_invariant.specs.Holds.{waiting_of}
 use Rattle.bank_invariant.proofs.Taking.{answer_merged}
 use Rattle.clock_laws.specs.Recording.{outcome_on}
 use Rattle.clock_laws.specs.Standing.{has_waiting, WaitingApart, AreApart, ApartLaw, is_arrival_of, arrives_with, OtherRowsLaw}
+use Rattle.clock_laws.proofs.Deciding.{or_back, or_left, or_none, or_right}
 
 -- Rows that stand
 
@@ -56,22 +57,6 @@ apart_law n m e xs clock array leads =
     (apart-of (queue clock.bank.kept.shape (core xs)) (waits clock.bank.kept.shape (core xs)) clock.bank.rows_below apart))
 
 -- Rows that don't
-
-or_left : (a b : Bool) → (a || b) ≡ false → a ≡ false
-or_left true b h = cc
-or_left false b h = refl
-
-or_right : (a b : Bool) → (a || b) ≡ false → b ≡ false
-or_right true b h = cc
-or_right false b h = h
-
-or_none : (a b : Bool) → a ≡ false → b ≡ false → (a || b) ≡ false
-or_none true b h k = cc
-or_none false b h k = k
-
-pub or_back : (a b : Bool) → b ≡ true → (a || b) ≡ true
-or_back true b h = refl
-or_back false b h = h
 
 no_wait-push : (ws : List Awaited) (w : Awaited) (row : ℕ) → has_wait ws row ≡ false → (w.row == row) ≡ false → has_wait (ws ++ w ∷ []) row ≡ false
 no_wait-push [] w row none off = or_none (w.row == row) false off refl

@@ -1,5 +1,5 @@
 -- Each action leaves fewer to be taken.
-use Rattle.std.proofs.Common.{◌≡◌, ◌≢◌, inl, inr, ℕ, ◌+◌, ◌-◌, ◌*◌, ◌<◌, ◌≤◌, Bool, true, false, List, [], ◌∷◌, suc, length, drop, slice_set, Option, Some, None, refl, sym, ap, subst, ◌∙◌, arith, get_or-set_other}
+use Rattle.std.proofs.Common.{◌≡◌, ◌≢◌, inl, inr, ℕ, ◌+◌, ◌*◌, ◌<◌, ◌≤◌, true, false, List, [], ◌∷◌, suc, length, drop, Option, Some, None, refl, sym, ap, subst, ◌∙◌, arith, get_or-set_other}
 use Rattle.std.proofs.lemmas.Bool.{cases_eq}
 use Rattle.std.proofs.lemmas.Grind.{get_or-set_at}
 use Rattle.std.proofs.lemmas.List.{length-append}
@@ -17,7 +17,7 @@ use Rattle.bank_invariant.specs.State.{BankState, Operation}
 use Rattle.bank_invariant.specs.Retiring.{ended}
 use Rattle.bank_invariant.specs.Beginning.{begun_with}
 use Rattle.bank_invariant.specs.declared.Waiting.{Waiting}
-use Rattle.clock_laws.specs.Remaining.{due_moves, last_attempts, attempts_left, attempt_left, actions_left, Falls, FallingLaw}
+use Rattle.clock_laws.specs.Remaining.{due_moves, last_attempts, attempts_left, attempt_left, actions_left, FallingLaw}
 
 few_moves : (due : Option ℕ) → due_moves due ≤ 1
 few_moves None = omega arith

@@ -1,7 +1,6 @@
 -- Each row that came has its outcome, unless it stands or waits.
 use Rattle.std.proofs.Common.{◌≡◌, ◌≢◌, ◌⊎◌, inl, inr, ℕ, ◌<◌, ◌==◌, ◌||◌, Bool, true, false, cond, if◌then◌else◌, List, [], ◌∷◌, ◌++◌, drop, Option, Some, None, refl, sym, ap, subst, ◌∙◌, arith, eqb-true, eq-eqb}
 use Rattle.std.specs.Prelude.{unwrap_or}
-use Rattle.std.specs.List.{list_any}
 use Rattle.std.proofs.lemmas.Bool.{ne_eqb}
 use Rattle.result_rows.specs.declared.Outcome.{Outcome}
 use Rattle.result_rows.specs.declared.Outcome.TheVariants as out
@@ -27,21 +26,13 @@ use Rattle.bank_laws.specs.Outcomes.{outcome_by, outcome_with, outcome_of, on_ro
 use Rattle.bank_laws.specs.Standing.{has_wait}
 use Rattle.bank_invariant.proofs.Taking.{answer_merged}
 use Rattle.clock_laws.specs.Standing.{has_waiting, is_arrival_of, arrives_with, SettledLaw, LostRowsLaw, ArrivalTickLaw}
-use Rattle.clock_laws.proofs.Others.{same_wait, candidate-there, or_back}
+use Rattle.clock_laws.proofs.Others.{same_wait, candidate-there}
+use Rattle.clock_laws.proofs.Deciding.{or_back, or_first, or_rest}
 
 -- whether a row has its outcome
 abbrev is_set : {n : ℕ} → Outcome n → Bool
 is_set out.Unset = false
 is_set _ = true
-
-or_first : (a b : Bool) → a ≡ true → (a || b) ≡ true
-or_first true b h = refl
-or_first false b h = cc
-
--- one of two that are there, where the first isn't
-or_rest : (a b : Bool) → a ≡ false → (a || b) ≡ true → b ≡ true
-or_rest true b h k = cc
-or_rest false b h k = k
 
 there-push : {n : ℕ} (es : List (Entry n)) (x : Entry n) (row : ℕ) → has_row es row ≡ true → has_row (es ++ x ∷ []) row ≡ true
 there-push [] x row h = cc

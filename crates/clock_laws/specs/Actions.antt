@@ -26,13 +26,13 @@ use Rattle.clock_laws.specs.Completing.{EndsDoing, completed, after_action}
 use Rattle.clock_laws.specs.Cutting.{cut, after_cut}
 
 -- a history leads on to this clock and this array by one more event, which adds what it touched
-pub record Extends {n m e : ℕ} (shape : BankShape) (xs : List (Timed n m)) (x : Timed n m) (clock : ClockState n m e) (old new : ArrayState n m) : Type 0 where
+pub record LeadsOn {n m e : ℕ} (shape : BankShape) (xs : List (Timed n m)) (x : Timed n m) (clock : ClockState n m e) (old new : ArrayState n m) : Type 0 where
   pub leads : Leads (x ∷ xs) clock new
   pub adds : Adds shape (x ∷ []) old new
 
 module _ {n m e : ℕ} where
   -- the action that runs from now on ends by an event, which leaves this bank and this array: it pulsed this line, and then sensed these
-  pub record IsEnd (xs : List (Timed n m)) (clock : ClockState n m e) (bank : BankState n m e) (event : Event n) (action : Action)
+  pub record IsCompletion (xs : List (Timed n m)) (clock : ClockState n m e) (bank : BankState n m e) (event : Event n) (action : Action)
       (sensed : List ℕ) (pulsed : Option ℕ) (old new : ArrayState n m) : Type 0 where
     pub next : next_action clock ≡ Some action
     pub doing : EndsDoing event action.doing
@@ -45,7 +45,7 @@ module _ {n m e : ℕ} where
   -- the history goes on by that event
   abbrev pub GoesOn : List (Timed n m) → ClockState n m e → BankState n m e → Event n → Action → ArrayState n m → ArrayState n m → Type 0
   GoesOn xs clock bank event action old new =
-      Extends clock.bank.kept.shape xs (completed xs clock action event new) (after_action clock bank action event) old new
+      LeadsOn clock.bank.kept.shape xs (completed xs clock action event new) (after_action clock bank action event) old new
 
 -- Serves
 
@@ -55,7 +55,7 @@ ServeEndsLaw =
     (n m e : ℕ) (answer : Served n) (action : Action) (w : Waiting n) (ws : List (Waiting n)) (xs : List (Timed n m))
     (clock : ClockState n m e) (bank : BankState n m e) (old new : ArrayState n m)
     → Leads xs clock old → clock.bank.waiting ≡ w ∷ ws
-    → IsEnd xs clock bank (Serve answer) action (stands_at clock.bank.kept w.line ∷ []) None old new
+    → IsCompletion xs clock bank (Serve answer) action (stands_at clock.bank.kept w.line ∷ []) None old new
     → bank.running ≡ clock.bank.running → answer.bytes ≡ laid w.kept w.given (decoded e old (stands_at clock.bank.kept w.line))
     → GoesOn xs clock bank (Serve answer) action old new
 
@@ -97,7 +97,7 @@ BeginEndsLaw =
     (n m e : ℕ) (answer : Step) (action : Action) (work : Work) (xs : List (Timed n m))
     (clock : ClockState n m e) (bank : BankState n m e) (old new : ArrayState n m)
     → Leads xs clock old → next_work clock.bank.kept ≡ work
-    → IsEnd xs clock bank (Begin answer) action (begin_lines clock.bank.kept work) None old new
+    → IsCompletion xs clock bank (Begin answer) action (begin_lines clock.bank.kept work) None old new
     → LeavesBegun clock.bank.kept work old bank.running answer
     → GoesOn xs clock bank (Begin answer) action old new
 
@@ -119,7 +119,7 @@ IterateEndsLaw =
     (n m e : ℕ) (answer : Step) (action : Action) (op : Operation n m e) (xs : List (Timed n m))
     (clock : ClockState n m e) (bank : BankState n m e) (old new : ArrayState n m)
     → Leads xs clock old → clock.bank.running ≡ Some op
-    → IsEnd xs clock bank (Iterate answer) action (op.target ∷ []) (Some op.target) old new
+    → IsCompletion xs clock bank (Iterate answer) action (op.target ∷ []) (Some op.target) old new
     → LeavesIterated op new bank.running answer
     → GoesOn xs clock bank (Iterate answer) action old new
 
@@ -138,4 +138,4 @@ CutEndsLaw =
     → Leads xs clock old → tearing ≡ is_doing Iterating clock.action
     → Holds (Cut tearing ∷ core xs) bank new → bank.kept.shape ≡ clock.bank.kept.shape → bank.running ≡ None → bank.lost ≡ []
     → Touches clock.tick [] (torn_line tearing clock.bank.running) tearing old new
-    → Extends clock.bank.kept.shape xs (cut xs clock tearing) (after_cut clock bank) old new
+    → LeadsOn clock.bank.kept.shape xs (cut xs clock tearing) (after_cut clock bank) old new

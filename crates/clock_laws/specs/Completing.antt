@@ -51,8 +51,8 @@ module _ {n m e : ℕ} where
   after_action clock bank action event =
       record { bank = bank; pace = clock.pace; tick = ends clock.pace action; action = None; arrivals = arrivals_with event clock.arrivals; drained = clock.drained }
 
--- the action that runs from now on ends by its event, which extends the history; that what it sensed is read right, and that a gap
--- move in progress writes what its begin sensed, are premises
+-- the action that runs from now on ends by its event, which extends the history; that it ends later, that what it sensed is read
+-- right, and that a gap move in progress writes what its begin sensed, are premises
 abbrev pub CompletionLaw : Type 0
 CompletionLaw =
     (n m e : ℕ) (event : Event n) (action : Action) (xs : List (Timed n m)) (clock : ClockState n m e) (bank : BankState n m e) (old new : ArrayState n m)

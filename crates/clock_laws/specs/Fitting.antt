@@ -1,5 +1,7 @@
 -- What an action needs of its bank, whatever its history was.
-use Rattle.std.specs.Prelude.{ℕ, ◌<◌, IsTrue, length, Option, IfSome, is_some}
+use Rattle.std.specs.Prelude.{◌≡◌, ℕ, ◌<◌, IsTrue, [], length, Option, None, IfSome, is_some}
+use Rattle.bank_shape.specs.declared.Work.TheVariants.{Nothing}
+use Rattle.power_recovery.specs.Kept.{next_work}
 use Rattle.masked_bytes.specs.declared.entry.Entry.{Entry}
 use Rattle.bank_model.specs.declared.answer.ReadAnswer.TheVariants as came
 use Rattle.bank_model.specs.declared.clock.Doing.{Doing}
@@ -37,3 +39,9 @@ abbrev pub FitReadLaw : Type 0
 FitReadLaw =
     (n m e row line : ℕ) (action : Option Action) (bank : BankState n m e)
     → IsFit bank action → IsFit (waits_too bank row line) (action_after_read bank.kept line came.Waiting action)
+
+-- where no action runs from now on, no read waits, and no line write is in progress or to be begun
+abbrev pub RestLaw : Type 0
+RestLaw =
+    (n m e : ℕ) (clock : ClockState n m e) → next_action clock ≡ None
+    → (clock.action ≡ None) × (clock.bank.waiting ≡ []) × (clock.bank.running ≡ None) × (next_work clock.bank.kept ≡ Nothing)

@@ -8,6 +8,7 @@ fn laws_hold() {
     time::idle_banks_have_no_work();
     time::actions_end_later();
     time::chosen_actions_fit();
+    time::banks_rest();
     time::actions_grow_fewer();
     arrivals::writes_arrive();
     arrivals::reads_arrive();

@@ -1,7 +1,7 @@
 //! The laws of a bank that was just made, and of time that passes in which no event comes.
 
 ghost use Rattle.clock_laws.specs.Passing.{PassingLaw, IdleLaw, EndingLaterLaw};
-ghost use Rattle.clock_laws.specs.Fitting.{ChosenLaw};
+ghost use Rattle.clock_laws.specs.Fitting.{ChosenLaw, RestLaw};
 ghost use Rattle.clock_laws.specs.Remaining.{FallingLaw};
 ghost use Rattle.clock_laws.specs.Starting.{StartLaw};
 
@@ -33,4 +33,9 @@ pub fn chosen_actions_fit()
 /// Each action leaves a bank fewer to take, if nothing arrives.
 pub fn actions_grow_fewer()
     ensures { FallingLaw }
+{}
+
+/// Where no action runs from now on, no read waits, and no line write is in progress or to be begun.
+pub fn banks_rest()
+    ensures { RestLaw }
 {}

@@ -1,5 +1,5 @@
 -- A command that gets its options one by one.
-use Rattle.std.proofs.Common.{◌≡◌, ℕ, suc, ◌+◌, ◌<◌, List, ◌∷◌, map, length, get_or, drop, Bor, refl, ap, ◌∙◌, false, arith}
+use Rattle.std.proofs.Common.{◌≡◌, ℕ, suc, ◌+◌, ◌<◌, List, map, length, get_or, drop, Bor, refl, ap, ◌∙◌, false, arith}
 use Rattle.std.specs.Prelude.{codes, Result, Ok, Err, IfOk}
 use Rattle.std.proofs.Math.Seq.{drop-cons}
 use Rattle.clap.specs.Words.{App, Text, AddsSubcommand, app_of, new_app, with_rule, with_subcommand}

@@ -10,11 +10,14 @@ use Rattle.command_line.specs.Options.{with_some, number_option, line_of, shape_
 use Rattle.command_line.specs.declared.job.Job.{Job}
 use Rattle.command_line.specs.declared.job.Job.TheVariants.{Run, Gen, Map, Moves}
 use Rattle.command_line.specs.declared.job.Mix.{Mix}
+use Rattle.command_line.specs.declared.job.RunJob.{RunJob}
+use Rattle.command_line.specs.declared.job.GenJob.{GenJob}
+use Rattle.command_line.specs.declared.job.MapJob.{MapJob}
 use Rattle.command_line.specs.declared.job.MovesJob.{MovesJob}
 use Rattle.command_line.specs.declared.job.Input.{Input}
 use Rattle.command_line.specs.declared.job.Input.TheVariants.{Source, Drawn}
 use Rattle.command_line.specs.declared.job.Refusal.{Refusal}
-use Rattle.command_line.specs.declared.job.Refusal.TheVariants.{Usage, NoMemory}
+use Rattle.command_line.specs.declared.job.Refusal.TheVariants.{Usage}
 
 -- the job of `run` with these options; those of a generated trace are looked at whatever the input is
 unfoldable pub run_of : List Row → Option Job
@@ -107,9 +110,23 @@ pub record IsMoves (job : MovesJob) : Type 0 where
   pub power_of_two : is_power_of_two job.lines ≡ true
   pub few_moves : job.from ≤ 16781312
 
--- a job whose numbers are in range
+-- the numbers of each job are in range
+pub record IsRun (job : RunJob) : Type 0 where
+  pub shape : IsShape job.shape
+  pub wear : IsWear job.wear
+  pub one_seed : job.wear.seed ≡ job.seed
+  pub input : IsInput job.input
+
+pub record IsGen (job : GenJob) : Type 0 where
+  pub shape : IsShape job.shape
+  pub mix : IsMix job.mix
+
+pub record IsMap (job : MapJob) : Type 0 where
+  pub shape : IsShape job.shape
+  pub few_moves : job.from ≤ 16781312
+
 abbrev pub IsJob : Job → Type 0
-IsJob (Run job) = IsShape job.shape × IsWear job.wear × (job.wear.seed ≡ job.seed) × IsInput job.input
-IsJob (Gen job) = IsShape job.shape × IsMix job.mix
-IsJob (Map job) = IsShape job.shape × (job.from ≤ 16781312)
+IsJob (Run job) = IsRun job
+IsJob (Gen job) = IsGen job
+IsJob (Map job) = IsMap job
 IsJob (Moves job) = IsMoves job

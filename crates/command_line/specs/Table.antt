@@ -1,6 +1,6 @@
 -- The commands and their options.
-use Rattle.std.specs.Prelude.{ℕ, List, [], ◌∷◌, codes, true, Some}
-use Rattle.clap.specs.Words.{App, Rule, Shape, Text, new_app, new_rule, with_rule, with_subcommand}
+use Rattle.std.specs.Prelude.{List, [], ◌∷◌, codes, true, Some}
+use Rattle.clap.specs.Words.{App, Rule, Text, new_app, new_rule, with_rule, with_subcommand}
 use Rattle.clap.specs.declared.builder.action.ArgAction.TheVariants.{Set}
 
 -- an option is written by its name, and takes one value

@@ -4,8 +4,9 @@ use Rattle.std.specs.Int.{is_power_of_two}
 use Rattle.std.proofs.lemmas.Bool.{cases_lt}
 use Rattle.std.proofs.lemmas.Bool.Decides.{nat_tests}
 use Rattle.std.proofs.lemmas.Nat.{mul-le}
-use Rattle.std.proofs.Math.Nat.{pow-le-pow_right, mul_assoc, mul-add}
+use Rattle.std.proofs.Math.Nat.{pow-le-pow_right, mul_assoc, mul_comm, mul-add}
 use Rattle.module_shape.specs.Limits.{is_between, total_of, limits, first_broken, shape_fault, IsShape}
+use Rattle.module_shape.specs.Addresses.{module_of, lines_of}
 use Rattle.module_shape.specs.declared.raw.RawShape.{RawShape}
 use Rattle.module_shape.specs.declared.raw.Field.{Field}
 use Rattle.module_shape.proofs.Powers.{size_of_powers}
@@ -99,6 +100,18 @@ array_lines_few banks regions lines spares few also low total =
     = ap (λ n. banks * n) slots ∙ mul-add banks (regions * lines) (regions * 1) in
     let places : banks * (regions * 1) ≡ banks * regions = ap (λ n. banks * n) (omega arith) in
     omega (arith, mul_assoc banks regions lines)
+
+-- the array lines of a bank end before those of the next bank begin
+pub banks_apart : (bank next array_lines : ℕ) → bank < next → bank * array_lines + array_lines ≤ next * array_lines
+banks_apart bank next array_lines before =
+    omega (arith, mul-le (bank + 1) array_lines next array_lines (omega arith) (omega arith), mul_add_one bank array_lines)
+  where
+    mul_add_one : (a b : ℕ) → (a + 1) * b ≡ a * b + b
+    mul_add_one a b = mul_comm (a + 1) b ∙ mul-add b a 1 ∙ omega (arith, mul_comm b a)
+
+-- the lines of a module are those of its banks
+pub total-is : (raw : RawShape) → total_of raw ≡ raw.banks * lines_of (module_of raw)
+total-is raw = mul_assoc raw.banks raw.regions raw.lines
 
 -- a module has at least four lines
 pub lines_some : (banks regions lines : ℕ) → 1 ≤ banks → 1 ≤ regions → 4 ≤ lines → 4 ≤ banks * regions * lines

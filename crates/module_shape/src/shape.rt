@@ -1,7 +1,7 @@
 // The sizes of a module that it can have.
 ghost use Rattle.std.specs.Prelude.{◌≡◌, ◌+◌, ◌*◌, ◌^◌, ◌<◌, ◌≤◌, IfOk};
 ghost use Rattle.feistel_map.specs.Log2.{log2};
-ghost use Rattle.bank_shape.specs.Shape.{IsBankShape};
+ghost use Rattle.bank_shape.specs.Shape.{IsBankShape, lines_in};
 ghost use Rattle.pace.specs.Policies.{IsPace};
 ghost use Rattle.module_shape.specs.Limits.{IsShape, accepted, total_of};
 ghost use Rattle.module_shape.specs.Addresses.{module_of, pace_of, lines_of, array_lines_of, bank_shape, bank_of, bank_line_of};
@@ -108,6 +108,7 @@ impl Shape {
         requires { bank < self.now.banks }
         ensures exact { result ≡ bank_shape (module_of self.now) bank }
         ensures shape { IsBankShape result }
+        ensures within { result.base + lines_in result ≤ self.now.banks * array_lines_of (module_of self.now) }
         ensures in_range { IsShape self.now }
     {
         BankShape {

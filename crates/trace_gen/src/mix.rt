@@ -3,8 +3,8 @@ ghost use Rattle.std.specs.Prelude.{◌≡◌, ◌+◌, ◌≤◌, ◌<◌};
 ghost use Rattle.trace_gen.specs.Generated.{IsMix, cut_distance, is_cut_row, line_drawn, draws_write};
 
 /// The number of rows and what they are: how many of a hundred reads and writes are writes, how many rows are cuts of the
-/// power, by how much the tick may rise from row to row, and how many of the first lines are hot (0: none). Nine in ten
-/// reads and writes go to hot lines.
+/// power, by how much the tick may rise from row to row, and how many of the first lines are hot (0: none). Nine words in
+/// ten draw a line among the hot ones, where there are any, and the others draw one among all.
 #[derive(Clone, Copy, Debug, PartialEq, Eq)]
 pub struct Mix {
     pub rows: u32,

@@ -1,7 +1,7 @@
-use Rattle.std.proofs.Common.{◌≡◌, ◌≢◌, ◌∷◌, List, map, sym, ap, ◌∙◌}
+use Rattle.std.proofs.Common.{◌≡◌, ◌≢◌, map, sym, ap, ◌∙◌}
 use Rattle.std.specs.Prelude.{Err, string_bytes}
 use Rattle.clap.specs.Words.{app_of, subcommand_rows_of}
-use Rattle.command_line.specs.Jobs.{job_of, job_met, or_usage}
+use Rattle.command_line.specs.Jobs.{job_of}
 use Rattle.command_line.specs.declared.job.Refusal.TheVariants.{NoMemory}
 use Rattle.command_line.proofs.Reading.{job-of-taken, job-of-refused, ok-of, err-of}
 use Rattle.command_line.proofs.read.read_job.Goals as goal

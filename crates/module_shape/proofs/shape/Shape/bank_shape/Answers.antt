@@ -1,0 +1,13 @@
+use Rattle.std.proofs.Common.{◌≡◌, ◌+◌, ◌*◌, ap}
+use Rattle.module_shape.specs.Addresses.{array_lines_of, module_of}
+use Rattle.module_shape.proofs.Bounds.{banks_apart}
+use Rattle.module_shape.proofs.shape.Shape.bank_shape.Goals as goal
+
+pub returns-clause-within : goal.returns-clause-within
+returns-clause-within c =
+    let shape = c.args.self.now in
+    let raw = c.self.inside.raw in
+    let lines : raw.regions * (raw.lines + 1) + raw.spares + 0 ≡ array_lines_of (module_of shape)
+    = ap (λ r. array_lines_of (module_of r)) c.self.view_is in
+    let apart = banks_apart c.args.bank shape.banks (array_lines_of (module_of shape)) c.requires in
+    rw (c.bank_lines.ensures.number, lines) apart
