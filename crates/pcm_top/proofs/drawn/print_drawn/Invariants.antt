@@ -6,7 +6,7 @@ use Rattle.pcm_top.proofs.drawn.print_drawn.Given as goal
 -- the rows so far are printed
 abbrev pub invariant-loop-event : goal.invariant-loop-event
 invariant-loop-event g l =
-    HasDrawn (generated g.B l.seed l.lines l.fn.mix) l.generator l.text (g.K.Sink.written l.fn.out) (g.K.Sink.written l.out)
+    HasDrawn (generated g.row.B l.seed l.lines l.fn.mix) l.generator l.text (g.K.Sink.written l.fn.out) (g.K.Sink.written l.out)
     × (g.K.Sink.faults l.fn.out ≤ g.K.Sink.faults l.out)
 
 abbrev pub decreases-loop-event : goal.decreases-loop-event

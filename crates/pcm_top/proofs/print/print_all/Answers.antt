@@ -31,7 +31,7 @@ print_row-requires g c =
     let outcome : slice_get c.args.results.now c.loop-i.i ≡ Some c.get.result.now = rw back at c.get.ensures in
     let is = same_value (slice_get c.args.results.now c.loop-i.i) c.get.result.now (outcome_of rows event.tick event.op) outcome (c.requires.serves.served c.loop-i.i event at) in
     let number : c.loop-i.i + 1 ≤ 400000 = omega arith in
-    (lit< tt, (lit≤ tt, (c.in_ok-make_room.ensures.ok.room_left, (rw (is, c.asked_by.ensures) (outcome_of-belongs rows event.tick event.op), (number, (rw c.line_named_by.ensures (named_line-small event.op exists), rw is (place_of-small rows event.tick event.op exists)))))))
+    (lit< tt, (lit≤ tt, (omega (arith, c.in_ok-make_room.ensures.ok.room_left), (rw (is, c.asked_by.ensures) (outcome_of-belongs rows event.tick event.op), (number, (rw c.line_named_by.ensures (named_line-small event.op exists), rw is (place_of-small rows event.tick event.op exists)))))))
 
 pub loop-i-preserved : goal.loop-i-preserved
 loop-i-preserved g c =
