@@ -1,6 +1,5 @@
 -- What the sizes of a module are to its reports.
-use Rattle.std.proofs.Common.{◌≡◌, ℕ, ◌*◌, ◌≤◌, arith}
-use Rattle.module_shape.specs.Limits.{IsShape, total_of}
+use Rattle.module_shape.specs.Limits.{IsShape}
 use Rattle.command_line.specs.declared.job.MapJob.{MapJob}
 use Rattle.rotation_reports.specs.MapText.{IsMapOptions}
 use Rattle.pcm_top.specs.Jobs.{map_options}

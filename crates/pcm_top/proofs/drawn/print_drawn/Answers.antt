@@ -1,4 +1,4 @@
-use Rattle.std.proofs.Common.{◌≡◌, ◌∷◌, [], arith}
+use Rattle.std.proofs.Common.{◌∷◌, arith}
 use Rattle.trace_gen.specs.Generated.{generated}
 use Rattle.pcm_top.proofs.Printing.{on_err, on_err_any, on_ok}
 use Rattle.pcm_top.proofs.Drawing.{drawn-flushed, drawn-header, drawn-last, drawn-part, drawn-row}

@@ -1,6 +1,6 @@
 use Rattle.std.proofs.Common.{◌≡◌, ◌≢◌, inl, inr, ap, Err}
 use Rattle.pcm_top.specs.declared.fault.Fault.TheVariants.{TooLong, Write}
-use Rattle.pcm_top.proofs.Deciding.{is_write, status-decided, too_long-told}
+use Rattle.pcm_top.proofs.Deciding.{is_write, too_long-told}
 use Rattle.pcm_top.proofs.program.pcm_run.Goals as goal
 
 pub returns-in-Err-clause-broken : goal.returns-in-Err-clause-broken
