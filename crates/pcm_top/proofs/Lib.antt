@@ -2,7 +2,7 @@ pub mod Storing
 pub mod Rows
 pub mod Printing
 pub mod Reporting
-pub mod Options
+pub mod Shapes
+pub mod Drawing
 pub mod Telling
 pub mod Deciding
-mod Worked

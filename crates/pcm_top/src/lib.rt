@@ -2,7 +2,7 @@
 //! The call's contract says what every run prints and leaves in the array, and what each status means.
 #![tactic(auto)]
 
-mod command;
+mod drawn;
 mod fault;
 mod print;
 mod program;
@@ -10,7 +10,6 @@ mod report;
 mod run;
 mod serve;
 
-pub use command::Command;
 pub use fault::Fault;
 pub use print::TEXT_ROOM;
 pub use program::pcm_run;

@@ -17,8 +17,8 @@ use trace_reader::{Event, EventOp, MOST_ROWS};
 /// Bytes of text that are gathered before they are written.
 pub const TEXT_ROOM: usize = 65_536;
 
-// Bytes that a row takes at most.
-const ROW_ROOM: usize = 192;
+// Bytes that a row takes at most, over lines of 128 bytes.
+const ROW_ROOM: usize = 320;
 
 // What a row asks for, as its result shows it.
 fn asked_by(op: &EventOp<64>) -> Op

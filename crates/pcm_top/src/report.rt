@@ -6,13 +6,31 @@ ghost use Rattle.pcm_io.specs.Giving.{AppendsPrefix};
 ghost use Rattle.pcm_io.specs.Reserved.{reserved};
 ghost use Rattle.rotation_reports.specs.MapText.{IsMapOptions, map_text};
 ghost use Rattle.rotation_reports.specs.MovesText.{moves_text};
-ghost use Rattle.pcm_top.specs.Words.{most_moves};
+ghost use Rattle.command_line.specs.Jobs.{IsMoves};
+ghost use Rattle.pcm_top.specs.Jobs.{map_options};
 
 use crate::fault::Fault;
 use crate::print::{TEXT_ROOM, make_room};
+use command_line::{MapJob, MovesJob};
 use pcm_io::{Sink, Text, WriteFault, write_all};
 use rotation_reports::{Map, MapOptions, print_map_header, print_move_row, print_moves_header};
 use std::alloc::Global;
+
+// What a map is told of.
+fn options_of(job: &MapJob) -> MapOptions
+    ensures same { result ≡ map_options job.now }
+    ensures in_range { IsMapOptions result }
+{
+    let sizes = job.shape.raw();
+    MapOptions {
+        banks: sizes.banks,
+        regions: sizes.regions,
+        lines: sizes.lines,
+        spares: sizes.spares,
+        seed: job.seed,
+        moves: job.from,
+    }
+}
 
 // Writes where every line of the module stands.
 fn print_map<K: Sink>(options: MapOptions, text: &mut Text, out: &mut K) -> Result<(), WriteFault>
@@ -42,7 +60,7 @@ fn print_moves<K: Sink>(
 ) -> Result<(), WriteFault>
     requires room { text.old ≡ reserved TEXT_ROOM }
     requires lines { (4 ≤ lines) × (lines ≤ 256) }
-    requires first { first ≤ most_moves }
+    requires first { first ≤ 16781312 }
     ensures ok { OnOk result (Appends (K.written out.old) (K.written out.new) (moves_text lines first)) }
     ensures prefix { OnErr result (AppendsPrefix (K.written out.old) (K.written out.new) (moves_text lines first)) }
     ensures fault { OnErr result (Rose (K.faults out.old) (K.faults out.new)) }
@@ -58,12 +76,11 @@ fn print_moves<K: Sink>(
 }
 
 /// Writes the report `map`.
-pub fn report_map<K: Sink>(alloc: Global, options: MapOptions, out: &mut K) -> Result<(), Fault>
-    requires { IsMapOptions options }
-    ensures done { OnOk result (Appends (K.written out.old) (K.written out.new) (map_text options)) }
+pub fn report_map<K: Sink>(alloc: Global, job: MapJob, out: &mut K) -> Result<(), Fault>
+    ensures done { OnOk result (Appends (K.written out.old) (K.written out.new) (map_text (map_options job))) }
 
     // Only a fault of writing comes after the first byte was written.
-    ensures write { result ≡ Err Fault.Write → AppendsPrefix (K.written out.old) (K.written out.new) (map_text options)
+    ensures write { result ≡ Err Fault.Write → AppendsPrefix (K.written out.old) (K.written out.new) (map_text (map_options job))
         × Rose (K.faults out.old) (K.faults out.new) }
     ensures memory { IfErr result (λ fault. fault ≢ Fault.Write → (fault ≡ Fault.NoMemory) × (out.new ≡ out.old)) }
     ensures never_falls { K.faults out.old ≤ K.faults out.new }
@@ -72,25 +89,19 @@ pub fn report_map<K: Sink>(alloc: Global, options: MapOptions, out: &mut K) -> R
         Ok(text) => text,
         Err(_) => return Err(Fault::NoMemory),
     };
-    match print_map(options, &mut text, out) {
+    match print_map(options_of(&job), &mut text, out) {
         Ok(()) => Ok(()),
         Err(_) => Err(Fault::Write),
     }
 }
 
 /// Writes the report `moves`.
-pub fn report_moves<K: Sink>(
-    alloc: Global,
-    lines: u32,
-    first: u64,
-    out: &mut K,
-) -> Result<(), Fault>
-    requires lines { (4 ≤ lines) × (lines ≤ 256) }
-    requires first { first ≤ most_moves }
-    ensures done { OnOk result (Appends (K.written out.old) (K.written out.new) (moves_text lines first)) }
+pub fn report_moves<K: Sink>(alloc: Global, job: MovesJob, out: &mut K) -> Result<(), Fault>
+    requires { IsMoves job }
+    ensures done { OnOk result (Appends (K.written out.old) (K.written out.new) (moves_text job.lines job.from)) }
 
     // Only a fault of writing comes after the first byte was written.
-    ensures write { result ≡ Err Fault.Write → AppendsPrefix (K.written out.old) (K.written out.new) (moves_text lines first)
+    ensures write { result ≡ Err Fault.Write → AppendsPrefix (K.written out.old) (K.written out.new) (moves_text job.lines job.from)
         × Rose (K.faults out.old) (K.faults out.new) }
     ensures memory { IfErr result (λ fault. fault ≢ Fault.Write → (fault ≡ Fault.NoMemory) × (out.new ≡ out.old)) }
     ensures never_falls { K.faults out.old ≤ K.faults out.new }
@@ -99,7 +110,7 @@ pub fn report_moves<K: Sink>(
         Ok(text) => text,
         Err(_) => return Err(Fault::NoMemory),
     };
-    match print_moves(lines, first, &mut text, out) {
+    match print_moves(job.lines, job.from, &mut text, out) {
         Ok(()) => Ok(()),
         Err(_) => Err(Fault::Write),
     }

@@ -133,12 +133,38 @@ fn a_full_turn_of_moves_is_told(rt: HostRuntime) -> Result<(), Fail> {
 }
 
 #[test]
-fn other_words_name_no_command(rt: HostRuntime) -> Result<(), Fail> {
-    let lines: [&[&str]; 4] = [
+fn a_generated_trace_of_cuts(rt: HostRuntime) -> Result<(), Fail> {
+    let line = [
+        "gen",
+        "--banks",
+        "1",
+        "--regions=1",
+        "--lines",
+        "4",
+        "--rows",
+        "2",
+        "--cuts=2",
+        "--step",
+        "0",
+    ];
+    let ran = run_over(rt.alloc(), &line, b"", &[], &[])?;
+    assert_eq!(rt;
+        ran.out.written(),
+        b"tick,op,arg,data\n0,C,,\n0,C,,\n".as_slice()
+    );
+    assert_eq!(rt; ran.status, 0);
+    Ok(())
+}
+
+#[test]
+fn other_words_ask_for_no_job(rt: HostRuntime) -> Result<(), Fail> {
+    let lines: [&[&str]; 6] = [
+        &[],
         &["run", "run"],
+        &["run", "--lines", "5"],
+        &["run", "--psi"],
         &["moves", "--lines", "512", "--from", "7"],
         &["moves", "--lines", "6", "--from", "7"],
-        &["moves", "--from", "7", "--lines", "4"],
     ];
     for line in lines {
         let ran = run_over(rt.alloc(), line, b"", &[], &[])?;

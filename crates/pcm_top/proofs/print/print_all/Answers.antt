@@ -31,7 +31,7 @@ print_row-requires g c =
     let outcome : slice_get c.args.results.now c.loop-i.i ≡ Some c.get.result.now = rw back at c.get.ensures in
     let is = same_value (slice_get c.args.results.now c.loop-i.i) c.get.result.now (outcome_of rows event.tick event.op) outcome (c.requires.serves.served c.loop-i.i event at) in
     let number : c.loop-i.i + 1 ≤ 400000 = omega arith in
-    (lit< tt, (lit≤ tt, (c.in_ok-make_room.ensures.ok.room_left, (rw (is, c.asked_by.ensures) (outcome_of-belongs rows event.tick event.op), (number, (rw c.line_named_by.ensures (named_line-small event.op exists), rw is (place_of-small rows event.tick event.op exists)))))))
+    (lit< tt, (lit≤ tt, (omega (arith, c.in_ok-make_room.ensures.ok.room_left), (rw (is, c.asked_by.ensures) (outcome_of-belongs rows event.tick event.op), (number, (rw c.line_named_by.ensures (named_line-small event.op exists), rw is (place_of-small rows event.tick event.op exists)))))))
 
 pub loop-i-preserved : goal.loop-i-preserved
 loop-i-preserved g c =
@@ -39,7 +39,7 @@ loop-i-preserved g c =
     let at = slice_get-get_or c.args.events.now c.loop-i.i no_event c.loop-i-test.true in
     let back : c.loop-i.i + 1 - 1 ≡ c.loop-i.i = omega arith in
     let outcome : slice_get c.args.results.now c.loop-i.i ≡ Some c.get.result.now = rw back at c.get.ensures in
-    let flushed = printed-flushed c.args.events.now c.args.results.now c.loop-i.i 192 c.loop-i.text c.make_room.new.text _ _ _ c.loop-i.invariant.0 c.in_ok-make_room.ensures.ok in
+    let flushed = printed-flushed c.args.events.now c.args.results.now c.loop-i.i 320 c.loop-i.text c.make_room.new.text _ _ _ c.loop-i.invariant.0 c.in_ok-make_room.ensures.ok in
     let row = printed-row c.args.events.now c.args.results.now c.loop-i.i c.make_room.new.text event c.get.result.now _ _ at outcome flushed in
     (rw (c.print_row.ensures.after, c.asked_by.ensures, c.line_named_by.ensures) row, omega (arith, c.loop-i.invariant.1, c.in_ok-make_room.ensures.never_falls))
 

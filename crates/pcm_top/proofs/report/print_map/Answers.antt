@@ -11,7 +11,7 @@ returns-in_err-make_room-clause-prefix g c =
 
 pub loop-line-preserved : goal.loop-line-preserved
 loop-line-preserved g c =
-    let flushed = reported-flushed map_header (map_row c.args.options) 0 c.loop-line.line 192 c.loop-line.text c.make_room.new.text _ _ _ c.loop-line.invariant.0 c.in_ok-make_room.ensures.ok in
+    let flushed = reported-flushed map_header (map_row c.args.options) 0 c.loop-line.line 320 c.loop-line.text c.make_room.new.text _ _ _ c.loop-line.invariant.0 c.in_ok-make_room.ensures.ok in
     let row = reported-row map_header (map_row c.args.options) 0 c.loop-line.line c.make_room.new.text _ _ flushed in
     let first : 0 + c.loop-line.line ≡ c.loop-line.line = omega arith in
     (rw (c.print_row.ensures.after, c.new-map.ensures) (rw first at row), omega (arith, c.loop-line.invariant.1, c.in_ok-make_room.ensures.never_falls), omega (arith, c.loop-line-test.true))

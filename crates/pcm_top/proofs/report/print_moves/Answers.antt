@@ -12,7 +12,7 @@ returns-in_err-make_room-clause-prefix g c =
 
 pub loop-row-preserved : goal.loop-row-preserved
 loop-row-preserved g c =
-    let flushed = reported-flushed moves_header (move_row c.args.lines) c.args.first c.loop-row.row 192 c.loop-row.text c.make_room.new.text _ _ _ c.loop-row.invariant.0 c.in_ok-make_room.ensures.ok in
+    let flushed = reported-flushed moves_header (move_row c.args.lines) c.args.first c.loop-row.row 320 c.loop-row.text c.make_room.new.text _ _ _ c.loop-row.invariant.0 c.in_ok-make_room.ensures.ok in
     let row = reported-row moves_header (move_row c.args.lines) c.args.first c.loop-row.row c.make_room.new.text _ _ flushed in
     (rw (c.print_move_row.ensures.after, c.from.ensures) row, omega (arith, c.loop-row.invariant.1, c.in_ok-make_room.ensures.never_falls), omega (arith, c.loop-row-test.true))
 

@@ -1,0 +1,98 @@
+// The command `gen`.
+ghost use Rattle.std.specs.Prelude.{◌≡◌, ◌≢◌, ◌≤◌, Err, IfErr, OnOk, OnErr};
+ghost use Rattle.std.specs.Io.KnownBytes.{Appends};
+ghost use Rattle.pcm_io.specs.Faults.{Rose};
+ghost use Rattle.pcm_io.specs.Giving.{AppendsPrefix};
+ghost use Rattle.pcm_io.specs.Reserved.{reserved};
+ghost use Rattle.trace_gen.specs.EventText.{trace_text};
+ghost use Rattle.trace_gen.specs.Generated.{IsMix, generated};
+ghost use Rattle.command_line.specs.Jobs.{IsMix as IsMixAsked};
+ghost use Rattle.pcm_top.specs.Jobs.{drawn_mix, gen_text};
+
+use crate::fault::Fault;
+use crate::print::{TEXT_ROOM, make_room};
+use command_line::{GenJob, LineSize};
+use pcm_io::{Sink, Text, WriteFault, write_all};
+use std::alloc::Global;
+use trace_gen::{Generator, Mix, header, print_event};
+
+// What the rows of a trace are, as the generator takes it.
+fn mix_of(asked: &command_line::Mix) -> Mix
+    requires { IsMixAsked asked.now }
+    ensures same { result ≡ drawn_mix asked.now }
+    ensures in_range { IsMix result }
+{
+    Mix {
+        rows: asked.rows,
+        write_percent: asked.write_percent,
+        cuts: asked.cuts,
+        step: asked.step,
+        hot: asked.hot,
+    }
+}
+
+// Writes the trace of a seed for so many lines of `B` bytes.
+fn print_drawn<const B: usize, K: Sink>(
+    seed: u64,
+    lines: u32,
+    mix: Mix,
+    text: &mut Text,
+    out: &mut K,
+) -> Result<(), WriteFault>
+    requires room { text.old ≡ reserved TEXT_ROOM }
+    requires small { B ≤ 128 }
+    requires some_lines { 1 ≤ lines }
+    requires few_lines { lines ≤ 65536 }
+    requires mix { IsMix mix }
+    ensures ok { OnOk result (Appends (K.written out.old) (K.written out.new) (trace_text (generated B seed lines mix))) }
+    ensures prefix { OnErr result (AppendsPrefix (K.written out.old) (K.written out.new) (trace_text (generated B seed lines mix))) }
+    ensures fault { OnErr result (Rose (K.faults out.old) (K.faults out.new)) }
+    ensures never_falls { K.faults out.old ≤ K.faults out.new }
+{
+    let mut generator = Generator::<B>::new(seed, lines, mix);
+    text.push(header());
+    while let Some(event) = generator.next_event() {
+        make_room(text, out)?;
+        print_event(&event, text);
+    }
+    let rest = text.bytes();
+    write_all(out, rest)
+}
+
+// The same for the lines of a job.
+fn print_job<K: Sink>(job: &GenJob, text: &mut Text, out: &mut K) -> Result<(), WriteFault>
+    requires room { text.old ≡ reserved TEXT_ROOM }
+    requires mix { IsMixAsked job.now.mix }
+    ensures ok { OnOk result (Appends (K.written out.old) (K.written out.new) (gen_text job.now)) }
+    ensures prefix { OnErr result (AppendsPrefix (K.written out.old) (K.written out.new) (gen_text job.now)) }
+    ensures fault { OnErr result (Rose (K.faults out.old) (K.faults out.new)) }
+    ensures never_falls { K.faults out.old ≤ K.faults out.new }
+{
+    let lines = job.shape.total();
+    let mix = mix_of(&job.mix);
+    match job.line {
+        LineSize::Bytes64 => print_drawn::<64, K>(job.seed, lines, mix, text, out),
+        LineSize::Bytes128 => print_drawn::<128, K>(job.seed, lines, mix, text, out),
+    }
+}
+
+/// Writes a generated trace.
+pub fn write_drawn<K: Sink>(alloc: Global, job: GenJob, out: &mut K) -> Result<(), Fault>
+    requires { IsMixAsked job.mix }
+    ensures done { OnOk result (Appends (K.written out.old) (K.written out.new) (gen_text job)) }
+
+    // Only a fault of writing comes after the first byte was written.
+    ensures write { result ≡ Err Fault.Write → AppendsPrefix (K.written out.old) (K.written out.new) (gen_text job)
+        × Rose (K.faults out.old) (K.faults out.new) }
+    ensures memory { IfErr result (λ fault. fault ≢ Fault.Write → (fault ≡ Fault.NoMemory) × (out.new ≡ out.old)) }
+    ensures never_falls { K.faults out.old ≤ K.faults out.new }
+{
+    let mut text = match Text::new(alloc, TEXT_ROOM) {
+        Ok(text) => text,
+        Err(_) => return Err(Fault::NoMemory),
+    };
+    match print_job(&job, &mut text, out) {
+        Ok(()) => Ok(()),
+        Err(_) => Err(Fault::Write),
+    }
+}
