@@ -15,3 +15,4 @@ mod Places
 mod WriteArrivals
 mod Losses
 mod Firsts
+mod Lawful

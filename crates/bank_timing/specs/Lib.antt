@@ -4,3 +4,4 @@ pub mod Completing
 pub mod Draining
 pub mod Queueing
 pub mod Losing
+pub mod Laws

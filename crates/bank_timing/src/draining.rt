@@ -6,6 +6,7 @@ ghost use Rattle.bank_model.specs.Timing.{Timed as TimedEvent};
 ghost use Rattle.clock_laws.specs.State.{next_action};
 ghost use Rattle.clock_laws.specs.Leads.{Leads};
 ghost use Rattle.bank_timing.specs.Extending.{RunsOn, AreOpen, IsOpen, LeavesOthers, last_tick};
+ghost use Rattle.bank_timing.specs.Laws.{KeepsLaws};
 ghost use Rattle.bank_timing.specs.Draining.{Drains, AreQueueable, AreQueued};
 
 use crate::timed::Timed;
@@ -13,10 +14,12 @@ use circular_buffer::HeapCircularBuffer;
 use pcm_cells::CellArray;
 use power_recovery::kept::Kept;
 use result_rows::{Outcome, Results};
+use table_laws::{logs_keep_their_laws, places_keep_their_laws, tables_keep_their_laws};
 
 impl<const B: usize, const M: usize, const E: usize> Timed<B, M, E> {
     /// The clock goes on until nothing runs and nothing would be chosen; the writes that stand in the queue then are queued, with
-    /// the ticks of their arrival. Nothing may come any more.
+    /// the ticks of their arrival. Nothing may come any more. The rows of every history that leads to the drained bank keep the
+    /// laws of rows, of places and wear, and of the log.
     pub fn drain<A: CellArray<B, M>>(&mut self, array: &mut A, results: &mut Results<B>)
         requires going { self.old.drained ≡ false }
         requires led { (xs : List (TimedEvent B M)) × Leads xs self.old (A.state array.old) }
@@ -27,7 +30,11 @@ impl<const B: usize, const M: usize, const E: usize> Timed<B, M, E> {
         ensures drains { (xs : List (TimedEvent B M)) → Leads xs self.old (A.state array.old)
             → (added : List (TimedEvent B M)) × Drains xs added self.old self.new (A.state array.old) (A.state array.new) results.old results.new }
         ensures others { LeavesOthers self.old.bank results.old results.new }
+        ensures laws { (xs : List (TimedEvent B M)) → Leads xs self.new (A.state array.new) → KeepsLaws E self.new.bank.kept.shape self.new.pace xs (A.state array.new) }
     {
+        tables_keep_their_laws();
+        places_keep_their_laws();
+        logs_keep_their_laws();
         self.settle(array, results);
         leave_queued(self.bank.kept(), &self.arrivals, results);
         self.drained = true;

@@ -1,7 +1,9 @@
+use Rattle.std.proofs.Common.{true}
 use Rattle.pace.specs.Policies.{pacing_of}
 use Rattle.clock_laws.specs.State.{ClockState}
 use Rattle.bank_timing.proofs.Sizes.{bank_fits, kept_fits, row_fits}
 use Rattle.bank_timing.proofs.Drains.{queueable, drains, drain-others}
+use Rattle.bank_timing.proofs.Lawful.{keeps-laws}
 use Rattle.bank_timing.proofs.timed.Timed.drain.Goals as goal
 
 pub kept-requires : goal.kept-requires
@@ -46,3 +48,14 @@ returns-clause-others g c =
     let ran = rw (← c.self.view_is) at c.settle.ensures.ran in
     let queued = rw c.kept.ensures.kept at c.leave_queued.ensures in
     drain-others c.args.self.now clock (g.A.CellArray.state c.args.array.now) (g.A.CellArray.state c.settle.new.array) c.args.results.now c.settle.new.results ran c.leave_queued.new.results queued c.requires.led
+
+pub returns-clause-laws : goal.returns-clause-laws
+returns-clause-laws g c =
+    let t = c.self.inside in
+    let clock : ClockState g.row.B g.row.M g.row.E =
+    record { bank = t.bank; pace = pacing_of t.pace; tick = t.tick; action = t.action; arrivals = t.arrivals.items; drained = true } in
+    let rests = rw (← c.self.view_is) at c.settle.ensures.rests in
+    λ xs leads.
+    keeps-laws g.row.B g.row.M g.row.E
+    (c.tables_keep_their_laws.ensures g.row.B g.row.M) (c.places_keep_their_laws.ensures g.row.B g.row.M) (c.logs_keep_their_laws.ensures g.row.B g.row.M)
+    xs clock (g.A.CellArray.state c.settle.new.array) c.self.invariant.paced.some_read c.self.invariant.paced.some_iter leads rests
