@@ -1,13 +1,11 @@
 -- That the empty history leads to a clock that was just made.
-use Rattle.std.proofs.Common.{◌≡◌, ℕ, ◌+◌, ◌<◌, refl, sym, ap, subst, ◌∙◌, [], None}
+use Rattle.std.proofs.Common.{ℕ, refl, []}
 use Rattle.pcm_cells.specs.Device.{ArrayState}
 use Rattle.bank_shape.specs.declared.BankShape.{BankShape}
-use Rattle.bank_shape.specs.Shape.{lines_in}
 use Rattle.bank_model.specs.Timing.{Pacing}
-use Rattle.bank_invariant.specs.State.{BankState, first_bank}
+use Rattle.bank_invariant.specs.State.{first_bank}
 use Rattle.bank_invariant.specs.Holds.{Holds}
 use Rattle.bank_core.specs.Steps.{IsFreshFor}
-use Rattle.clock_laws.specs.State.{ClockState}
 use Rattle.clock_laws.specs.Leads.{Leads}
 use Rattle.clock_laws.proofs.Passing.{start_law}
 use Rattle.bank_timing.specs.Extending.{first_clock}

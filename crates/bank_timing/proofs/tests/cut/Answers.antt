@@ -1,0 +1,6 @@
+use Rattle.bank_timing.proofs.tests.cut.Goals as goal
+
+pub returns-clause-led : goal.returns-clause-led
+returns-clause-led g c =
+    let led = c.requires.led in
+    (_, (c.power_cut.ensures.extends led.0 led.1).leads)

@@ -1,0 +1,13 @@
+use Rattle.std.proofs.Common.{◌≡◌, ◌+◌, ◌≤◌, false, List}
+use Rattle.bank_model.specs.Timing.{Timed}
+use Rattle.clock_laws.specs.Leads.{Leads}
+use Rattle.bank_timing.specs.Extending.{AreOpen}
+use Rattle.bank_timing.proofs.tests.plays.Given as goal
+
+-- the bank may take the next row
+abbrev pub invariant-loop-tick : goal.invariant-loop-tick
+invariant-loop-tick g l =
+    (l.timed.drained ≡ false)
+    × ((xs : List (Timed 64 8)) × Leads xs l.timed (g.A.CellArray.state l.array))
+    × AreOpen l.timed.bank l.results
+    × (l.timed.bank.rows_below ≤ l.row + 1)

@@ -1,0 +1,11 @@
+use Rattle.std.proofs.Common.{◌+◌, ◌≤◌, sym, subst, arith}
+use Rattle.bank_shape.specs.Shape.{lines_in}
+use Rattle.bank_timing.proofs.tests.powered.Goals as goal
+
+pub returns-clause-leads : goal.returns-clause-leads
+returns-clause-leads g c =
+    let fresh = c.in_ok-power_up.ensures.ok in
+    c.in_ok-timed.ensures.leads _ (record {
+      lines = subst (λ n. c.args.shape.base + lines_in c.args.shape ≤ n) (sym fresh.count) c.requires.room;
+      blank = λ line below. fresh.blank (c.args.shape.base + line) (omega arith);
+    })
