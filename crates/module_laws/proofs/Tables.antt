@@ -1,0 +1,92 @@
+-- A bank's table is that of its history.
+use Rattle.std.proofs.Common.{◌≡◌, ℕ, Bool, true, false, List, [], ◌∷◌, ◌++◌, map, refl, sym, ap, ◌∙◌, cond}
+use Rattle.std.specs.Prelude.{IsFalse, filter, All}
+use Rattle.std.proofs.lemmas.List.Elements.{All-head, All-tail}
+use Rattle.result_rows.specs.declared.Outcome.{Outcome}
+use Rattle.result_rows.specs.declared.Outcome.TheVariants as out
+use Rattle.row_laws.specs.declared.Asks.{Asks}
+use Rattle.row_laws.specs.declared.Asks.TheVariants.{Reads, Writes, Cuts}
+use Rattle.row_laws.specs.declared.Row.{Row}
+use Rattle.row_laws.specs.Table.{is_of, of_bank}
+use Rattle.bank_shape.specs.declared.BankShape.{BankShape}
+use Rattle.bank_model.specs.Events.{Write, Read, Serve, Begin, Iterate, Cut}
+use Rattle.bank_model.specs.Timing.{Happens, Core, Timed}
+use Rattle.bank_laws.specs.Outcomes.{outcome_of, ended, row_with as row_of, rows_from}
+use Rattle.module_laws.specs.Asking.{Asked, row_with, asked_in, asked_of, row_in, bank_table, AreAsked, IsAsked}
+use Rattle.module_laws.specs.Serves.{last_outcome, AreRecorded, BankTableLaw}
+
+module _ {n : ℕ} (bank_of line_in : ℕ → ℕ) (bank : ℕ) (outcome : ℕ → Outcome n) where
+  -- the rows of a bank are those of what was asked of it
+  pub rows_of_asked : (asked : List (Asked n)) → bank_table bank_of line_in bank (map (row_with outcome) asked) ≡ map (row_with outcome) (asked_of bank_of line_in bank asked)
+  rows_of_asked [] = refl
+  rows_of_asked (a ∷ asked) = by (is_of bank_of bank a.asks) (rows_of_asked asked)
+    where
+      rows : List (Row n)
+      rows = of_bank bank_of bank (map (row_with outcome) asked)
+
+      rest : List (Asked n)
+      rest = filter (λ a. is_of bank_of bank a.asks) asked
+
+      by : (own : Bool) → map (row_in bank_of line_in) rows ≡ map (row_with outcome) (map (asked_in bank_of line_in) rest)
+          → map (row_in bank_of line_in) (cond own (row_with outcome a ∷ rows) rows) ≡ map (row_with outcome) (map (asked_in bank_of line_in) (cond own (a ∷ rest) rest))
+      by true ih = ap (λ (rs : List (Row n)). row_with outcome (asked_in bank_of line_in a) ∷ rs) ih
+      by false ih = ih
+
+module _ {n m : ℕ} (shape : BankShape) (all : List (Timed n m)) (outcome : ℕ → Outcome n) where
+  abbrev IsRight : Asked n → Type 0
+  IsRight a = outcome a.row ≡ last_outcome shape all a a.asks
+
+  row_written : (tick row line : ℕ) (bytes : List ℕ) (given : List Bool) (a : Asked n)
+      → a ≡ record { row = row; tick = tick; asks = Writes line bytes given } → outcome a.row ≡ last_outcome shape all a a.asks
+      → row_with outcome a ≡ record { tick = tick; asks = Writes line bytes given; outcome = ended tick (outcome_of shape all row) }
+  row_written tick row line bytes given a is rec =
+      ap (row_with outcome) is
+      ∙ ap (λ (o : Outcome n). record { tick = tick; asks = Writes line bytes given; outcome = o })
+      (ap (λ (a : Asked n). outcome a.row) (sym is) ∙ rec ∙ ap (λ (a : Asked n). last_outcome shape all a a.asks) is)
+
+  row_read : (tick row line : ℕ) (a : Asked n)
+      → a ≡ record { row = row; tick = tick; asks = Reads line } → outcome a.row ≡ last_outcome shape all a a.asks
+      → row_with outcome a ≡ record { tick = tick; asks = Reads line; outcome = outcome_of shape all row }
+  row_read tick row line a is rec =
+      ap (row_with outcome) is
+      ∙ ap (λ (o : Outcome n). record { tick = tick; asks = Reads line; outcome = o })
+      (ap (λ (a : Asked n). outcome a.row) (sym is) ∙ rec ∙ ap (λ (a : Asked n). last_outcome shape all a a.asks) is)
+
+  row_cut : (tick : ℕ) (a : Asked n) → a.tick ≡ tick → a.asks ≡ Cuts → outcome a.row ≡ last_outcome shape all a a.asks
+      → row_with outcome a ≡ record { tick = tick; asks = Cuts; outcome = out.Cut tick }
+  row_cut tick a at is rec =
+      ap (λ (o : Outcome n). record { tick = a.tick; asks = a.asks; outcome = o }) (rec ∙ ap (last_outcome shape all a) is)
+      ∙ ap (λ (asks : Asks n). record { tick = a.tick; asks = asks; outcome = out.Cut a.tick }) is
+      ∙ ap (λ (t : ℕ). record { tick = t; asks = Cuts; outcome = out.Cut t }) at
+
+  pub rows_are : (xs : List (Timed n m)) (asked : List (Asked n)) → AreAsked xs asked → AreRecorded shape all outcome asked → All (λ x. IsFalse x.cancels) xs
+      → map (row_with outcome) asked ≡ rows_from shape all xs
+  rows_are [] asked none rec whole = ap (map (row_with outcome)) none
+  rows_are (x ∷ xs) asked is rec whole =
+      by x.happens x.cancels (All-head (λ (x : Timed n m). IsFalse x.cancels) x xs whole) asked is rec
+      (λ rest are r. rows_are xs rest are r (All-tail (λ (x : Timed n m). IsFalse x.cancels) x xs whole))
+    where
+      by : (h : Happens n) (cancels : Bool) → IsFalse cancels → (asked : List (Asked n)) → IsAsked h x.tick (AreAsked xs) asked → AreRecorded shape all outcome asked
+          → ((rest : List (Asked n)) → AreAsked xs rest → AreRecorded shape all outcome rest → map (row_with outcome) rest ≡ rows_from shape all xs)
+          → map (row_with outcome) asked ≡ row_of shape all h x.tick cancels ++ rows_from shape all xs
+      by (Core (Write row line bytes given answer)) cancels whole [] is rec ih = absurd is
+      by (Core (Write row line bytes given answer)) cancels whole (a ∷ asked) is rec ih =
+          ap (λ (r : Row n). r ∷ map (row_with outcome) asked) (row_written x.tick row line bytes given a is.0 (All-head IsRight a asked rec))
+          ∙ ap (λ (rs : List (Row n)). record { tick = x.tick; asks = Writes line bytes given; outcome = ended x.tick (outcome_of shape all row) } ∷ rs) (ih asked is.1 (All-tail IsRight a asked rec))
+      by (Core (Read row line answer)) cancels whole [] is rec ih = absurd is
+      by (Core (Read row line answer)) cancels whole (a ∷ asked) is rec ih =
+          ap (λ (r : Row n). r ∷ map (row_with outcome) asked) (row_read x.tick row line a is.0 (All-head IsRight a asked rec))
+          ∙ ap (λ (rs : List (Row n)). record { tick = x.tick; asks = Reads line; outcome = outcome_of shape all row } ∷ rs) (ih asked is.1 (All-tail IsRight a asked rec))
+      by (Core (Serve answer)) cancels whole asked is rec ih = ih asked is rec
+      by (Core (Begin answer)) cancels whole asked is rec ih = ih asked is rec
+      by (Core (Iterate answer)) cancels whole asked is rec ih = ih asked is rec
+      by (Core (Cut tearing)) true whole asked is rec ih = absurd (cc)
+      by (Core (Cut tearing)) false whole [] is rec ih = absurd is
+      by (Core (Cut tearing)) false whole (a ∷ asked) is rec ih =
+          ap (λ (r : Row n). r ∷ map (row_with outcome) asked) (row_cut x.tick a is.0 is.1 (All-head IsRight a asked rec))
+          ∙ ap (λ (rs : List (Row n)). record { tick = x.tick; asks = Cuts; outcome = out.Cut x.tick } ∷ rs) (ih asked is.2 (All-tail IsRight a asked rec))
+
+pub bank_table_law : BankTableLaw
+bank_table_law n m shape bank_of line_in bank xs asked outcome are rec whole =
+    rows_of_asked bank_of line_in bank outcome asked
+    ∙ rows_are shape xs outcome xs (asked_of bank_of line_in bank asked) are rec whole

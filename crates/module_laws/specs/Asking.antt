@@ -1,0 +1,58 @@
+-- What the rows of a trace ask of a module, and what arrives in one bank.
+use Rattle.std.specs.Prelude.{◌≡◌, ℕ, List, [], ◌∷◌, map, filter}
+use Rattle.result_rows.specs.declared.Outcome.{Outcome}
+use Rattle.row_laws.specs.declared.Asks.{Asks}
+use Rattle.row_laws.specs.declared.Asks.TheVariants.{Reads, Writes, Cuts}
+use Rattle.row_laws.specs.declared.Row.{Row}
+use Rattle.row_laws.specs.Table.{is_of, of_bank}
+use Rattle.bank_model.specs.Events.{Event, Write, Read, Cut}
+use Rattle.bank_model.specs.Timing.{Happens, Core, Timed}
+
+-- a row with its number, as it is asked for
+pub record Asked (n : ℕ) : Type 0 where
+  pub row : ℕ
+  pub tick : ℕ
+  pub asks : Asks n
+
+-- a row with its outcome
+abbrev pub row_with : {n : ℕ} → (ℕ → Outcome n) → Asked n → Row n
+row_with outcome a = record { tick = a.tick; asks = a.asks; outcome = outcome a.row }
+
+module _ {n : ℕ} (bank_of line_in : ℕ → ℕ) where
+  -- the same with the line's number in its bank
+  abbrev pub asks_in : Asks n → Asks n
+  asks_in (Reads line) = Reads (line_in line)
+  asks_in (Writes line bytes given) = Writes (line_in line) bytes given
+  asks_in Cuts = Cuts
+
+  abbrev pub asked_in : Asked n → Asked n
+  asked_in a = record { row = a.row; tick = a.tick; asks = asks_in a.asks }
+
+  abbrev pub row_in : Row n → Row n
+  row_in r = record { tick = r.tick; asks = asks_in r.asks; outcome = r.outcome }
+
+  -- what is asked of one bank, the cuts included
+  abbrev pub asked_of : ℕ → List (Asked n) → List (Asked n)
+  asked_of bank asked = map asked_in (filter (λ a. is_of bank_of bank a.asks) asked)
+
+  -- a bank's table out of that of the module, with the numbers that the lines have there
+  abbrev pub bank_table : ℕ → List (Row n) → List (Row n)
+  bank_table bank rows = map row_in (of_bank bank_of bank rows)
+
+-- the rows of a bank's history are what was asked of the bank, both the newest first: each write and read has the number, the line
+-- and the tick of its row, and each power cut the tick of its row, which has no number in the history. What is no arrival has no row
+abbrev pub IsAskedBy : {n : ℕ} → Event n → ℕ → (List (Asked n) → Type 0) → List (Asked n) → Type 0
+IsAskedBy (Write row line bytes given answer) tick rest [] = ⊥
+IsAskedBy (Write row line bytes given answer) tick rest (a ∷ asked) = (a ≡ record { row = row; tick = tick; asks = Writes line bytes given }) × rest asked
+IsAskedBy (Read row line answer) tick rest [] = ⊥
+IsAskedBy (Read row line answer) tick rest (a ∷ asked) = (a ≡ record { row = row; tick = tick; asks = Reads line }) × rest asked
+IsAskedBy (Cut tearing) tick rest [] = ⊥
+IsAskedBy (Cut tearing) tick rest (a ∷ asked) = (a.tick ≡ tick) × (a.asks ≡ Cuts) × rest asked
+IsAskedBy _ tick rest asked = rest asked
+
+abbrev pub IsAsked : {n : ℕ} → Happens n → ℕ → (List (Asked n) → Type 0) → List (Asked n) → Type 0
+IsAsked (Core event) tick rest asked = IsAskedBy event tick rest asked
+
+abbrev pub AreAsked : {n m : ℕ} → List (Timed n m) → List (Asked n) → Type 0
+AreAsked [] asked = asked ≡ []
+AreAsked (x ∷ xs) asked = IsAsked x.happens x.tick (AreAsked xs) asked

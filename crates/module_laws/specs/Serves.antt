@@ -1,0 +1,71 @@
+-- What the finished table of a module keeps, over the tables of its banks.
+use Rattle.std.specs.Prelude.{◌≡◌, ℕ, ◌<◌, ◌≤◌, IsTrue, IsFalse, List, [], ◌∷◌, All, map}
+use Rattle.result_rows.specs.declared.Outcome.{Outcome}
+use Rattle.result_rows.specs.declared.Outcome.TheVariants as out
+use Rattle.row_laws.specs.declared.Asks.{Asks}
+use Rattle.row_laws.specs.declared.Asks.TheVariants.{Reads, Writes, Cuts}
+use Rattle.row_laws.specs.declared.Row.{Row}
+use Rattle.row_laws.specs.Rows.{RowTest, each_row}
+use Rattle.row_laws.specs.Rules.{Rules}
+use Rattle.row_laws.specs.Serving.{is_served}
+use Rattle.row_laws.specs.Queueing.{has_room}
+use Rattle.bank_shape.specs.declared.BankShape.{BankShape}
+use Rattle.bank_model.specs.Timing.{Pacing, Timed}
+use Rattle.bank_model.specs.Lawful.{Lawful, IsIdle}
+use Rattle.bank_laws.specs.Outcomes.{table_of, outcome_of, ended}
+use Rattle.bank_laws.specs.Laws.{IsSized, rules_of}
+use Rattle.bank_laws.specs.Room.{RoomLaw}
+use Rattle.module_laws.specs.Asking.{Asked, row_with, asked_of, bank_table, AreAsked}
+
+-- the outcome of a row that asks this, where its bank's history has come to its end
+abbrev pub last_outcome : {n m : ℕ} → BankShape → List (Timed n m) → Asked n → Asks n → Outcome n
+last_outcome shape xs a (Reads line) = outcome_of shape xs a.row
+last_outcome shape xs a (Writes line bytes given) = ended a.tick (outcome_of shape xs a.row)
+last_outcome shape xs a Cuts = out.Cut a.tick
+
+-- each row that was asked of a bank has the outcome of the bank's history
+abbrev pub AreRecorded : {n m : ℕ} → BankShape → List (Timed n m) → (ℕ → Outcome n) → List (Asked n) → Type 0
+AreRecorded shape xs outcome asked = All (λ a. outcome a.row ≡ last_outcome shape xs a a.asks) asked
+
+-- a bank's table is that of its history
+abbrev pub BankTableLaw : Type 0
+BankTableLaw =
+    (n m : ℕ) (shape : BankShape) (bank_of line_in : ℕ → ℕ) (bank : ℕ) (xs : List (Timed n m)) (asked : List (Asked n)) (outcome : ℕ → Outcome n)
+    → AreAsked xs (asked_of bank_of line_in bank asked) → AreRecorded shape xs outcome (asked_of bank_of line_in bank asked)
+    → All (λ x. IsFalse x.cancels) xs → bank_table bank_of line_in bank (map (row_with outcome) asked) ≡ table_of shape xs
+
+-- the lines of a module: each is of one bank, where no other line has its number
+pub record AreLines (banks lines : ℕ) (bank_of line_in : ℕ → ℕ) : Type 0 where
+  pub exists : (line : ℕ) → line < lines → bank_of line < banks
+  pub apart : (line other : ℕ) → line < lines → other < lines → bank_of line ≡ bank_of other → line_in line ≡ line_in other → line ≡ other
+
+-- a row is of a line of the module
+abbrev pub IsOfLines : {n : ℕ} → ℕ → Asks n → Type 0
+IsOfLines lines (Reads line) = line < lines
+IsOfLines lines (Writes line bytes given) = line < lines
+IsOfLines lines Cuts = Unit {0}
+
+-- where each bank's table serves its reads, the module's does: a bank's newest bytes of a line are the module's
+abbrev pub ServedByBanksLaw : Type 0
+ServedByBanksLaw =
+    (n banks lines : ℕ) (bank_of line_in : ℕ → ℕ) (rows : List (Row n))
+    → AreLines banks lines bank_of line_in → 0 < banks → All (λ r. IsOfLines lines r.asks) rows
+    → ((bank : ℕ) → bank < banks → IsTrue (each_row is_served (bank_table bank_of line_in bank rows) []))
+    → IsTrue (each_row is_served rows [])
+
+-- the ticks of these rows, the newest first, never fall
+abbrev pub TicksFall : {n : ℕ} → List (Asked n) → Type 0
+TicksFall [] = Unit {0}
+TicksFall (a ∷ asked) = All (λ b. b.tick ≤ a.tick) asked × TicksFall asked
+
+-- as a row comes, a bank holds no more writes and reads than it may, whichever bank the row is of
+abbrev pub finds_room_in : {n : ℕ} → (ℕ → ℕ) → (ℕ → ℕ) → Rules → ℕ → RowTest n
+finds_room_in bank_of line_in rules bank before r after = has_room rules r.tick (bank_table bank_of line_in bank before)
+
+-- every row of a module finds so, where at any tick between two of its events each bank holds no more than it may
+abbrev pub RoomByBankLaw : Type 0
+RoomByBankLaw =
+    (n m e : ℕ) (shape : BankShape) (pace : Pacing) (bank_of line_in : ℕ → ℕ) (bank : ℕ) (xs : List (Timed n m)) (asked : List (Asked n)) (outcome : ℕ → Outcome n)
+    → RoomLaw n m → IsSized shape pace → Lawful shape pace e xs → IsIdle shape pace xs → All (λ x. IsFalse x.cancels) xs → TicksFall asked
+    → AreAsked xs (asked_of bank_of line_in bank asked) → AreRecorded shape xs outcome (asked_of bank_of line_in bank asked)
+    → IsTrue (each_row (finds_room_in bank_of line_in (rules_of e shape pace) bank) (map (row_with outcome) asked) [])
