@@ -16,8 +16,8 @@ use pcm_io::{Sink, Text, WriteFault, write_all};
 use std::alloc::Global;
 use trace_gen::{Generator, Mix, header, print_event};
 
-// What the rows of a trace are, as the generator takes it.
-fn mix_of(asked: &command_line::Mix) -> Mix
+/// What the rows of a trace are, as the generator takes it.
+pub fn mix_of(asked: &command_line::Mix) -> Mix
     requires { IsMixAsked asked.now }
     ensures same { result ≡ drawn_mix asked.now }
     ensures in_range { IsMix result }
