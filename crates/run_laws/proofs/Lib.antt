@@ -1,0 +1,4 @@
+pub mod Mixing
+pub mod Uncancelled
+mod Banks
+mod Finished

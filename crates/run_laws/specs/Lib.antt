@@ -1,2 +1,3 @@
 pub mod Runs
 pub mod Finishing
+pub mod FinishedLaws

@@ -2,4 +2,40 @@
 //! ensures; the functions do nothing when they run.
 #![tactic(auto)]
 
-pub fn finished_runs_are_right() {}
+ghost use Rattle.run_laws.specs.FinishedLaws.{FinishedLaw, LinesLaw};
+
+use clock_laws::events::histories_leave_the_array;
+use end_laws::{
+    excepted_lines_are_queued, lines_are_kept, registers_follow_stores, slots_have_their_lines,
+    stored_rows_are_still_there,
+};
+use module_laws::{
+    bank_tables_are_those_of_histories, every_row_finds_room, modules_serve_as_their_banks,
+};
+use table_laws::{
+    banks_keep_their_room, logs_keep_their_laws, places_keep_their_laws, tables_keep_their_laws,
+};
+
+/// Each line of a module is of one of its banks, and no two lines have one number there.
+pub fn lines_have_their_banks()
+    ensures { LinesLaw }
+{}
+
+/// A run whose banks have nothing left to do leaves rows that keep every law, over its array in the end.
+pub fn finished_runs_are_right()
+    ensures { FinishedLaw }
+{
+    tables_keep_their_laws();
+    places_keep_their_laws();
+    logs_keep_their_laws();
+    banks_keep_their_room();
+    bank_tables_are_those_of_histories();
+    modules_serve_as_their_banks();
+    every_row_finds_room();
+    histories_leave_the_array();
+    slots_have_their_lines();
+    registers_follow_stores();
+    lines_are_kept();
+    excepted_lines_are_queued();
+    stored_rows_are_still_there();
+}
