@@ -2,3 +2,6 @@ pub mod Mixing
 pub mod Uncancelled
 mod Banks
 mod Finished
+pub mod Lifting
+mod Facts
+mod Rows

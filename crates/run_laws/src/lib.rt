@@ -3,6 +3,7 @@
 #![tactic(auto)]
 
 ghost use Rattle.run_laws.specs.FinishedLaws.{FinishedLaw, LinesLaw};
+ghost use Rattle.run_laws.specs.RowsOfRuns.{OwnOutcomesLaw, PlacesExistLaw, FewArrayLinesLaw, NoneLostLaw, RoomIsTakenLaw, NoneShortLaw};
 
 use clock_laws::events::histories_leave_the_array;
 use end_laws::{
@@ -39,3 +40,33 @@ pub fn finished_runs_are_right()
     excepted_lines_are_queued();
     stored_rows_are_still_there();
 }
+
+/// Each row of a right run has an outcome of the operation that it asks for.
+pub fn rows_have_their_own_outcomes()
+    ensures { OwnOutcomesLaw }
+{}
+
+/// The place of each stored or read row is an array line of the module.
+pub fn places_are_array_lines()
+    ensures { PlacesExistLaw }
+{}
+
+/// A module has at most 82,176 array lines.
+pub fn array_lines_are_few()
+    ensures { FewArrayLinesLaw }
+{}
+
+/// Without power cuts no read is lost.
+pub fn reads_are_not_lost_without_cuts()
+    ensures { NoneLostLaw }
+{}
+
+/// A write that finds room in a bank that isn't worn out is accepted, and leaves the queue again.
+pub fn room_is_taken()
+    ensures { RoomIsTakenLaw }
+{}
+
+/// Where the power is never cut and each row finds what it needs, no row is refused, lost or left in a queue.
+pub fn no_row_falls_short()
+    ensures { NoneShortLaw }
+{}
