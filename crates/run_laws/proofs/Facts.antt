@@ -1,6 +1,6 @@
 -- What the laws of a bank's table say of a row, by its outcome.
-use Rattle.std.proofs.Common.{◌≡◌, ℕ, ◌+◌, ◌-◌, ◌*◌, ◌/◌, ◌%◌, ◌<◌, ◌≤◌, ◌==◌, ◌&&◌, ◌||◌, not, Bool, true, false, List, [], ◌∷◌, ◌++◌, length, Some, None, inl, inr, ◌⊎◌, refl, sym, ap, ◌∙◌, subst, arith, cond, eqb-true}
-use Rattle.std.specs.Prelude.{IsTrue, IsFalse, nat_lt, nat_le, All, map}
+use Rattle.std.proofs.Common.{◌≡◌, ℕ, ◌+◌, ◌-◌, ◌*◌, ◌/◌, ◌%◌, ◌<◌, ◌≤◌, ◌==◌, ◌&&◌, ◌||◌, not, Bool, true, false, List, [], ◌∷◌, length, Some, inl, inr, ◌⊎◌, refl, sym, ap, ◌∙◌, subst, arith, cond, eqb-true}
+use Rattle.std.specs.Prelude.{nat_le, All, map}
 use Rattle.std.specs.Option.{ForSome}
 use Rattle.std.proofs.lemmas.Bool.{ltb-true, leb-true}
 use Rattle.std.proofs.lemmas.List.Elements.{All-nil, All-cons, All-head, All-tail}
@@ -178,7 +178,7 @@ reads-kept rules [] after uncut all h = tt
 reads-kept rules (r ∷ before) after uncut all h = (
   row-kept rules r r.asks before after all (first_of_both (asks_in_time rules r r.asks before after) _ (first_of_both (is_in_time rules before r after) _ h)),
   reads-kept rules before (r ∷ after) (All-tail Uncut r before uncut) (All-cons Uncut r after (All-head Uncut r before uncut) all)
-  (second_of_both (is_in_time rules before r after) _ h),
+      (second_of_both (is_in_time rules before r after) _ h),
 )
 
 module _ {n : ℕ} (bank_of line_in : ℕ → ℕ) (bank : ℕ) where
