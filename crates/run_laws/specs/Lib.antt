@@ -1,0 +1,4 @@
+pub mod Runs
+pub mod Finishing
+pub mod FinishedLaws
+pub mod RowsOfRuns
