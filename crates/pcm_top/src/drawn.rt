@@ -10,9 +10,9 @@ ghost use Rattle.command_line.specs.Jobs.{IsMix as IsMixAsked};
 ghost use Rattle.pcm_top.specs.Jobs.{drawn_mix, gen_text};
 
 use crate::fault::Fault;
-use crate::print::{TEXT_ROOM, make_room};
 use command_line::{GenJob, LineSize};
 use pcm_io::{Sink, Text, WriteFault, write_all};
+use run_text::{TEXT_ROOM, make_room};
 use std::alloc::Global;
 use trace_gen::{Generator, Mix, header, print_event};
 

@@ -5,15 +5,16 @@
 mod drawn;
 mod fault;
 mod input;
+pub mod laws;
 mod memory;
 mod print;
 mod program;
 mod replay;
 mod report;
 mod run;
+mod wear;
 
 pub use fault::Fault;
 pub use input::TRACE_ROOM;
-pub use print::TEXT_ROOM;
 pub use program::pcm_run;
-
+pub use run_text::TEXT_ROOM;

@@ -1,70 +1,52 @@
-// The results, written as text.
-ghost use Rattle.std.specs.Prelude.{◌≡◌, ◌≤◌, length, OnOk, OnErr};
+// What a run writes.
+ghost use Rattle.std.specs.Prelude.{◌≡◌, ◌*◌, ◌≤◌, ℕ, List, length, OnOk, OnErr};
 ghost use Rattle.std.specs.Io.KnownBytes.{Appends};
 ghost use Rattle.pcm_io.specs.Faults.{Rose};
 ghost use Rattle.pcm_io.specs.Giving.{AppendsPrefix};
 ghost use Rattle.pcm_io.specs.Reserved.{reserved};
-ghost use Rattle.trace_reader.specs.Events.{AreEventsFor};
+ghost use Rattle.module_shape.specs.Addresses.{array_lines_of, module_of};
+ghost use Rattle.end_laws.specs.Ends.{BankEnd};
+ghost use Rattle.run_text.specs.ResultText.{ArePrintable};
+ghost use Rattle.pcm_module.specs.State.{AreEndsOf};
+ghost use Rattle.pcm_top.specs.RunText.{AreApart, IsRunText};
 
-use pcm_io::{Sink, Text, WriteFault, write_all};
-use result_rows::{Op, Results, header, print_row};
-use trace_reader::{Event, EventOp, MOST_ROWS};
+use crate::wear::print_wear;
+use command_line::Print;
+use pcm_cells::CellArray;
+use pcm_io::{Sink, Text, WriteFault};
+use pcm_module::module::Module;
+use result_rows::Results;
+use result_summary::sum_pulses;
+use run_text::{TEXT_ROOM, print_counts, print_results};
+use trace_reader::{Event, MOST_ROWS};
 
-/// Bytes of text that are gathered before they are written.
-pub const TEXT_ROOM: usize = 65_536;
-
-// Bytes that a row takes at most, over lines of 128 bytes.
-const ROW_ROOM: usize = 320;
-
-// What a row asks for, as its result shows it.
-fn asked_by<const B: usize>(op: &EventOp<B>) -> Op
-{
-    match op {
-        EventOp::Read(_) => Op::Read,
-        EventOp::Write(..) | EventOp::Mask(..) => Op::Write,
-        EventOp::Cut => Op::Cut,
-    }
-}
-
-// The line that a row names; a cut names none, and 0 stands for that.
-fn line_named_by<const B: usize>(op: &EventOp<B>) -> u32
-{
-    match op {
-        EventOp::Read(line) | EventOp::Write(line, _) | EventOp::Mask(line, _, _) => *line,
-        EventOp::Cut => 0,
-    }
-}
-
-/// Writes the text if the next row might not fit.
-pub fn make_room<K: Sink>(text: &mut Text, out: &mut K) -> Result<(), WriteFault>
-{
-    if text.room() < ROW_ROOM {
-        write_all(out, text.bytes())?;
-        text.clear();
-    }
-    Ok(())
-}
-
-/// Writes the header and one row for each event.
-pub fn print_results<const B: usize, K: Sink>(
+/// Writes what is asked for of a run that was made: its results, its summary or its wear report.
+pub fn print_run<const B: usize, const M: usize, const E: usize, A: CellArray<B, M>, K: Sink>(
+    print: Print,
+    module: &Module<B, M, E>,
+    array: &A,
     events: &[Event<B>],
     results: &Results<B>,
     text: &mut Text,
     out: &mut K,
 ) -> Result<(), WriteFault>
+    requires small { B ≤ 128 }
+    requires room { text.old ≡ reserved TEXT_ROOM }
+    requires rows { length events.now ≤ MOST_ROWS }
+    requires printable { ArePrintable events.now results.now }
+    requires size { (A.state array.now).lines ≡ module.now.shape.banks * array_lines_of (module_of module.now.shape) }
+    ensures ok { OnOk result ((ends : ℕ → BankEnd) → AreEndsOf module.now ends → AreApart module.now.shape ends
+        → (whole : List ℕ) × IsRunText module.now.shape module.now.seed events.now results.now ends (A.state array.now) print whole
+        × Appends (K.written out.old) (K.written out.new) whole) }
+    ensures prefix { OnErr result ((ends : ℕ → BankEnd) → AreEndsOf module.now ends → AreApart module.now.shape ends
+        → (whole : List ℕ) × IsRunText module.now.shape module.now.seed events.now results.now ends (A.state array.now) print whole
+        × AppendsPrefix (K.written out.old) (K.written out.new) whole) }
+    ensures fault { OnErr result (Rose (K.faults out.old) (K.faults out.new)) }
+    ensures never_falls { K.faults out.old ≤ K.faults out.new }
 {
-    text.push(header());
-    for (i, event) in events.iter().enumerate() {
-        make_room(text, out)?;
-        let row = i as u32 + 1;
-        print_row(
-            row,
-            asked_by(&event.op),
-            line_named_by(&event.op),
-            results.get(row),
-            text,
-        );
+    match print {
+        Print::Results => print_results(events, results, text, out),
+        Print::Summary => print_counts(results, module.retired(), sum_pulses(array), text, out),
+        Print::Wear => print_wear(module, array, text, out),
     }
-    let rest = text.bytes();
-    write_all(out, rest)
 }

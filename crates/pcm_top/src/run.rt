@@ -1,17 +1,23 @@
 // The command `run`.
+ghost use Rattle.std.specs.Prelude.{◌≡◌, ◌≢◌, ◌+◌, ◌-◌, ◌^◌, ◌<◌, ◌≤◌, false, Err, IfOk, IfErr};
+ghost use Rattle.pcm_io.specs.Faults.{Rose};
+ghost use Rattle.ecp_line.specs.Layout.{IsLayout};
+ghost use Rattle.command_line.specs.Jobs.{IsRun};
+ghost use Rattle.pcm_top.specs.Reading.{source_change, trace_room};
+ghost use Rattle.pcm_top.specs.Inputs.{IsFaultOf, is_source};
+ghost use Rattle.pcm_top.specs.Running.{RunIsWritten, RunIsWrittenInPart, done_by};
+
 use crate::fault::Fault;
 use crate::input::events_of;
 use crate::memory::take_memory;
-use crate::print::print_results;
+use crate::print::print_run;
 use crate::replay::replay;
-use command_line::{Print, RunJob};
+use command_line::RunJob;
 use pcm_cells::CellArray;
-use pcm_io::{Sink, Source, Text, WriteFault};
-use pcm_module::module::Module;
+use pcm_io::{Sink, Source};
 use result_rows::Results;
 use result_summary::any_short;
 use std::alloc::Global;
-use trace_reader::Event;
 
 /// How a job was done.
 #[derive(Clone, Copy, Debug, PartialEq, Eq)]
@@ -23,7 +29,10 @@ pub enum Done {
 }
 
 // How a run was done, by its rows.
-fn ending<const B: usize>(results: &Results<B>) -> Done {
+fn ending<const B: usize>(results: &Results<B>) -> Done
+    requires { B ≤ 128 }
+    ensures { result ≡ done_by results.now }
+{
     if any_short(results) {
         Done::Short
     } else {
@@ -32,20 +41,30 @@ fn ending<const B: usize>(results: &Results<B>) -> Done {
 }
 
 /// Replays the events of a job on the array, and writes what the job asks to see of it.
-pub fn run<
-    const B: usize,
-    const M: usize,
-    const E: usize,
-    A: CellArray<B, M>,
-    S: Source,
-    K: Sink,
->(
+pub fn run<const B: usize, const M: usize, const E: usize, A: CellArray<B, M>, S: Source, K: Sink>(
     alloc: Global,
     job: &RunJob,
     array: &mut A,
     source: &mut S,
     out: &mut K,
-) -> Result<Done, Fault> {
+) -> Result<Done, Fault>
+    requires layout { IsLayout B M E }
+    requires job { IsRun job.now }
+    ensures done { IfOk result (RunIsWritten B M E job.now (source_change S.left S.taken S.faults source.old source.new) (A.state array.new)
+        (K.written out.old) (K.written out.new)) }
+
+    // Only a fault of writing comes after the first byte was written.
+    ensures write { result ≡ Err Fault.Write →
+        RunIsWrittenInPart B M E job.now (source_change S.left S.taken S.faults source.old source.new) (A.state array.new) (K.written out.old) (K.written out.new)
+        × Rose (K.faults out.old) (K.faults out.new) }
+    ensures cause { IfErr result (λ fault. fault ≢ Fault.Write → IsFaultOf B job.now job.now.input fault (source_change S.left S.taken S.faults source.old source.new)) }
+    ensures out { IfErr result (λ fault. fault ≢ Fault.Write → out.new ≡ out.old) }
+    ensures array { IfErr result (λ fault. fault ≢ Fault.Write → fault ≢ Fault.NoMemory → array.new ≡ array.old) }
+    ensures drawn { is_source job.now.input ≡ false → source.new ≡ source.old }
+    ensures too_long { S.taken source.old + trace_room B < 2 ^ 64 - 1 → S.taken source.old + trace_room B < S.taken source.new → result ≡ Err Fault.TooLong }
+    ensures out_faults { K.faults out.old ≤ K.faults out.new }
+    ensures source_faults { S.faults source.old ≤ S.faults source.new }
+{
     let events = events_of::<B, S>(alloc, job, source)?;
     let taken = take_memory::<B, M, E, A>(alloc, job, array, events.len() as u32);
     let (mut module, mut results, mut text) = match taken {
@@ -53,7 +72,16 @@ pub fn run<
         Err(_) => return Err(Fault::NoMemory),
     };
     replay(&mut module, array, events.as_slice(), &mut results);
-    match print_results(events.as_slice(), &results, &mut text, out) {
+    let written = print_run(
+        job.print,
+        &module,
+        array,
+        events.as_slice(),
+        &results,
+        &mut text,
+        out,
+    );
+    match written {
         Ok(()) => Ok(ending(&results)),
         Err(_) => Err(Fault::Write),
     }
