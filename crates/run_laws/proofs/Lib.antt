@@ -5,3 +5,4 @@ mod Finished
 pub mod Lifting
 mod Facts
 mod Rows
+mod Roles
