@@ -1,5 +1,5 @@
 -- The static randomiser keeps the numbers of a module's lines in range, and each line has a bank and a number of its own there.
-use Rattle.std.proofs.Common.{◌≡◌, ℕ, ◌+◌, ◌*◌, ◌%◌, ◌^◌, ◌<◌, ◌≤◌, sym, ap, ◌∙◌, subst, arith}
+use Rattle.std.proofs.Common.{◌≡◌, ℕ, ◌+◌, ◌*◌, ◌/◌, ◌%◌, ◌^◌, ◌<◌, ◌≤◌, sym, ap, ◌∙◌, subst, arith}
 use Rattle.std.proofs.lemmas.Nat.{pow_pos, mod_below, mul-le, mul-add-lt, div_below, div-add-mod', div-mul-add, mod-mul-add}
 use Rattle.std.proofs.Math.Nat.{mul_comm}
 use Rattle.feistel_map.specs.declared.halves.Halves.{Halves}
