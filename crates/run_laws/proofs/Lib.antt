@@ -6,3 +6,4 @@ pub mod Lifting
 mod Facts
 mod Rows
 mod Roles
+mod SmallRun

@@ -1,6 +1,6 @@
 -- Each array line of a bank has one role after a right run.
-use Rattle.std.proofs.Common.{◌≡◌, ℕ, ◌+◌, ◌*◌, ◌^◌, ◌<◌, ◌≤◌, lit<, subst, arith}
-use Rattle.bank_shape.specs.Shape.{IsBankShape, lines_in}
+use Rattle.std.proofs.Common.{ℕ, ◌+◌, ◌*◌, ◌^◌, ◌<◌, arith}
+use Rattle.bank_shape.specs.Shape.{IsBankShape}
 use Rattle.module_shape.specs.declared.raw.RawShape.{RawShape}
 use Rattle.module_shape.specs.Limits.{IsShape}
 use Rattle.module_shape.specs.Addresses.{module_of, array_lines_of, bank_shape}
