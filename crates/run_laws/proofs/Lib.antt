@@ -5,3 +5,5 @@ mod Finished
 pub mod Lifting
 mod Facts
 mod Rows
+mod Roles
+mod SmallRun

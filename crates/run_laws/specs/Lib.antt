@@ -2,3 +2,4 @@ pub mod Runs
 pub mod Finishing
 pub mod FinishedLaws
 pub mod RowsOfRuns
+pub mod Worked

@@ -2,13 +2,16 @@
 //! ensures; the functions do nothing when they run.
 #![tactic(auto)]
 
-ghost use Rattle.run_laws.specs.FinishedLaws.{FinishedLaw, LinesLaw};
+#[cfg(test)]
+mod worked;
+
+ghost use Rattle.run_laws.specs.FinishedLaws.{FinishedLaw, LinesLaw, NamedLaw, RolesLaw};
 ghost use Rattle.run_laws.specs.RowsOfRuns.{OwnOutcomesLaw, PlacesExistLaw, FewArrayLinesLaw, NoneLostLaw, RoomIsTakenLaw, NoneShortLaw};
 
 use clock_laws::events::histories_leave_the_array;
 use end_laws::{
-    excepted_lines_are_queued, lines_are_kept, registers_follow_stores, slots_have_their_lines,
-    stored_rows_are_still_there,
+    excepted_lines_are_queued, lines_are_kept, lines_have_one_role, registers_follow_stores,
+    slots_have_their_lines, stored_rows_are_still_there,
 };
 use module_laws::{
     bank_tables_are_those_of_histories, every_row_finds_room, modules_serve_as_their_banks,
@@ -20,6 +23,11 @@ use table_laws::{
 /// Each line of a module is of one of its banks, and no two lines have one number there.
 pub fn lines_have_their_banks()
     ensures { LinesLaw }
+{}
+
+/// The name of a line, by its bank and its number there, is the line's number in the module.
+pub fn lines_have_their_names()
+    ensures { NamedLaw }
 {}
 
 /// A run whose banks have nothing left to do leaves rows that keep every law, over its array in the end.
@@ -39,6 +47,13 @@ pub fn finished_runs_are_right()
     lines_are_kept();
     excepted_lines_are_queued();
     stored_rows_are_still_there();
+}
+
+/// After a right run each array line has one role: it holds one line of the module, or is a gap, a free spare or retired.
+pub fn array_lines_have_one_role()
+    ensures { RolesLaw }
+{
+    lines_have_one_role();
 }
 
 /// Each row of a right run has an outcome of the operation that it asks for.
