@@ -7,4 +7,5 @@ pub mod Deciding
 mod Replaying
 mod Printable
 mod Wearing
-mod Drawn
+mod DrawnRuns
+mod Sizes

@@ -2,7 +2,7 @@
 use Rattle.std.proofs.Common.{◌≡◌, ℕ, zero, suc, ◌+◌, ◌-◌, ◌<◌, ◌≤◌, false, List, [], ◌∷◌, ◌++◌, length, get_or, take, drop, Some, refl, sym, ap, ◌∙◌, subst, arith, replicate, reverse, map}
 use Rattle.std.specs.Prelude.{slice_get}
 use Rattle.std.proofs.Math.Seq.{drop-cons}
-use Rattle.std.proofs.lemmas.List.{take_more, take_all, reverse-append, length-reverse, length-take, length-replicate, get_or-replicate}
+use Rattle.std.proofs.lemmas.List.{take_more, take_all, reverse-append, length-reverse, length-take-le, length-replicate, get_or-replicate}
 use Rattle.std.proofs.lemmas.Option.{get_or_from_slice_get, slice_get-get_or, slice_get_within}
 use Rattle.pcm_cells.specs.Device.{ArrayState}
 use Rattle.trace_reader.specs.Events.{AreEventsFor, IsEventFor}
@@ -33,14 +33,17 @@ pub record HasReplayed {n m e : ℕ} (raw : RawShape) (seed : ℕ) (events : Lis
   pub left : AreEventsFor (total_of raw) module_.tick (drop i events)
 
 -- a row of a table in which none has an outcome
-unset-row : {n : ℕ} (size row : ℕ) → row < size → slice_get (replicate size (Unset {n})) row ≡ Some Unset
-unset-row {n} size row within =
-    let whole : row < length (replicate size (Unset {n})) = rw (length-replicate size (Unset {n})) within in
-    slice_get-get_or (replicate size (Unset {n})) row Unset whole ∙ ap Some (get_or-replicate size row Unset Unset within)
+abbrev none : (n : ℕ) → Outcome n
+none n = Unset
 
-open-row : {n : ℕ} (size row : ℕ) → 1 ≤ row → row ≤ size → IsOpen (replicate size (Unset {n})) row
+unset-row : {n : ℕ} (size row : ℕ) → row < size → slice_get (replicate size (none n)) row ≡ Some Unset
+unset-row {n} size row within =
+    let whole : row < length (replicate size (none n)) = rw (length-replicate size (none n)) within in
+    slice_get-get_or (replicate size (none n)) row (none n) whole ∙ ap Some (get_or-replicate size row (none n) (none n) within)
+
+open-row : {n : ℕ} (size row : ℕ) → 1 ≤ row → row ≤ size → IsOpen (replicate size (none n)) row
 open-row {n} size row above within = record {
-  exists = record { above = above; within = rw (length-replicate size (Unset {n})) within };
+  exists = record { above = above; within = rw (length-replicate size (none n)) within };
   unset = unset-row size (row - 1) (omega arith);
 }
 
@@ -51,7 +54,7 @@ replayed-none {n} raw seed events module_ array results ready lawful = record {
   seeded = ready.seeded;
   going = ready.going;
   bound = omega (arith, ready.bound);
-  size = ap length ready.open_rows ∙ length-replicate (length events) (Unset {n});
+  size = ap length ready.open_rows ∙ length-replicate (length events) (none n);
   open_rows = λ row above within. rw ready.open_rows (open-row (length events) row (omega arith) within);
   led = (λ bank. [], ready.replays);
   left = rw ready.tick lawful;
@@ -70,7 +73,7 @@ asked-more : {n : ℕ} (events : List (Event n)) (i : ℕ) (event : Event n) →
     → asked_by (i + 1) event ∷ asked_for (reverse (take i events)) ≡ asked_for (reverse (take (i + 1) events))
 asked-more events i event at =
     let within = slice_get_within events i event at in
-    let size : length (reverse (take i events)) ≡ i = length-reverse (take i events) ∙ length-take i events (omega arith) in
+    let size : length (reverse (take i events)) ≡ i = length-reverse (take i events) ∙ length-take-le i events (omega arith) in
     rw (below-more events i event at, size) refl
 
 -- the events from a place on begin with the one there

@@ -1,20 +1,18 @@
 -- How a wear report comes about, row by row.
 use Rattle.std.proofs.Common.{◌≡◌, ℕ, zero, suc, ◌+◌, ◌-◌, ◌*◌, ◌/◌, ◌<◌, ◌≤◌, inl, inr, List, [], ◌∷◌, ◌++◌, length, Some, refl, sym, ap, ◌∙◌, subst, arith, append_assoc}
 use Rattle.std.specs.Prelude.{slice_get, IsSomeAnd}
-use Rattle.std.proofs.Math.Nat.{mul-le-mul_right, one-le-mul, div-lt_iff_lt-mul}
+use Rattle.std.proofs.Math.Nat.{one-le-mul, div-lt_iff_lt-mul}
 use Rattle.std.proofs.lemmas.Bool.{cases_eq}
 use Rattle.std.proofs.lemmas.List.{append-nil, length-append, length_push}
 use Rattle.pcm_cells.specs.Device.{ArrayState}
 use Rattle.wear_report.specs.declared.Role.{Role}
-use Rattle.bank_shape.specs.Shape.{IsBankShape, lines_in, slots_of}
 use Rattle.module_shape.specs.declared.raw.RawShape.{RawShape}
 use Rattle.module_shape.specs.Limits.{IsShape}
 use Rattle.module_shape.specs.Addresses.{module_of, array_lines_of, bank_shape}
 use Rattle.end_laws.specs.Ends.{BankEnd}
-use Rattle.end_laws.specs.Roles.{HasOneRole, IsRole, RoleLaw}
+use Rattle.end_laws.specs.Roles.{HasOneRole, IsRole}
 use Rattle.run_laws.specs.Runs.{line_named}
-use Rattle.run_laws.specs.RowsOfRuns.{FewArrayLinesLaw}
-use Rattle.pcm_top.specs.RunText.{AreApart, IsWearReport, IsWearRow, bank_with}
+use Rattle.pcm_top.specs.RunText.{HaveRoles, IsWearReport, IsWearRow, bank_with}
 
 -- a list that goes on, read where it was before, and at its new end
 get-before : {A : Type 0} (xs ys : List A) (i : ℕ) → i < length xs → slice_get (xs ++ ys) i ≡ slice_get xs i
@@ -57,60 +55,39 @@ module _ {n m : ℕ} (raw : RawShape) (seed : ℕ) (ends : ℕ → BankEnd) (arr
   worn-whole : (i : ℕ) (rows : List (ℕ × ℕ × Role)) → i ≡ array.lines → HasWorn i rows → IsWearReport raw seed ends array rows
   worn-whole i rows all had = record { one_each = had.size ∙ all; each = λ line below. had.each line (omega arith) }
 
-  -- a bank of the module
-  in-range : FewArrayLinesLaw → IsShape raw → (bank : ℕ) → bank < raw.banks → IsBankShape (bank_shape (module_of raw) bank)
-  in-range few shape bank exists =
-      let most = few raw shape in
-      let lines = array_lines_of (module_of raw) in
-      let within : (bank + 1) * lines ≤ raw.banks * lines = mul-le-mul_right lines (omega arith) in
-      let split : (bank + 1) * lines ≡ bank * lines + lines = search rules in
-      record {
-        some_regions = shape.some_regions;
-        few_regions = shape.few_regions;
-        some_lines = omega (arith, shape.some_lines);
-        few_lines = shape.few_lines;
-        few_spares = shape.few_spares;
-        some_writes = shape.some_writes;
-        few_writes = shape.few_writes;
-        some_reads = shape.some_reads;
-        few_reads = shape.few_reads;
-        some_psi = shape.some_psi;
-        few_psi = shape.few_psi;
-        fits = omega arith;
-      }
-
-  bank-exists : IsShape raw → (line : ℕ) → line < raw.banks * array_lines_of (module_of raw) → bank_with raw line < raw.banks
+  -- the bank of an array line
+  bank-exists : IsShape raw → (line : ℕ) → line < raw.banks * array_lines_of (module_of raw) → bank_with raw seed line < raw.banks
   bank-exists shape line below =
       let slots : 1 ≤ raw.regions * (raw.lines + 1) = one-le-mul shape.some_regions (omega arith) in
       (div-lt_iff_lt-mul {k = array_lines_of (module_of raw)} {x = line} {y = raw.banks} (omega arith)).1 below
 
   -- each array line has a row
-  a-row : RoleLaw → FewArrayLinesLaw → IsShape raw → AreApart raw ends → (line : ℕ) → line < raw.banks * array_lines_of (module_of raw)
+  a-row : IsShape raw → HaveRoles raw seed ends → (line : ℕ) → line < raw.banks * array_lines_of (module_of raw)
       → (row : ℕ × ℕ × Role) × IsWearRow raw seed ends array line row
-  a-row roles few shape apart line below =
-      let bank = bank_with raw line in
+  a-row shape roles line below =
+      let bank = bank_with raw seed line in
       let exists = bank-exists shape line below in
-      let one = roles (bank_shape (module_of raw) bank) (line_named raw seed bank) (ends bank) line (in-range few shape bank exists) (apart bank exists) in
+      let one = roles bank line exists in
       ((bank, (array.line line).pulses, one.role), record { bank = refl; pulses = refl; role = one.is })
 
   -- so the rows so far go on to a whole report
-  worn-rest : RoleLaw → FewArrayLinesLaw → IsShape raw → AreApart raw ends → (count i : ℕ) (rows : List (ℕ × ℕ × Role)) → i + count ≤ raw.banks * array_lines_of (module_of raw) → HasWorn i rows
+  worn-rest : IsShape raw → HaveRoles raw seed ends → (count i : ℕ) (rows : List (ℕ × ℕ × Role)) → i + count ≤ raw.banks * array_lines_of (module_of raw) → HasWorn i rows
       → (later : List (ℕ × ℕ × Role)) × HasWorn (i + count) (rows ++ later)
-  worn-rest roles few shape apart zero i rows within had =
+  worn-rest shape roles zero i rows within had =
       let none : i + 0 ≡ i = omega arith in
       ([], rw (append-nil rows, none) had)
-  worn-rest roles few shape apart (suc count) i rows within had =
-      let row = a-row roles few shape apart i (omega arith) in
-      let rest = worn-rest roles few shape apart count (i + 1) (rows ++ row.0 ∷ []) (omega arith) (worn-more i rows row.0 had row.1) in
+  worn-rest shape roles (suc count) i rows within had =
+      let row = a-row shape roles i (omega arith) in
+      let rest = worn-rest shape roles count (i + 1) (rows ++ row.0 ∷ []) (omega arith) (worn-more i rows row.0 had row.1) in
       let next : i + 1 + count ≡ i + suc count = omega arith in
       let At : List (ℕ × ℕ × Role) → Type 0 = λ rs. HasWorn (i + suc count) rs in
       let Upto : ℕ → Type 0 = λ k. HasWorn k ((rows ++ row.0 ∷ []) ++ rest.0) in
       (row.0 ∷ rest.0, subst At (append_assoc rows (row.0 ∷ []) rest.0) (subst Upto next rest.1))
 
-  pub worn-goes_on : RoleLaw → FewArrayLinesLaw → IsShape raw → AreApart raw ends → (i : ℕ) (rows : List (ℕ × ℕ × Role)) → array.lines ≡ raw.banks * array_lines_of (module_of raw) → i ≤ array.lines → HasWorn i rows
+  pub worn-goes_on : IsShape raw → HaveRoles raw seed ends → (i : ℕ) (rows : List (ℕ × ℕ × Role)) → array.lines ≡ raw.banks * array_lines_of (module_of raw) → i ≤ array.lines → HasWorn i rows
       → (later : List (ℕ × ℕ × Role)) × IsWearReport raw seed ends array (rows ++ later)
-  worn-goes_on roles few shape apart i rows size within had =
-      let rest = worn-rest roles few shape apart (array.lines - i) i rows (omega arith) had in
+  worn-goes_on shape roles i rows size within had =
+      let rest = worn-rest shape roles (array.lines - i) i rows (omega arith) had in
       (rest.0, worn-whole (i + (array.lines - i)) (rows ++ rest.0) (omega arith) rest.1)
 
   pub worn-all : (i : ℕ) (rows : List (ℕ × ℕ × Role)) → i ≡ array.lines → HasWorn i rows → IsWearReport raw seed ends array rows

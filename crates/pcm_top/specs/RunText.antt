@@ -8,11 +8,10 @@ use Rattle.wear_report.specs.WearText.{wear_text}
 use Rattle.result_summary.specs.Counting.{counts_of}
 use Rattle.result_summary.specs.Pulses.{pulses_in_all}
 use Rattle.result_summary.specs.SummaryText.{summary_text}
-use Rattle.bank_shape.specs.Shape.{slots_of}
 use Rattle.module_shape.specs.declared.raw.RawShape.{RawShape}
 use Rattle.module_shape.specs.Addresses.{module_of, array_lines_of, bank_shape}
 use Rattle.end_laws.specs.Ends.{BankEnd}
-use Rattle.end_laws.specs.Roles.{IsRole}
+use Rattle.end_laws.specs.Roles.{HasOneRole, IsRole}
 use Rattle.run_laws.specs.Runs.{line_named}
 use Rattle.run_text.specs.ResultText.{results_text}
 use Rattle.pcm_module.specs.Roles.{spares_used}
@@ -20,22 +19,21 @@ use Rattle.command_line.specs.declared.job.Print.{Print}
 use Rattle.command_line.specs.declared.job.Print.TheVariants.{Results, Summary, Wear}
 
 -- over a module of these sizes, whose randomiser has this seed
-module _ {n m : ℕ} (raw : RawShape) (seed : ℕ) where
+module _ (raw : RawShape) (seed : ℕ) where
   -- the bank of an array line
   abbrev pub bank_with : ℕ → ℕ
   bank_with line = line / array_lines_of (module_of raw)
 
-  -- in each bank no two slots have one array line
-  abbrev pub AreApart : (ℕ → BankEnd) → Type 0
-  AreApart ends =
-      (bank : ℕ) → bank < raw.banks → (slot other : ℕ) → slot < slots_of (bank_shape (module_of raw) bank) → other < slots_of (bank_shape (module_of raw) bank)
-      → (ends bank).table slot ≡ (ends bank).table other → slot ≡ other
+  -- by these ends each array line has one role
+  abbrev pub HaveRoles : (ℕ → BankEnd) → Type 0
+  HaveRoles ends = (bank at : ℕ) → bank < raw.banks → HasOneRole (bank_shape (module_of raw) bank) (line_named raw seed bank) (ends bank) at
 
+module _ {n m : ℕ} (raw : RawShape) (seed : ℕ) where
   -- what the wear report says of an array line: its bank, its pulses, and the role that the end of its bank gives it
   pub record IsWearRow (ends : ℕ → BankEnd) (array : ArrayState n m) (line : ℕ) (row : ℕ × ℕ × Role) : Type 0 where
-    pub bank : row.0 ≡ bank_with line
+    pub bank : row.0 ≡ bank_with raw seed line
     pub pulses : row.1 ≡ (array.line line).pulses
-    pub role : IsRole (bank_shape (module_of raw) (bank_with line)) (line_named raw seed (bank_with line)) (ends (bank_with line)) line row.2
+    pub role : IsRole (bank_shape (module_of raw) (bank_with raw seed line)) (line_named raw seed (bank_with raw seed line)) (ends (bank_with raw seed line)) line row.2
 
   -- it has one row for each
   pub record IsWearReport (ends : ℕ → BankEnd) (array : ArrayState n m) (rows : List (ℕ × ℕ × Role)) : Type 0 where

@@ -67,14 +67,14 @@ pub fn run<const B: usize, const M: usize, const E: usize, A: CellArray<B, M>, S
 {
     let events = events_of::<B, S>(alloc, job, source)?;
     let taken = take_memory::<B, M, E, A>(alloc, job, array, events.len() as u32);
-    let (mut module, mut results, mut text) = match taken {
+    let (mut pcm, mut results, mut text) = match taken {
         Ok(taken) => taken,
         Err(_) => return Err(Fault::NoMemory),
     };
-    replay(&mut module, array, events.as_slice(), &mut results);
+    replay(&mut pcm, array, events.as_slice(), &mut results);
     let written = print_run(
         job.print,
-        &module,
+        &pcm,
         array,
         events.as_slice(),
         &results,

@@ -1,4 +1,4 @@
-use Rattle.pcm_top.proofs.Drawn.{drawn-law}
+use Rattle.pcm_top.proofs.DrawnRuns.{drawn-law}
 use Rattle.pcm_top.proofs.laws.drawn_runs_are_runs_of_their_text.Goals as goal
 
 pub returns : goal.returns

@@ -3,4 +3,4 @@ use Rattle.pcm_top.proofs.replay.replay.Given as goal
 
 -- the events so far were handed to the module
 abbrev pub invariant-loop-i : goal.invariant-loop-i
-invariant-loop-i g l = HasReplayed l.fn.module.shape l.fn.module.seed l.events l.i l.module (g.A.CellArray.state l.array) l.results
+invariant-loop-i g l = HasReplayed l.fn.pcm.shape l.fn.pcm.seed l.events l.i l.pcm (g.A.CellArray.state l.array) l.results

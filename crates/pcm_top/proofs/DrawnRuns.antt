@@ -1,5 +1,5 @@
 -- That a run of drawn events is a run of their text.
-use Rattle.std.proofs.Common.{◌≡◌, ℕ, ◌+◌, ◌*◌, ◌≤◌, inl, inr, List, length, Option, refl, sym, ap, ◌∙◌, subst, arith}
+use Rattle.std.proofs.Common.{◌≡◌, ℕ, ◌+◌, ◌*◌, ◌≤◌, inl, inr, List, length, Option, refl, sym, ap, ◌∙◌, subst, arith, rules}
 use Rattle.std.specs.Io.KnownBytes.{IsAtEnd}
 use Rattle.pcm_cells.specs.Device.{ArrayState}
 use Rattle.trace_reader.specs.declared.event.Event.{Event}
@@ -87,6 +87,7 @@ module _ (texts : GeneratedTextLaw) (sizes : GeneratedSizeLaw) (job : RunJob) (m
 
   same-written : (n m e : ℕ) (drawn : SourceChange) (array : ArrayState n m) (before now : Option (List ℕ)) (done : Done) → TakesBytes read (text_of n) → length (text_of n) ≤ trace_room n
       → RunIsWritten n m e job drawn array before now done → RunIsWritten n m e (run_of_source job) read array before now done
+  unfolding same-run
   same-written n m e drawn array before now done takes fits is = record {
     run = same-run n m e drawn array takes fits is.run;
     text = is.text;
@@ -97,6 +98,7 @@ module _ (texts : GeneratedTextLaw) (sizes : GeneratedSizeLaw) (job : RunJob) (m
 
   same-part : (n m e : ℕ) (drawn : SourceChange) (array : ArrayState n m) (before now : Option (List ℕ)) → TakesBytes read (text_of n) → length (text_of n) ≤ trace_room n
       → RunIsWrittenInPart n m e job drawn array before now → RunIsWrittenInPart n m e (run_of_source job) read array before now
+  unfolding same-run
   same-part n m e drawn array before now takes fits is = record {
     run = same-run n m e drawn array takes fits is.run;
     text = is.text;
