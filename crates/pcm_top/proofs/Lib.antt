@@ -9,3 +9,4 @@ mod Printable
 mod Wearing
 mod DrawnRuns
 mod Sizes
+mod Making

@@ -1,8 +1,8 @@
 -- That each row of a right run can be printed.
-use Rattle.std.proofs.Common.{◌≡◌, ℕ, zero, suc, ◌+◌, ◌-◌, ◌*◌, ◌<◌, ◌≤◌, List, [], ◌∷◌, ◌++◌, length, get_or, take, drop, Some, refl, sym, ap, ◌∙◌, subst, arith, reverse, map, append_assoc, rules}
+use Rattle.std.proofs.Common.{◌≡◌, ℕ, zero, suc, ◌+◌, ◌-◌, ◌*◌, ◌<◌, ◌≤◌, List, [], ◌∷◌, ◌++◌, length, get_or, take, drop, Some, refl, sym, ap, ◌∙◌, subst, arith, reverse, map, append_assoc}
 use Rattle.std.specs.Prelude.{slice_get, unwrap_or, All}
 use Rattle.std.specs.Option.{ForSome}
-use Rattle.std.proofs.lemmas.List.{append-nil, reverse-append, length-reverse, take_all}
+use Rattle.std.proofs.lemmas.List.{append-nil, reverse-append, length_push}
 use Rattle.std.proofs.lemmas.List.Elements.{All-nil, All-cons, All-head, All-tail, All-same, All-push}
 use Rattle.std.proofs.lemmas.Option.{slice_get_within}
 use Rattle.pcm_cells.specs.Device.{ArrayState}
@@ -29,6 +29,9 @@ use Rattle.pcm_module.specs.Asking.{asked_by, asked_for, asks_of}
 use Rattle.pcm_top.specs.Rows.{rows_of}
 use Rattle.pcm_top.proofs.Replaying.{below-more}
 
+one-more : (i : ℕ) → i + 1 ≡ suc i
+one-more i = omega arith
+
 module _ {n : ℕ} where
   -- what every row of a table is, each row is
   row-at : (P : Row n → Type 0) (outcome : ℕ → Outcome n) (later : List (Event n)) (event : Event n) (below : List (Event n))
@@ -50,7 +53,7 @@ module _ {n : ℕ} where
         rest.0,
         rest.1 ++ first ∷ [],
         reverse-append (first ∷ []) events ∙ ap (λ es. es ++ first ∷ []) rest.2 ∙ append_assoc rest.0 (event ∷ rest.1) (first ∷ []),
-        search rules,
+        length_push rest.1 first ∙ ap (λ k. k + 1) rest.3 ∙ one-more i,
       )
 
   -- the outcome of a row in a table

@@ -9,6 +9,7 @@ ghost use Rattle.pcm_top.specs.Running.{RunIsWritten, RunIsWrittenInPart, done_b
 
 use crate::fault::Fault;
 use crate::input::events_of;
+use crate::laws::right_runs_can_be_printed;
 use crate::memory::take_memory;
 use crate::print::print_run;
 use crate::replay::replay;
@@ -71,6 +72,7 @@ pub fn run<const B: usize, const M: usize, const E: usize, A: CellArray<B, M>, S
         Ok(taken) => taken,
         Err(_) => return Err(Fault::NoMemory),
     };
+    right_runs_can_be_printed();
     replay(&mut pcm, array, events.as_slice(), &mut results);
     let written = print_run(
         job.print,
