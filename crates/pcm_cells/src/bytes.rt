@@ -98,6 +98,22 @@ pub(crate) fn reached(tearing: bool, byte: u8) -> u8
     }
 }
 
+fn has(byte: u8, place: usize) -> bool
+    requires { place < 8 }
+    ensures { result ≡ bit_in byte place }
+{
+    byte & 1 << place != 0
+}
+
+// The byte with this bit too, if the value is true.
+fn joined(byte: u8, place: usize, value: bool) -> u8
+    requires { place < 8 }
+    ensures is { bit_in byte place ≡ false → bit_in result place ≡ value }
+    ensures kept { (i : ℕ) → i ≢ place → bit_in result i ≡ bit_in byte i }
+{
+    if value { byte | 1 << place } else { byte }
+}
+
 // Takes one from each count of a group of eight that is in the mask, and answers those of them that were at most one.
 pub(crate) fn spend(left: &mut [u32], group: usize, mask: u8) -> u8
     requires { 8 * group + 8 ≤ length left.old }
@@ -108,8 +124,8 @@ pub(crate) fn spend(left: &mut [u32], group: usize, mask: u8) -> u8
     let mut last = 0;
     for place in 0..8 {
         let count = left[8 * group + place];
-        last = with_bit(last, place, count <= 1);
-        left[8 * group + place] = count.saturating_sub((mask >> place & 1) as u32);
+        left[8 * group + place] = count.saturating_sub(has(mask, place) as u32);
+        last = joined(last, place, count <= 1);
     }
     last & mask
 }
