@@ -91,11 +91,7 @@ pub(crate) fn without(byte: u8, other: u8) -> u8
 pub(crate) fn reached(tearing: bool, byte: u8) -> u8
     ensures { (i : ℕ) → i < 8 → bit_in result i ≡ not (tearing && nat_eq (i % 2) 1) && bit_in byte i }
 {
-    if tearing {
-        byte & 0x55
-    } else {
-        byte
-    }
+    if tearing { byte & 0x55 } else { byte }
 }
 
 fn has(byte: u8, place: usize) -> bool

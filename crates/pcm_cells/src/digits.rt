@@ -2,8 +2,8 @@
 ghost use Rattle.std.specs.Prelude.{◌≡◌, ◌≢◌, ℕ, ◌+◌, ◌*◌, ◌/◌, ◌<◌, ◌≤◌, true, nat_eq, nat_lt, if◌then◌else◌};
 ghost use Rattle.pcm_cells.specs.Planes.{bit_in, digit, zero_digits};
 
-use crate::bytes::{chosen, without};
 use crate::Cells;
+use crate::bytes::{chosen, without};
 
 /// A number from 0 to 7 of each cell of a row: its binary digits, the lowest in `low`.
 #[derive(Clone, Copy, Drop)]
@@ -61,6 +61,7 @@ impl<const B: usize, const M: usize> Digits<B, M> {
         let carry = more & low;
         self.low.set_byte(group, without(more ^ low, none));
         self.middle.set_byte(group, without(carry ^ middle, none));
-        self.high.set_byte(group, without((carry & middle) ^ high, none));
+        self.high
+            .set_byte(group, without((carry & middle) ^ high, none));
     }
 }

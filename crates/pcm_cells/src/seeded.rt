@@ -59,10 +59,10 @@ impl<const B: usize, const M: usize> Model for SeededLine<B, M> {
     ghost Value = { LifeLine B M };
 
     ghost view = { λ l. record {
-        line = record { held = l.held; stuck = l.stuck; misses = l.misses; pulses = l.pulses };
-        left = l.left.items;
-        limits = l.limits;
-        ends = l.ends;
+      line = record { held = l.held; stuck = l.stuck; misses = l.misses; pulses = l.pulses };
+      left = l.left.items;
+      limits = l.limits;
+      ends = l.ends;
     } };
 
     ghost invariant = { λ l. (vec_len l.left ≡ 8 * (B + M)) × IsShape B M };
@@ -114,7 +114,8 @@ impl<const B: usize, const M: usize> SeededLine<B, M> {
         let changing = without(live, missing);
         let last = spend(self.left.as_mut_slice(), group, changing);
         let value = chosen(want.byte(group), last, self.ends.byte(group));
-        self.held.set_byte(group, chosen(self.held.byte(group), changing, value));
+        self.held
+            .set_byte(group, chosen(self.held.byte(group), changing, value));
         self.stuck.set_byte(group, last | self.stuck.byte(group));
         self.misses.advance(group, missing, changing);
     }
