@@ -10,7 +10,7 @@ use Rattle.pcm_cells.specs.declared.digits.Digits.{Digits}
 use Rattle.pcm_cells.specs.Rows.{cell}
 use Rattle.pcm_cells.specs.Device.{DeviceStep, TornStep, IsBlank, counted}
 use Rattle.pcm_cells.specs.Cell.{cell_state}
-use Rattle.pcm_cells.specs.Planes.{PlaneLine, plane_state, blank_planes, digit}
+use Rattle.pcm_cells.specs.Planes.{PlaneLine, plane_state, digit}
 use Rattle.pcm_cells.specs.Follows.{Follows}
 use Rattle.pcm_cells.specs.Seeded.{LifeLine, IsDrawn, changed, pulsed, seeded, seeded_cell}
 use Rattle.pcm_cells.proofs.RowLemmas.{cell-zeros}

@@ -1,4 +1,4 @@
-use Rattle.std.proofs.Common.{◌≡◌, ◌&&◌, ◌∙◌, ap, arith}
+use Rattle.std.proofs.Common.{◌&&◌, ◌∙◌, ap, arith}
 use Rattle.pcm_cells.specs.Planes.{bit_in}
 use Rattle.pcm_cells.proofs.ByteLemmas.{digit_and, swapped}
 use Rattle.pcm_cells.proofs.bytes.spend.Goals as goal

@@ -1,5 +1,4 @@
-use Rattle.std.proofs.Common.{◌≡◌, ℕ, ◌+◌, ◌*◌, ◌∙◌, ap, sym, arith, refl}
-use Rattle.pcm_cells.specs.Rows.{cell}
+use Rattle.std.proofs.Common.{◌+◌, ◌*◌, ◌∙◌, refl}
 use Rattle.pcm_cells.specs.Planes.{bit_in}
 use Rattle.pcm_cells.proofs.ByteLemmas.{digit_xor, digit_and}
 use Rattle.pcm_cells.proofs.PlaneLemmas.{digit_grown, digit_kept}

@@ -1,4 +1,4 @@
-use Rattle.std.proofs.Common.{◌≡◌, ℕ, ◌+◌, ◌*◌, ◌∙◌, ap, sym, arith, refl}
+use Rattle.std.proofs.Common.{ℕ, ◌+◌, ◌*◌}
 use Rattle.pcm_cells.specs.Rows.{cell}
 use Rattle.pcm_cells.proofs.ByteLemmas.{digit_xor}
 use Rattle.pcm_cells.proofs.PlaneLemmas.{digit-is, below_digits}

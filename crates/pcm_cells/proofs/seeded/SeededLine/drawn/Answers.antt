@@ -1,4 +1,4 @@
-use Rattle.std.proofs.Common.{◌≡◌, ◌+◌, ◌*◌, ◌<◌, ◌∙◌, ap, sym, refl, arith, bit_xor, length, length-set, replicate, rules}
+use Rattle.std.proofs.Common.{◌≡◌, ◌<◌, ◌∙◌, ap, sym, refl, arith, bit_xor, length, length-set, rules}
 use Rattle.rand_core.specs.Stream.{next_u64}
 use Rattle.rand_core.specs.Steps.{stream_of, steps_u64_high}
 use Rattle.rand_xoshiro.specs.Xoshiro256.{plus_plus}

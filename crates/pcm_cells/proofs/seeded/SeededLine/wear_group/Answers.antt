@@ -1,6 +1,6 @@
-use Rattle.std.proofs.Common.{◌≡◌, ◌≢◌, ℕ, ◌+◌, ◌*◌, ◌/◌, ◌%◌, ◌<◌, ◌≤◌, ◌&&◌, rules, length, slice_index, true, not, cond, eqb, refl, sym, ◌∙◌, ap, arith}
+use Rattle.std.proofs.Common.{◌≡◌, ℕ, ◌+◌, ◌*◌, ◌%◌, ◌≤◌, ◌&&◌, rules, length, slice_index, true, cond, refl, ◌∙◌, ap, arith}
 use Rattle.pcm_cells.specs.Rows.{cell}
-use Rattle.pcm_cells.specs.Planes.{bit_in, digit}
+use Rattle.pcm_cells.specs.Planes.{bit_in}
 use Rattle.pcm_cells.specs.Seeded.{LifeLine, seeded, seeded_cell}
 use Rattle.std.proofs.Common.{bit_and}
 use Rattle.std.specs.Vec.{with_items}
