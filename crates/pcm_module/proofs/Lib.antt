@@ -4,7 +4,7 @@ mod Moving
 mod Logging
 mod Steps
 mod Arriving
-mod Sizes
+pub mod Sizes
 mod Banks
 mod Beyond
 mod TakenRows
@@ -16,3 +16,4 @@ mod Serving
 mod Events
 mod Making
 mod Translating
+mod EndRoles

@@ -99,8 +99,8 @@ module _ {n m e : ℕ} (module_ : ModuleState n m e) (network : Network) (is : I
           (ap (λ (b : ℕ). stands_at (kept_at b) (number other)) (sym homes) ∙ same))
 
   -- the array line that the bank says
-  pub line_stands : (line bank at slot result : ℕ) (clock : ClockState n m e) (own : KeptState n) → bank ≡ home line → at ≡ number line → bank_at module_ bank ≡ clock → own ≡ clock.bank.kept
+  pub line_stands : (line bank at slot result : ℕ) (own : KeptState n) → bank ≡ home line → at ≡ number line → own ≡ kept_at bank
       → slot ≡ slot_of own at → result ≡ array_line own slot → result ≡ stands_in module_ line
-  line_stands line bank at slot result clock own of_bank of_number there same its stands =
+  line_stands line bank at slot result own of_bank of_number same its stands =
       stands ∙ ap (λ (s : ℕ). array_line own s) (its ∙ ap (λ (k : ℕ). slot_of own k) of_number)
-      ∙ ap (λ (k : KeptState n). stands_at k (number line)) (same ∙ ap (λ (c : ClockState n m e). c.bank.kept) (sym there) ∙ ap (λ (b : ℕ). kept_at b) of_bank)
+      ∙ ap (λ (k : KeptState n). stands_at k (number line)) (same ∙ ap (λ (b : ℕ). kept_at b) of_bank)

@@ -5,3 +5,4 @@ pub mod Stepping
 pub mod Taking
 pub mod Draining
 pub mod Shaped
+pub mod Roles

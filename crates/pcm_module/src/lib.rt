@@ -4,6 +4,7 @@
 mod bank;
 mod finishing;
 pub mod module;
+mod roles;
 mod taking;
 #[cfg(test)]
 mod tests;

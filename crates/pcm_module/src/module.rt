@@ -3,15 +3,17 @@ ghost use Rattle.std.specs.Prelude.{◌≡◌, ◌*◌, ◌+◌, ◌<◌, ◌≤
 ghost use Rattle.pcm_cells.specs.Device.{ArrayState, IsFresh};
 ghost use Rattle.ecp_line.specs.Layout.{IsLayout};
 ghost use Rattle.result_rows.specs.declared.Outcome.{Outcome};
+ghost use Rattle.power_recovery.specs.Kept.{IsKept};
 ghost use Rattle.module_shape.specs.Limits.{IsShape, total_of};
-ghost use Rattle.module_shape.specs.Addresses.{module_of, lines_of, array_lines_of};
+ghost use Rattle.module_shape.specs.Addresses.{module_of, lines_of, array_lines_of, bank_shape};
 ghost use Rattle.run_laws.specs.Runs.{bank_of_line, line_in_bank};
-ghost use Rattle.pcm_module.specs.State.{banks_from, stands_in};
+ghost use Rattle.pcm_module.specs.State.{banks_from, bank_at, stands_in};
 ghost use Rattle.pcm_module.specs.Replaying.{Replays};
 
 use bank_timing::timed::Timed;
 use feistel_map::Feistel;
 use module_shape::{BankLine, Shape};
+use power_recovery::kept::Kept;
 use std::alloc::{AllocError, Global};
 use std::marker::Model;
 
@@ -79,6 +81,16 @@ impl<const B: usize, const M: usize, const E: usize> Module<B, M, E> {
         self.shape.locate(self.feistel.forward(line))
     }
 
+    // What a bank keeps.
+    pub(crate) fn kept(&self, bank: u32) -> &Kept<B>
+        requires { bank < self.now.shape.banks }
+        ensures kept { result.now ≡ (bank_at self.now bank).bank.kept }
+        ensures shaped { result.now.shape ≡ bank_shape (module_of self.now.shape) bank }
+        ensures in_range { IsKept result.now }
+    {
+        self.banks[bank as usize].bank().kept()
+    }
+
     /// The array line where a line stands now.
     pub fn translate(&self, line: u32) -> u32
         requires { line < total_of self.now.shape }
@@ -89,8 +101,10 @@ impl<const B: usize, const M: usize, const E: usize> Module<B, M, E> {
         // no other line stands there
         ensures apart { (other : ℕ) → other < total_of self.now.shape → stands_in self.now other ≡ result → other ≡ line }
     {
+        // A field that is read makes known what is true of every module.
+        let _ = &self.shape;
         let place = self.place(line);
-        let kept = self.banks[place.bank as usize].bank().kept();
+        let kept = self.kept(place.bank);
         kept.array_line(kept.slot_of(place.line))
     }
 

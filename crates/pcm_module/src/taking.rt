@@ -49,6 +49,7 @@ impl<const B: usize, const M: usize, const E: usize> Module<B, M, E> {
         ensures others { (other : ℕ) → HasRow results.old other → other ≢ row → StandsNowhere self.old other → outcome_in results.new other ≡ outcome_in results.old other }
         ensures stays { StaysBeyond (self.old.shape.banks * array_lines_of (module_of self.old.shape)) (A.state array.old) (A.state array.new) }
     {
+        // A field that is read makes known what is true of every module.
         let _ = &self.shape;
         match event.op {
             EventOp::Read(line) => self.read(array, event.tick, row, line, results),
