@@ -52,6 +52,13 @@ printed-last a b c text whole last h = rw (← h.is) (Appends-Appends a b c h.go
 pub printed-part : (a b c : Option (List ℕ)) (text : Reserved) (whole : List ℕ) → AppendsPrefix b c text.bytes → Printed a b text whole → AppendsPrefix a c whole
 printed-part a b c text whole part h = rw (← h.is) (Appends-AppendsPrefix a b c h.gone text.bytes h.sent part)
 
+-- the same bytes, told otherwise
+pub printed-same : (a b : Option (List ℕ)) (text : Reserved) (whole other : List ℕ) → whole ≡ other → Printed a b text whole → Printed a b text other
+printed-same a b text whole other is h = subst (λ (xs : List ℕ). Printed a b text xs) is h
+
+pub part-same : (a b : Option (List ℕ)) (whole other : List ℕ) → whole ≡ other → AppendsPrefix a b whole → AppendsPrefix a b other
+part-same a b whole other is part = subst (λ (xs : List ℕ). AppendsPrefix a b xs) is part
+
 -- ---- the wear report
 
 pub wear_text-append : (first second : List (ℕ × ℕ × Role)) → wear_text (first ++ second) ≡ wear_text first ++ wear_rows_text (length first) second
