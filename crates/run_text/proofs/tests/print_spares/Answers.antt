@@ -1,12 +1,10 @@
-use Rattle.std.proofs.Common.{◌≡◌, ℕ, ◌+◌, ◌-◌, ◌≤◌, List, ◌++◌, replicate, sym, ap, subst, ◌∙◌, arith}
+use Rattle.std.proofs.Common.{◌≡◌, ℕ, ◌+◌, ◌-◌, replicate, sym, ap, ◌∙◌, arith}
 use Rattle.std.proofs.lemmas.Grind.{replicate_next}
 use Rattle.std.proofs.lemmas.List.{length-replicate, replicate-append-replicate}
-use Rattle.std.proofs.lemmas.Result.{on_err_weaker, on_ok_weaker}
-use Rattle.pcm_io.specs.Giving.{AppendsPrefix}
+use Rattle.std.proofs.lemmas.Result.{on_err_weaker}
 use Rattle.wear_report.specs.declared.Role.{Role}
 use Rattle.wear_report.specs.declared.Role.TheVariants.{Free}
 use Rattle.wear_report.specs.WearText.{wear_text}
-use Rattle.run_text.specs.Gathering.{Printed}
 use Rattle.run_text.proofs.Gathered.{on_err_any, part-same, printed-same}
 use Rattle.run_text.proofs.tests.print_spares.Goals as goal
 
