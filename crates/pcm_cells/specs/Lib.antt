@@ -1,7 +1,6 @@
 pub mod Rows
 pub mod Shape
 pub mod Pulse
-pub mod Plain
 pub mod Device
 pub mod Cell
 pub mod Follows
@@ -9,4 +8,5 @@ pub mod Scripted
 pub mod Logging
 pub mod Logged
 pub mod Words
+pub mod Planes
 pub mod Seeded

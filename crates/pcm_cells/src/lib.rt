@@ -4,9 +4,9 @@
 
 mod array;
 mod bytes;
+mod digits;
 mod line;
 mod logged;
-mod plain;
 mod row;
 mod script;
 mod seeded;
@@ -14,7 +14,6 @@ mod seeded;
 pub use array::{CellArray, Sense, Wear};
 pub use line::CellState;
 pub use logged::LoggedArray;
-pub use plain::PlainArray;
 pub use row::Cells;
 pub use script::{Act, Script, ScriptArray};
 pub use seeded::{MemArray, SeededCell};

@@ -1,9 +1,10 @@
 // Rows of cells, and masks over them.
-ghost use Rattle.std.specs.Prelude.{◌≡◌, ◌≢◌, ℕ, ◌+◌, ◌*◌, ◌<◌, ◌≤◌, ◌&&◌, true, false, IsTrue, IsFalse, nat_eq, if◌then◌else◌};
+ghost use Rattle.std.specs.Prelude.{◌≡◌, ◌≢◌, ℕ, ◌+◌, ◌*◌, ◌/◌, ◌<◌, ◌≤◌, ◌&&◌, true, false, IsTrue, IsFalse, nat_eq, if◌then◌else◌};
 ghost use Rattle.pcm_cells.specs.Rows.{cell, zero_row, xor, members};
 ghost use Rattle.pcm_cells.specs.Shape.{IsShape};
+ghost use Rattle.pcm_cells.specs.Planes.{bit_in};
 
-use crate::bytes::{and_with, bit, is_zero, put, set_bit, xor_with};
+use crate::bytes::{and_with, bit, is_zero, set_bit, xor_with};
 
 /// A row of `8 * B` data cells and `8 * M` check cells of one bit each, or a mask over such a row.
 /// Cell `n` is bit `n % 8`, the lowest being bit 0, of byte `n / 8` of the data bytes followed by the check bytes.
@@ -72,13 +73,29 @@ impl<const B: usize, const M: usize> Cells<B, M> {
         result
     }
 
-    /// Lets each masked cell hold its wanted value.
-    pub(crate) fn put(&mut self, mask: &Cells<B, M>, want: &Cells<B, M>)
-        ensures cells { (n : ℕ) → cell self.new n ≡ (if cell mask.now n then cell want.now n else cell self.old n) }
-        ensures whole { ((n : ℕ) → cell mask.now n ≡ false → cell self.old n ≡ cell want.now n) → self.new ≡ want.now }
+    /// The cells of a group of eight, as the bits of a byte.
+    pub(crate) fn byte(&self, group: usize) -> u8
+        requires { group < B + M }
+        ensures { (i : ℕ) → i < 8 → bit_in result i ≡ cell self.now (8 * group + i) }
     {
-        put(&mut self.bits, &mask.bits, &want.bits);
-        put(&mut self.meta, &mask.meta, &want.meta);
+        if group < B {
+            self.bits[group]
+        } else {
+            self.meta[group - B]
+        }
+    }
+
+    /// Lets the cells of a group of eight be the bits of a byte.
+    pub(crate) fn set_byte(&mut self, group: usize, byte: u8)
+        requires { group < B + M }
+        ensures here { (i : ℕ) → i < 8 → cell self.new (8 * group + i) ≡ bit_in byte i }
+        ensures others { (n : ℕ) → n / 8 ≢ group → cell self.new n ≡ cell self.old n }
+    {
+        if group < B {
+            self.bits[group] = byte;
+        } else {
+            self.meta[group - B] = byte;
+        }
     }
 
     /// As a mask: whether no cell of this group of eight is in it.

@@ -1,5 +1,5 @@
 -- What a sink got and what a text holds: how both together grow, and what is written in the end.
-use Rattle.std.proofs.Common.{◌≡◌, ℕ, ◌+◌, ◌≤◌, List, [], ◌∷◌, ◌++◌, length, Option, refl, sym, ap, subst, ◌∙◌, arith, append_assoc, take}
+use Rattle.std.proofs.Common.{◌≡◌, ℕ, ◌+◌, List, [], ◌∷◌, ◌++◌, length, Option, refl, sym, ap, subst, ◌∙◌, arith, append_assoc}
 use Rattle.std.specs.Prelude.{Result, Ok, Err, OnErr}
 use Rattle.std.proofs.lemmas.List.{append-nil}
 use Rattle.std.specs.Io.KnownBytes.{Appends}
@@ -51,6 +51,13 @@ printed-last a b c text whole last h = rw (← h.is) (Appends-Appends a b c h.go
 -- first bytes of it are, once first bytes of the text are
 pub printed-part : (a b c : Option (List ℕ)) (text : Reserved) (whole : List ℕ) → AppendsPrefix b c text.bytes → Printed a b text whole → AppendsPrefix a c whole
 printed-part a b c text whole part h = rw (← h.is) (Appends-AppendsPrefix a b c h.gone text.bytes h.sent part)
+
+-- the same bytes, told otherwise
+pub printed-same : (a b : Option (List ℕ)) (text : Reserved) (whole other : List ℕ) → whole ≡ other → Printed a b text whole → Printed a b text other
+printed-same a b text whole other is h = subst (λ (xs : List ℕ). Printed a b text xs) is h
+
+pub part-same : (a b : Option (List ℕ)) (whole other : List ℕ) → whole ≡ other → AppendsPrefix a b whole → AppendsPrefix a b other
+part-same a b whole other is part = subst (λ (xs : List ℕ). AppendsPrefix a b xs) is part
 
 -- ---- the wear report
 
