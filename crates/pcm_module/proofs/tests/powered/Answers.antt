@@ -1,6 +1,5 @@
-use Rattle.std.proofs.Common.{ℕ, ◌*◌, [], subst}
+use Rattle.std.proofs.Common.{ℕ, [], subst}
 use Rattle.pcm_cells.specs.Device.{IsFresh}
-use Rattle.module_shape.specs.Addresses.{module_of, array_lines_of}
 use Rattle.pcm_module.proofs.tests.powered.Goals as goal
 
 pub returns-clause-replayed : goal.returns-clause-replayed
