@@ -63,7 +63,7 @@ module _ {n : ℕ} where
       rw (back, at) refl
 
   -- what every row of a run's table is, the row of each event is
-  row-of-event : (P : Row n → Type 0) (events : List (Event n)) (outcomes : List (Outcome n)) (i : ℕ) (event : Event n) (outcome : Outcome n)
+  pub row-of-event : (P : Row n → Type 0) (events : List (Event n)) (outcomes : List (Outcome n)) (i : ℕ) (event : Event n) (outcome : Outcome n)
       → slice_get events i ≡ Some event → slice_get outcomes i ≡ Some outcome → All P (rows_of events outcomes)
       → P (record { tick = event.tick; asks = asks_of event.op; outcome = outcome })
   row-of-event P events outcomes i event outcome at is all =
