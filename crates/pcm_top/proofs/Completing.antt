@@ -53,9 +53,9 @@ none-short {n} events outcomes size none =
     list_any_none is_short outcomes
     (All-from_get_or (λ o. is_short o ≡ false) outcomes Unset
     (λ i within.
-        let there : i < length events = omega (arith, size) in
-        row-of-event (λ r. is_short r.outcome ≡ false) events outcomes i (get_or events i nothing) (get_or outcomes i Unset)
-        (slice_get-get_or events i nothing there) (slice_get-get_or outcomes i Unset within) all))
+    let there : i < length events = omega (arith, size) in
+    row-of-event (λ r. is_short r.outcome ≡ false) events outcomes i (get_or events i nothing) (get_or outcomes i Unset)
+    (slice_get-get_or events i nothing there) (slice_get-get_or outcomes i Unset within) all))
 
 whole-by : {n : ℕ} (outcomes : List (Outcome n)) → any_short outcomes ≡ false → done_by outcomes ≡ Whole
 whole-by outcomes none = rw none refl

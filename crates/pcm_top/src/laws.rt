@@ -5,9 +5,7 @@ use run_laws::{
     array_lines_are_few, array_lines_have_one_role, no_row_falls_short, places_are_array_lines,
     reads_are_not_lost_without_cuts, room_is_taken, rows_have_their_own_outcomes,
 };
-use trace_gen::laws::{
-    gen_text_is_short, gen_text_reads_back, generated_events_are_lawful,
-};
+use trace_gen::laws::{gen_text_is_short, gen_text_reads_back, generated_events_are_lawful};
 
 /// Each row of a right run can be printed, and each array line has one role.
 pub fn right_runs_can_be_printed()

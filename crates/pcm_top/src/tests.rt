@@ -2,6 +2,7 @@ use crate::pcm_run;
 use pcm_cells::{Act, CellArray, MemArray, Script, ScriptArray};
 use pcm_io::{MemSink, MemSource, StdSink, StdSource};
 use std::alloc::{AllocError, Global};
+use std::process::Abort;
 use std::test::Fail;
 
 #[derive(Drop)]
@@ -18,25 +19,34 @@ type Item = (u32, u16, u32, Act);
 type Case<'a> = (&'a str, &'a [Item], &'a str, &'a str, u8);
 
 // The small shape, which has one region of four lines, and the same with a shorter queue or no spares.
-const SMALL: &str =
-    "run --banks 1 --regions 1 --lines 4 --spares 2 --write-queue 4 --read-queue 4";
+const SMALL: &str = "run --banks 1 --regions 1 --lines 4 --spares 2 --write-queue 4 --read-queue 4";
+
 const ONE_WRITE: &str =
     "run --banks 1 --regions 1 --lines 4 --spares 2 --write-queue 1 --read-queue 4";
+
 const ONE_READ: &str =
     "run --banks 1 --regions 1 --lines 4 --spares 2 --write-queue 4 --read-queue 1";
+
 const NO_SPARES: &str =
     "run --banks 1 --regions 1 --lines 4 --spares 0 --write-queue 4 --read-queue 4";
+
 const EACH_MOVES: &str =
     "run --banks 1 --regions 1 --lines 4 --spares 2 --write-queue 4 --read-queue 4 --psi 1";
-const PLAIN: &str = "run --banks 1 --regions 1 --lines 4 --spares 2 --write-queue 4 --read-queue 4 --policy plain";
+
+const PLAIN: &str =
+    "run --banks 1 --regions 1 --lines 4 --spares 2 --write-queue 4 --read-queue 4 --policy plain";
+
 const WEAR: &str =
     "run --banks 1 --regions 1 --lines 4 --spares 2 --write-queue 4 --read-queue 4 --print wear";
+
 const SUMMARY: &str =
     "run --banks 1 --regions 1 --lines 4 --spares 2 --write-queue 4 --read-queue 4 --print summary";
+
 const WIDE: &str =
     "run --banks 1 --regions 1 --lines 4 --spares 2 --write-queue 4 --read-queue 4 --line 128";
 
 const HEADER: &str = "tick,op,arg,data\n";
+
 const RESULTS: &str = "row,op,line,outcome,tick,place,data\n";
 
 // The words of a command line.
@@ -130,13 +140,13 @@ const fn sticks(line: u32, cell: u16) -> Item {
 }
 
 // Runs each case on a scripted array, and looks at what it writes and answers.
-fn check(rt: &HostRuntime, cases: &[Case], head: &str) -> Result<(), Fail> {
+fn check(rt: &impl Abort, alloc: Global, cases: &[Case], head: &str) -> Result<(), AllocError> {
     for (line, items, rows, results, status) in cases {
-        let trace = written_out(rt.alloc(), HEADER, rows, 64)?;
-        let wanted = written_out(rt.alloc(), head, results, 64)?;
+        let trace = written_out(alloc, HEADER, rows, 64)?;
+        let wanted = written_out(alloc, head, results, 64)?;
         let ran = run_over(
-            rt.alloc(),
-            &mut ScriptArray::<64, 8>::new(script(rt.alloc(), items)?),
+            alloc,
+            &mut ScriptArray::<64, 8>::new(script(alloc, items)?),
             &mut MemArray::<128, 16>::new(),
             line,
             trace.as_slice(),
@@ -208,7 +218,8 @@ fn rows_of_perfect_cells(rt: HostRuntime) -> Result<(), Fail> {
             1,
         ),
     ];
-    check(&rt, &cases, RESULTS)
+    check(&rt, rt.alloc(), &cases, RESULTS)?;
+    Ok(())
 }
 
 #[test]
@@ -278,7 +289,8 @@ fn rows_of_cells_that_stick(rt: HostRuntime) -> Result<(), Fail> {
             1,
         ),
     ];
-    check(&rt, &cases, RESULTS)
+    check(&rt, rt.alloc(), &cases, RESULTS)?;
+    Ok(())
 }
 
 #[test]
@@ -327,7 +339,8 @@ fn rows_of_cells_that_miss_and_are_torn(rt: HostRuntime) -> Result<(), Fail> {
             0,
         ),
     ];
-    check(&rt, &cases, RESULTS)
+    check(&rt, rt.alloc(), &cases, RESULTS)?;
+    Ok(())
 }
 
 #[test]
@@ -358,7 +371,7 @@ fn a_wear_report_and_a_summary(rt: HostRuntime) -> Result<(), Fail> {
             0,
         ),
     ];
-    check(&rt, &reports, "array,bank,pulses,role\n")?;
+    check(&rt, rt.alloc(), &reports, "array,bank,pulses,role\n")?;
     let summaries: [Case; 1] = [(
         SUMMARY,
         &[],
@@ -366,7 +379,8 @@ fn a_wear_report_and_a_summary(rt: HostRuntime) -> Result<(), Fail> {
         "stored 1\nmerged 0\nqueued 0\nfull 0\nworn 0\nread 0\nforwarded 1\nbusy 0\nlost 0\ncut 0\nretired 0\npulses 1\n",
         0,
     )];
-    check(&rt, &summaries, "rows 2\n")
+    check(&rt, rt.alloc(), &summaries, "rows 2\n")?;
+    Ok(())
 }
 
 #[test]
@@ -416,11 +430,7 @@ fn a_torn_pulse_changes_the_even_cells_alone(rt: HostRuntime) -> Result<(), Fail
 fn faulty_traces_say_why(rt: HostRuntime) -> Result<(), Fail> {
     let cases = [
         ("", "", "trace row 0: header\n"),
-        (
-            HEADER,
-            "5,R,0,\n6,R,0,\n4,R,0,\n",
-            "trace row 3: order\n",
-        ),
+        (HEADER, "5,R,0,\n6,R,0,\n4,R,0,\n", "trace row 3: order\n"),
         (HEADER, "0,W,0,[ff]f\n", "trace row 1: payload\n"),
         (HEADER, "0,R,4,\n", "trace row 1: line\n"),
         (HEADER, "0,R,0,\n7,R,1", "trace row 2: fields\n"),
@@ -439,22 +449,14 @@ fn faulty_traces_say_why(rt: HostRuntime) -> Result<(), Fail> {
 
 #[test]
 fn traces_end_their_lines_in_two_ways(rt: HostRuntime) -> Result<(), Fail> {
-    let last = written_out(
-        rt.alloc(),
-        RESULTS,
-        "1,R,0,read,1099511627781,3,[00]\n",
-        64,
-    )?;
+    let last = written_out(rt.alloc(), RESULTS, "1,R,0,read,1099511627781,3,[00]\n", 64)?;
     let first = written_out(rt.alloc(), RESULTS, "1,R,0,read,5,3,[00]\n", 64)?;
     let cases = [
         (
             b"tick,op,arg,data\n1099511627776,R,0,\n".as_slice(),
             last.as_slice(),
         ),
-        (
-            b"tick,op,arg,data\r\n0,R,0,".as_slice(),
-            first.as_slice(),
-        ),
+        (b"tick,op,arg,data\r\n0,R,0,".as_slice(), first.as_slice()),
     ];
     for (trace, wanted) in cases {
         let ran = run_seeded(rt.alloc(), SMALL, trace)?;
