@@ -1,11 +1,10 @@
 -- What a run leaves of whichever trace.
-use Rattle.std.proofs.Common.{◌≡◌, ℕ, ◌<◌, ◌≤◌, Bool, true, false, ◌||◌, List, [], ◌∷◌, length, get_or, map, Some, refl, sym, ap, ◌∙◌, subst, arith}
-use Rattle.std.specs.Prelude.{slice_get, All, IsFalse}
+use Rattle.std.proofs.Common.{◌≡◌, ℕ, ◌<◌, Bool, true, false, ◌||◌, List, [], ◌∷◌, length, get_or, map, refl, sym, subst, arith}
+use Rattle.std.specs.Prelude.{All}
 use Rattle.std.specs.List.{list_any}
 use Rattle.std.proofs.lemmas.List.Elements.{All-nil, All-cons, All-from_get_or}
 use Rattle.std.proofs.lemmas.List.Folds.{list_any_none}
 use Rattle.std.proofs.lemmas.Option.{slice_get-get_or}
-use Rattle.pcm_cells.specs.Device.{ArrayState}
 use Rattle.trace_reader.specs.Events.{AreEventsFor}
 use Rattle.trace_reader.specs.declared.event.Event.{Event}
 use Rattle.trace_reader.specs.declared.event.EventOp.TheVariants.{Cut}
@@ -16,16 +15,16 @@ use Rattle.result_rows.specs.declared.Outcome.TheVariants.{Unset}
 use Rattle.result_summary.specs.Shortfall.{any_short, is_short}
 use Rattle.row_laws.specs.declared.Row.{Row}
 use Rattle.module_shape.specs.Limits.{IsShape, total_of}
-use Rattle.run_laws.specs.RowsOfRuns.{LinesExist, NoneLostLaw, NoneShortLaw, RoomIsTakenLaw}
-use Rattle.command_line.specs.Jobs.{IsInput, IsRun}
+use Rattle.run_laws.specs.RowsOfRuns.{NoneLostLaw, NoneShortLaw, RoomIsTakenLaw}
+use Rattle.command_line.specs.Jobs.{IsInput}
 use Rattle.command_line.specs.declared.job.RunJob.{RunJob}
 use Rattle.command_line.specs.declared.job.Input.{Input}
 use Rattle.command_line.specs.declared.job.Input.TheVariants.{Source, Drawn}
 use Rattle.pcm_top.specs.Reading.{SourceChange}
 use Rattle.pcm_top.specs.Inputs.{ComeFrom}
 use Rattle.pcm_top.specs.Rows.{rows_of}
-use Rattle.pcm_top.specs.Running.{Runs, done_by}
-use Rattle.pcm_top.specs.Laws.{CompletenessLaw, IsComplete}
+use Rattle.pcm_top.specs.Running.{done_by}
+use Rattle.pcm_top.specs.Laws.{CompletenessLaw}
 use Rattle.pcm_top.specs.declared.run.Done.TheVariants.{Whole}
 use Rattle.pcm_top.proofs.DrawnRuns.{drawn-mix, some-lines}
 use Rattle.pcm_top.proofs.Printable.{lines-exist, row-of-event}

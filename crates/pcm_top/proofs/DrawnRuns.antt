@@ -1,5 +1,5 @@
 -- That a run of drawn events is a run of their text.
-use Rattle.std.proofs.Common.{◌≡◌, ℕ, ◌+◌, ◌*◌, ◌≤◌, inl, inr, List, length, Option, refl, sym, ap, ◌∙◌, subst, arith, rules}
+use Rattle.std.proofs.Common.{◌≡◌, ℕ, ◌*◌, ◌≤◌, List, length, Option, refl, sym, subst, arith, rules}
 use Rattle.std.specs.Io.KnownBytes.{IsAtEnd}
 use Rattle.pcm_cells.specs.Device.{ArrayState}
 use Rattle.trace_reader.specs.declared.event.Event.{Event}
@@ -14,11 +14,11 @@ use Rattle.command_line.specs.declared.job.Input.{Input}
 use Rattle.command_line.specs.declared.job.Input.TheVariants.{Drawn}
 use Rattle.command_line.specs.declared.job.LineSize.{LineSize}
 use Rattle.command_line.specs.declared.job.LineSize.TheVariants.{Bytes64, Bytes128}
-use Rattle.pcm_top.specs.Jobs.{bytes_in, drawn_mix, gen_text}
-use Rattle.pcm_top.specs.Reading.{ReadsTrace, SourceChange, TakesBytes, TakesNothing, trace_room}
+use Rattle.pcm_top.specs.Jobs.{bytes_in, drawn_mix}
+use Rattle.pcm_top.specs.Reading.{ReadsTrace, SourceChange, TakesBytes, trace_room}
 use Rattle.pcm_top.specs.Inputs.{ComeFrom}
 use Rattle.pcm_top.specs.Running.{RunIsWritten, RunIsWrittenInPart, Runs, WritesRun, WritesRunInPart}
-use Rattle.pcm_top.specs.Laws.{DrawnLaw, gen_with, run_of_source}
+use Rattle.pcm_top.specs.Laws.{DrawnLaw, run_of_source}
 use Rattle.pcm_top.specs.declared.run.Done.{Done}
 
 -- a mix is in range as the generator takes it

@@ -1,7 +1,6 @@
-use Rattle.std.proofs.Common.{◌≡◌, ◌≢◌, inl, inr, ap, refl, Err}
-use Rattle.pcm_top.specs.declared.fault.Fault.TheVariants.{TooLong, Write}
-use Rattle.pcm_top.specs.declared.run.Done.TheVariants.{Short, Whole}
-use Rattle.pcm_top.proofs.Deciding.{done-decided, is_write, told-decided, too_long-told}
+use Rattle.std.proofs.Common.{◌≢◌, inl, inr, ap, Err}
+use Rattle.pcm_top.specs.declared.fault.Fault.TheVariants.{Write}
+use Rattle.pcm_top.proofs.Deciding.{done-decided, is_write, told-decided}
 use Rattle.pcm_top.proofs.program.pcm_run.Goals as goal
 
 pub returns-in-Ok-Whole-clause-exact : goal.returns-in-Ok-Whole-clause-exact

@@ -1,9 +1,5 @@
-use Rattle.std.proofs.Common.{◌≡◌, ◌≤◌, ℕ, List, length, ap, ◌∙◌, arith}
-use Rattle.end_laws.specs.Ends.{BankEnd}
-use Rattle.run_laws.specs.Runs.{RunsRight}
-use Rattle.pcm_module.specs.State.{AreEndsOf}
+use Rattle.std.proofs.Common.{◌≡◌, ◌≤◌, length, ap, ◌∙◌, arith}
 use Rattle.pcm_module.proofs.Sizes.{timed_fits}
-use Rattle.pcm_top.specs.Rows.{rows_of}
 use Rattle.pcm_top.proofs.Making.{can-print, run-part, run-written}
 use Rattle.pcm_top.proofs.Sizes.{event_fits}
 use Rattle.pcm_top.proofs.run.run.Goals as goal

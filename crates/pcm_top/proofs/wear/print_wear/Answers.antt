@@ -1,4 +1,4 @@
-use Rattle.std.proofs.Common.{◌≡◌, ◌+◌, ◌/◌, ap, sym, arith}
+use Rattle.std.proofs.Common.{◌≡◌, ◌/◌, ap, arith}
 use Rattle.module_shape.specs.Addresses.{array_lines_of, module_of}
 use Rattle.pcm_top.specs.RunText.{bank_with}
 use Rattle.pcm_top.proofs.Printing.{on_err, on_err_any, on_ok}
