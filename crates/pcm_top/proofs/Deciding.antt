@@ -1,5 +1,5 @@
 -- How words and bytes decide the status of a call.
-use Rattle.std.proofs.Common.{◌≡◌, ◌≢◌, ℕ, ◌+◌, ◌-◌, ◌^◌, ◌<◌, ◌≤◌, ◌⊎◌, inl, inr, List, [], ◌++◌, length, true, false, Bool, Option, Some, None, refl, sym, ap, ◌∙◌, subst, arith}
+use Rattle.std.proofs.Common.{◌≡◌, ◌≢◌, ℕ, ◌+◌, ◌-◌, ◌^◌, ◌<◌, ◌≤◌, ◌⊎◌, inl, inr, List, [], ◌++◌, length, true, false, Option, Some, None, refl, sym, ap, ◌∙◌, subst, arith}
 use Rattle.std.specs.Prelude.{Result, Ok, Err, IfOk, IfErr}
 use Rattle.std.specs.Io.KnownBytes.{Consumes, IsAtEnd}
 use Rattle.std.proofs.lemmas.Bool.{cases_eq}
@@ -21,10 +21,10 @@ use Rattle.command_line.specs.declared.job.LineSize.{LineSize}
 use Rattle.command_line.specs.declared.job.LineSize.TheVariants.{Bytes64, Bytes128}
 use Rattle.command_line.specs.declared.job.Refusal.{Refusal}
 use Rattle.pcm_top.specs.Jobs.{bytes_in}
-use Rattle.pcm_top.specs.Reading.{IsReadFault, ReadsTrace, ReadsWhole, SourceChange, TakesNothing, TakesSome, trace_room}
+use Rattle.pcm_top.specs.Reading.{IsReadFault, ReadsWhole, SourceChange, TakesNothing, TakesSome, trace_room}
 use Rattle.pcm_top.specs.Inputs.{ComeFrom, IsFaultOf, is_source}
 use Rattle.pcm_top.specs.FaultLines.{status_of}
-use Rattle.pcm_top.specs.Running.{Does, DoesPart, HasCause, IsRefused, RunIsWritten, Runs, Tells, WritesRun, reads_source, room_of, status_done}
+use Rattle.pcm_top.specs.Running.{Does, HasCause, IsRefused, Runs, Tells, WritesRun, reads_source, status_done}
 use Rattle.pcm_top.specs.Statuses.{IsInputStatus, IsRunStatus, IsSourceStatus, IsStatusFor, IsTraceStatus}
 use Rattle.pcm_top.specs.declared.run.Done.{Done}
 use Rattle.pcm_top.specs.declared.run.Done.TheVariants.{Whole, Short}

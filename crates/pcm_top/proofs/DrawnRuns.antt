@@ -1,5 +1,5 @@
 -- That a run of drawn events is a run of their text.
-use Rattle.std.proofs.Common.{◌≡◌, ℕ, ◌+◌, ◌*◌, ◌≤◌, inl, inr, List, length, Option, refl, sym, ap, ◌∙◌, subst, arith, rules}
+use Rattle.std.proofs.Common.{◌≡◌, ℕ, ◌*◌, ◌≤◌, List, length, Option, refl, sym, subst, arith, rules}
 use Rattle.std.specs.Io.KnownBytes.{IsAtEnd}
 use Rattle.pcm_cells.specs.Device.{ArrayState}
 use Rattle.trace_reader.specs.declared.event.Event.{Event}
@@ -14,15 +14,15 @@ use Rattle.command_line.specs.declared.job.Input.{Input}
 use Rattle.command_line.specs.declared.job.Input.TheVariants.{Drawn}
 use Rattle.command_line.specs.declared.job.LineSize.{LineSize}
 use Rattle.command_line.specs.declared.job.LineSize.TheVariants.{Bytes64, Bytes128}
-use Rattle.pcm_top.specs.Jobs.{bytes_in, drawn_mix, gen_text}
-use Rattle.pcm_top.specs.Reading.{ReadsTrace, SourceChange, TakesBytes, TakesNothing, trace_room}
+use Rattle.pcm_top.specs.Jobs.{bytes_in, drawn_mix}
+use Rattle.pcm_top.specs.Reading.{ReadsTrace, SourceChange, TakesBytes, trace_room}
 use Rattle.pcm_top.specs.Inputs.{ComeFrom}
 use Rattle.pcm_top.specs.Running.{RunIsWritten, RunIsWrittenInPart, Runs, WritesRun, WritesRunInPart}
-use Rattle.pcm_top.specs.Laws.{DrawnLaw, gen_with, run_of_source}
+use Rattle.pcm_top.specs.Laws.{DrawnLaw, run_of_source}
 use Rattle.pcm_top.specs.declared.run.Done.{Done}
 
 -- a mix is in range as the generator takes it
-drawn-mix : (mix : Mix) → IsMix mix → IsDrawn (drawn_mix mix)
+pub drawn-mix : (mix : Mix) → IsMix mix → IsDrawn (drawn_mix mix)
 drawn-mix mix is = record {
   some_rows = is.some_rows;
   few_rows = is.few_rows;
@@ -35,7 +35,7 @@ drawn-mix mix is = record {
 input-mix : (input : Input) (mix : Mix) → input ≡ Drawn mix → IsInput input → IsMix mix
 input-mix input mix is has = subst IsInput is has
 
-some-lines : (job : RunJob) → IsShape job.shape → 1 ≤ total_of job.shape
+pub some-lines : (job : RunJob) → IsShape job.shape → 1 ≤ total_of job.shape
 some-lines job shape = some_product job.shape.banks job.shape.regions job.shape.lines shape.some_banks shape.some_regions (omega (arith, shape.some_lines))
   where
     some_product : (a b c : ℕ) → 1 ≤ a → 1 ≤ b → 1 ≤ c → 1 ≤ a * b * c

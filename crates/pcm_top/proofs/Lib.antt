@@ -10,3 +10,4 @@ mod Wearing
 mod DrawnRuns
 mod Sizes
 mod Making
+mod Completing

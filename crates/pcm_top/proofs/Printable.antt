@@ -1,33 +1,30 @@
 -- That each row of a right run can be printed.
-use Rattle.std.proofs.Common.{◌≡◌, ℕ, zero, suc, ◌+◌, ◌-◌, ◌*◌, ◌<◌, ◌≤◌, List, [], ◌∷◌, ◌++◌, length, get_or, take, drop, Some, refl, sym, ap, ◌∙◌, subst, arith, reverse, map, append_assoc}
-use Rattle.std.specs.Prelude.{slice_get, unwrap_or, All}
+use Rattle.std.proofs.Common.{◌≡◌, ℕ, zero, suc, ◌+◌, ◌-◌, ◌*◌, ◌<◌, ◌≤◌, List, [], ◌∷◌, ◌++◌, length, Some, refl, ap, ◌∙◌, subst, arith, reverse, map, append_assoc}
+use Rattle.std.specs.Prelude.{slice_get, All}
 use Rattle.std.specs.Option.{ForSome}
-use Rattle.std.proofs.lemmas.List.{append-nil, reverse-append, length_push}
+use Rattle.std.proofs.lemmas.List.{reverse-append, length_push}
 use Rattle.std.proofs.lemmas.List.Elements.{All-nil, All-cons, All-head, All-tail, All-same, All-push}
-use Rattle.std.proofs.lemmas.Option.{slice_get_within}
 use Rattle.pcm_cells.specs.Device.{ArrayState}
-use Rattle.trace_reader.specs.Events.{AreEventsFor, IsEventFor, IsOpFor}
+use Rattle.trace_reader.specs.Events.{AreEventsFor, IsOpFor}
 use Rattle.trace_reader.specs.declared.event.Event.{Event}
 use Rattle.trace_reader.specs.declared.event.EventOp.{EventOp}
 use Rattle.trace_reader.specs.declared.event.EventOp.TheVariants as op
 use Rattle.trace_reader.proofs.Lawful.{AreEventsFor-at}
 use Rattle.result_rows.specs.declared.Outcome.{Outcome}
-use Rattle.result_rows.specs.declared.Outcome.TheVariants.{Unset}
 use Rattle.result_rows.specs.Outcomes.{op_of, place_of}
 use Rattle.row_laws.specs.declared.Row.{Row}
 use Rattle.module_shape.specs.declared.raw.RawShape.{RawShape}
 use Rattle.module_shape.specs.Limits.{IsShape, total_of}
 use Rattle.module_shape.specs.Addresses.{module_of, array_lines_of}
-use Rattle.module_laws.specs.Asking.{Asked, row_with}
+use Rattle.module_laws.specs.Asking.{row_with}
 use Rattle.module_laws.specs.Serves.{IsOfLines}
 use Rattle.bank_timing.specs.Extending.{outcome_in}
 use Rattle.end_laws.specs.Ends.{BankEnd}
 use Rattle.run_laws.specs.Runs.{RunsRight}
 use Rattle.run_laws.specs.RowsOfRuns.{FewArrayLinesLaw, LinesExist, OwnOutcomesLaw, PlacesExistLaw, op_asked}
-use Rattle.run_text.specs.ResultText.{ArePrintable, IsPrintable, asked, named_line}
+use Rattle.run_text.specs.ResultText.{ArePrintable, asked, named_line}
 use Rattle.pcm_module.specs.Asking.{asked_by, asked_for, asks_of}
 use Rattle.pcm_top.specs.Rows.{rows_of}
-use Rattle.pcm_top.proofs.Replaying.{below-more}
 
 one-more : (i : ℕ) → i + 1 ≡ suc i
 one-more i = omega arith
@@ -63,7 +60,7 @@ module _ {n : ℕ} where
       rw (back, at) refl
 
   -- what every row of a run's table is, the row of each event is
-  row-of-event : (P : Row n → Type 0) (events : List (Event n)) (outcomes : List (Outcome n)) (i : ℕ) (event : Event n) (outcome : Outcome n)
+  pub row-of-event : (P : Row n → Type 0) (events : List (Event n)) (outcomes : List (Outcome n)) (i : ℕ) (event : Event n) (outcome : Outcome n)
       → slice_get events i ≡ Some event → slice_get outcomes i ≡ Some outcome → All P (rows_of events outcomes)
       → P (record { tick = event.tick; asks = asks_of event.op; outcome = outcome })
   row-of-event P events outcomes i event outcome at is all =

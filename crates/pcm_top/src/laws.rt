@@ -1,11 +1,11 @@
 //! The laws of the program. A law is what a function here ensures; the functions do nothing when they run.
-ghost use Rattle.pcm_top.specs.Laws.{DrawnLaw, PrintableLaw};
+ghost use Rattle.pcm_top.specs.Laws.{CompletenessLaw, DrawnLaw, PrintableLaw};
 
 use run_laws::{
-    array_lines_are_few, array_lines_have_one_role, places_are_array_lines,
-    rows_have_their_own_outcomes,
+    array_lines_are_few, array_lines_have_one_role, no_row_falls_short, places_are_array_lines,
+    reads_are_not_lost_without_cuts, room_is_taken, rows_have_their_own_outcomes,
 };
-use trace_gen::laws::{gen_text_is_short, gen_text_reads_back};
+use trace_gen::laws::{gen_text_is_short, gen_text_reads_back, generated_events_are_lawful};
 
 /// Each row of a right run can be printed, and each array line has one role.
 pub fn right_runs_can_be_printed()
@@ -15,6 +15,17 @@ pub fn right_runs_can_be_printed()
     places_are_array_lines();
     array_lines_are_few();
     array_lines_have_one_role();
+}
+
+/// Of whichever trace: without a power cut no read is lost; a write that finds room in a bank that isn't worn out is accepted
+/// and leaves the queue; and where no power cut comes and each row finds what it needs, the run is done wholly.
+pub fn runs_are_complete()
+    ensures { CompletenessLaw }
+{
+    generated_events_are_lawful();
+    reads_are_not_lost_without_cuts();
+    room_is_taken();
+    no_row_falls_short();
 }
 
 /// What a run of drawn events does is what a run does over a source that holds the text of `gen` with the same options.

@@ -17,4 +17,6 @@ mod wear;
 pub use fault::Fault;
 pub use input::TRACE_ROOM;
 pub use program::pcm_run;
-pub use run_text::TEXT_ROOM;
+
+#[cfg(test)]
+mod tests;

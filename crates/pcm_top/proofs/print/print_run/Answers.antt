@@ -1,4 +1,3 @@
-use Rattle.std.proofs.Common.{sym}
 use Rattle.pcm_top.proofs.Printing.{on_err, on_ok}
 use Rattle.pcm_top.proofs.Wearing.{wear-text}
 use Rattle.pcm_top.proofs.print.print_run.Goals as goal

@@ -1,7 +1,6 @@
-use Rattle.std.proofs.Common.{◌≡◌, ◌≢◌, inl, inr, ap, refl, Err}
-use Rattle.pcm_top.specs.declared.fault.Fault.TheVariants.{TooLong, Write}
-use Rattle.pcm_top.specs.declared.run.Done.TheVariants.{Short, Whole}
-use Rattle.pcm_top.proofs.Deciding.{done-decided, is_write, told-decided, too_long-told}
+use Rattle.std.proofs.Common.{◌≢◌, inl, inr, ap, Err}
+use Rattle.pcm_top.specs.declared.fault.Fault.TheVariants.{Write}
+use Rattle.pcm_top.proofs.Deciding.{done-decided, is_write, told-decided}
 use Rattle.pcm_top.proofs.program.pcm_run.Goals as goal
 
 pub returns-in-Ok-Whole-clause-exact : goal.returns-in-Ok-Whole-clause-exact
@@ -16,10 +15,10 @@ pub returns-in-Err-clause-exact : goal.returns-in-Err-clause-exact
 returns-in-Err-clause-exact g c =
     λ bytes told calm writes tells.
     let whole : c.give_up.result ≢ 5 =
-        λ five. elim (is_write c.in-Err.fault) [
-          | inl write ↦ writes ((c.in-Err.ensures.write (ap Err write)).1)
-          | inr other ↦ tells (c.give_up.ensures.broken five other)
-        ] in
+    λ five. elim (is_write c.in-Err.fault) [
+      | inl write ↦ writes ((c.in-Err.ensures.write (ap Err write)).1)
+      | inr other ↦ tells (c.give_up.ensures.broken five other)
+    ] in
     let other : c.in-Err.fault ≢ Write = λ write. whole (c.give_up.ensures.write write) in
     told-decided _ _ _ _ bytes c.give_up.result told calm
     (record {

@@ -1,4 +1,4 @@
-use Rattle.std.proofs.Common.{◌≡◌, ℕ, List, Some, length, refl, ap, ◌∙◌, arith}
+use Rattle.std.proofs.Common.{◌≡◌, Some, length, refl, arith}
 use Rattle.std.specs.Prelude.{slice_get}
 use Rattle.std.proofs.lemmas.Option.{slice_get_read}
 use Rattle.pcm_top.proofs.Replaying.{next-event, next-open, replayed-all, replayed-more, replayed-none}
@@ -16,15 +16,28 @@ event-requires g c =
     let events = c.args.events.now in
     let event = c.index-events-i.result in
     let at : slice_get events c.loop-i.i ≡ Some event = slice_get_read events (length events) c.loop-i.i event refl c.loop-i-test.true c.index-events-i.is in
-    let state = g.A.CellArray.state c.loop-i.array in
-    (omega arith,
-    (event_fits g.row.B c.requires.layout.shape.1,
-    (omega arith,
-    (had.going,
-    ((had.led.0, _, had.led.1),
-    (next-event c.args.pcm.now.shape c.args.pcm.now.seed events c.loop-i.i event at c.loop-i.pcm state c.loop-i.results had,
-    (had.bound,
-    next-open c.args.pcm.now.shape c.args.pcm.now.seed events c.loop-i.i event at c.loop-i.pcm state c.loop-i.results had)))))))
+    let state = g.A.CellArray.state c.loop-i.array in (
+      omega arith,
+      (
+        event_fits g.row.B c.requires.layout.shape.1,
+        (
+          omega arith,
+          (
+            had.going,
+            (
+              (had.led.0, _, had.led.1),
+              (
+                next-event c.args.pcm.now.shape c.args.pcm.now.seed events c.loop-i.i event at c.loop-i.pcm state c.loop-i.results had,
+                (
+                  had.bound,
+                  next-open c.args.pcm.now.shape c.args.pcm.now.seed events c.loop-i.i event at c.loop-i.pcm state c.loop-i.results had,
+                ),
+              ),
+            ),
+          ),
+        ),
+      ),
+    )
 
 pub loop-i-preserved : goal.loop-i-preserved
 loop-i-preserved g c =
@@ -38,6 +51,6 @@ loop-i-preserved g c =
 pub returns-clause-right : goal.returns-clause-right
 returns-clause-right g c =
     let all =
-        replayed-all c.args.pcm.now.shape c.args.pcm.now.seed c.args.events.now c.loop-i.i c.loop-i.pcm (g.A.CellArray.state c.loop-i.array) c.loop-i.results
-        c.loop-i-test.false c.loop-i.invariant in
+    replayed-all c.args.pcm.now.shape c.args.pcm.now.seed c.args.events.now c.loop-i.i c.loop-i.pcm (g.A.CellArray.state c.loop-i.array) c.loop-i.results
+    c.loop-i-test.false c.loop-i.invariant in
     c.finish.ensures.right all.0 _ all.1

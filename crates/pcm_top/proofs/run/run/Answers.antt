@@ -1,9 +1,5 @@
-use Rattle.std.proofs.Common.{◌≡◌, ◌≤◌, ℕ, List, length, ap, ◌∙◌, arith}
-use Rattle.end_laws.specs.Ends.{BankEnd}
-use Rattle.run_laws.specs.Runs.{RunsRight}
-use Rattle.pcm_module.specs.State.{AreEndsOf}
+use Rattle.std.proofs.Common.{◌≡◌, ◌≤◌, length, ap, ◌∙◌, arith}
 use Rattle.pcm_module.proofs.Sizes.{timed_fits}
-use Rattle.pcm_top.specs.Rows.{rows_of}
 use Rattle.pcm_top.proofs.Making.{can-print, run-part, run-written}
 use Rattle.pcm_top.proofs.Sizes.{event_fits}
 use Rattle.pcm_top.proofs.run.run.Goals as goal
@@ -23,16 +19,27 @@ print_run-written-requires g c =
     let shape : c.replay.new.pcm.shape ≡ job.shape = c.replay.ensures.shape ∙ c.in-Ok.ensures.ready.shape in
     let seeded : c.replay.new.pcm.seed ≡ job.seed = c.replay.ensures.seed ∙ c.in-Ok.ensures.ready.seeded in
     let can =
-        can-print job (g.A.CellArray.state c.replay.new.array) events c.replay.new.results c.replay.new.pcm shape seeded (c.replay.ensures.table ∙ ap length same) (rw same at c.replay.ensures.right)
-        c.right_runs_can_be_printed.ensures c.requires.job.shape (rw (← c.as_slice-2.ensures.value) at c.in_ok-events.ensures.events) in
-    let few : length events ≤ 400000 = omega (arith, c.as_slice-2.ensures.len, c.in_ok-events.ensures.rows) in
-    (omega arith,
-    (event_fits g.row.B c.requires.layout.shape.1,
-    (omega arith,
-    (c.requires.layout.shape.1,
-    (c.in-Ok.ensures.text,
-    (few,
-    (can.rows, c.replay.ensures.right.2.size)))))))
+    can-print job (g.A.CellArray.state c.replay.new.array) events c.replay.new.results c.replay.new.pcm shape seeded (c.replay.ensures.table ∙ ap length same) (rw same at c.replay.ensures.right)
+    c.right_runs_can_be_printed.ensures c.requires.job.shape (rw (← c.as_slice-2.ensures.value) at c.in_ok-events.ensures.events) in
+    let few : length events ≤ 400000 = omega (arith, c.as_slice-2.ensures.len, c.in_ok-events.ensures.rows) in (
+      omega arith,
+      (
+        event_fits g.row.B c.requires.layout.shape.1,
+        (
+          omega arith,
+          (
+            c.requires.layout.shape.1,
+            (
+              c.in-Ok.ensures.text,
+              (
+                few,
+                (can.rows, c.replay.ensures.right.2.size),
+              ),
+            ),
+          ),
+        ),
+      ),
+    )
 
 pub returns-in-Ok-written-clause-done : goal.returns-in-Ok-written-clause-done
 returns-in-Ok-written-clause-done g c =
@@ -45,8 +52,8 @@ returns-in-Ok-written-clause-done g c =
     let array = g.A.CellArray.state c.replay.new.array in
     let left = rw same at c.replay.ensures.right in
     let can =
-        can-print job array events c.replay.new.results c.replay.new.pcm shape seeded size left
-        c.right_runs_can_be_printed.ensures c.requires.job.shape (rw (← c.as_slice-2.ensures.value) at c.in_ok-events.ensures.events) in
+    can-print job array events c.replay.new.results c.replay.new.pcm shape seeded size left
+    c.right_runs_can_be_printed.ensures c.requires.job.shape (rw (← c.as_slice-2.ensures.value) at c.in_ok-events.ensures.events) in
     run-written job array events c.replay.new.results c.replay.new.pcm shape seeded size left _ (rw (← c.as_slice-2.ensures.value) at c.in_ok-events.ensures.come)
     (g.K.Sink.written c.args.out.now) (g.K.Sink.written c.print_run-written.new.out) c.ending.result c.ending.ensures can.roles c.in-Ok-written.ensures.ok
 
@@ -62,7 +69,9 @@ returns-clause-write g c =
     let array = g.A.CellArray.state c.replay.new.array in
     let left = rw same at c.replay.ensures.right in
     let can =
-        can-print job array events c.replay.new.results c.replay.new.pcm shape seeded size left
-        c.right_runs_can_be_printed.ensures c.requires.job.shape (rw (← c.as_slice-2.ensures.value) at c.in_ok-events.ensures.events) in
-    (run-part job array events c.replay.new.results c.replay.new.pcm shape seeded size left _ (rw (← c.as_slice-2.ensures.value) at c.in_ok-events.ensures.come)
-    (g.K.Sink.written c.args.out.now) (g.K.Sink.written c.print_run-written.new.out) can.roles c.in-Err-written.ensures.prefix, c.in-Err-written.ensures.fault)
+    can-print job array events c.replay.new.results c.replay.new.pcm shape seeded size left
+    c.right_runs_can_be_printed.ensures c.requires.job.shape (rw (← c.as_slice-2.ensures.value) at c.in_ok-events.ensures.events) in (
+      run-part job array events c.replay.new.results c.replay.new.pcm shape seeded size left _ (rw (← c.as_slice-2.ensures.value) at c.in_ok-events.ensures.come)
+          (g.K.Sink.written c.args.out.now) (g.K.Sink.written c.print_run-written.new.out) can.roles c.in-Err-written.ensures.prefix,
+      c.in-Err-written.ensures.fault,
+    )

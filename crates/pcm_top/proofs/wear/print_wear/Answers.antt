@@ -1,4 +1,4 @@
-use Rattle.std.proofs.Common.{◌≡◌, ◌+◌, ◌/◌, ap, sym, arith}
+use Rattle.std.proofs.Common.{◌≡◌, ◌/◌, ap, arith}
 use Rattle.module_shape.specs.Addresses.{array_lines_of, module_of}
 use Rattle.pcm_top.specs.RunText.{bank_with}
 use Rattle.pcm_top.proofs.Printing.{on_err, on_err_any, on_ok}
@@ -6,9 +6,11 @@ use Rattle.pcm_top.proofs.Wearing.{lines-of-bank, reported-last, reported-more, 
 use Rattle.pcm_top.proofs.wear.print_wear.Goals as goal
 
 pub loop-line-init : goal.loop-line-init
-loop-line-init g c =
-    (reported-none c.args.pcm.now (g.A.CellArray.state c.args.array.now) c.print_wear_header.new.text (g.K.Sink.written c.args.out.now)
-    (c.print_wear_header.ensures.printed (g.K.Sink.written c.args.out.now)), omega arith)
+loop-line-init g c = (
+  reported-none c.args.pcm.now (g.A.CellArray.state c.args.array.now) c.print_wear_header.new.text (g.K.Sink.written c.args.out.now)
+      (c.print_wear_header.ensures.printed (g.K.Sink.written c.args.out.now)),
+  omega arith,
+)
 
 pub returns-in_err-print_wear_row-clause-prefix : goal.returns-in_err-print_wear_row-clause-prefix
 returns-in_err-print_wear_row-clause-prefix g c =
@@ -24,11 +26,13 @@ pub loop-line-preserved : goal.loop-line-preserved
 loop-line-preserved g c =
     let pcm = c.args.pcm.now in
     let lines : c.array_lines.result / c.banks.result ≡ array_lines_of (module_of pcm.shape) =
-        lines-of-bank c.banks.result (array_lines_of (module_of pcm.shape)) c.array_lines.result (omega (arith, c.banks.ensures.number, c.shape-shape.ensures.in_range.some_banks)) cc in
-    let bank : c.loop-line.line / (c.array_lines.result / c.banks.result) ≡ bank_with pcm.shape pcm.seed c.loop-line.line = ap (λ l. c.loop-line.line / l) lines in
-    (reported-more pcm (g.A.CellArray.state c.args.array.now) c.loop-line.line c.loop-line.text c.print_wear_row.new.text (g.K.Sink.written c.args.out.now) (g.K.Sink.written c.loop-line.out)
-    (g.K.Sink.written c.print_wear_row.new.out) (c.loop-line.line / (c.array_lines.result / c.banks.result)) c.pulses.result c.role-role.result c.loop-line.invariant.0 bank c.pulses.ensures c.role-role.ensures
-    c.in_ok-print_wear_row.ensures.ok, omega (arith, c.loop-line.invariant.1, c.in_ok-print_wear_row.ensures.never_falls))
+    lines-of-bank c.banks.result (array_lines_of (module_of pcm.shape)) c.array_lines.result (omega (arith, c.banks.ensures.number, c.shape-shape.ensures.in_range.some_banks)) cc in
+    let bank : c.loop-line.line / (c.array_lines.result / c.banks.result) ≡ bank_with pcm.shape pcm.seed c.loop-line.line = ap (λ l. c.loop-line.line / l) lines in (
+      reported-more pcm (g.A.CellArray.state c.args.array.now) c.loop-line.line c.loop-line.text c.print_wear_row.new.text (g.K.Sink.written c.args.out.now) (g.K.Sink.written c.loop-line.out)
+          (g.K.Sink.written c.print_wear_row.new.out) (c.loop-line.line / (c.array_lines.result / c.banks.result)) c.pulses.result c.role-role.result c.loop-line.invariant.0 bank c.pulses.ensures c.role-role.ensures
+          c.in_ok-print_wear_row.ensures.ok,
+      omega (arith, c.loop-line.invariant.1, c.in_ok-print_wear_row.ensures.never_falls),
+    )
 
 pub returns-clause-ok : goal.returns-clause-ok
 returns-clause-ok g c =
