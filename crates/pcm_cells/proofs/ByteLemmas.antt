@@ -1,11 +1,14 @@
 -- Lists of bytes, bit by bit.
-use Rattle.std.proofs.Common.{◌≡◌, ◌≢◌, ℕ, ◌+◌, ◌-◌, ◌*◌, ◌/◌, ◌%◌, ◌<◌, ◌≤◌, ◌&&◌, Bool, true, false, cond, eqb, List, ◌++◌, length, get_or, set, refl, sym, ◌∙◌, ap, inl, inr, arith, ext_get_or, get_or-set_same, get_or-set_other, eq-eqb, ne_eqb, w8, true≢false, min, bit_and, bit_xor}
+use Rattle.std.proofs.Common.{◌≡◌, ◌≢◌, ℕ, ◌+◌, ◌-◌, ◌*◌, ◌/◌, ◌%◌, ◌^◌, ◌<◌, ◌≤◌, ◌&&◌, Bool, true, false, cond, eqb, List, ◌++◌, length, get_or, set, refl, sym, ◌∙◌, ap, inl, inr, arith, ext_get_or, get_or-set_same, get_or-set_other, eq-eqb, ne_eqb, w8, true≢false, not, min, max, bit_and, bit_or, bit_xor, zero, suc}
 use Rattle.std.proofs.Math.ListN.{get_or-append}
 use Rattle.std.proofs.lemmas.List.{get_or-append_right, get_or_past}
 use Rattle.std.proofs.lemmas.Bool.{cases_eq, cases_lt, eqb-true}
-use Rattle.std.proofs.lemmas.Nat.Bits.{bit_at-zero, bit_at-lt, bit_at_xor, bit_at_and, bit_at-trailing_zeros, same_from_bits_below}
+use Rattle.std.proofs.lemmas.Nat.Bits.{bit_at-zero, bit_at-lt, bit_at_xor, bit_at_and, bit_at_or, and_pow, bit_at-trailing_zeros, same_from_bits_below}
+use Rattle.std.proofs.lemmas.Nat.{pow_pos}
+use Rattle.std.proofs.Math.Pow.{pow-lt}
 use Rattle.std.specs.Int.{bit_at, trailing_zeros}
 use Rattle.pcm_cells.specs.Rows.{bit_of, xor}
+use Rattle.pcm_cells.specs.Planes.{bit_in}
 
 -- the bits of the first list come first
 pub bit_of-append : (a b : List ℕ) (n : ℕ) → n < 8 * length a → bit_of (a ++ b) n ≡ bit_of a n
@@ -88,10 +91,10 @@ pub record XorsBytes (a b c : List ℕ) : Type 0 where
 pub record AndsBytes (a b c : List ℕ) : Type 0 where
   pub bytes : (k : ℕ) → get_or c k 0 ≡ bit_and (get_or a k 0) (get_or b k 0)
 
-digit_xor : (a b i : ℕ) → eqb (bit_at (bit_xor a b) i) 1 ≡ xor (eqb (bit_at a i) 1) (eqb (bit_at b i) 1)
+pub digit_xor : (a b i : ℕ) → eqb (bit_at (bit_xor a b) i) 1 ≡ xor (eqb (bit_at a i) 1) (eqb (bit_at b i) 1)
 digit_xor a b i = ap (λ x. eqb x 1) (bit_at_xor a b i) ∙ one_xor _ _ (bit_at-lt a i) (bit_at-lt b i)
 
-digit_and : (a b i : ℕ) → eqb (bit_at (bit_and a b) i) 1 ≡ eqb (bit_at a i) 1 && eqb (bit_at b i) 1
+pub digit_and : (a b i : ℕ) → eqb (bit_at (bit_and a b) i) 1 ≡ eqb (bit_at a i) 1 && eqb (bit_at b i) 1
 digit_and a b i = ap (λ x. eqb x 1) (bit_at_and a b i) ∙ one_and _ _ (bit_at-lt a i) (bit_at-lt b i)
 
 pub bit_of_xor : (a b c : List ℕ) → XorsBytes a b c → (n : ℕ) → bit_of c n ≡ xor (bit_of a n) (bit_of b n)
@@ -252,3 +255,83 @@ no_bit_in bytes k clear n low high =
     let place : n / 8 ≡ k = omega arith in
     ap (λ x. eqb (bit_at (get_or bytes x 0) (n % 8)) 1) place
     ∙ ap (λ x. eqb (bit_at x (n % 8)) 1) (eqb-true _ _ clear) ∙ ap (λ x. eqb x 1) (bit_at-zero (n % 8))
+
+-- the greater of two binary digits
+one_or : (a b : ℕ) → a < 2 → b < 2 → eqb (max a b) 1 ≡ cond (eqb a 1) true (eqb b 1)
+one_or a b small_a small_b =
+    elim (cases_eq a 1) as (λ _. eqb (max a b) 1 ≡ cond (eqb a 1) true (eqb b 1)) [
+      | inl a_one ↦ let most : max a b ≡ 1 = omega arith in rw (most, a_one) refl
+      | inr a_zero ↦
+          let none_a : a ≡ 0 = omega arith in
+          let other : max a b ≡ b = omega arith in
+          rw (other, none_a) refl
+    ]
+
+pub digit_or : (a b i : ℕ) → bit_in (bit_or a b) i ≡ cond (bit_in a i) true (bit_in b i)
+digit_or a b i = ap (λ x. eqb x 1) (bit_at_or a b i) ∙ one_or _ _ (bit_at-lt a i) (bit_at-lt b i)
+
+-- a choice between two bytes, bit by bit
+pub digit_choice : (byte mask want i : ℕ) → bit_in (bit_xor byte (bit_and (bit_xor byte want) mask)) i ≡ cond (bit_in mask i) (bit_in want i) (bit_in byte i)
+digit_choice byte mask want i =
+    digit_xor byte (bit_and (bit_xor byte want) mask) i
+    ∙ ap (xor (bit_in byte i)) (digit_and (bit_xor byte want) mask i ∙ ap (λ x. x && bit_in mask i) (digit_xor byte want i))
+    ∙ pick (bit_in byte i) (bit_in want i) (bit_in mask i)
+
+lacking : (b o : Bool) → xor b (b && o) ≡ not o && b
+lacking true true = refl
+lacking true false = refl
+lacking false true = refl
+lacking false false = refl
+
+pub digit_without : (byte other i : ℕ) → bit_in (bit_xor byte (bit_and byte other)) i ≡ not (bit_in other i) && bit_in byte i
+digit_without byte other i =
+    digit_xor byte (bit_and byte other) i ∙ ap (xor (bit_in byte i)) (digit_and byte other i) ∙ lacking (bit_in byte i) (bit_in other i)
+
+-- the byte whose bits of even number are 1
+even_bits : (i : ℕ) → i < 8 → bit_in 85 i ≡ not (eqb (i % 2) 1)
+even_bits zero h = refl
+even_bits (suc zero) h = refl
+even_bits (suc (suc zero)) h = refl
+even_bits (suc (suc (suc zero))) h = refl
+even_bits (suc (suc (suc (suc zero)))) h = refl
+even_bits (suc (suc (suc (suc (suc zero))))) h = refl
+even_bits (suc (suc (suc (suc (suc (suc zero)))))) h = refl
+even_bits (suc (suc (suc (suc (suc (suc (suc zero))))))) h = refl
+even_bits (suc (suc (suc (suc (suc (suc (suc (suc n)))))))) h = absurd (omega arith)
+
+-- both, the other first
+pub swapped : (a b : Bool) → a && b ≡ b && a
+swapped true true = refl
+swapped true false = refl
+swapped false true = refl
+swapped false false = refl
+
+pub digit_even : (byte i : ℕ) → i < 8 → bit_in (bit_and byte 85) i ≡ not (eqb (i % 2) 1) && bit_in byte i
+digit_even byte i h = digit_and byte 85 i ∙ ap (λ b. bit_in byte i && b) (even_bits i h) ∙ swapped (bit_in byte i) (not (eqb (i % 2) 1))
+
+-- bit i of byte k
+pub bit_of_byte : (bytes : List ℕ) (k i : ℕ) → i < 8 → bit_of bytes (8 * k + i) ≡ bit_in (get_or bytes k 0) i
+bit_of_byte bytes k i h =
+    let place : (8 * k + i) / 8 ≡ k = omega arith in
+    let low : (8 * k + i) % 8 ≡ i = omega arith in
+    ap (λ x. eqb (bit_at (get_or bytes x 0) ((8 * k + i) % 8)) 1) place ∙ ap (λ x. eqb (bit_at (get_or bytes k 0) x) 1) low
+
+-- a byte is written
+pub bit_of_written : (bytes : List ℕ) (k byte i : ℕ) → k < length bytes → i < 8 → bit_of (set bytes k byte) (8 * k + i) ≡ bit_in byte i
+bit_of_written bytes k byte i within h =
+    bit_of_byte (set bytes k byte) k i h ∙ ap (λ x. eqb (bit_at x i) 1) (get_or-set_same bytes k byte 0 within)
+
+pub bit_of_kept : (bytes : List ℕ) (k byte n : ℕ) → n / 8 ≢ k → bit_of (set bytes k byte) n ≡ bit_of bytes n
+bit_of_kept bytes k byte n apart = ap (λ x. eqb (bit_at x (n % 8)) 1) (get_or-set_other bytes k (n / 8) byte 0 apart)
+
+-- the test of one bit
+pub digit_test : (byte place : ℕ) → place < 8 → not (eqb (bit_and byte (1 * 2 ^ place % 256)) 0) ≡ bit_in byte place
+digit_test byte place h =
+    let power : 1 * 2 ^ place % 256 ≡ 2 ^ place = omega (arith, pow-lt {i = place} {j = 8} h) in
+    rw (power, and_pow byte place)
+    (elim (cases_eq (bit_at byte place) 1) as (λ _. not (eqb (bit_at byte place * 2 ^ place) 0) ≡ bit_in byte place) [
+      | inl one ↦
+          let more : 1 * 2 ^ place ≢ 0 = λ e. absurd (omega (arith, e, pow_pos place)) in
+          rw (one, ne_eqb (1 * 2 ^ place) 0 more) refl
+      | inr none ↦ let zero : bit_at byte place ≡ 0 = omega (arith, bit_at-lt byte place) in rw (zero, eq-eqb (0 * 2 ^ place) 0 (omega arith)) refl
+    ])

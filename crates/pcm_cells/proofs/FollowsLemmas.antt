@@ -1,5 +1,5 @@
 -- Families of cells that follow a rule, cell by cell and group by group.
-use Rattle.std.proofs.Common.{◌≡◌, ◌≢◌, ℕ, ◌+◌, ◌<◌, ◌≤◌, Bool, true, false, cond, refl, ◌∙◌, ap, inl, inr, arith}
+use Rattle.std.proofs.Common.{◌≡◌, ◌≢◌, ℕ, ◌+◌, ◌-◌, ◌*◌, ◌/◌, ◌<◌, ◌≤◌, Bool, true, false, cond, refl, subst, ◌∙◌, ap, inl, inr, arith}
 use Rattle.std.proofs.lemmas.Bool.{cases_eq, cases_lt}
 use Rattle.pcm_cells.specs.Follows.{Follows, FollowsIn}
 
@@ -75,3 +75,15 @@ followed_all {X} top mask rule old new all past n =
       | inl low ↦ all.inside n (omega arith) low
       | inr high ↦ rw (past n high) (all.above n high)
     ]
+
+-- a group of eight, of which each cell was done, and no other
+pub followed_eight : {X : Type 0} (group : ℕ) (mask : ℕ → Bool) (rule : ℕ → X → X) (old new : ℕ → X)
+    → ((i : ℕ) → i < 8 → new (8 * group + i) ≡ cond (mask (8 * group + i)) (rule (8 * group + i) (old (8 * group + i))) (old (8 * group + i)))
+    → ((n : ℕ) → n / 8 ≢ group → new n ≡ old n) → FollowsIn (8 * group) (8 * group + 8) mask rule old new
+followed_eight {X} group mask rule old new here others = record {
+  inside = λ n from to.
+      let is : 8 * group + (n - 8 * group) ≡ n = omega arith in
+      subst (λ k. new k ≡ cond (mask k) (rule k (old k)) (old k)) is (here (n - 8 * group) (omega arith));
+  below = λ n h. others n (λ e. omega arith);
+  above = λ n h. others n (λ e. omega arith);
+}

@@ -2,6 +2,7 @@ pub mod ByteLemmas
 pub mod RowLemmas
 pub mod FollowsLemmas
 pub mod LineLemmas
+pub mod PlaneLemmas
 pub mod ScriptedLemmas
 pub mod WordLemmas
 pub mod SeededLemmas

@@ -1,17 +1,21 @@
 -- A seeded array keeps what every array keeps.
-use Rattle.std.proofs.Common.{◌≡◌, ℕ, ◌+◌, ◌-◌, ◌%◌, ◌≤◌, ◌&&◌, Bool, true, false, cond, eqb, slice_index, refl, sym, subst, ◌∙◌, ap, inl, inr, arith}
-use Rattle.std.proofs.lemmas.Bool.{ltb-true}
+use Rattle.std.proofs.Common.{◌≡◌, ℕ, ◌+◌, ◌-◌, ◌%◌, ◌≤◌, ◌&&◌, ◌<◌, Bool, true, false, not, true≢false, cond, eqb, slice_index, refl, sym, subst, ◌∙◌, ap, inl, inr, arith}
+use Rattle.std.proofs.lemmas.Bool.{ltb-true, leb-true}
 use Rattle.std.specs.Prelude.{nat_lt, nat_le}
 use Rattle.pcm_cells.specs.declared.row.Cells.{Cells}
 use Rattle.pcm_cells.specs.declared.line.CellState.{CellState}
 use Rattle.pcm_cells.specs.declared.array.Wear.{Wear}
 use Rattle.pcm_cells.specs.declared.seeded.SeededCell.{SeededCell}
+use Rattle.pcm_cells.specs.declared.digits.Digits.{Digits}
 use Rattle.pcm_cells.specs.Rows.{cell}
 use Rattle.pcm_cells.specs.Device.{DeviceStep, TornStep, IsBlank, counted}
-use Rattle.pcm_cells.specs.Cell.{CellLine, line_state, cell_state}
+use Rattle.pcm_cells.specs.Cell.{cell_state}
+use Rattle.pcm_cells.specs.Planes.{PlaneLine, plane_state, digit}
 use Rattle.pcm_cells.specs.Follows.{Follows}
 use Rattle.pcm_cells.specs.Seeded.{LifeLine, IsDrawn, changed, pulsed, seeded, seeded_cell}
-use Rattle.pcm_cells.proofs.LineLemmas.{IsPulsed, device_step, torn_step, blank_is_blank}
+use Rattle.pcm_cells.proofs.RowLemmas.{cell-zeros}
+use Rattle.pcm_cells.proofs.PlaneLemmas.{digit_few, digit-zeros}
+use Rattle.pcm_cells.proofs.LineLemmas.{IsPulsed, device_step, torn_step}
 
 -- a change takes the wanted value or sticks
 changed_pulsed : (last want : Bool) (old : SeededCell) (new : CellState)
@@ -50,13 +54,13 @@ stuck_seeded tearing want number old h =
 
 unmasked_stays : {B M : ℕ} (mask want : Cells B M) (tearing : Bool) (old new : LifeLine B M)
     → Follows (cell mask) (seeded tearing (cell want)) (seeded_cell old) (seeded_cell new)
-    → (n : ℕ) → cell mask n ≡ false → cell_state (line_state new.line) n ≡ cell_state (line_state old.line) n
+    → (n : ℕ) → cell mask n ≡ false → cell_state (plane_state new.line) n ≡ cell_state (plane_state old.line) n
 unmasked_stays mask want tearing old new follows n h =
     ap (λ c. c.state) (follows n ∙ ap (λ b. cond b (seeded tearing (cell want) n (seeded_cell old n)) (seeded_cell old n)) h)
 
 stuck_stays : {B M : ℕ} (mask want : Cells B M) (tearing : Bool) (old new : LifeLine B M)
     → Follows (cell mask) (seeded tearing (cell want)) (seeded_cell old) (seeded_cell new)
-    → (n : ℕ) → (line_state old.line).stuck n ≡ true → cell_state (line_state new.line) n ≡ cell_state (line_state old.line) n
+    → (n : ℕ) → (plane_state old.line).stuck n ≡ true → cell_state (plane_state new.line) n ≡ cell_state (plane_state old.line) n
 stuck_stays mask want tearing old new follows n h =
     ap (λ c. c.state) (follows n)
     ∙ either_way (cell mask n) (seeded tearing (cell want) n (seeded_cell old n)) (seeded_cell old n)
@@ -64,24 +68,97 @@ stuck_stays mask want tearing old new follows n h =
 
 pub seeded_device_step : {B M : ℕ} (mask want : Cells B M) (old new : LifeLine B M)
     → Follows (cell mask) (seeded false (cell want)) (seeded_cell old) (seeded_cell new)
-    → ((n : ℕ) → slice_index old.limits n ≤ 7)
-    → new.line.pulses ≡ counted old.line.pulses → DeviceStep mask want (line_state old.line) (line_state new.line)
-seeded_device_step mask want old new follows limits pulses =
-    device_step mask want (line_state old.line) (line_state new.line)
+    → new.line.pulses ≡ counted old.line.pulses → DeviceStep mask want (plane_state old.line) (plane_state new.line)
+seeded_device_step mask want old new follows pulses =
+    device_step mask want (plane_state old.line) (plane_state new.line)
     (unmasked_stays mask want false old new follows) (stuck_stays mask want false old new follows)
     (λ n masked live.
-    live_pulsed false (cell want n) (seeded_cell old n) _ live refl (limits n)
+    live_pulsed false (cell want n) (seeded_cell old n) _ live refl (digit_few old.limits n)
     (ap (λ c. c.state) (follows n ∙ ap (λ b. cond b (seeded false (cell want) n (seeded_cell old n)) (seeded_cell old n)) masked)))
     pulses
 
 pub seeded_torn_step : {B M : ℕ} (mask want : Cells B M) (old new : LifeLine B M)
     → Follows (cell mask) (seeded true (cell want)) (seeded_cell old) (seeded_cell new)
-    → ((n : ℕ) → slice_index new.line.misses n ≤ 7)
-    → new.line.pulses ≡ counted old.line.pulses → TornStep mask (line_state old.line) (line_state new.line)
-seeded_torn_step mask want old new follows few pulses =
-    torn_step mask (line_state old.line) (line_state new.line)
-    (unmasked_stays mask want true old new follows) (stuck_stays mask want true old new follows) few pulses
+    → new.line.pulses ≡ counted old.line.pulses → TornStep mask (plane_state old.line) (plane_state new.line)
+seeded_torn_step mask want old new follows pulses =
+    torn_step mask (plane_state old.line) (plane_state new.line)
+    (unmasked_stays mask want true old new follows) (stuck_stays mask want true old new follows) (digit_few new.line.misses) pulses
 
-pub drawn_is_blank : {B M : ℕ} (wear : Wear) (number : ℕ) (row : LifeLine B M) → IsDrawn wear number row → IsBlank (line_state row.line)
+pub drawn_is_blank : {B M : ℕ} (wear : Wear) (number : ℕ) (row : LifeLine B M) → IsDrawn wear number row → IsBlank (plane_state row.line)
 drawn_is_blank {B} {M} wear number row drawn =
-    subst (λ (line : CellLine B M). IsBlank (line_state line)) (sym drawn.line) (blank_is_blank B M)
+    subst (λ (line : PlaneLine B M). IsBlank (plane_state line)) (sym drawn.line)
+    (record { held = cell-zeros B M; stuck = cell-zeros B M; misses = digit-zeros B M; pulses = refl })
+
+abbrev cell_of : Bool → Bool → ℕ → ℕ → ℕ → Bool → SeededCell
+cell_of value stuck misses left limit end = record {
+  state = record { value = value; stuck = stuck; misses = misses };
+  left = left;
+  limit = limit;
+  end = end;
+}
+
+-- a live masked cell, and one that changes
+abbrev is_live : Bool → Bool → Bool → Bool
+is_live stuck torn masked = not stuck && (not torn && masked)
+
+abbrev is_changing : Bool → Bool → Bool
+is_changing live few = not (live && few) && live
+
+-- what a group of eight makes of one of its cells
+worn_cell : (masked torn stuck few last value want end : Bool) (misses left limit : ℕ) → (last ≡ true → left - 1 ≡ 0)
+    → cell_of
+    (cond (is_changing (is_live stuck torn masked) few) (cond (is_changing (is_live stuck torn masked) few && last) end want) value)
+    (cond (is_changing (is_live stuck torn masked) few && last) true stuck)
+    (cond (is_changing (is_live stuck torn masked) few) 0 (cond (is_live stuck torn masked && few) (misses + 1) misses))
+    (cond (is_changing (is_live stuck torn masked) few) (left - 1) left) limit end
+    ≡ cond masked
+    (cond torn (cell_of value stuck misses left limit end)
+    (cond stuck (cell_of value stuck misses left limit end)
+    (cond few (cell_of value stuck (misses + 1) left limit end)
+    (cond last (cell_of end true 0 0 limit end) (cell_of want false 0 (left - 1) limit end)))))
+    (cell_of value stuck misses left limit end)
+worn_cell false true true few last value want end misses left limit spent = refl
+worn_cell false false true few last value want end misses left limit spent = refl
+worn_cell true true true few last value want end misses left limit spent = refl
+worn_cell true false true few last value want end misses left limit spent = refl
+worn_cell false true false few last value want end misses left limit spent = refl
+worn_cell false false false few last value want end misses left limit spent = refl
+worn_cell true true false few last value want end misses left limit spent = refl
+worn_cell true false false true last value want end misses left limit spent = refl
+worn_cell true false false false false value want end misses left limit spent = refl
+worn_cell true false false false true value want end misses left limit spent = ap (λ k. cell_of end true 0 k limit end) (spent refl)
+
+-- one cell follows the rule, from what becomes of each of its planes
+pub worn_follows : {B M : ℕ} (mask want : Cells B M) (tearing : Bool) (old new : LifeLine B M) (n : ℕ) (live missing changing last : Bool)
+    → live ≡ is_live (cell old.line.stuck n) (tearing && eqb (n % 2) 1) (cell mask n)
+    → missing ≡ (live && nat_lt (digit old.line.misses n) (digit old.limits n))
+    → changing ≡ (not missing && live)
+    → last ≡ (changing && nat_le (slice_index old.left n) 1)
+    → cell new.line.held n ≡ cond changing (cond last (cell old.ends n) (cell want n)) (cell old.line.held n)
+    → cell new.line.stuck n ≡ cond last true (cell old.line.stuck n)
+    → digit new.line.misses n ≡ cond changing 0 (cond missing (digit old.line.misses n + 1) (digit old.line.misses n))
+    → slice_index new.left n ≡ cond changing (slice_index old.left n - 1) (slice_index old.left n)
+    → new.limits ≡ old.limits → new.ends ≡ old.ends
+    → seeded_cell new n ≡ cond (cell mask n) (seeded tearing (cell want) n (seeded_cell old n)) (seeded_cell old n)
+worn_follows mask want tearing old new n live missing changing last is_live_is is_missing is_changing_is is_last held stuck misses left limits ends =
+    rw (held, stuck, misses, left, limits, ends, is_last, is_changing_is, is_missing, is_live_is)
+    (worn_cell (cell mask n) (tearing && eqb (n % 2) 1) (cell old.line.stuck n) (nat_lt (digit old.line.misses n) (digit old.limits n))
+    (nat_le (slice_index old.left n) 1) (cell old.line.held n) (cell want n) (cell old.ends n) (digit old.line.misses n)
+    (slice_index old.left n) (digit old.limits n) (λ e. omega (arith, leb-true _ _ e)))
+
+-- a cell of which nothing changes
+pub worn_kept : {B M : ℕ} (old new : LifeLine B M) (n : ℕ) → cell new.line.held n ≡ cell old.line.held n
+    → cell new.line.stuck n ≡ cell old.line.stuck n → digit new.line.misses n ≡ digit old.line.misses n
+    → slice_index new.left n ≡ slice_index old.left n → new.limits ≡ old.limits → new.ends ≡ old.ends
+    → seeded_cell new n ≡ seeded_cell old n
+worn_kept old new n held stuck misses left limits ends = rw (held, stuck, misses, left, limits, ends) refl
+
+and_second : (a b : Bool) → (a && b) ≡ true → b ≡ true
+and_second true b e = e
+and_second false b e = absurd (true≢false (sym e))
+
+-- a cell that misses has fewer than seven misses
+pub missing_few : {B M : ℕ} (misses limits : Digits B M) (n : ℕ) (live missing : Bool) → missing ≡ (live && nat_lt (digit misses n) (digit limits n))
+    → missing ≡ true → digit misses n < 7
+missing_few misses limits n live missing is h =
+    omega (arith, ltb-true _ _ (and_second live _ (sym is ∙ h)), digit_few limits n)

@@ -1,8 +1,8 @@
 -- Words drawn one after another, and lists that are filled with what they make.
-use Rattle.std.proofs.Common.{◌≡◌, ℕ, ◌+◌, ◌/◌, ◌%◌, ◌^◌, ◌<◌, ◌≤◌, Bool, eqb, cond, List, [], ◌∷◌, ◌++◌, length, get_or, set, replicate, refl, ◌∙◌, ap, inl, inr, arith, add-one, get_or-set_same, get_or-set_other, eq-eqb, ne_eqb}
-use Rattle.std.proofs.lemmas.Bool.{cases_eq, cases_lt}
+use Rattle.std.proofs.Common.{◌≡◌, ℕ, ◌+◌, ◌/◌, ◌%◌, ◌^◌, ◌<◌, eqb, cond, List, [], ◌∷◌, ◌++◌, length, get_or, set, refl, ◌∙◌, ap, inl, inr, arith, add-one, get_or-set_same, get_or-set_other, eq-eqb, ne_eqb}
+use Rattle.std.proofs.lemmas.Bool.{cases_eq}
 use Rattle.std.proofs.Math.ListN.{get_or-append}
-use Rattle.std.proofs.lemmas.List.{get_or_past, get_or_push, get_or-replicate, length-replicate}
+use Rattle.std.proofs.lemmas.List.{get_or_push}
 use Rattle.rand_core.specs.Stream.{Stream, next_u64}
 use Rattle.pcm_cells.specs.Words.{stream_after, word_at}
 
@@ -27,25 +27,10 @@ filled_more xs i v f within is below n h =
       | inr apart ↦ get_or-set_other xs i n v 0 apart ∙ below n (omega arith)
     ]
 
--- small numbers stay small
-pub few_set : (xs : List ℕ) (i v : ℕ) → i < length xs → v ≤ 7 → ((n : ℕ) → get_or xs n 0 ≤ 7) → (n : ℕ) → get_or (set xs i v) n 0 ≤ 7
-few_set xs i v within small few n =
-    elim (cases_eq n i) as (λ _. get_or (set xs i v) n 0 ≤ 7) [
-      | inl same ↦ rw (same, get_or-set_same xs i v 0 within) small
-      | inr apart ↦ rw (get_or-set_other xs i n v 0 apart) (few n)
-    ]
-
-pub few_zeros : (size n : ℕ) → get_or (replicate size 0) n 0 ≤ 7
-few_zeros size n =
-    elim (cases_lt n size) as (λ _. get_or (replicate size 0) n 0 ≤ 7) [
-      | inl low ↦ rw (get_or-replicate {A = ℕ} size n 0 0 low) (omega arith)
-      | inr high ↦ rw (get_or_past {X = ℕ} (replicate size 0) n 0 (omega (arith, length-replicate {A = ℕ} size 0))) (omega arith)
-    ]
-
 -- one cell more is filled
-pub cells_more : (old new f : ℕ → Bool) (i : ℕ) (v : Bool) → ((n : ℕ) → new n ≡ cond (eqb n i) v (old n)) → v ≡ f i
+pub cells_more : {X : Type 0} (old new f : ℕ → X) (i : ℕ) (v : X) → ((n : ℕ) → new n ≡ cond (eqb n i) v (old n)) → v ≡ f i
     → ((n : ℕ) → n < i → old n ≡ f n) → (n : ℕ) → n < i + 1 → new n ≡ f n
-cells_more old new f i v set is below n h =
+cells_more {X} old new f i v set is below n h =
     elim (cases_eq n i) as (λ _. new n ≡ f n) [
       | inl same ↦ rw same (set i ∙ ap (λ b. cond b v (old i)) (eq-eqb i i refl) ∙ is)
       | inr apart ↦ set n ∙ ap (λ b. cond b v (old n)) (ne_eqb n i apart) ∙ below n (omega arith)

@@ -9,4 +9,5 @@ pub mod Scripted
 pub mod Logging
 pub mod Logged
 pub mod Words
+pub mod Planes
 pub mod Seeded

@@ -7,7 +7,9 @@ use Rattle.pcm_cells.specs.declared.array.Wear.{Wear}
 use Rattle.pcm_cells.specs.declared.seeded.SeededCell.{SeededCell}
 use Rattle.pcm_cells.specs.Rows.{cell, zero_row}
 use Rattle.pcm_cells.specs.Device.{ArrayState, counted}
-use Rattle.pcm_cells.specs.Cell.{CellLine, line_state, cell_state, blank_line}
+use Rattle.pcm_cells.specs.declared.digits.Digits.{Digits}
+use Rattle.pcm_cells.specs.Cell.{cell_state}
+use Rattle.pcm_cells.specs.Planes.{PlaneLine, plane_state, blank_planes, digit, zero_digits}
 use Rattle.pcm_cells.specs.Follows.{Follows}
 use Rattle.pcm_cells.specs.Words.{xoshiro_of, word_at}
 
@@ -52,26 +54,26 @@ seeded tearing want number old = if tearing && nat_eq (number % 2) 1 then old el
 
 -- a line, with the changes that each cell has left, its misses before each change, and the value that it will stick at
 pub record LifeLine (B M : ℕ) : Type 0 where
-  pub line : CellLine B M
+  pub line : PlaneLine B M
   pub left : List ℕ
-  pub limits : List ℕ
+  pub limits : Digits B M
   pub ends : Cells B M
 
 abbrev pub seeded_cell : {B M : ℕ} → LifeLine B M → ℕ → SeededCell
 seeded_cell row number = record {
-  state = cell_state (line_state row.line) number;
+  state = cell_state (plane_state row.line) number;
   left = slice_index row.left number;
-  limit = slice_index row.limits number;
+  limit = digit row.limits number;
   end = cell row.ends number;
 }
 
 -- a line without cells' lives
 abbrev pub lifeless : (B M : ℕ) → LifeLine B M
-lifeless B M = record { line = blank_line B M; left = []; limits = []; ends = zero_row B M }
+lifeless B M = record { line = blank_planes B M; left = []; limits = zero_digits B M; ends = zero_row B M }
 
 -- a new line: word n of the generator that the seed and the line's number make belongs to cell n
 pub record IsDrawn {B M : ℕ} (wear : Wear) (number : ℕ) (row : LifeLine B M) : Type 0 where
-  pub line : row.line ≡ blank_line B M
+  pub line : row.line ≡ blank_planes B M
   pub cells : (n : ℕ) → n < 8 * (B + M) → seeded_cell row n ≡ fresh_cell wear (word_at n (xoshiro_of (bit_xor wear.seed number)))
 
 -- the lines, of which there are none before the array is powered up
@@ -91,7 +93,7 @@ seeded_line {B} {M} array number = slice_index_or array.lines number (lifeless B
 -- what a controller may know of the array; it tells no log
 abbrev pub seeded_state : {B M : ℕ} → SeededArray B M → ArrayState B M
 seeded_state array = record {
-  line = λ number. line_state (seeded_line array number).line;
+  line = λ number. plane_state (seeded_line array number).line;
   lines = length array.lines;
   tears = array.tears;
   log = None;

@@ -4,6 +4,7 @@
 
 mod array;
 mod bytes;
+mod digits;
 mod line;
 mod logged;
 mod plain;

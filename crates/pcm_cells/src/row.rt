@@ -1,7 +1,8 @@
 // Rows of cells, and masks over them.
-ghost use Rattle.std.specs.Prelude.{◌≡◌, ◌≢◌, ℕ, ◌+◌, ◌*◌, ◌<◌, ◌≤◌, ◌&&◌, true, false, IsTrue, IsFalse, nat_eq, if◌then◌else◌};
+ghost use Rattle.std.specs.Prelude.{◌≡◌, ◌≢◌, ℕ, ◌+◌, ◌*◌, ◌/◌, ◌<◌, ◌≤◌, ◌&&◌, true, false, IsTrue, IsFalse, nat_eq, if◌then◌else◌};
 ghost use Rattle.pcm_cells.specs.Rows.{cell, zero_row, xor, members};
 ghost use Rattle.pcm_cells.specs.Shape.{IsShape};
+ghost use Rattle.pcm_cells.specs.Planes.{bit_in};
 
 use crate::bytes::{and_with, bit, is_zero, put, set_bit, xor_with};
 
@@ -79,6 +80,31 @@ impl<const B: usize, const M: usize> Cells<B, M> {
     {
         put(&mut self.bits, &mask.bits, &want.bits);
         put(&mut self.meta, &mask.meta, &want.meta);
+    }
+
+    /// The cells of a group of eight, as the bits of a byte.
+    pub(crate) fn byte(&self, group: usize) -> u8
+        requires { group < B + M }
+        ensures { (i : ℕ) → i < 8 → bit_in result i ≡ cell self.now (8 * group + i) }
+    {
+        if group < B {
+            self.bits[group]
+        } else {
+            self.meta[group - B]
+        }
+    }
+
+    /// Lets the cells of a group of eight be the bits of a byte.
+    pub(crate) fn set_byte(&mut self, group: usize, byte: u8)
+        requires { group < B + M }
+        ensures here { (i : ℕ) → i < 8 → cell self.new (8 * group + i) ≡ bit_in byte i }
+        ensures others { (n : ℕ) → n / 8 ≢ group → cell self.new n ≡ cell self.old n }
+    {
+        if group < B {
+            self.bits[group] = byte;
+        } else {
+            self.meta[group - B] = byte;
+        }
     }
 
     /// As a mask: whether no cell of this group of eight is in it.

@@ -1,7 +1,8 @@
 // The array whose cells wear out as a seed says.
 ghost use Rattle.std.specs.Prelude.{◌≡◌, ◌≢◌, ℕ, ◌+◌, ◌-◌, ◌*◌, ◌%◌, ◌<◌, ◌≤◌, true, false, length, IfOk, OnOk, OnErr, slice_index, bit_xor};
 
-use crate::line::Line;
+use crate::bytes::{chosen, reached, spend, without};
+use crate::digits::Digits;
 use crate::{CellArray, CellState, Cells, Wear};
 use rand_core::{Rng, SeedableRng};
 use rand_xoshiro::Xoshiro256PlusPlus;
@@ -20,7 +21,7 @@ pub struct SeededCell {
     pub end: bool,
 }
 
-ghost use Rattle.pcm_cells.specs.Seeded.{endurance, miss_limit, stuck_value, changed, pulsed, seeded};
+ghost use Rattle.pcm_cells.specs.Seeded.{endurance, miss_limit, stuck_value, seeded};
 ghost use Rattle.pcm_cells.specs.Device.{IsWear};
 
 fn endurance(wear: Wear, word: u64) -> u32
@@ -38,59 +39,15 @@ fn miss_limit(wear: Wear, word: u64) -> u8
     ((word >> 32) % 8).min(wear.misses as u64) as u8
 }
 
-fn changed(want: bool, old: SeededCell) -> SeededCell
-    ensures { result ≡ changed want old }
-{
-    if old.left <= 1 {
-        SeededCell {
-            state: CellState {
-                value: old.end,
-                stuck: true,
-                misses: 0,
-            },
-            left: 0,
-            ..old
-        }
-    } else {
-        SeededCell {
-            state: CellState {
-                value: want,
-                stuck: false,
-                misses: 0,
-            },
-            left: old.left - 1,
-            ..old
-        }
-    }
-}
-
-fn pulsed(want: bool, old: SeededCell) -> SeededCell
-    requires limit { old.limit ≤ 7 }
-    requires misses { old.state.misses ≤ 7 }
-    ensures is { result ≡ pulsed want old }
-    ensures few { result.state.misses ≤ 7 }
-{
-    if old.state.stuck {
-        old
-    } else if old.state.misses < old.limit {
-        SeededCell {
-            state: CellState {
-                misses: old.state.misses + 1,
-                ..old.state
-            },
-            ..old
-        }
-    } else {
-        changed(want, old)
-    }
-}
-
 /// The cells of one line, and the life of each.
 #[derive(Drop)]
 struct SeededLine<const B: usize, const M: usize> {
-    line: Line<B, M>,
+    held: Cells<B, M>,
+    stuck: Cells<B, M>,
+    misses: Digits<B, M>,
+    pulses: u64,
     left: Vec<u32>,
-    limits: Vec<u8>,
+    limits: Digits<B, M>,
     ends: Cells<B, M>,
 }
 
@@ -101,10 +58,14 @@ impl<const B: usize, const M: usize> Model for SeededLine<B, M> {
 
     ghost Value = { LifeLine B M };
 
-    ghost view = { λ l. record { line = l.line; left = l.left.items; limits = l.limits.items; ends = l.ends } };
+    ghost view = { λ l. record {
+      line = record { held = l.held; stuck = l.stuck; misses = l.misses; pulses = l.pulses };
+      left = l.left.items;
+      limits = l.limits;
+      ends = l.ends;
+    } };
 
-    ghost invariant = { λ l. (vec_len l.left ≡ 8 * (B + M)) × (vec_len l.limits ≡ 8 * (B + M)) × ((n : ℕ) → slice_index l.line.misses n ≤ 7)
-        × ((n : ℕ) → slice_index l.limits.items n ≤ 7) × IsShape B M };
+    ghost invariant = { λ l. (vec_len l.left ≡ 8 * (B + M)) × IsShape B M };
 }
 
 ghost use Rattle.pcm_cells.specs.Rows.{cell};
@@ -122,50 +83,23 @@ impl<const B: usize, const M: usize> SeededLine<B, M> {
     {
         let mut words = Xoshiro256PlusPlus::seed_from_u64(wear.seed ^ number as u64);
         let mut left = vec![in alloc; 0u32; 8 * (B + M)]?;
-        let mut limits = vec![in alloc; 0u8; 8 * (B + M)]?;
+        let mut limits = Digits::zero();
         let mut ends = Cells::zero();
         for cell in 0..8 * (B + M) {
             let word = words.next_u64();
             left[cell] = endurance(wear, word);
-            limits[cell] = miss_limit(wear, word);
+            limits.set(cell as u16, miss_limit(wear, word));
             ends.set(cell as u16, word >> 63 == 1);
         }
         Ok(SeededLine {
-            line: Line::blank(alloc)?,
+            held: Cells::zero(),
+            stuck: Cells::zero(),
+            misses: Digits::zero(),
+            pulses: 0,
             left,
             limits,
             ends,
         })
-    }
-
-    fn cell(&self, number: u16) -> SeededCell
-        requires { number < 8 * (B + M) }
-        ensures is { result ≡ seeded_cell self.now number }
-        ensures limit { result.limit ≤ 7 }
-        ensures misses { result.state.misses ≤ 7 }
-    {
-        SeededCell {
-            state: self.line.cell(number),
-            left: self.left[number as usize],
-            limit: self.limits[number as usize],
-            end: self.ends.get(number),
-        }
-    }
-
-    // One masked cell in a pulse or in a tear.
-    fn wear_cell(&mut self, tearing: bool, number: u16, want: &Cells<B, M>)
-        requires exists { number < 8 * (B + M) }
-        requires shape { IsShape B M }
-        ensures here { seeded_cell self.new number ≡ seeded tearing (cell want.now) number (seeded_cell self.old number) }
-        ensures others { (n : ℕ) → n ≢ number → seeded_cell self.new n ≡ seeded_cell self.old n }
-        ensures pulses { self.new.line.pulses ≡ self.old.line.pulses }
-    {
-        if tearing && number % 2 == 1 {
-            return;
-        }
-        let new = pulsed(want.get(number), self.cell(number));
-        self.line.set_cell(number, new.state);
-        self.left[number as usize] = new.left;
     }
 
     // The masked cells of one group of eight in a pulse or in a tear.
@@ -175,12 +109,15 @@ impl<const B: usize, const M: usize> SeededLine<B, M> {
         ensures cells { FollowsIn (8 * group) (8 * group + 8) (cell mask.now) (seeded tearing (cell want.now)) (seeded_cell self.old) (seeded_cell self.new) }
         ensures pulses { self.new.line.pulses ≡ self.old.line.pulses }
     {
-        for number in 8 * group..8 * group + 8 {
-            let number = number as u16;
-            if mask.get(number) {
-                self.wear_cell(tearing, number, want);
-            }
-        }
+        let live = without(reached(tearing, mask.byte(group)), self.stuck.byte(group));
+        let missing = live & self.misses.below(&self.limits, group);
+        let changing = without(live, missing);
+        let last = spend(self.left.as_mut_slice(), group, changing);
+        let value = chosen(want.byte(group), last, self.ends.byte(group));
+        self.held
+            .set_byte(group, chosen(self.held.byte(group), changing, value));
+        self.stuck.set_byte(group, last | self.stuck.byte(group));
+        self.misses.advance(group, missing, changing);
     }
 
     // A pulse or a tear of the line.
@@ -188,15 +125,13 @@ impl<const B: usize, const M: usize> SeededLine<B, M> {
         requires { IsShape B M }
         ensures cells { Follows (cell mask.now) (seeded tearing (cell want.now)) (seeded_cell self.old) (seeded_cell self.new) }
         ensures pulses { self.new.line.pulses ≡ counted self.old.line.pulses }
-        ensures few { (n : ℕ) → slice_index self.new.line.misses n ≤ 7 }
-        ensures limits { (n : ℕ) → slice_index self.old.limits n ≤ 7 }
     {
         for group in 0..B + M {
             if !mask.is_clear(group) {
                 self.wear_group(tearing, group, mask, want);
             }
         }
-        self.line.count_pulse();
+        self.pulses = self.pulses.saturating_add(1);
     }
 }
 
@@ -257,8 +192,6 @@ impl<const B: usize, const M: usize> MemArray<B, M> {
         requires exists { line < length self.old.lines }
         requires shape { IsShape B M }
         ensures wears { Wears line tearing mask.now want.now self.old self.new }
-        ensures few { (n : ℕ) → slice_index (seeded_line self.new line).line.misses n ≤ 7 }
-        ensures limits { (n : ℕ) → slice_index (seeded_line self.old line).limits n ≤ 7 }
         ensures tears { self.new.tears ≡ self.old.tears }
     {
         let Some(lines) = &mut self.lines else {
@@ -305,7 +238,7 @@ impl<const B: usize, const M: usize> CellArray<B, M> for MemArray<B, M> {
         let Some(lines) = &self.lines else {
             unreachable!()
         };
-        lines[line as usize].line.held()
+        lines[line as usize].held
     }
 
     fn pulse(&mut self, line: u32, mask: &Cells<B, M>, want: &Cells<B, M>, tick: u64)
@@ -337,6 +270,6 @@ impl<const B: usize, const M: usize> CellArray<B, M> for MemArray<B, M> {
         let Some(lines) = &self.lines else {
             unreachable!()
         };
-        lines[line as usize].line.pulses()
+        lines[line as usize].pulses
     }
 }

@@ -1,11 +1,13 @@
-use Rattle.std.proofs.Common.{◌≡◌, ◌+◌, ◌*◌, ◌<◌, ◌∙◌, ap, sym, arith, bit_xor, length, length-set, replicate, rules}
+use Rattle.std.proofs.Common.{◌≡◌, ◌<◌, ◌∙◌, ap, sym, refl, arith, bit_xor, length, length-set, rules}
 use Rattle.rand_core.specs.Stream.{next_u64}
 use Rattle.rand_core.specs.Steps.{stream_of, steps_u64_high}
 use Rattle.rand_xoshiro.specs.Xoshiro256.{plus_plus}
 use Rattle.pcm_cells.specs.Rows.{cell}
+use Rattle.pcm_cells.specs.Planes.{digit}
 use Rattle.pcm_cells.specs.Words.{xoshiro_of, word_at}
 use Rattle.pcm_cells.specs.Seeded.{endurance, miss_limit, stuck_value}
-use Rattle.pcm_cells.proofs.WordLemmas.{stream_after-zero, stream_after-more, word_at-is, filled_more, few_set, few_zeros, cells_more, highest_bit}
+use Rattle.pcm_cells.proofs.PlaneLemmas.{digit-zeros}
+use Rattle.pcm_cells.proofs.WordLemmas.{stream_after-zero, stream_after-more, word_at-is, filled_more, cells_more, highest_bit}
 use Rattle.pcm_cells.proofs.seeded.SeededLine.drawn.Goals as goal
 
 pub loop-cell-init : goal.loop-cell-init
@@ -15,10 +17,6 @@ loop-cell-init g c = record {
   limits = λ n h. absurd (omega arith);
   ends = λ n h. absurd (omega arith);
   left_size = search rules;
-  limits_size = search rules;
-  few =
-      let zeros : c.in_ok-limits.limits.items ≡ replicate (8 * (g.row.B + g.row.M)) 0 = search rules in
-      rw zeros (few_zeros (8 * (g.row.B + g.row.M)));
 }
 
 pub loop-cell-preserved : goal.loop-cell-preserved
@@ -30,16 +28,24 @@ loop-cell-preserved g c =
     let word : c.next_u64-word.result ≡ word_at cell_at stream =
     ap (λ p. p.0) drawn ∙ ap (λ s. (next_u64 s).0) i.words ∙ sym (word_at-is cell_at stream) in
     let within_left : cell_at < length c.loop-cell.left.items = rw i.left_size c.loop-cell-test.true in
-    let within_limits : cell_at < length c.loop-cell.limits.items = rw i.limits_size c.loop-cell-test.true in
     record {
       words = ap (λ p. p.1) drawn ∙ ap (λ s. (next_u64 s).1) i.words ∙ sym (stream_after-more cell_at stream);
       left = filled_more _ cell_at c.endurance.result (λ n. endurance c.args.wear (word_at n stream)) within_left
           (c.endurance.ensures ∙ ap (endurance c.args.wear) word) i.left;
-      limits = filled_more _ cell_at c.miss_limit.result (λ n. miss_limit c.args.wear (word_at n stream)) within_limits
+      limits = cells_more (digit c.loop-cell.limits) _ (λ n. miss_limit c.args.wear (word_at n stream)) cell_at _ c.set.ensures
           (c.miss_limit.ensures.is ∙ ap (miss_limit c.args.wear) word) i.limits;
-      ends = cells_more (cell c.loop-cell.ends) _ (λ n. stuck_value (word_at n stream)) cell_at _ c.set.ensures
+      ends = cells_more (cell c.loop-cell.ends) _ (λ n. stuck_value (word_at n stream)) cell_at _ c.set-in-loop-cell.ensures
           (highest_bit c.next_u64-word.result (omega arith) ∙ ap stuck_value word) i.ends;
       left_size = length-set _ _ _ ∙ i.left_size;
-      limits_size = length-set _ _ _ ∙ i.limits_size;
-      few = few_set _ cell_at c.miss_limit.result within_limits c.miss_limit.ensures.few i.few;
+    }
+
+pub returns : goal.returns
+returns g c =
+    let i = c.loop-cell.invariant in
+    record {
+      line = rw (c.zero.ensures.bytes, c.zero-2.ensures.bytes, c.zero-3.ensures) refl;
+      cells = λ n h.
+          let within : n < c.loop-cell.cell = omega arith in
+          let none : digit c.zero-3.result n ≡ 0 = rw c.zero-3.ensures (digit-zeros g.row.B g.row.M n) in
+          rw (c.zero.ensures.cells n, c.zero-2.ensures.cells n, none, i.left n within, i.limits n within, i.ends n within) refl;
     }

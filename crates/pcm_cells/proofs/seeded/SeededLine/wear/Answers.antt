@@ -10,4 +10,4 @@ returns-clause-cells g c n =
     let all = followed_all (8 * c.loop-group.group) (cell c.args.mask.now) (seeded c.args.tearing (cell c.args.want.now))
     (seeded_cell c.args.self.now) (seeded_cell c.loop-group.self) c.loop-group.invariant.cells
     (λ k h. cell_past c.args.mask.now k (omega arith) (omega arith) (omega arith)) n in
-    rw c.count_pulse.ensures (ap (λ s. seeded_cell s n) c.self.view_is ∙ all)
+    ap (λ s. seeded_cell s n) c.self.view_is ∙ all

@@ -1,0 +1,43 @@
+use super::*;
+use bank_shape::BankShape;
+use masked_bytes::entry::Entry;
+use std::test::*;
+
+// Two regions of two lines, so that slots 0 to 2 and 3 to 5 are theirs, and three spares.
+const SHAPE: BankShape = BankShape {
+    base: 20,
+    regions: 2,
+    lines: 2,
+    spares: 3,
+    writes: 1,
+    reads: 4,
+    psi: 1,
+};
+
+#[test]
+fn each_array_line_has_its_role(rt: HostRuntime) -> Result<(), Fail> {
+    let mut kept = Kept::new(rt.alloc(), SHAPE)?;
+    assert_eq!(rt; role_in(&kept, 24), Role::Line(3));
+    assert_eq!(rt; used_in(&kept), 0);
+    let _ = kept.accept(Entry::whole(1, 2, &[7; 8]), false);
+    assert_eq!(rt; kept.stored(), 1);
+    kept.moved();
+    assert_eq!(rt; kept.retire(0), Ok(6));
+    assert_eq!(rt; kept.retire(0), Ok(7));
+    let wanted = [
+        Role::Retired,
+        Role::Line(1),
+        Role::Gap,
+        Role::Line(2),
+        Role::Gap,
+        Role::Line(3),
+        Role::Retired,
+        Role::Line(0),
+        Role::Free,
+    ];
+    for (i, role) in wanted.iter().enumerate() {
+        assert_eq!(rt; role_in(&kept, 20 + i as u32), *role);
+    }
+    assert_eq!(rt; used_in(&kept), 2);
+    Ok(())
+}

@@ -1,0 +1,134 @@
+-- Numbers of cells by their binary digits.
+use Rattle.std.proofs.Common.{◌≡◌, ℕ, ◌+◌, ◌*◌, ◌/◌, ◌%◌, ◌<◌, ◌≤◌, ◌&&◌, Bool, true, false, not, cond, eqb, ltb, refl, sym, ◌∙◌, ap, inl, inr, arith}
+use Rattle.std.proofs.lemmas.Bool.{cases_eq, cases_lt, lt-ltb, le-ltb}
+use Rattle.pcm_cells.specs.declared.digits.Digits.{Digits}
+use Rattle.pcm_cells.specs.Rows.{cell, xor}
+use Rattle.pcm_cells.specs.Planes.{number_of, digit, zero_digits}
+use Rattle.pcm_cells.proofs.RowLemmas.{cell-zeros}
+
+pub digit-is : {B M : ℕ} (digits : Digits B M) (n : ℕ) → digit digits n ≡ number_of (cell digits.low n) (cell digits.middle n) (cell digits.high n)
+unfolding digit
+digit-is digits n = refl
+
+few_low : (low middle : Bool) → cond low 1 0 + cond middle 2 0 ≤ 3
+few_low true true = omega arith
+few_low true false = omega arith
+few_low false true = omega arith
+few_low false false = omega arith
+
+few_high : (high : Bool) → cond high 4 0 ≤ 4
+few_high true = omega arith
+few_high false = omega arith
+
+pub number_few : (low middle high : Bool) → number_of low middle high ≤ 7
+number_few low middle high = omega (arith, few_low low middle, few_high high)
+
+-- no number is above 7
+pub digit_few : {B M : ℕ} (digits : Digits B M) (n : ℕ) → digit digits n ≤ 7
+digit_few digits n = rw (digit-is digits n) (number_few (cell digits.low n) (cell digits.middle n) (cell digits.high n))
+
+pub digit-zeros : (B M n : ℕ) → digit (zero_digits B M) n ≡ 0
+digit-zeros B M n =
+    let none : cell (zero_digits B M).low n ≡ false = cell-zeros B M n in
+    digit-is (zero_digits B M) n ∙ ap (λ b. number_of b b b) none
+
+chosen_number : (t a b c x y z : Bool) → number_of (cond t a x) (cond t b y) (cond t c z) ≡ cond t (number_of a b c) (number_of x y z)
+chosen_number true a b c x y z = refl
+chosen_number false a b c x y z = refl
+
+-- one number is set
+pub digit_set : {B M : ℕ} (old new : Digits B M) (number value : ℕ) (a b c : Bool)
+    → ((n : ℕ) → cell new.low n ≡ cond (eqb n number) a (cell old.low n))
+    → ((n : ℕ) → cell new.middle n ≡ cond (eqb n number) b (cell old.middle n))
+    → ((n : ℕ) → cell new.high n ≡ cond (eqb n number) c (cell old.high n))
+    → number_of a b c ≡ value → (n : ℕ) → digit new n ≡ cond (eqb n number) value (digit old n)
+digit_set old new number value a b c low middle high is n =
+    digit-is new n
+    ∙ rw (low n, middle n, high n, digit-is old n, ← is) (chosen_number (eqb n number) a b c (cell old.low n) (cell old.middle n) (cell old.high n))
+
+one_of : (x : ℕ) → x < 2 → cond (eqb x 1) 1 0 ≡ x
+one_of x small =
+    elim (cases_eq x 1) as (λ _. cond (eqb x 1) 1 0 ≡ x) [
+      | inl one ↦ rw one refl
+      | inr none ↦ let zero : x ≡ 0 = omega arith in rw zero refl
+    ]
+
+two_of : (x : ℕ) → x < 2 → cond (eqb x 1) 2 0 ≡ 2 * x
+two_of x small =
+    elim (cases_eq x 1) as (λ _. cond (eqb x 1) 2 0 ≡ 2 * x) [
+      | inl one ↦ rw one refl
+      | inr none ↦ let zero : x ≡ 0 = omega arith in rw zero refl
+    ]
+
+four_of : (x : ℕ) → x < 2 → cond (eqb x 1) 4 0 ≡ 4 * x
+four_of x small =
+    elim (cases_eq x 1) as (λ _. cond (eqb x 1) 4 0 ≡ 4 * x) [
+      | inl one ↦ rw one refl
+      | inr none ↦ let zero : x ≡ 0 = omega arith in rw zero refl
+    ]
+
+-- the digits of a number
+pub number_of_digits : (value : ℕ) → value ≤ 7 → number_of (eqb (value % 2) 1) (eqb (value / 2 % 2) 1) (eqb (value / 4 % 2) 1) ≡ value
+number_of_digits value few =
+    omega (arith, one_of (value % 2) (omega arith), two_of (value / 2 % 2) (omega arith), four_of (value / 4 % 2) (omega arith))
+
+-- two numbers compare by their highest digits, and where these agree by what stands below
+below_digit : (unit m n : ℕ) (a b : Bool) → m < unit → n < unit → ltb (m + cond a unit 0) (n + cond b unit 0) ≡ cond (xor a b) b (ltb m n)
+below_digit unit m n true true low_m low_n =
+    elim (cases_lt m n) as (λ _. ltb (m + unit) (n + unit) ≡ ltb m n) [
+      | inl low ↦ lt-ltb _ _ (omega arith) ∙ sym (lt-ltb m n low)
+      | inr high ↦ le-ltb _ _ (omega arith) ∙ sym (le-ltb m n high)
+    ]
+below_digit unit m n true false low_m low_n = le-ltb _ _ (omega arith)
+below_digit unit m n false true low_m low_n = lt-ltb _ _ (omega arith)
+below_digit unit m n false false low_m low_n =
+    elim (cases_lt m n) as (λ _. ltb (m + 0) (n + 0) ≡ ltb m n) [
+      | inl low ↦ lt-ltb _ _ (omega arith) ∙ sym (lt-ltb m n low)
+      | inr high ↦ le-ltb _ _ (omega arith) ∙ sym (le-ltb m n high)
+    ]
+
+below_low : (a x : Bool) → ltb (cond a 1 0) (cond x 1 0) ≡ not a && x
+below_low true true = refl
+below_low true false = refl
+below_low false true = refl
+below_low false false = refl
+
+one_small : (a : Bool) → cond a 1 0 < 2
+one_small true = omega arith
+one_small false = omega arith
+
+pub below_digits : (a b c x y z : Bool) → cond (xor c z) z (cond (xor b y) y (not a && x)) ≡ ltb (number_of a b c) (number_of x y z)
+below_digits a b c x y z =
+    sym (below_digit 4 (cond a 1 0 + cond b 2 0) (cond x 1 0 + cond y 2 0) c z (omega (arith, few_low a b)) (omega (arith, few_low x y))
+    ∙ ap (cond (xor c z) z) (below_digit 2 (cond a 1 0) (cond x 1 0) b y (one_small a) (one_small x) ∙ ap (cond (xor b y) y) (below_low a x)))
+
+-- one more, or none
+pub grown : (more none a b c : Bool) → (more ≡ true → number_of a b c < 7)
+    → number_of (not none && xor more a) (not none && xor (more && a) b) (not none && xor ((more && a) && b) c)
+    ≡ cond none 0 (cond more (number_of a b c + 1) (number_of a b c))
+grown more true a b c few = refl
+grown false false a b c few = refl
+grown true false false true true few = refl
+grown true false false true false few = refl
+grown true false false false true few = refl
+grown true false false false false few = refl
+grown true false true true true few = absurd (omega (arith, few refl))
+grown true false true true false few = refl
+grown true false true false true few = refl
+grown true false true false false few = refl
+
+-- the same of one cell's number
+pub digit_grown : {B M : ℕ} (old new : Digits B M) (n : ℕ) (more none : Bool) → (more ≡ true → digit old n < 7)
+    → cell new.low n ≡ (not none && xor more (cell old.low n))
+    → cell new.middle n ≡ (not none && xor (more && cell old.low n) (cell old.middle n))
+    → cell new.high n ≡ (not none && xor ((more && cell old.low n) && cell old.middle n) (cell old.high n))
+    → digit new n ≡ cond none 0 (cond more (digit old n + 1) (digit old n))
+digit_grown old new n more none few low middle high =
+    digit-is new n
+    ∙ rw (low, middle, high, digit-is old n)
+    (grown more none (cell old.low n) (cell old.middle n) (cell old.high n) (λ h. rw (← digit-is old n) (few h)))
+
+-- a number stays where its digits do
+pub digit_kept : {B M : ℕ} (old new : Digits B M) (n : ℕ) → cell new.low n ≡ cell old.low n → cell new.middle n ≡ cell old.middle n
+    → cell new.high n ≡ cell old.high n → digit new n ≡ digit old n
+digit_kept old new n low middle high = digit-is new n ∙ rw (low, middle, high, digit-is old n) refl

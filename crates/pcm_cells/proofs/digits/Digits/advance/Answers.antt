@@ -1,0 +1,16 @@
+use Rattle.std.proofs.Common.{◌+◌, ◌*◌, ◌∙◌, refl}
+use Rattle.pcm_cells.specs.Planes.{bit_in}
+use Rattle.pcm_cells.proofs.ByteLemmas.{digit_xor, digit_and}
+use Rattle.pcm_cells.proofs.PlaneLemmas.{digit_grown, digit_kept}
+use Rattle.pcm_cells.proofs.digits.Digits.advance.Goals as goal
+
+pub returns-clause-here : goal.returns-clause-here
+returns-clause-here g c i low =
+    digit_grown c.args.self.now _ (8 * c.args.group + i) (bit_in c.args.more i) (bit_in c.args.none i) (c.requires.few i low)
+    (c.set_byte.ensures.here i low ∙ c.without.ensures i ∙ rw (digit_xor c.args.more c.byte-low.result i, c.byte-low.ensures i low) refl)
+    (c.set_byte-2.ensures.here i low ∙ c.without-2.ensures i ∙ rw (digit_xor _ c.byte-middle.result i, digit_and c.args.more c.byte-low.result i, c.byte-low.ensures i low, c.byte-middle.ensures i low) refl)
+    (c.set_byte-3.ensures.here i low ∙ c.without-3.ensures i ∙ rw (digit_xor _ c.byte-high.result i, digit_and _ c.byte-middle.result i, digit_and c.args.more c.byte-low.result i, c.byte-low.ensures i low, c.byte-middle.ensures i low, c.byte-high.ensures i low) refl)
+
+pub returns-clause-others : goal.returns-clause-others
+returns-clause-others g c n apart =
+    digit_kept c.args.self.now _ n (c.set_byte.ensures.others n apart) (c.set_byte-2.ensures.others n apart) (c.set_byte-3.ensures.others n apart)

@@ -1,0 +1,66 @@
+-- What one bank of a finished run leaves.
+use Rattle.std.proofs.Common.{◌≡◌, ℕ, Bool, true, false, List, [], ◌∷◌, Some, None, refl, sym, subst, cond}
+use Rattle.std.specs.Prelude.{IsTrue, IfSome, IsSomeAnd, slice_get}
+use Rattle.masked_bytes.specs.declared.entry.Entry.{Entry}
+use Rattle.masked_bytes.specs.Masked.{gives_all}
+use Rattle.pcm_cells.specs.Device.{ArrayState}
+use Rattle.bank_shape.specs.declared.BankShape.{BankShape}
+use Rattle.bank_model.specs.Timing.{Pacing, Timed, core}
+use Rattle.bank_model.specs.Lawful.{Lawful, IsIdle}
+use Rattle.bank_laws.specs.Outcomes.{table_of}
+use Rattle.bank_laws.specs.Laws.{IsSized, LeavesArray, is_worn_at}
+use Rattle.bank_invariant.specs.Tied.{decoded}
+use Rattle.clock_laws.specs.Ending.{LeavingLaw}
+use Rattle.clock_laws.specs.State.{ClockState}
+use Rattle.clock_laws.specs.Leads.{Leads}
+use Rattle.end_laws.specs.Ends.{EndsWith}
+use Rattle.end_laws.specs.EndLaws.{IsEndOf, RemappedLaw, GapsLaw, KeptLaw, QueuedLaw, StillThereLaw, end_of, whole_head}
+
+-- an excepted line is the head's, which gives every byte
+excepted-whole : {n : ℕ} (es : List (Entry n)) → IfSome (whole_head es) (λ line. IsSomeAnd (slice_get es 0) (λ head. (head.line ≡ line) × IsTrue (gives_all head.given)))
+excepted-whole [] = tt
+excepted-whole (x ∷ es) = by (gives_all x.given) refl
+  where
+    by : (b : Bool) → gives_all x.given ≡ b → IfSome (cond b (Some x.line) None) (λ line. (x.line ≡ line) × IsTrue (gives_all x.given))
+    by true all = (refl, all)
+    by false lacks = tt
+
+module _ {n m e : ℕ} (xs : List (Timed n m)) (clock : ClockState n m e) (array : ArrayState n m) (leads : Leads xs clock array) where
+  -- the end of a bank is that of what it keeps
+  pub is_end : IsEndOf clock.bank.kept (end_of clock.bank.kept (core xs))
+  is_end = record {
+    table = λ slot exists. refl;
+    moves = λ region exists. (leads.holds.regions region exists).registers;
+    excepted = excepted-whole clock.bank.kept.entries;
+  }
+
+  module _ (shape : BankShape) (pace : Pacing) (same : clock.bank.kept.shape ≡ shape) (paced : clock.pace ≡ pace) where
+    -- its history is lawful by its shape and pacing
+    pub is_lawful : Lawful shape pace e xs
+    is_lawful =
+        subst (λ (s : BankShape). Lawful s pace e xs) same
+        (subst (λ (p : Pacing). Lawful clock.bank.kept.shape p e xs) paced leads.lawful)
+
+    pub leaves : LeavingLaw → LeavesArray e shape xs array
+    leaves law = subst (λ (s : BankShape). LeavesArray e s xs array) same (law n m e xs clock array leads)
+
+    pub ends_right : RemappedLaw → GapsLaw → KeptLaw → QueuedLaw → StillThereLaw → IsSized shape pace → IsIdle shape pace xs
+        → EndsWith shape (is_worn_at e array) (decoded e array) (table_of shape xs) (end_of clock.bank.kept (core xs))
+    ends_right remapped gaps kept queued still sized idle =
+        subst (λ (s : BankShape). EndsWith s (is_worn_at e array) (decoded e array) (table_of s xs) (end_of clock.bank.kept (core xs))) same
+        (record {
+          lines = remapped n m e (core xs) clock.bank array leads.holds;
+          moved = λ region exists. gaps n m e pace xs clock.bank array region sized' lawful' idle' leads.holds;
+          kept = λ line exists. kept n m e pace xs clock.bank array line sized' lawful' leads.holds exists;
+          queued = queued n m e pace xs clock.bank array lawful' leads.holds;
+          stored = still n m e pace xs clock.bank array sized' lawful' leads.holds;
+        })
+      where
+        sized' : IsSized clock.bank.kept.shape pace
+        sized' = subst (λ (s : BankShape). IsSized s pace) (sym same) sized
+
+        lawful' : Lawful clock.bank.kept.shape pace e xs
+        lawful' = subst (λ (p : Pacing). Lawful clock.bank.kept.shape p e xs) paced leads.lawful
+
+        idle' : IsIdle clock.bank.kept.shape pace xs
+        idle' = subst (λ (s : BankShape). IsIdle s pace xs) (sym same) idle

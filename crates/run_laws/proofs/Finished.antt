@@ -1,0 +1,139 @@
+-- A finished run is right, by the laws of its banks.
+use Rattle.std.proofs.Common.{◌≡◌, ℕ, ◌<◌, List, [], map, Some, sym, ◌∙◌, subst, arith}
+use Rattle.std.specs.Prelude.{IsFalse, All}
+use Rattle.std.proofs.lemmas.List.{append-nil}
+use Rattle.std.proofs.lemmas.List.Elements.{All-nil, All-map}
+use Rattle.pcm_cells.specs.Device.{ArrayState}
+use Rattle.pcm_cells.specs.declared.array.Sense.{Sense}
+use Rattle.result_rows.specs.declared.Outcome.{Outcome}
+use Rattle.row_laws.specs.declared.Row.{Row}
+use Rattle.row_laws.specs.Table.{KeepsRows}
+use Rattle.bank_shape.specs.declared.BankShape.{BankShape}
+use Rattle.bank_model.specs.Adding.{senses_of}
+use Rattle.bank_model.specs.Timing.{Timed}
+use Rattle.bank_model.specs.Lawful.{Lawful}
+use Rattle.bank_laws.specs.Laws.{IsSized, LeavesArray, KeepsPlaces, KeepsLog, is_worn_at}
+use Rattle.bank_laws.specs.Outcomes.{table_of}
+use Rattle.pace.proofs.Cancelling.{never_cancels}
+use Rattle.module_shape.specs.declared.raw.RawShape.{RawShape}
+use Rattle.module_shape.specs.Limits.{IsShape, total_of}
+use Rattle.module_shape.specs.Addresses.{module_of, bank_shape}
+use Rattle.table_laws.specs.Whole.{WholeTableLaw, WholePlaceLaw, WholeLogLaw, WholeRoomLaw}
+use Rattle.module_laws.specs.Asking.{Asked, row_with}
+use Rattle.module_laws.specs.Serves.{BankTableLaw, ServedByBanksLaw, RoomByBankLaw, IsOfLines}
+use Rattle.bank_invariant.specs.Tied.{decoded}
+use Rattle.clock_laws.specs.Ending.{LeavingLaw}
+use Rattle.clock_laws.specs.State.{ClockState}
+use Rattle.end_laws.specs.Ends.{EndsWith}
+use Rattle.end_laws.specs.EndLaws.{RemappedLaw, GapsLaw, KeptLaw, QueuedLaw, StillThereLaw}
+use Rattle.run_laws.specs.Runs.{bank_of_line, line_in_bank, pacing_in, rules_in, table_in, Serves, RunsRight}
+use Rattle.run_laws.specs.Finishing.{IsFinished}
+use Rattle.run_laws.specs.FinishedLaws.{FinishedLaw, ends_of}
+use Rattle.run_laws.proofs.Mixing.{lines_law}
+use Rattle.run_laws.proofs.Uncancelled.{uncancelled}
+use Rattle.run_laws.proofs.Banks.{is_end, is_lawful, leaves, ends_right}
+
+-- the laws of a bank
+pub record BankLaws : Type 0 where
+  pub tables : WholeTableLaw
+  pub places : WholePlaceLaw
+  pub logs : WholeLogLaw
+  pub room : WholeRoomLaw
+  pub by_bank : BankTableLaw
+  pub served : ServedByBanksLaw
+  pub finds : RoomByBankLaw
+  pub leaving : LeavingLaw
+  pub remapped : RemappedLaw
+  pub gaps : GapsLaw
+  pub kept : KeptLaw
+  pub queued : QueuedLaw
+  pub still : StillThereLaw
+
+-- each bank of a module has its sizes
+sized : (raw : RawShape) (bank : ℕ) → IsShape raw → IsSized (bank_shape (module_of raw) bank) (pacing_in raw)
+sized raw bank is = record {
+  regions = is.some_regions;
+  lines = omega (arith, is.some_lines);
+  writes = is.some_writes;
+  reads = is.some_reads;
+  psi = is.some_psi;
+  read = is.some_read_ticks;
+  iter = is.some_iter_ticks;
+}
+
+module _ {n m e : ℕ} (laws : BankLaws) (raw : RawShape) (seed : ℕ) (h : ℕ → List (Timed n m)) (trace : List (Asked n)) (banks : ℕ → ClockState n m e)
+    (array : ArrayState n m) (outcome : ℕ → Outcome n) (is : IsShape raw) (done : IsFinished raw seed h trace banks array outcome) where
+  abbrev rows : List (Row n)
+  rows = map (row_with outcome) trace
+
+  abbrev shape_of : ℕ → BankShape
+  shape_of bank = bank_shape (module_of raw) bank
+
+  -- of one bank
+  module _ (bank : ℕ) (exists : bank < raw.banks) where
+    lawful : Lawful (shape_of bank) (pacing_in raw) e (h bank)
+    lawful = is_lawful (h bank) (banks bank) array (done.leads bank exists) (shape_of bank) (pacing_in raw) (done.shapes bank exists) (done.paces bank exists)
+
+    left : LeavesArray e (shape_of bank) (h bank) array
+    left = leaves (h bank) (banks bank) array (done.leads bank exists) (shape_of bank) (pacing_in raw) (done.shapes bank exists) (done.paces bank exists) laws.leaving
+
+    calm : All (λ x. IsFalse x.cancels) (h bank)
+    calm = uncancelled (shape_of bank) (pacing_in raw) e (never_cancels raw.policy) (h bank) lawful
+
+    -- its rows are the table of its history
+    table : table_in raw seed bank rows ≡ table_of (shape_of bank) (h bank)
+    table =
+        laws.by_bank n m (shape_of bank) (bank_of_line raw seed) (line_in_bank raw seed) bank (h bank) trace outcome (done.asked bank exists)
+        (done.recorded bank exists) calm
+
+    keeps_rows : KeepsRows (rules_in e raw bank) (table_in raw seed bank rows)
+    keeps_rows =
+        subst (λ (rs : List (Row n)). KeepsRows (rules_in e raw bank) rs) (sym table)
+        (laws.tables n m e (shape_of bank) (pacing_in raw) (h bank) (sized raw bank is) lawful (done.idle bank exists))
+
+    keeps_places : KeepsPlaces e (shape_of bank) array (rules_in e raw bank) (table_in raw seed bank rows)
+    keeps_places =
+        subst (λ (rs : List (Row n)). KeepsPlaces e (shape_of bank) array (rules_in e raw bank) rs) (sym table)
+        (laws.places n m e (shape_of bank) (pacing_in raw) (h bank) array (sized raw bank is) lawful (done.idle bank exists) left)
+
+    keeps_log : (log : List (Sense n m)) → array.log ≡ Some log → KeepsLog e (shape_of bank) array (rules_in e raw bank) (table_in raw seed bank rows) log
+    keeps_log log told =
+        subst (λ (rs : List (Row n)). KeepsLog e (shape_of bank) array (rules_in e raw bank) rs log) (sym table)
+        (laws.logs n m e (shape_of bank) (pacing_in raw) (h bank) array log [] (sized raw bank is) lawful (done.idle bank exists) left
+        (done.log log told bank exists ∙ sym (append-nil (senses_of (h bank)))) (All-nil (λ (s : Sense n m). s.pulses ≡ (array.line s.line).pulses)))
+
+    ends : EndsWith (shape_of bank) (is_worn_at e array) (decoded e array) (table_in raw seed bank rows) (ends_of h banks bank)
+    ends =
+        subst (λ (rs : List (Row n)). EndsWith (shape_of bank) (is_worn_at e array) (decoded e array) rs (ends_of h banks bank)) (sym table)
+        (ends_right (h bank) (banks bank) array (done.leads bank exists) (shape_of bank) (pacing_in raw) (done.shapes bank exists) (done.paces bank exists)
+        laws.remapped laws.gaps laws.kept laws.queued laws.still (sized raw bank is) (done.idle bank exists))
+
+  -- of the whole module
+  exist : All (λ r. IsOfLines (total_of raw) r.asks) rows
+  exist = All-map (λ (r : Row n). IsOfLines (total_of raw) r.asks) (row_with outcome) trace done.exist
+
+  serves : Serves e raw seed rows array
+  serves = record {
+    served =
+        laws.served n raw.banks (total_of raw) (bank_of_line raw seed) (line_in_bank raw seed) rows (lines_law raw seed is) is.some_banks exist
+        (λ bank few. (keeps_rows bank few).served);
+    banks = keeps_rows;
+    room = λ bank few.
+        laws.finds n m e (shape_of bank) (pacing_in raw) (bank_of_line raw seed) (line_in_bank raw seed) bank (h bank) trace outcome (laws.room n m)
+        (sized raw bank is) (lawful bank few) (done.idle bank few) (calm bank few) done.ticks (done.asked bank few) (done.recorded bank few);
+    places = keeps_places;
+  }
+
+  pub runs_right : RunsRight e raw seed rows array (ends_of h banks)
+  runs_right = record {
+    size = done.size;
+    serves = serves;
+    sensed = λ log told bank few. keeps_log bank few log told;
+    end = ends;
+  }
+
+pub finished_law : BankLaws → FinishedLaw
+finished_law laws n m e raw seed h trace banks array outcome is done = (
+  runs_right laws raw seed h trace banks array outcome is done,
+  λ bank few. is_end (h bank) (banks bank) array (done.leads bank few),
+)

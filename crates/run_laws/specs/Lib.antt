@@ -1,0 +1,5 @@
+pub mod Runs
+pub mod Finishing
+pub mod FinishedLaws
+pub mod RowsOfRuns
+pub mod Worked

@@ -1,0 +1,90 @@
+-- What a right run says of each row of its module.
+use Rattle.std.specs.Prelude.{◌≡◌, ℕ, ◌*◌, ◌<◌, ◌≤◌, IsTrue, IsFalse, Bool, length, List, [], ◌∷◌, ◌++◌, map, Some, All}
+use Rattle.std.specs.Option.{ForSome}
+use Rattle.pcm_cells.specs.Device.{ArrayState}
+use Rattle.result_rows.specs.declared.Op.{Op}
+use Rattle.result_rows.specs.declared.Op.TheVariants as op
+use Rattle.result_rows.specs.Outcomes.{op_of, place_of}
+use Rattle.result_summary.specs.Shortfall.{any_short}
+use Rattle.row_laws.specs.declared.Asks.{Asks}
+use Rattle.row_laws.specs.declared.Asks.TheVariants.{Reads, Writes, Cuts}
+use Rattle.row_laws.specs.declared.Row.{Row}
+use Rattle.row_laws.specs.Answers.{accepts, is_queued, is_lost}
+use Rattle.row_laws.specs.Rows.{is_cut}
+use Rattle.row_laws.specs.Queueing.{pending, waiting}
+use Rattle.bank_laws.specs.Laws.{is_worn_at}
+use Rattle.bank_laws.specs.Places.{may_leave}
+use Rattle.module_shape.specs.declared.raw.RawShape.{RawShape}
+use Rattle.module_shape.specs.Limits.{IsShape, total_of}
+use Rattle.module_shape.specs.Addresses.{module_of, array_lines_of, bank_shape}
+use Rattle.module_laws.specs.Serves.{IsOfLines}
+use Rattle.end_laws.specs.Ends.{BankEnd}
+use Rattle.run_laws.specs.Runs.{bank_of_line, table_in, RunsRight}
+
+-- the operation that a row asks for
+abbrev pub op_asked : {n : ℕ} → Asks n → Op
+op_asked (Reads line) = op.Read
+op_asked (Writes line bytes given) = op.Write
+op_asked Cuts = op.Cut
+
+-- each line that the rows name is one of the module's
+abbrev pub LinesExist : {n : ℕ} → RawShape → List (Row n) → Type 0
+LinesExist raw rows = All (λ r. IsOfLines (total_of raw) r.asks) rows
+
+-- the power is never cut
+abbrev pub NoCuts : {n : ℕ} → List (Row n) → Type 0
+NoCuts rows = All (λ r. IsFalse (is_cut r)) rows
+
+module _ {n m : ℕ} (e : ℕ) (raw : RawShape) (seed : ℕ) (array : ArrayState n m) where
+  -- behind these rows and at this tick the queue of a line's bank has room for a write, and that bank isn't worn out in the end
+  pub record HasRoom (before : List (Row n)) (tick line : ℕ) : Type 0 where
+    pub free : length (pending tick [] (table_in raw seed (bank_of_line raw seed line) before)) < raw.writes
+    pub unworn : IsFalse (may_leave (bank_shape (module_of raw) (bank_of_line raw seed line)) (is_worn_at e array))
+
+  -- behind these rows a row finds what it needs: a write room in its bank, which isn't worn out in the end, and a read fewer
+  -- waiting reads in its bank than may wait there
+  abbrev pub FindsPlace : List (Row n) → ℕ → Asks n → Type 0
+  FindsPlace before tick (Reads line) = length (waiting tick [] (table_in raw seed (bank_of_line raw seed line) before)) < raw.reads
+  FindsPlace before tick (Writes line bytes given) = HasRoom before tick line
+  FindsPlace before tick Cuts = Unit {0}
+
+-- each row of a right run has an outcome of the operation that it asks for
+abbrev pub OwnOutcomesLaw : Type 0
+OwnOutcomesLaw =
+    (n m e : ℕ) (raw : RawShape) (seed : ℕ) (rows : List (Row n)) (array : ArrayState n m) (ends : ℕ → BankEnd)
+    → RunsRight e raw seed rows array ends → All (λ r. op_of r.outcome ≡ Some (op_asked r.asks)) rows
+
+-- the place of each stored or read row is an array line of the module
+abbrev pub PlacesExistLaw : Type 0
+PlacesExistLaw =
+    (n m e : ℕ) (raw : RawShape) (seed : ℕ) (rows : List (Row n)) (array : ArrayState n m) (ends : ℕ → BankEnd)
+    → IsShape raw → LinesExist raw rows → RunsRight e raw seed rows array ends
+    → All (λ r. ForSome (place_of r.outcome) (λ place. place < raw.banks * array_lines_of (module_of raw))) rows
+
+-- a module has at most 82,176 array lines
+abbrev pub FewArrayLinesLaw : Type 0
+FewArrayLinesLaw = (raw : RawShape) → IsShape raw → raw.banks * array_lines_of (module_of raw) ≤ 82176
+
+-- without power cuts no read is lost
+abbrev pub NoneLostLaw : Type 0
+NoneLostLaw =
+    (n m e : ℕ) (raw : RawShape) (seed : ℕ) (rows : List (Row n)) (array : ArrayState n m) (ends : ℕ → BankEnd)
+    → IsShape raw → LinesExist raw rows → NoCuts rows → RunsRight e raw seed rows array ends
+    → All (λ r. IsFalse (is_lost r.outcome)) rows
+
+-- a write that finds room in a bank that isn't worn out is accepted, and leaves the queue again
+abbrev pub RoomIsTakenLaw : Type 0
+RoomIsTakenLaw =
+    (n m e : ℕ) (raw : RawShape) (seed : ℕ) (rows : List (Row n)) (array : ArrayState n m) (ends : ℕ → BankEnd)
+    → IsShape raw → LinesExist raw rows → RunsRight e raw seed rows array ends
+    → (later before : List (Row n)) (r : Row n) (line : ℕ) (bytes : List ℕ) (given : List Bool)
+    → rows ≡ later ++ r ∷ before → r.asks ≡ Writes line bytes given → HasRoom e raw seed array before r.tick line
+    → IsTrue (accepts r.outcome) × IsFalse (is_queued r.outcome)
+
+-- where the power is never cut and each row finds what it needs, none is refused, lost or left in a queue
+abbrev pub NoneShortLaw : Type 0
+NoneShortLaw =
+    (n m e : ℕ) (raw : RawShape) (seed : ℕ) (rows : List (Row n)) (array : ArrayState n m) (ends : ℕ → BankEnd)
+    → IsShape raw → LinesExist raw rows → NoCuts rows → RunsRight e raw seed rows array ends
+    → ((later before : List (Row n)) (r : Row n) → rows ≡ later ++ r ∷ before → FindsPlace e raw seed array before r.tick r.asks)
+    → IsFalse (any_short (map (λ r. r.outcome) rows))

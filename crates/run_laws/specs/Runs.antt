@@ -1,0 +1,79 @@
+-- What a finished run of a module leaves: the laws that its rows keep, over its array in the end. The rows are the module's
+-- table, the newest row first; the seed is that of the static randomiser.
+use Rattle.std.specs.Prelude.{◌≡◌, ℕ, ◌+◌, ◌*◌, ◌<◌, IsTrue, List, [], Some}
+use Rattle.feistel_map.specs.Log2.{log2}
+use Rattle.feistel_map.specs.Network.{network_of, feistel, unfeistel}
+use Rattle.pcm_cells.specs.Device.{ArrayState}
+use Rattle.pcm_cells.specs.declared.array.Sense.{Sense}
+use Rattle.row_laws.specs.declared.Row.{Row}
+use Rattle.row_laws.specs.Rows.{each_row}
+use Rattle.row_laws.specs.Rules.{Rules}
+use Rattle.row_laws.specs.Serving.{is_served}
+use Rattle.row_laws.specs.Table.{KeepsRows}
+use Rattle.bank_model.specs.Timing.{Pacing}
+use Rattle.pace.specs.Policies.{pacing_of}
+use Rattle.module_shape.specs.declared.raw.RawShape.{RawShape}
+use Rattle.module_shape.specs.Limits.{total_of}
+use Rattle.module_shape.specs.Addresses.{module_of, pace_of, lines_of, array_lines_of, bank_shape, bank_of, bank_line_of}
+use Rattle.bank_laws.specs.Laws.{KeepsPlaces, KeepsLog, is_worn_at, rules_of}
+use Rattle.module_laws.specs.Asking.{bank_table}
+use Rattle.module_laws.specs.Serves.{finds_room_in}
+use Rattle.bank_invariant.specs.Tied.{decoded}
+use Rattle.end_laws.specs.Ends.{BankEnd, EndsWith}
+
+module _ (raw : RawShape) (seed : ℕ) where
+  -- the number that the static randomiser gives a line of the module
+  abbrev pub mixed_line : ℕ → ℕ
+  mixed_line line = feistel (network_of (log2 (total_of raw)) seed) line
+
+  -- the bank of a line, and its number there
+  abbrev pub bank_of_line : ℕ → ℕ
+  bank_of_line line = bank_of (module_of raw) (mixed_line line)
+
+  abbrev pub line_in_bank : ℕ → ℕ
+  line_in_bank line = bank_line_of (module_of raw) (mixed_line line)
+
+  -- the line of the module that has this number in this bank
+  abbrev pub line_named : ℕ → ℕ → ℕ
+  line_named bank own = unfeistel (network_of (log2 (total_of raw)) seed) (bank * lines_of (module_of raw) + own)
+
+-- the pacing of its banks
+abbrev pub pacing_in : RawShape → Pacing
+pacing_in raw = pacing_of (pace_of raw)
+
+-- the rules of a bank
+abbrev pub rules_in : ℕ → RawShape → ℕ → Rules
+rules_in e raw bank = rules_of e (bank_shape (module_of raw) bank) (pacing_in raw)
+
+-- the table of a bank, with the numbers that its lines have there
+abbrev pub table_in : {n : ℕ} → RawShape → ℕ → ℕ → List (Row n) → List (Row n)
+table_in raw seed bank rows = bank_table (bank_of_line raw seed) (line_in_bank raw seed) bank rows
+
+module _ {n m : ℕ} (e : ℕ) (raw : RawShape) (seed : ℕ) where
+  -- each row has an outcome of its own, an answered read has its line's newest bytes, and each bank keeps its laws
+  pub record Serves (rows : List (Row n)) (array : ArrayState n m) : Type 0 where
+    pub served : IsTrue (each_row is_served rows [])
+    pub banks : (bank : ℕ) → bank < raw.banks → KeepsRows (rules_in e raw bank) (table_in raw seed bank rows)
+    pub room : (bank : ℕ) → bank < raw.banks
+        → IsTrue (each_row (finds_room_in (bank_of_line raw seed) (line_in_bank raw seed) (rules_in e raw bank) bank) rows [])
+    pub places : (bank : ℕ) → bank < raw.banks
+        → KeepsPlaces e (bank_shape (module_of raw) bank) array (rules_in e raw bank) (table_in raw seed bank rows)
+
+  -- where the array tells its log, each answer and each line shows in it
+  abbrev pub Sensed : List (Row n) → ArrayState n m → Type 0
+  Sensed rows array =
+      (log : List (Sense n m)) → array.log ≡ Some log → (bank : ℕ) → bank < raw.banks
+      → KeepsLog e (bank_shape (module_of raw) bank) array (rules_in e raw bank) (table_in raw seed bank rows) log
+
+  -- each bank has a table of lines and moves of its regions by which each line's newest bytes are there
+  abbrev pub Ends : List (Row n) → ArrayState n m → (ℕ → BankEnd) → Type 0
+  Ends rows array ends =
+      (bank : ℕ) → bank < raw.banks
+      → EndsWith (bank_shape (module_of raw) bank) (is_worn_at e array) (decoded e array) (table_in raw seed bank rows) (ends bank)
+
+  -- the headline: what a completed run leaves
+  pub record RunsRight (rows : List (Row n)) (array : ArrayState n m) (ends : ℕ → BankEnd) : Type 0 where
+    pub size : array.lines ≡ raw.banks * array_lines_of (module_of raw)
+    pub serves : Serves rows array
+    pub sensed : Sensed rows array
+    pub end : Ends rows array ends

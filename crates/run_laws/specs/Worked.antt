@@ -1,0 +1,66 @@
+-- A worked run of a small module with lines of two bytes and one check byte: two banks of two regions of four lines and one spare.
+-- Seed 0 puts line 8 into bank 1 and line 0 into bank 0, each as number 5 there, which stands in its bank's seventh array line.
+use Rattle.std.specs.Prelude.{ℕ, ◌+◌, ◌*◌, ◌==◌, false, if◌then◌else◌, List, [], ◌∷◌, Some, None}
+use Rattle.pcm_cells.specs.declared.array.Sense.{Sense}
+use Rattle.pcm_cells.specs.Device.{ArrayState, LineState}
+use Rattle.result_rows.specs.declared.Outcome.TheVariants as out
+use Rattle.row_laws.specs.declared.Row.{Row}
+use Rattle.row_laws.specs.Worked.{W, R, whole}
+use Rattle.bank_model.specs.Worked.{holds}
+use Rattle.pace.specs.declared.Policy.TheVariants.{Pause}
+use Rattle.module_shape.specs.declared.raw.RawShape.{RawShape}
+use Rattle.end_laws.specs.Ends.{BankEnd}
+use Rattle.run_laws.specs.Runs.{RunsRight}
+
+abbrev pub small : RawShape
+small = record {
+  banks = 2;
+  regions = 2;
+  lines = 4;
+  spares = 1;
+  writes = 4;
+  reads = 4;
+  psi = 100;
+  read_ticks = 5;
+  iter_ticks = 10;
+  policy = Pause;
+}
+
+-- line 8 is written; then it and line 0 are read with these bytes, the newest row first
+abbrev pub reading : ℕ → ℕ → List (Row 2)
+reading written other = R 100 0 (out.Read 105 6 (whole other)) ∷ R 100 8 (out.Read 105 17 (whole written)) ∷ W 0 8 0x11 (out.Stored 15 17) ∷ []
+
+-- the read of line 0 says that its line stood where line 8 stands
+abbrev pub misplaced : List (Row 2)
+misplaced = R 100 0 (out.Read 105 17 (whole 0)) ∷ R 100 8 (out.Read 105 17 (whole 0x11)) ∷ W 0 8 0x11 (out.Stored 15 17) ∷ []
+
+-- the rows of one bank, by the numbers of its lines
+abbrev pub first_bank : ℕ → List (Row 2)
+first_bank other = R 100 5 (out.Read 105 6 (whole other)) ∷ []
+
+abbrev pub second_bank : ℕ → List (Row 2)
+second_bank written = R 100 5 (out.Read 105 17 (whole written)) ∷ W 0 5 0x11 (out.Stored 15 17) ∷ []
+
+-- a line that holds these bytes, with no cell stuck, after so many pulses
+abbrev pub holding : ℕ → ℕ → LineState 2 1
+holding b pulses = record { held = record { bits = whole b; meta = 0 ∷ [] }; stuck = λ n. false; misses = λ n. 0; pulses = pulses }
+
+-- the senses of the run, the oldest first
+abbrev pub senses : List (Sense 2 1)
+senses = holds 5 17 (whole 0) 0 ∷ holds 15 17 (whole 0x11) 1 ∷ holds 105 17 (whole 0x11) 1 ∷ holds 105 6 (whole 0) 0 ∷ []
+
+-- the array in the end
+abbrev pub ended : ArrayState 2 1
+ended = record { line = λ line. if line == 17 then holding 0x11 1 else holding 0 0; lines = 22; tears = 0; log = Some senses }
+
+-- the same, but that what was written is gone
+abbrev pub forgotten : ArrayState 2 1
+forgotten = record { line = λ line. if line == 17 then holding 0 1 else holding 0 0; lines = 22; tears = 0; log = Some senses }
+
+-- over no array and by no ends are these rows right
+abbrev pub NeverRight : List (Row 2) → Type 0
+NeverRight rows = (m e : ℕ) (array : ArrayState 2 m) (ends : ℕ → BankEnd) → RunsRight e small 0 rows array ends → ⊥
+
+-- each bank's slots have the array lines of their numbers, and no gap has moved
+abbrev pub unmoved : ℕ → BankEnd
+unmoved bank = record { table = λ slot. bank * 11 + slot; moves = λ region. 0; excepted = None }

@@ -1,0 +1,87 @@
+//! What a finished run of a module leaves: the laws of its rows, over its array in the end. A law is what a function here
+//! ensures; the functions do nothing when they run.
+#![tactic(auto)]
+
+#[cfg(test)]
+mod worked;
+
+ghost use Rattle.run_laws.specs.FinishedLaws.{FinishedLaw, LinesLaw, NamedLaw, RolesLaw};
+ghost use Rattle.run_laws.specs.RowsOfRuns.{OwnOutcomesLaw, PlacesExistLaw, FewArrayLinesLaw, NoneLostLaw, RoomIsTakenLaw, NoneShortLaw};
+
+use clock_laws::events::histories_leave_the_array;
+use end_laws::{
+    excepted_lines_are_queued, lines_are_kept, lines_have_one_role, registers_follow_stores,
+    slots_have_their_lines, stored_rows_are_still_there,
+};
+use module_laws::{
+    bank_tables_are_those_of_histories, every_row_finds_room, modules_serve_as_their_banks,
+};
+use table_laws::{
+    banks_keep_their_room, logs_keep_their_laws, places_keep_their_laws, tables_keep_their_laws,
+};
+
+/// Each line of a module is of one of its banks, and no two lines have one number there.
+pub fn lines_have_their_banks()
+    ensures { LinesLaw }
+{}
+
+/// The name of a line, by its bank and its number there, is the line's number in the module.
+pub fn lines_have_their_names()
+    ensures { NamedLaw }
+{}
+
+/// A run whose banks have nothing left to do leaves rows that keep every law, over its array in the end.
+pub fn finished_runs_are_right()
+    ensures { FinishedLaw }
+{
+    tables_keep_their_laws();
+    places_keep_their_laws();
+    logs_keep_their_laws();
+    banks_keep_their_room();
+    bank_tables_are_those_of_histories();
+    modules_serve_as_their_banks();
+    every_row_finds_room();
+    histories_leave_the_array();
+    slots_have_their_lines();
+    registers_follow_stores();
+    lines_are_kept();
+    excepted_lines_are_queued();
+    stored_rows_are_still_there();
+}
+
+/// After a right run each array line has one role: it holds one line of the module, or is a gap, a free spare or retired.
+pub fn array_lines_have_one_role()
+    ensures { RolesLaw }
+{
+    lines_have_one_role();
+}
+
+/// Each row of a right run has an outcome of the operation that it asks for.
+pub fn rows_have_their_own_outcomes()
+    ensures { OwnOutcomesLaw }
+{}
+
+/// The place of each stored or read row is an array line of the module.
+pub fn places_are_array_lines()
+    ensures { PlacesExistLaw }
+{}
+
+/// A module has at most 82,176 array lines.
+pub fn array_lines_are_few()
+    ensures { FewArrayLinesLaw }
+{}
+
+/// Without power cuts no read is lost.
+pub fn reads_are_not_lost_without_cuts()
+    ensures { NoneLostLaw }
+{}
+
+/// A write that finds room in a bank that isn't worn out is accepted, and leaves the queue again.
+pub fn room_is_taken()
+    ensures { RoomIsTakenLaw }
+{}
+
+/// Where the power is never cut and each row finds what it needs, no row is refused, lost or left in a queue.
+pub fn no_row_falls_short()
+    ensures { NoneShortLaw }
+{}
