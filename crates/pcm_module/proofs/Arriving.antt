@@ -1,0 +1,111 @@
+-- A bank runs on to a tick, and then a row arrives: both calls together are one step.
+use Rattle.std.proofs.Common.{◌≡◌, ◌≢◌, ℕ, ◌+◌, ◌<◌, ◌≤◌, ◌==◌, ◌||◌, Bool, true, false, List, [], ◌∷◌, ◌++◌, length, refl, sym, ap, subst, ◌∙◌, arith}
+use Rattle.std.specs.Prelude.{All, IsTrue, IsFalse}
+use Rattle.std.proofs.lemmas.Bool.{ne_eqb}
+use Rattle.std.proofs.lemmas.List.Elements.{All-head, All-tail, All-nil, All-cons}
+use Rattle.pcm_cells.specs.Device.{ArrayState}
+use Rattle.result_rows.specs.declared.Outcome.{Outcome}
+use Rattle.result_rows.specs.Table.{HasRow}
+use Rattle.bank_shape.specs.declared.BankShape.{BankShape}
+use Rattle.bank_model.specs.Events.{Write, Read, Serve, Begin, Iterate, Cut, RowsBelow}
+use Rattle.bank_model.specs.Timing.{Pacing, Happens, Core, Timed, core, core_of}
+use Rattle.bank_model.specs.Adding.{Adds}
+use Rattle.bank_model.specs.Lawful.{Lawful, MayCome}
+use Rattle.clock_laws.specs.State.{ClockState}
+use Rattle.clock_laws.specs.Leads.{Leads}
+use Rattle.clock_laws.specs.Recording.{outcome_on}
+use Rattle.clock_laws.specs.Standing.{is_arrival_of, arrives_with}
+use Rattle.clock_laws.proofs.Recording.{both_recorded_law}
+use Rattle.clock_laws.proofs.Extending.{both_added_law}
+use Rattle.module_laws.specs.Asking.{Asked, AreAsked, IsAsked}
+use Rattle.bank_timing.specs.Extending.{Extends, IsOpen, IsQuiet, EndsAction, outcome_in}
+use Rattle.bank_laws.specs.Ticks.{ends_action}
+use Rattle.pcm_module.specs.Stepping.{IsStep}
+use Rattle.pcm_module.proofs.Standing.{or_none, or_left, or_right}
+use Rattle.pcm_module.proofs.Moving.{untouched, open_kept, outcome_at_row, lawful_whole}
+
+module _ {n m : ℕ} where
+  abbrev Ends : Timed n m → Type 0
+  Ends x = EndsAction x
+
+  -- nothing is asked by events that a bank comes to by itself
+  pub own_asked : (added xs : List (Timed n m)) (own : List (Asked n)) → IsQuiet added → AreAsked xs own → AreAsked (added ++ xs) own
+  own_asked [] xs own by_itself is = is
+  own_asked (x ∷ added) xs own by_itself is =
+      by x.happens (All-head Ends x added by_itself) (own_asked added xs own (All-tail Ends x added by_itself) is)
+    where
+      by : (h : Happens n) → IsTrue (ends_action h) → AreAsked (added ++ xs) own → IsAsked h x.tick (AreAsked (added ++ xs)) own
+      by (Core (Write row line bytes given answer)) own is = absurd (cc)
+      by (Core (Read row line answer)) own is = absurd (cc)
+      by (Core (Serve answer)) own is = is
+      by (Core (Begin answer)) own is = is
+      by (Core (Iterate answer)) own is = is
+      by (Core (Cut tearing)) own is = absurd (cc)
+
+  -- none of them is the arrival of a row
+  pub own_off : (added : List (Timed n m)) (row : ℕ) → IsQuiet added → arrives_with added row ≡ false
+  own_off [] row by_itself = refl
+  own_off (x ∷ added) row by_itself =
+      or_none (is_arrival_of x.happens row) _ (by x.happens (All-head Ends x added by_itself)) (own_off added row (All-tail Ends x added by_itself))
+    where
+      by : (h : Happens n) → IsTrue (ends_action h) → is_arrival_of h row ≡ false
+      by (Core (Write at line bytes given answer)) own = absurd (cc)
+      by (Core (Read at line answer)) own = absurd (cc)
+      by (Core (Serve answer)) own = refl
+      by (Core (Begin answer)) own = refl
+      by (Core (Iterate answer)) own = refl
+      by (Core (Cut tearing)) own = refl
+
+  -- a row above those of a history didn't arrive there
+  pub below_off : (xs : List (Timed n m)) (bound row : ℕ) → RowsBelow (core xs) bound → bound ≤ row → arrives_with xs row ≡ false
+  below_off [] bound row below le = refl
+  below_off (x ∷ xs) bound row below le = by x.happens below (λ b is less. below_off xs b row is less)
+    where
+      by : (h : Happens n) → RowsBelow (core_of h (core xs)) bound → ((b : ℕ) → RowsBelow (core xs) b → b ≤ row → arrives_with xs row ≡ false)
+          → (is_arrival_of h row || arrives_with xs row) ≡ false
+      by (Core (Write at line bytes given answer)) is rec = or_none (at == row) _ (ne_eqb at row (λ e. absurd (omega (arith, is.0)))) (rec at is.1 (omega (arith, is.0)))
+      by (Core (Read at line answer)) is rec = or_none (at == row) _ (ne_eqb at row (λ e. absurd (omega (arith, is.0)))) (rec at is.1 (omega (arith, is.0)))
+      by (Core (Serve answer)) is rec = rec bound is le
+      by (Core (Begin answer)) is rec = rec bound is le
+      by (Core (Iterate answer)) is rec = rec bound is le
+      by (Core (Cut tearing)) is rec = rec bound is le
+
+  off_append : (added xs : List (Timed n m)) (row : ℕ) → arrives_with added row ≡ false → arrives_with xs row ≡ false → arrives_with (added ++ xs) row ≡ false
+  off_append [] xs row off rest = rest
+  off_append (x ∷ added) xs row off rest =
+      or_none (is_arrival_of x.happens row) _ (or_left (is_arrival_of x.happens row) _ off) (off_append added xs row (or_right (is_arrival_of x.happens row) _ off) rest)
+
+module _ {n m e : ℕ} (xs added : List (Timed n m)) (first between last : ClockState n m e) (a0 a1 a2 : ArrayState n m) (r0 r1 r2 : List (Outcome n))
+    (leads : Leads xs first a0) (own : IsQuiet added) (ext : Extends xs added first between a0 a1 r0 r1) where
+  -- a row that is new stays open while the bank runs on
+  pub open_on : (row : ℕ) → first.bank.rows_below ≤ row → IsOpen r0 row → IsOpen r1 row
+  open_on row fresh is =
+      open_kept r0 r1 row ext.rows
+      (untouched xs first a0 leads added between a1 r0 r1 ext row is.exists
+      (off_append added xs row (own_off added row own) (below_off xs first.bank.rows_below row leads.holds.rows fresh))) is
+
+  -- one more event behind them
+  pub extends_one : (x : Timed n m) → Extends (added ++ xs) (x ∷ []) between last a1 a2 r1 r2 → Extends xs (x ∷ added) first last a0 a2 r0 r2
+  extends_one x next = record {
+    leads = next.leads;
+    shape = next.shape ∙ ext.shape;
+    pace = next.pace ∙ ext.pace;
+    adds = both_added_law n m first.bank.kept.shape (x ∷ []) added a0 a1 a2 ext.adds (subst (λ (s : BankShape). Adds s (x ∷ []) a1 a2) ext.shape next.adds);
+    rows = next.rows ∙ ext.rows;
+    outcomes = λ row has.
+        next.outcomes row (record { above = has.above; within = subst (λ k. row ≤ k) (sym ext.rows) has.within })
+        ∙ ap (λ (s : BankShape). outcome_on s (x ∷ []) (added ++ xs) (outcome_in r1) row) ext.shape
+        ∙ outcome_at_row first.bank.kept.shape (x ∷ []) (added ++ xs) (outcome_in r1) (outcome_on first.bank.kept.shape added xs (outcome_in r0)) row (ext.outcomes row has)
+        ∙ sym (both_recorded_law n m first.bank.kept.shape (x ∷ []) added xs (outcome_in r0) row);
+  }
+
+  -- with it a row arrives, and no other
+  pub step_on : (x : Timed n m) (a : Asked n) → Extends (added ++ xs) (x ∷ []) between last a1 a2 r1 r2
+      → ((asked : List (Asked n)) → AreAsked (added ++ xs) asked → IsAsked x.happens x.tick (AreAsked (added ++ xs)) (a ∷ asked))
+      → ((row : ℕ) → row ≢ a.row → is_arrival_of x.happens row ≡ false)
+      → IsStep xs (x ∷ added) a first last a0 a2 r0 r2
+  step_on x a next arrives alone = record {
+    extends = extends_one x next;
+    arrives = λ asked is. arrives asked (own_asked added xs asked own is);
+    alone = λ row other. or_none (is_arrival_of x.happens row) _ (alone row other) (own_off added row own);
+  }

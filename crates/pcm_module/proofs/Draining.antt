@@ -1,0 +1,260 @@
+-- The banks of a module are drained one after the other.
+use Rattle.std.proofs.Common.{◌≡◌, ◌≢◌, ℕ, ◌+◌, ◌*◌, ◌<◌, ◌≤◌, nat_lt, Bool, true, false, List, [], ◌++◌, length, Option, Some, None, refl, sym, ap, subst, ◌∙◌, inl, inr, append_assoc, arith}
+use Rattle.std.specs.Prelude.{All, IsSomeAnd, slice_get, slice_set, unwrap_or}
+use Rattle.std.proofs.lemmas.Bool.{cases_eq, lt-ltb, ltb-true}
+use Rattle.std.proofs.lemmas.List.Elements.{All-weaker}
+use Rattle.std.proofs.Math.ListN.{length-set}
+use Rattle.circular_buffer.proofs.Places.{slice_get-some, slice_get-set_same, slice_get-set_other}
+use Rattle.pcm_cells.specs.Device.{ArrayState}
+use Rattle.masked_bytes.specs.Entries.{has_row}
+use Rattle.result_rows.specs.declared.Outcome.{Outcome}
+use Rattle.result_rows.specs.Table.{HasRow}
+use Rattle.bank_shape.specs.declared.BankShape.{BankShape}
+use Rattle.bank_model.specs.Timing.{Timed}
+use Rattle.feistel_map.specs.Network.{Network}
+use Rattle.module_shape.specs.declared.raw.RawShape.{RawShape}
+use Rattle.module_shape.specs.Addresses.{module_of, bank_shape}
+use Rattle.clock_laws.specs.State.{ClockState}
+use Rattle.clock_laws.specs.Leads.{Leads}
+use Rattle.clock_laws.specs.Standing.{has_waiting, arrives_with}
+use Rattle.module_laws.specs.Asking.{Asked}
+use Rattle.bank_timing.specs.Extending.{LeavesOthers, outcome_in}
+use Rattle.bank_timing.specs.Draining.{Drains}
+use Rattle.end_laws.specs.Ends.{BankEnd}
+use Rattle.end_laws.specs.EndLaws.{IsEndOf}
+use Rattle.run_laws.specs.Runs.{pacing_in, bank_of_line, line_in_bank}
+use Rattle.run_laws.specs.Finishing.{IsFinished}
+use Rattle.pcm_module.specs.State.{ModuleState, StandsNowhere, AreEndsOf, bank_at, first_bank}
+use Rattle.pcm_module.specs.Shaped.{IsModule, IsBankOf}
+use Rattle.pcm_module.specs.Replaying.{Replays, ReplaysIn, IsReplayed, asked_in_bank}
+use Rattle.pcm_module.specs.Draining.{MayFinish, IsDrained, DrainedIf, AreDrained}
+use Rattle.pcm_module.proofs.Naming.{names, not_named, apart_rows, rows_of_bank_all}
+use Rattle.pcm_module.proofs.Arriving.{own_asked}
+use Rattle.pcm_module.proofs.Banks.{banks_off, changed, changed_at, changed_off, at_get, from_get, cuts_apart}
+use Rattle.pcm_module.proofs.Beyond.{stays_same, stays_both, stays_by}
+use Rattle.pcm_module.proofs.TakenRows.{row_kept, bank_there}
+use Rattle.pcm_module.proofs.Becoming.{own_falls}
+use Rattle.pcm_module.proofs.Ending.{own_drains, beside_replays, beside_drained}
+
+pub not_below : (k reached : ℕ) → reached ≤ k → nat_lt k reached ≡ false
+not_below k reached h = by (nat_lt k reached) refl
+  where
+    by : (b : Bool) → nat_lt k reached ≡ b → b ≡ false
+    by false is = refl
+    by true is = absurd (omega (arith, h, ltb-true k reached is))
+
+-- the next bank is reached alone
+pub below_next : (k reached : ℕ) → k ≢ reached → nat_lt k (reached + 1) ≡ nat_lt k reached
+below_next k reached off = by (nat_lt k reached) refl
+  where
+    by : (b : Bool) → nat_lt k reached ≡ b → nat_lt k (reached + 1) ≡ b
+    by true is = lt-ltb k (reached + 1) (omega (arith, ltb-true k reached is))
+    by false is = not_below k (reached + 1) (above (nat_lt k reached) is (lt-ltb k reached))
+      where
+        above : (b : Bool) → b ≡ false → (k < reached → b ≡ true) → reached + 1 ≤ k
+        above b none then = omega (arith, off, not_less)
+          where
+            not_less : k < reached → ⊥
+            not_less less = let is : b ≡ true = then less in cc
+
+-- what holds of the bank that is there holds of the bank of that number
+pub at_bank : {n m e : ℕ} (module_ : ModuleState n m e) (P : ClockState n m e → Type 0) (bank : ℕ) → IsSomeAnd (slice_get module_.banks bank) P → P (bank_at module_ bank)
+at_bank {n = n} {m = m} {e = e} module_ P bank there = by (slice_get module_.banks bank) there
+  where
+    by : (o : Option (ClockState n m e)) → IsSomeAnd o P → P (unwrap_or o (first_bank module_.shape bank))
+    by None p = absurd p
+    by (Some clock) p = p
+
+module _ {n m e : ℕ} (module_ : ModuleState n m e) (before : ArrayState n m) (results : List (Outcome n)) where
+  -- before the first bank
+  pub drain_none : (banks : List (ClockState n m e)) → MayFinish module_ banks before results → AreDrained module_ 0 banks before before results results
+  drain_none banks may = record {
+    count = may.count;
+    ahead = λ bank above. ap (λ (cs : List (ClockState n m e)). slice_get cs bank) (sym may.same);
+    rows = refl;
+    replays = λ h asked f. (
+      (λ bank. []),
+      λ k there.
+          subst (λ (b : Bool). IsSomeAnd (slice_get banks k) (DrainedIf module_ b k (h k) asked before results)) (sym (not_below k 0 (omega arith)))
+          (subst (λ (cs : List (ClockState n m e)). IsSomeAnd (slice_get cs k) (ReplaysIn module_ k (h k) asked before results)) may.same (f.banks k there)),
+    );
+    others = λ row has nowhere. refl;
+    stays = stays_same _ before;
+  }
+
+  module _ (reached : ℕ) (banks : List (ClockState n m e)) (between : ArrayState n m) (recorded : List (Outcome n)) (clock : ClockState n m e)
+      (so_far : AreDrained module_ reached banks before between results recorded) (exists : reached < module_.shape.banks) (is : slice_get banks reached ≡ Some clock) where
+    -- the next bank still replays what was asked of it
+    pub next_replays : (h : ℕ → List (Timed n m)) (asked : List (Asked n)) (f : Replays h asked module_ before results)
+        → ReplaysIn module_ reached ((so_far.replays h asked f).0 reached ++ h reached) asked between recorded clock
+    next_replays h asked f =
+        let went = so_far.replays h asked f in
+        subst (λ (b : Bool). DrainedIf module_ b reached (went.0 reached ++ h reached) asked between recorded clock) (not_below reached reached (omega arith))
+        (from_get (DrainedIf module_ (nat_lt reached reached) reached (went.0 reached ++ h reached) asked between recorded) (slice_get banks reached) clock is (went.1 reached exists))
+
+    module _ (after : ArrayState n m) (ended : List (Outcome n)) (next : ClockState n m e)
+        (drains : (xs : List (Timed n m)) → Leads xs clock between → (added : List (Timed n m)) × Drains xs added clock next between after recorded ended) where
+      module _ (h : ℕ → List (Timed n m)) (asked : List (Asked n)) (f : Replays h asked module_ before results) where
+        abbrev added : ℕ → List (Timed n m)
+        added = (so_far.replays h asked f).0
+
+        abbrev went : ℕ → List (Timed n m)
+        went k = added k ++ h k
+
+        abbrev own : ℕ → List (Asked n)
+        own k = asked_in_bank module_ k asked
+
+        abbrev shape_of : ℕ → BankShape
+        shape_of k = bank_shape (module_of module_.shape) k
+
+        first : ReplaysIn module_ reached (went reached) asked between recorded clock
+        first = next_replays h asked f
+
+        abbrev run : (more : List (Timed n m)) × Drains (went reached) more clock next between after recorded ended
+        run = drains (went reached) (next_replays h asked f).leads
+
+        abbrev later : ℕ → List (Timed n m)
+        later = changed reached (run.0 ++ added reached) added
+
+        has_rows : (k : ℕ) → All (λ c. HasRow recorded c.row) (own k)
+        has_rows k =
+            rows_of_bank_all (bank_of_line module_.shape module_.seed) (line_in_bank module_.shape module_.seed) (λ r. HasRow recorded r) k asked
+            (All-weaker (λ (c : Asked n). HasRow results c.row) (λ (c : Asked n). HasRow recorded c.row) (λ c has. row_kept results recorded c.row so_far.rows has) asked f.in_table)
+
+        abbrev P : ℕ → ClockState n m e → Type 0
+        P k = DrainedIf module_ (nat_lt k (reached + 1)) k (later k ++ h k) asked after ended
+
+        here : DrainedIf module_ true reached (run.0 ++ went reached) asked after ended next
+        here =
+            own_drains (went reached) run.0 clock next between after recorded ended first.leads run.1 (shape_of reached) (pacing_in module_.shape) module_.tick module_.rows_below (own reached)
+            first (own_falls (bank_of_line module_.shape module_.seed) (line_in_bank module_.shape module_.seed) reached asked f.rows) (has_rows reached)
+            (cuts_apart (bank_of_line module_.shape module_.seed) (line_in_bank module_.shape module_.seed) reached asked f.rows)
+
+        -- a bank beside it
+        beside : (k : ℕ) → k ≢ reached → (c : ClockState n m e) → (b : Bool) → DrainedIf module_ b k (went k) asked between recorded c → DrainedIf module_ b k (went k) asked after ended c
+        beside k off c b = by b
+          where
+            apart : All (λ c. arrives_with (run.0 ++ went reached) c.row ≡ false) (own k)
+            apart =
+                All-weaker (λ (c : Asked n). names (own reached) c.row ≡ false) (λ (c : Asked n). arrives_with (run.0 ++ went reached) c.row ≡ false)
+                (λ c none. not_named c.row (run.0 ++ went reached) (own reached) (own_asked run.0 (went reached) (own reached) run.1.quiet first.arrived) none) (own k)
+                (apart_rows (bank_of_line module_.shape module_.seed) (line_in_bank module_.shape module_.seed) reached k (λ e. off (sym e)) asked f.rows)
+
+            by : (b : Bool) → DrainedIf module_ b k (went k) asked between recorded c → DrainedIf module_ b k (went k) asked after ended c
+            by true g =
+                beside_drained (went reached) run.0 clock next between after recorded ended first.leads run.1 (went k) c (own k) (shape_of reached) (shape_of k) (pacing_in module_.shape)
+                first.shaped g.shaped (banks_off (module_of module_.shape) reached k (λ e. off (sym e))) (has_rows k) apart g
+            by false g =
+                beside_replays (went reached) run.0 clock next between after recorded ended first.leads run.1 (went k) c (own k) (shape_of reached) (shape_of k) (pacing_in module_.shape)
+                first.shaped g.shaped (banks_off (module_of module_.shape) reached k (λ e. off (sym e))) (has_rows k) apart module_.tick module_.rows_below g
+
+        there_of : (k : ℕ) → k ≢ reached → (o : Option (ClockState n m e)) → slice_get banks k ≡ o
+            → IsSomeAnd o (DrainedIf module_ (nat_lt k reached) k (went k) asked between recorded) → IsSomeAnd (slice_get (slice_set banks reached next) k) (P k)
+        there_of k off None at g = absurd g
+        there_of k off (Some c) at g =
+            at_get (P k) (slice_get (slice_set banks reached next) k) c (slice_get-set_other banks reached k next off ∙ at)
+            (subst (λ (b : Bool). DrainedIf module_ b k (later k ++ h k) asked after ended c) (sym (below_next k reached off))
+            (subst (λ (a : List (Timed n m)). DrainedIf module_ (nat_lt k reached) k (a ++ h k) asked after ended c) (sym (changed_off reached (run.0 ++ added reached) added k off))
+            (beside k off c (nat_lt k reached) g)))
+
+        here_of : (k : ℕ) → k ≡ reached → IsSomeAnd (slice_get (slice_set banks reached next) k) (P k)
+        here_of k same =
+            subst (λ (j : ℕ). IsSomeAnd (slice_get (slice_set banks reached next) j) (P j)) (sym same)
+            (at_get (P reached) (slice_get (slice_set banks reached next) reached) next (slice_get-set_same banks reached next (omega (arith, so_far.count, exists)))
+            (subst (λ (b : Bool). DrainedIf module_ b reached (later reached ++ h reached) asked after ended next) (sym (lt-ltb reached (reached + 1) (omega arith)))
+            (subst (λ (a : List (Timed n m)). DrainedIf module_ true reached (a ++ h reached) asked after ended next) (sym (changed_at reached (run.0 ++ added reached) added reached refl))
+            (subst (λ (xs : List (Timed n m)). DrainedIf module_ true reached xs asked after ended next) (sym (append_assoc run.0 (added reached) (h reached))) here))))
+
+        replays_on : (k : ℕ) → k < module_.shape.banks → IsSomeAnd (slice_get (slice_set banks reached next) k) (P k)
+        replays_on k there =
+            elim (cases_eq k reached) [
+              | inl same ↦ here_of k same
+              | inr off ↦ there_of k off (slice_get banks k) refl ((so_far.replays h asked f).1 k there)
+            ]
+
+      -- it is drained
+      pub drain_one : IsReplayed module_ before results → LeavesOthers clock.bank recorded ended
+          → AreDrained module_ (reached + 1) (slice_set banks reached next) before after results ended
+      drain_one led leaves =
+          let first = next_replays led.0 led.1 led.2 in
+          let d = run led.0 led.1 led.2 in
+          record {
+            count = length-set banks reached next ∙ so_far.count;
+            ahead = λ k above. slice_get-set_other banks reached k next (λ e. absurd (omega (arith, above, e))) ∙ so_far.ahead k (omega (arith, above));
+            rows = d.1.rows ∙ so_far.rows;
+            replays = λ h asked f. (later h asked f, replays_on h asked f);
+            others = λ row has nowhere.
+                let stood = subst (λ (c : ClockState n m e). (has_row c.bank.kept.entries row ≡ false) × (has_waiting c.bank.waiting row ≡ false))
+                (bank_there module_ reached clock (sym (so_far.ahead reached (omega arith)) ∙ is)) (nowhere reached exists) in
+                leaves row (row_kept results recorded row so_far.rows has) stood.0 stood.1 ∙ so_far.others row has nowhere;
+            stays = stays_both _ before between after so_far.stays (stays_by (module_of module_.shape) reached clock.bank.kept.shape d.0 between after exists first.shaped d.1.adds);
+          }
+
+  module _ (banks : List (ClockState n m e)) (after : ArrayState n m) (recorded : List (Outcome n)) (d : AreDrained module_ module_.shape.banks banks before after results recorded) where
+    abbrev drained_module : ModuleState n m e
+    drained_module = record module_ { banks = banks; finished = true }
+
+    module _ (h : ℕ → List (Timed n m)) (asked : List (Asked n)) (f : Replays h asked module_ before results) where
+      each : (k : ℕ) → k < module_.shape.banks
+          → IsSomeAnd (slice_get banks k) (IsDrained (bank_shape (module_of module_.shape) k) (pacing_in module_.shape) ((d.replays h asked f).0 k ++ h k) (asked_in_bank module_ k asked) after recorded)
+      each k there =
+          subst (λ (b : Bool). IsSomeAnd (slice_get banks k) (DrainedIf module_ b k ((d.replays h asked f).0 k ++ h k) asked after recorded)) (lt-ltb k module_.shape.banks there)
+          ((d.replays h asked f).1 k there)
+
+      drained_at : (k : ℕ) → k < module_.shape.banks
+          → IsDrained (bank_shape (module_of module_.shape) k) (pacing_in module_.shape) ((d.replays h asked f).0 k ++ h k) (asked_in_bank module_ k asked) after recorded (bank_at drained_module k)
+      drained_at k there =
+          at_bank drained_module (IsDrained (bank_shape (module_of module_.shape) k) (pacing_in module_.shape) ((d.replays h asked f).0 k ++ h k) (asked_in_bank module_ k asked) after recorded) k (each k there)
+
+      -- all banks are drained
+      pub drain_every : (added : ℕ → List (Timed n m)) × IsFinished module_.shape module_.seed (λ k. added k ++ h k) asked (bank_at drained_module) after (outcome_in recorded)
+      drain_every = (
+        (d.replays h asked f).0,
+        record {
+          size = d.stays.lines ∙ f.size;
+          shapes = λ k there. (drained_at k there).shaped;
+          paces = λ k there. (drained_at k there).paced;
+          leads = λ k there. (drained_at k there).leads;
+          idle = λ k there. (drained_at k there).idle;
+          asked = λ k there. (drained_at k there).arrived;
+          recorded = λ k there. (drained_at k there).recorded;
+          ticks = f.ticks;
+          exist = f.exist;
+          log = λ log told k there. (drained_at k there).logged log told;
+        },
+      )
+
+    -- ends of the banks of their numbers are ends of the banks that are there
+    pub drained_ends : (ends : ℕ → BankEnd) → ((k : ℕ) → k < module_.shape.banks → IsEndOf (bank_at drained_module k).bank.kept (ends k)) → AreEndsOf drained_module ends
+    drained_ends ends own k there =
+        let clock = slice_get-some banks k (omega (arith, d.count, there)) in
+        at_get (λ (c : ClockState n m e). IsEndOf c.bank.kept (ends k)) (slice_get banks k) clock.0 clock.1
+        (subst (λ (c : ClockState n m e). IsEndOf c.bank.kept (ends k)) (bank_there drained_module k clock.0 clock.1) (own k there))
+
+    -- a module whose banks were drained is still one
+    pub module_drained : (network : Network) → IsModule module_.shape module_.seed network module_.banks module_.tick → IsReplayed module_ before results
+        → IsModule module_.shape module_.seed network banks module_.tick
+    module_drained network is led = record {
+      layout = is.layout;
+      in_range = is.in_range;
+      mixing = is.mixing;
+      count = d.count;
+      of_shape = λ k there. shaped k (slice_get banks k) ((d.replays led.0 led.1 led.2).0 k ++ led.0 k) (asked_in_bank module_ k led.1) (each led.0 led.1 led.2 k there);
+      in_time = is.in_time;
+    }
+      where
+        shaped : (k : ℕ) (o : Option (ClockState n m e)) (xs : List (Timed n m)) (own : List (Asked n))
+            → IsSomeAnd o (IsDrained (bank_shape (module_of module_.shape) k) (pacing_in module_.shape) xs own after recorded)
+            → IsSomeAnd o (IsBankOf (bank_shape (module_of module_.shape) k))
+        shaped k None xs own f = f
+        shaped k (Some c) xs own f = record { shaped = f.shaped; kept = f.leads.holds.kept }
+
+-- the bank that a loop over all banks has reached is one of them, and in the end all were
+pub reached_bank : (i end count banks : ℕ) → i < end → end ≡ count → count ≡ banks → i < banks
+reached_bank i end count banks less is all = omega (arith, less, is, all)
+
+pub reached_all : (i end count banks : ℕ) → i ≤ end → end ≤ i → end ≡ count → count ≡ banks → i ≡ banks
+reached_all i end count banks most past is all = omega (arith, most, past, is, all)
+
+pub time_left : (tick last most : ℕ) → tick ≤ last → last ≤ most → tick ≤ most
+time_left tick last most h k = omega (arith, h, k)

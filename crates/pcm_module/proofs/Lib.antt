@@ -1,0 +1,19 @@
+mod Standing
+mod Naming
+mod Moving
+mod Logging
+mod Steps
+mod Arriving
+pub mod Sizes
+mod Banks
+mod Beyond
+mod TakenRows
+mod Becoming
+mod Ending
+mod Draining
+mod Cuts
+mod Serving
+mod Events
+mod Making
+mod Translating
+mod EndRoles

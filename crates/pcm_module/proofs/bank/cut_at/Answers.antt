@@ -1,0 +1,54 @@
+use Rattle.std.proofs.Common.{◌≡◌, ℕ, ◌<◌, ◌∷◌, ◌++◌, List, refl, sym, ap, subst, ◌∙◌, arith}
+use Rattle.row_laws.specs.declared.Asks.{Asks}
+use Rattle.row_laws.specs.declared.Asks.TheVariants.{Reads, Writes, Cuts}
+use Rattle.bank_shape.specs.declared.BankShape.{BankShape}
+use Rattle.bank_model.specs.Events.{Write, Read}
+use Rattle.bank_model.specs.declared.clock.Doing.TheVariants.{Iterating}
+use Rattle.bank_model.specs.Timing.{Timed, is_doing}
+use Rattle.bank_invariant.specs.Serving.{read_from}
+use Rattle.bank_core.specs.Steps.{write_from}
+use Rattle.power_recovery.specs.Slots.{bank_lines}
+use Rattle.clock_laws.specs.Arriving.{arrival}
+use Rattle.clock_laws.specs.Cutting.{cut}
+use Rattle.module_laws.specs.Asking.{Asked}
+use Rattle.pcm_module.proofs.Arriving.{open_on, step_on}
+use Rattle.pcm_module.proofs.Sizes.{timed_fits, row_fits}
+use Rattle.pcm_module.proofs.bank.cut_at.Goals as goal
+
+pub power_cut-requires : goal.power_cut-requires
+power_cut-requires g c =
+    let run = c.advance.ensures.extends c.requires.led.0 c.requires.led.1 in (
+      timed_fits g.row.B g.row.M g.row.E c.requires.layout,
+      (
+        row_fits,
+        (
+          c.advance.ensures.going,
+          (
+            (run.0 ++ c.requires.led.0, run.1.leads),
+            c.advance.ensures.unset,
+          ),
+        ),
+      ),
+    )
+
+pub returns-clause-at : goal.returns-clause-at
+returns-clause-at g c = record {
+  now = c.power_cut.ensures.now ∙ c.advance.ensures.now;
+  going = c.power_cut.ensures.going;
+  below = omega (arith, c.power_cut.ensures.rows, c.advance.ensures.rows);
+  open_rows = c.power_cut.ensures.unset;
+}
+
+pub returns-clause-step : goal.returns-clause-step
+returns-clause-step g c row xs leads =
+    let run = c.advance.ensures.extends xs leads in
+    let before = g.A.CellArray.state c.args.array.now in
+    let between = g.A.CellArray.state c.advance.new.array in
+    let after = g.A.CellArray.state c.power_cut.new.array in
+    let next = c.power_cut.ensures.extends (run.0 ++ xs) run.1.leads in
+    let event : Timed g.row.B g.row.M = cut (run.0 ++ xs) c.advance.new.self (is_doing Iterating c.advance.new.self.action) in
+    let a : Asked g.row.B = record { row = row; tick = c.args.tick; asks = Cuts } in (
+      event ∷ run.0,
+      step_on xs run.0 c.args.timed.now c.advance.new.self c.power_cut.new.self before between after c.args.results.now c.advance.new.results c.power_cut.new.results leads run.2 run.1 event a next
+          (λ asked is. (sym c.advance.ensures.now, refl, is)) (λ other off. refl),
+    )

@@ -1,0 +1,57 @@
+use Rattle.std.proofs.Common.{◌≡◌, ℕ, ◌<◌, ◌∷◌, ◌++◌, List, refl, sym, ap, subst, arith}
+use Rattle.std.proofs.lemmas.Bool.{ne_eqb}
+use Rattle.row_laws.specs.declared.Asks.{Asks}
+use Rattle.row_laws.specs.declared.Asks.TheVariants.{Reads, Writes, Cuts}
+use Rattle.bank_shape.specs.declared.BankShape.{BankShape}
+use Rattle.bank_model.specs.Events.{Write, Read}
+use Rattle.bank_model.specs.declared.clock.Doing.TheVariants.{Iterating}
+use Rattle.bank_model.specs.Timing.{Timed, is_doing}
+use Rattle.bank_invariant.specs.Serving.{read_from}
+use Rattle.bank_core.specs.Steps.{write_from}
+use Rattle.power_recovery.specs.Slots.{bank_lines}
+use Rattle.clock_laws.specs.Arriving.{arrival}
+use Rattle.clock_laws.specs.Cutting.{cut}
+use Rattle.module_laws.specs.Asking.{Asked}
+use Rattle.pcm_module.proofs.Arriving.{open_on, step_on}
+use Rattle.pcm_module.proofs.Sizes.{timed_fits, row_fits}
+use Rattle.pcm_module.proofs.bank.read_at.Goals as goal
+
+pub arrive_read-requires : goal.arrive_read-requires
+arrive_read-requires g c =
+    let run = c.advance.ensures.extends c.requires.led.0 c.requires.led.1 in
+    let before = g.A.CellArray.state c.args.array.now in
+    let after = g.A.CellArray.state c.advance.new.array in
+    let stays = subst (λ (s : BankShape). c.args.line < bank_lines s) (sym run.1.shape) c.requires.exists in
+    let still = open_on c.requires.led.0 run.0 c.args.timed.now c.advance.new.self c.advance.new.self before after after c.args.results.now c.advance.new.results c.advance.new.results c.requires.led.1 run.2 run.1 c.args.row c.requires.rises c.requires.fresh in (
+      timed_fits g.row.B g.row.M g.row.E c.requires.layout,
+      (
+        row_fits,
+        (
+          c.advance.ensures.going,
+          (
+            (run.0 ++ c.requires.led.0, after, run.1.leads),
+            (
+              stays,
+              (
+                omega (arith, c.advance.ensures.rows, c.requires.rises),
+                (c.advance.ensures.unset, still),
+              ),
+            ),
+          ),
+        ),
+      ),
+    )
+
+pub returns-clause-step : goal.returns-clause-step
+returns-clause-step g c xs leads =
+    let run = c.advance.ensures.extends xs leads in
+    let before = g.A.CellArray.state c.args.array.now in
+    let after = g.A.CellArray.state c.advance.new.array in
+    let next = c.arrive_read.ensures.extends (run.0 ++ xs) after run.1.leads in
+    let event : Timed g.row.B g.row.M = arrival c.advance.new.self.tick (Read c.args.row c.args.line (read_from c.advance.new.self.bank c.args.line)) in
+    let a : Asked g.row.B = record { row = c.args.row; tick = c.args.tick; asks = Reads c.args.line } in (
+      event ∷ run.0,
+      step_on xs run.0 c.args.timed.now c.advance.new.self c.arrive_read.new.self before after after c.args.results.now c.advance.new.results c.arrive_read.new.results leads run.2 run.1 event a next
+          (λ asked is. (ap (λ (t : ℕ). let b : Asked g.row.B = record { row = c.args.row; tick = t; asks = Reads c.args.line } in b) (sym c.advance.ensures.now), is))
+          (λ other off. ne_eqb c.args.row other (λ e. off (sym e))),
+    )

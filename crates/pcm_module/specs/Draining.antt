@@ -1,0 +1,54 @@
+-- How far the banks of a module were drained.
+use Rattle.std.specs.Prelude.{◌≡◌, ℕ, ◌*◌, ◌<◌, ◌≤◌, nat_lt, Bool, true, false, List, ◌++◌, length, IsSomeAnd, slice_get}
+use Rattle.pcm_cells.specs.Device.{ArrayState}
+use Rattle.result_rows.specs.declared.Outcome.{Outcome}
+use Rattle.result_rows.specs.Table.{HasRow}
+use Rattle.bank_shape.specs.declared.BankShape.{BankShape}
+use Rattle.bank_model.specs.Timing.{Pacing, Timed}
+use Rattle.bank_model.specs.Lawful.{IsIdle}
+use Rattle.module_shape.specs.Addresses.{module_of, bank_shape, array_lines_of}
+use Rattle.module_laws.specs.Asking.{Asked, AreAsked}
+use Rattle.module_laws.specs.Serves.{AreRecorded}
+use Rattle.clock_laws.specs.State.{ClockState}
+use Rattle.clock_laws.specs.Leads.{Leads}
+use Rattle.bank_timing.specs.Extending.{outcome_in, last_tick}
+use Rattle.run_laws.specs.Runs.{pacing_in}
+use Rattle.pcm_module.specs.State.{ModuleState, StandsNowhere}
+use Rattle.pcm_module.specs.Replaying.{IsLogged, Replays, ReplaysIn, IsReplayed, asked_in_bank}
+use Rattle.pcm_module.specs.Taking.{StaysBeyond}
+
+-- a whole history leads to a bank of this shape and pace with nothing left to do, and each row that was asked of the bank has its last
+-- outcome
+pub record IsDrained {n m e : ℕ} (shape : BankShape) (pace : Pacing) (xs : List (Timed n m)) (asked : List (Asked n)) (array : ArrayState n m) (results : List (Outcome n)) (clock : ClockState n m e) : Type 0 where
+  pub shaped : clock.bank.kept.shape ≡ shape
+  pub paced : clock.pace ≡ pace
+  pub leads : Leads xs clock array
+  pub idle : IsIdle shape pace xs
+  pub logged : IsLogged shape xs array
+  pub arrived : AreAsked xs asked
+  pub recorded : AreRecorded shape xs (outcome_in results) asked
+
+module _ {n m e : ℕ} (module_ : ModuleState n m e) where
+  -- a module with these banks may be finished: its last row is in time, and some histories replay what was asked of it
+  pub record MayFinish (banks : List (ClockState n m e)) (array : ArrayState n m) (results : List (Outcome n)) : Type 0 where
+    pub same : module_.banks ≡ banks
+    pub count : length banks ≡ module_.shape.banks
+    pub in_time : module_.tick ≤ last_tick
+    pub led : IsReplayed module_ array results
+
+  -- a bank was drained, or its history replays what was asked of it
+  abbrev pub DrainedIf : Bool → ℕ → List (Timed n m) → List (Asked n) → ArrayState n m → List (Outcome n) → ClockState n m e → Type 0
+  DrainedIf true bank xs asked array results clock =
+      IsDrained (bank_shape (module_of module_.shape) bank) (pacing_in module_.shape) xs (asked_in_bank module_ bank asked) array results clock
+  DrainedIf false bank xs asked array results clock = ReplaysIn module_ bank xs asked array results clock
+
+  -- the banks below this number were drained, and those from it on are as before; each bank's history goes on
+  pub record AreDrained (reached : ℕ) (banks : List (ClockState n m e)) (before after : ArrayState n m) (results recorded : List (Outcome n)) : Type 0 where
+    pub count : length banks ≡ module_.shape.banks
+    pub ahead : (bank : ℕ) → reached ≤ bank → slice_get banks bank ≡ slice_get module_.banks bank
+    pub rows : length recorded ≡ length results
+    pub replays : (h : ℕ → List (Timed n m)) (asked : List (Asked n)) → Replays h asked module_ before results
+        → (added : ℕ → List (Timed n m)) × ((bank : ℕ) → bank < module_.shape.banks
+        → IsSomeAnd (slice_get banks bank) (DrainedIf (nat_lt bank reached) bank (added bank ++ h bank) asked after recorded))
+    pub others : (row : ℕ) → HasRow results row → StandsNowhere module_ row → outcome_in recorded row ≡ outcome_in results row
+    pub stays : StaysBeyond (module_.shape.banks * array_lines_of (module_of module_.shape)) before after

@@ -1,0 +1,34 @@
+-- What a row does to a module.
+use Rattle.std.specs.Prelude.{◌≡◌, ◌≢◌, ℕ, ◌+◌, ◌*◌, ◌<◌, ◌≤◌, List, ◌∷◌, ◌++◌, length, Some}
+use Rattle.pcm_cells.specs.declared.array.Sense.{Sense}
+use Rattle.pcm_cells.specs.Device.{ArrayState}
+use Rattle.result_rows.specs.declared.Outcome.{Outcome}
+use Rattle.result_rows.specs.Table.{HasRow}
+use Rattle.bank_model.specs.Timing.{Timed}
+use Rattle.module_shape.specs.Addresses.{module_of, array_lines_of}
+use Rattle.module_laws.specs.Asking.{Asked}
+use Rattle.bank_timing.specs.Extending.{IsOpen, outcome_in}
+use Rattle.pcm_module.specs.State.{ModuleState, StandsNowhere}
+use Rattle.pcm_module.specs.Replaying.{Replays}
+
+-- the array has as many lines as before, each line from this one on is as before, and a log that is told has kept its senses
+pub record StaysBeyond {n m : ℕ} (own : ℕ) (before after : ArrayState n m) : Type 0 where
+  pub lines : after.lines ≡ before.lines
+  pub beyond : (line : ℕ) → own ≤ line → after.line line ≡ before.line line
+  pub log : (told : List (Sense n m)) → after.log ≡ Some told
+      → (was : List (Sense n m)) × (more : List (Sense n m)) × (before.log ≡ Some was) × (told ≡ was ++ more)
+
+-- a row was taken: the histories that replayed what was asked before go on, and replay it with this row; a row that stood nowhere keeps
+-- its outcome, and one behind this one stays open
+pub record Takes {n m e : ℕ} (a : Asked n) (old new : ModuleState n m e) (before after : ArrayState n m) (results recorded : List (Outcome n)) : Type 0 where
+  pub shape : new.shape ≡ old.shape
+  pub seed : new.seed ≡ old.seed
+  pub tick : new.tick ≡ a.tick
+  pub rows : new.rows_below ≡ a.row + 1
+  pub going : new.finished ≡ old.finished
+  pub table : length recorded ≡ length results
+  pub replays : (h : ℕ → List (Timed n m)) (asked : List (Asked n)) → Replays h asked old before results
+      → (added : ℕ → List (Timed n m)) × Replays (λ bank. added bank ++ h bank) (a ∷ asked) new after recorded
+  pub open_rows : (other : ℕ) → a.row < other → IsOpen results other → IsOpen recorded other
+  pub others : (other : ℕ) → HasRow results other → other ≢ a.row → StandsNowhere old other → outcome_in recorded other ≡ outcome_in results other
+  pub stays : StaysBeyond (old.shape.banks * array_lines_of (module_of old.shape)) before after

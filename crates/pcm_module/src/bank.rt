@@ -1,0 +1,91 @@
+// What a module asks of one of its banks.
+ghost use Rattle.std.specs.Prelude.{◌≡◌, ◌+◌, ◌<◌, ◌≤◌, ℕ, List, false};
+ghost use Rattle.pcm_cells.specs.Device.{ArrayState};
+ghost use Rattle.ecp_line.specs.Layout.{IsLayout};
+ghost use Rattle.masked_bytes.specs.Masked.{IsMasked};
+ghost use Rattle.row_laws.specs.declared.Asks.TheVariants.{Reads, Writes, Cuts};
+ghost use Rattle.power_recovery.specs.Slots.{bank_lines};
+ghost use Rattle.bank_model.specs.Timing.{Timed as TimedEvent};
+ghost use Rattle.clock_laws.specs.Leads.{Leads};
+ghost use Rattle.bank_timing.specs.Extending.{AreOpen, IsOpen, last_tick};
+ghost use Rattle.pcm_module.specs.Stepping.{IsAt, IsStep};
+
+use bank_timing::timed::Timed;
+use pcm_cells::CellArray;
+use result_rows::Results;
+
+/// A read of a bank line arrives at a tick.
+pub fn read_at<const B: usize, const M: usize, const E: usize, A: CellArray<B, M>>(
+    timed: &mut Timed<B, M, E>,
+    array: &mut A,
+    tick: u64,
+    row: u32,
+    line: u32,
+    results: &mut Results<B>,
+)
+    requires layout { IsLayout B M E }
+    requires going { timed.old.drained ≡ false }
+    requires led { (xs : List (TimedEvent B M)) × Leads xs timed.old (A.state array.old) }
+    requires forward { timed.old.tick ≤ tick }
+    requires within { tick ≤ last_tick }
+    requires exists { line < bank_lines timed.old.bank.kept.shape }
+    requires rises { timed.old.bank.rows_below ≤ row }
+    requires open { AreOpen timed.old.bank results.old }
+    requires fresh { IsOpen results.old row }
+    ensures at { IsAt tick (row + 1) timed.new results.new }
+    ensures step { (xs : List (TimedEvent B M)) → Leads xs timed.old (A.state array.old)
+        → (added : List (TimedEvent B M)) × IsStep xs added (record { row = row; tick = tick; asks = Reads line }) timed.old timed.new (A.state array.old) (A.state array.new) results.old results.new }
+{
+    timed.advance(array, tick, results);
+    timed.arrive_read(row, line, results);
+}
+
+/// A write of a bank line arrives at a tick.
+pub fn write_at<const B: usize, const M: usize, const E: usize, A: CellArray<B, M>>(
+    timed: &mut Timed<B, M, E>,
+    array: &mut A,
+    tick: u64,
+    row: u32,
+    line: u32,
+    bytes: [u8; B],
+    given: [bool; B],
+    results: &mut Results<B>,
+)
+    requires layout { IsLayout B M E }
+    requires going { timed.old.drained ≡ false }
+    requires led { (xs : List (TimedEvent B M)) × Leads xs timed.old (A.state array.old) }
+    requires forward { timed.old.tick ≤ tick }
+    requires within { tick ≤ last_tick }
+    requires exists { line < bank_lines timed.old.bank.kept.shape }
+    requires rises { timed.old.bank.rows_below ≤ row }
+    requires masked { IsMasked B bytes given }
+    requires open { AreOpen timed.old.bank results.old }
+    requires fresh { IsOpen results.old row }
+    ensures at { IsAt tick (row + 1) timed.new results.new }
+    ensures step { (xs : List (TimedEvent B M)) → Leads xs timed.old (A.state array.old)
+        → (added : List (TimedEvent B M)) × IsStep xs added (record { row = row; tick = tick; asks = Writes line bytes.entry given.entry }) timed.old timed.new (A.state array.old) (A.state array.new) results.old results.new }
+{
+    timed.advance(array, tick, results);
+    timed.arrive_write(row, line, bytes, given, results);
+}
+
+/// The power is cut at a tick; the cut's row has a number of which no bank hears.
+pub fn cut_at<const B: usize, const M: usize, const E: usize, A: CellArray<B, M>>(
+    timed: &mut Timed<B, M, E>,
+    array: &mut A,
+    tick: u64,
+    results: &mut Results<B>,
+)
+    requires layout { IsLayout B M E }
+    requires going { timed.old.drained ≡ false }
+    requires led { (xs : List (TimedEvent B M)) × Leads xs timed.old (A.state array.old) }
+    requires forward { timed.old.tick ≤ tick }
+    requires within { tick ≤ last_tick }
+    requires open { AreOpen timed.old.bank results.old }
+    ensures at { IsAt tick timed.old.bank.rows_below timed.new results.new }
+    ensures step { (row : ℕ) (xs : List (TimedEvent B M)) → Leads xs timed.old (A.state array.old)
+        → (added : List (TimedEvent B M)) × IsStep xs added (record { row = row; tick = tick; asks = Cuts }) timed.old timed.new (A.state array.old) (A.state array.new) results.old results.new }
+{
+    timed.advance(array, tick, results);
+    timed.power_cut(array, results);
+}

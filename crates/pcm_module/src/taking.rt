@@ -1,0 +1,140 @@
+// The rows of a trace, one after the other.
+ghost use Rattle.std.specs.Prelude.{◌≡◌, ◌≢◌, ◌*◌, ◌+◌, ◌<◌, ◌≤◌, ℕ, List, ◌∷◌, ◌++◌, length, false};
+ghost use Rattle.masked_bytes.specs.Masked.{IsMasked};
+ghost use Rattle.result_rows.specs.Table.{HasRow};
+ghost use Rattle.row_laws.specs.declared.Asks.TheVariants.{Reads, Writes, Cuts};
+ghost use Rattle.trace_reader.specs.Events.{IsEventFor};
+ghost use Rattle.bank_model.specs.Timing.{Timed as TimedEvent};
+ghost use Rattle.module_shape.specs.Limits.{total_of};
+ghost use Rattle.module_shape.specs.Addresses.{module_of, array_lines_of};
+ghost use Rattle.module_laws.specs.Asking.{Asked};
+ghost use Rattle.bank_timing.specs.Extending.{IsOpen, outcome_in, last_tick};
+ghost use Rattle.pcm_module.specs.Asking.{asked_by};
+ghost use Rattle.pcm_module.specs.State.{StandsNowhere};
+ghost use Rattle.pcm_module.specs.Replaying.{Replays, IsReplayed};
+ghost use Rattle.pcm_module.specs.Taking.{Takes, StaysBeyond};
+
+use crate::bank::{cut_at, read_at, write_at};
+use crate::module::Module;
+use pcm_cells::CellArray;
+use result_rows::{Outcome, Results};
+use trace_reader::{Event, EventOp};
+
+impl<const B: usize, const M: usize, const E: usize> Module<B, M, E> {
+    /// A row of the trace, with its number, above those of all rows before it. A read or a write brings its own bank alone
+    /// to its tick; a power cut reaches each bank.
+    pub fn event<A: CellArray<B, M>>(
+        &mut self,
+        array: &mut A,
+        row: u32,
+        event: &Event<B>,
+        results: &mut Results<B>,
+    )
+        requires going { self.old.finished ≡ false }
+        requires replays { (h : ℕ → List (TimedEvent B M)) × (asked : List (Asked B)) × Replays h asked self.old (A.state array.old) results.old }
+        requires event { IsEventFor (total_of self.old.shape) self.old.tick event.now }
+        requires rises { self.old.rows_below ≤ row }
+        requires open { IsOpen results.old row }
+        ensures shape { self.new.shape ≡ self.old.shape }
+        ensures seed { self.new.seed ≡ self.old.seed }
+        ensures going { self.new.finished ≡ false }
+        ensures tick { self.new.tick ≡ event.now.tick }
+        ensures rows { self.new.rows_below ≡ row + 1 }
+        ensures table { length results.new ≡ length results.old }
+
+        // each bank's history goes on, and leads on with this row
+        ensures replays { (h : ℕ → List (TimedEvent B M)) (asked : List (Asked B)) → Replays h asked self.old (A.state array.old) results.old
+            → (added : ℕ → List (TimedEvent B M)) × Replays (λ bank. added bank ++ h bank) (asked_by row event.now ∷ asked) self.new (A.state array.new) results.new }
+        ensures open { (other : ℕ) → row < other → IsOpen results.old other → IsOpen results.new other }
+        ensures others { (other : ℕ) → HasRow results.old other → other ≢ row → StandsNowhere self.old other → outcome_in results.new other ≡ outcome_in results.old other }
+        ensures stays { StaysBeyond (self.old.shape.banks * array_lines_of (module_of self.old.shape)) (A.state array.old) (A.state array.new) }
+    {
+        // A field that is read makes known what is true of every module.
+        let _ = &self.shape;
+        match event.op {
+            EventOp::Read(line) => self.read(array, event.tick, row, line, results),
+            EventOp::Write(line, bytes) => {
+                self.write(array, event.tick, row, line, bytes, [true; B], results);
+            }
+            EventOp::Mask(line, bytes, given) => {
+                self.write(array, event.tick, row, line, bytes, given, results);
+            }
+            EventOp::Cut => self.cut(array, event.tick, row, results),
+        }
+    }
+
+    // A read of a line arrives at its bank.
+    fn read<A: CellArray<B, M>>(
+        &mut self,
+        array: &mut A,
+        tick: u64,
+        row: u32,
+        line: u32,
+        results: &mut Results<B>,
+    )
+        requires led { IsReplayed self.old (A.state array.old) results.old }
+        requires forward { self.old.tick ≤ tick }
+        requires within { tick ≤ last_tick }
+        requires exists { line < total_of self.old.shape }
+        requires rises { self.old.rows_below ≤ row }
+        requires fresh { IsOpen results.old row }
+        ensures takes { Takes (record { row = row; tick = tick; asks = Reads line }) self.old self.new (A.state array.old) (A.state array.new) results.old results.new }
+    {
+        let place = self.place(line);
+        let timed = &mut self.banks[place.bank as usize];
+        read_at(timed, array, tick, row, place.line, results);
+        self.tick = tick;
+        self.rows_below = row as u64 + 1;
+    }
+
+    // A write of a line arrives at its bank.
+    fn write<A: CellArray<B, M>>(
+        &mut self,
+        array: &mut A,
+        tick: u64,
+        row: u32,
+        line: u32,
+        bytes: [u8; B],
+        given: [bool; B],
+        results: &mut Results<B>,
+    )
+        requires led { IsReplayed self.old (A.state array.old) results.old }
+        requires forward { self.old.tick ≤ tick }
+        requires within { tick ≤ last_tick }
+        requires exists { line < total_of self.old.shape }
+        requires masked { IsMasked B bytes given }
+        requires rises { self.old.rows_below ≤ row }
+        requires fresh { IsOpen results.old row }
+        ensures takes { Takes (record { row = row; tick = tick; asks = Writes line bytes.entry given.entry }) self.old self.new (A.state array.old) (A.state array.new) results.old results.new }
+    {
+        let place = self.place(line);
+        let timed = &mut self.banks[place.bank as usize];
+        write_at(timed, array, tick, row, place.line, bytes, given, results);
+        self.tick = tick;
+        self.rows_below = row as u64 + 1;
+    }
+
+    // The power is cut: each bank is brought to the tick and cut, in order. The outcome of the cut's own row is known at once.
+    fn cut<A: CellArray<B, M>>(
+        &mut self,
+        array: &mut A,
+        tick: u64,
+        row: u32,
+        results: &mut Results<B>,
+    )
+        requires led { IsReplayed self.old (A.state array.old) results.old }
+        requires forward { self.old.tick ≤ tick }
+        requires within { tick ≤ last_tick }
+        requires rises { self.old.rows_below ≤ row }
+        requires fresh { IsOpen results.old row }
+        ensures takes { Takes (record { row = row; tick = tick; asks = Cuts }) self.old self.new (A.state array.old) (A.state array.new) results.old results.new }
+    {
+        let banks = self.shape.banks();
+        results.set(row, Outcome::Cut { tick });
+        for bank in 0..banks {
+            cut_at(&mut self.banks[bank as usize], array, tick, results);
+        }
+        self.tick = tick;
+        self.rows_below = row as u64 + 1;
+    }
+}
