@@ -199,56 +199,6 @@ no_bit_of bytes zeros n =
       | inr high ↦ bit_of_past bytes n (omega arith)
     ]
 
--- byte by byte, the new bits are those wanted where the mask is, and else the old ones
-pub record PutsBytes (old mask want new : List ℕ) : Type 0 where
-  pub bytes : (k : ℕ) → get_or new k 0 ≡ bit_xor (get_or old k 0) (bit_and (bit_xor (get_or old k 0) (get_or want k 0)) (get_or mask k 0))
-
-pick : (o w m : Bool) → xor o (xor o w && m) ≡ cond m w o
-pick true true true = refl
-pick true true false = refl
-pick true false true = refl
-pick true false false = refl
-pick false true true = refl
-pick false true false = refl
-pick false false true = refl
-pick false false false = refl
-
-pub bit_of_put : (old mask want new : List ℕ) → PutsBytes old mask want new
-    → (n : ℕ) → bit_of new n ≡ cond (bit_of mask n) (bit_of want n) (bit_of old n)
-bit_of_put old mask want new h n =
-    let o : ℕ = get_or old (n / 8) 0 in
-    let w : ℕ = get_or want (n / 8) 0 in
-    let m : ℕ = get_or mask (n / 8) 0 in
-    ap (λ x. eqb (bit_at x (n % 8)) 1) (h.bytes (n / 8))
-    ∙ digit_xor o (bit_and (bit_xor o w) m) (n % 8)
-    ∙ ap (xor (eqb (bit_at o (n % 8)) 1)) (digit_and (bit_xor o w) m (n % 8) ∙ ap (λ x. x && eqb (bit_at m (n % 8)) 1) (digit_xor o w (n % 8)))
-    ∙ pick (eqb (bit_at o (n % 8)) 1) (eqb (bit_at w (n % 8)) 1) (eqb (bit_at m (n % 8)) 1)
-
-pub puts_all : (old mask want new : List ℕ) (n : ℕ) → length old ≡ length mask → length old ≡ length want → length old ≤ n
-    → ((k : ℕ) → k < n → get_or new k 0 ≡ bit_xor (get_or old k 0) (bit_and (bit_xor (get_or old k 0) (get_or want k 0)) (get_or mask k 0)))
-    → ((k : ℕ) → n ≤ k → get_or new k 0 ≡ get_or old k 0) → PutsBytes old mask want new
-puts_all old mask want new n len_mask len_want all done kept = record {
-  bytes = λ k.
-      elim (cases_lt k n) [
-        | inl low ↦ done k low
-        | inr high ↦
-            kept k high ∙ get_or_past old k 0 (omega arith)
-            ∙ sym (rw (get_or_past old k 0 (omega arith), get_or_past want k 0 (omega arith)) refl)
-      ];
-}
-
-chosen : (m w o : Bool) → (m ≡ false → o ≡ w) → cond m w o ≡ w
-chosen true w o e = refl
-chosen false w o e = e refl
-
--- where all bits that differ from the wanted ones are masked, the wanted bytes come out
-pub put_whole : (old mask want new : List ℕ) → PutsBytes old mask want new → length new ≡ length want
-    → ((k : ℕ) → k < length new → get_or new k 0 < 256) → ((k : ℕ) → k < length want → get_or want k 0 < 256)
-    → ((n : ℕ) → bit_of mask n ≡ false → bit_of old n ≡ bit_of want n) → new ≡ want
-put_whole old mask want new h len small_new small_want covers =
-    bytes_from_bits new want len small_new small_want
-    (λ n. bit_of_put old mask want new h n ∙ chosen (bit_of mask n) (bit_of want n) (bit_of old n) (covers n))
-
 -- a byte that is 0 has no bit
 pub no_bit_in : (bytes : List ℕ) (k : ℕ) → eqb (get_or bytes k 0) 0 ≡ true → (n : ℕ) → 8 * k ≤ n → n < 8 * k + 8 → bit_of bytes n ≡ false
 no_bit_in bytes k clear n low high =
@@ -269,6 +219,16 @@ one_or a b small_a small_b =
 
 pub digit_or : (a b i : ℕ) → bit_in (bit_or a b) i ≡ cond (bit_in a i) true (bit_in b i)
 digit_or a b i = ap (λ x. eqb x 1) (bit_at_or a b i) ∙ one_or _ _ (bit_at-lt a i) (bit_at-lt b i)
+
+pick : (o w m : Bool) → xor o (xor o w && m) ≡ cond m w o
+pick true true true = refl
+pick true true false = refl
+pick true false true = refl
+pick true false false = refl
+pick false true true = refl
+pick false true false = refl
+pick false false true = refl
+pick false false false = refl
 
 -- a choice between two bytes, bit by bit
 pub digit_choice : (byte mask want i : ℕ) → bit_in (bit_xor byte (bit_and (bit_xor byte want) mask)) i ≡ cond (bit_in mask i) (bit_in want i) (bit_in byte i)

@@ -149,37 +149,6 @@ members-more has n is = members-suc has n ∙ ap (λ b. members has n + cond b 1
 pub members-same : (has : ℕ → Bool) (n : ℕ) → has n ≡ false → members has (n + 1) ≡ members has n
 members-same has n isnt = members-suc has n ∙ ap (λ b. members has n + cond b 1 0) isnt ∙ add-zero _
 
--- bits from cells: what is so of all cells is so of the data bits
-pub bits_agree : {B M : ℕ} (mask old want : Cells B M) → length mask.bits ≡ B → length old.bits ≡ B → length want.bits ≡ B
-    → ((n : ℕ) → cell mask n ≡ false → cell old n ≡ cell want n) → (n : ℕ) → bit_of mask.bits n ≡ false → bit_of old.bits n ≡ bit_of want.bits n
-bits_agree {B} {M} mask old want len_mask len_old len_want covers n unmasked =
-    elim (cases_lt n (8 * B)) as (λ _. bit_of old.bits n ≡ bit_of want.bits n) [
-      | inl low ↦
-          sym (cell-bits old n len_old low) ∙ covers n (cell-bits mask n len_mask low ∙ unmasked) ∙ cell-bits want n len_want low
-      | inr high ↦ bit_of_past old.bits n (omega arith) ∙ sym (bit_of_past want.bits n (omega arith))
-    ]
-
-pub meta_agree : {B M : ℕ} (mask old want : Cells B M) → length mask.bits ≡ B → length old.bits ≡ B → length want.bits ≡ B
-    → ((n : ℕ) → cell mask n ≡ false → cell old n ≡ cell want n) → (n : ℕ) → bit_of mask.meta n ≡ false → bit_of old.meta n ≡ bit_of want.meta n
-meta_agree {B} {M} mask old want len_mask len_old len_want covers n unmasked =
-    let here : 8 * B + n - 8 * B ≡ n = omega arith in
-    let e : (row : Cells B M) → length row.bits ≡ B → cell row (8 * B + n) ≡ bit_of row.meta n =
-    λ row len. cell-meta row (8 * B + n) len (omega arith) ∙ ap (bit_of row.meta) here in
-    sym (e old len_old) ∙ covers (8 * B + n) (e mask len_mask ∙ unmasked) ∙ e want len_want
-
--- what three rows make bit by bit they make cell by cell
-pub cells_by_choice : {B M : ℕ} (mask want old new : Cells B M) → length mask.bits ≡ B → length want.bits ≡ B → length old.bits ≡ B → length new.bits ≡ B
-    → ((n : ℕ) → bit_of new.bits n ≡ cond (bit_of mask.bits n) (bit_of want.bits n) (bit_of old.bits n))
-    → ((n : ℕ) → bit_of new.meta n ≡ cond (bit_of mask.meta n) (bit_of want.meta n) (bit_of old.meta n))
-    → (n : ℕ) → cell new n ≡ cond (cell mask n) (cell want n) (cell old n)
-cells_by_choice {B} {M} mask want old new len_mask len_want len_old len_new bits meta n =
-    elim (cases_lt n (8 * B)) as (λ _. cell new n ≡ cond (cell mask n) (cell want n) (cell old n)) [
-      | inl low ↦
-          rw (cell-bits new n len_new low, cell-bits mask n len_mask low, cell-bits want n len_want low, cell-bits old n len_old low) (bits n)
-      | inr high ↦
-          rw (cell-meta new n len_new high, cell-meta mask n len_mask high, cell-meta want n len_want high, cell-meta old n len_old high) (meta (n - 8 * B))
-    ]
-
 -- the cells of a group of eight are the bits of its byte
 pub group-bits : {B M : ℕ} (row : Cells B M) (group i : ℕ) → length row.bits ≡ B → group < B → i < 8 → bit_in (get_or row.bits group 0) i ≡ cell row (8 * group + i)
 group-bits row group i len within h =

@@ -1,7 +1,6 @@
 pub mod Rows
 pub mod Shape
 pub mod Pulse
-pub mod Plain
 pub mod Device
 pub mod Cell
 pub mod Follows

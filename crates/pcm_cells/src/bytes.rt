@@ -68,18 +68,6 @@ pub(crate) fn chosen(byte: u8, mask: u8, want: u8) -> u8
     byte ^ (byte ^ want) & mask
 }
 
-// Lets each masked bit be as wanted, and keeps the others.
-pub(crate) fn put(bytes: &mut [u8], mask: &[u8], want: &[u8])
-    requires mask { length bytes.old ≡ length mask.now }
-    requires want { length bytes.old ≡ length want.now }
-    ensures bits { (n : ℕ) → bit_of bytes.new n ≡ (if bit_of mask.now n then bit_of want.now n else bit_of bytes.old n) }
-    ensures whole { ((n : ℕ) → bit_of mask.now n ≡ false → bit_of bytes.old n ≡ bit_of want.now n) → bytes.new ≡ want.now }
-{
-    for i in 0..bytes.len() {
-        bytes[i] = chosen(bytes[i], mask[i], want[i]);
-    }
-}
-
 // The bits of a byte that the other one lacks.
 pub(crate) fn without(byte: u8, other: u8) -> u8
     ensures { (i : ℕ) → bit_in result i ≡ not (bit_in other i) && bit_in byte i }

@@ -4,7 +4,7 @@ ghost use Rattle.pcm_cells.specs.Rows.{cell, zero_row, xor, members};
 ghost use Rattle.pcm_cells.specs.Shape.{IsShape};
 ghost use Rattle.pcm_cells.specs.Planes.{bit_in};
 
-use crate::bytes::{and_with, bit, is_zero, put, set_bit, xor_with};
+use crate::bytes::{and_with, bit, is_zero, set_bit, xor_with};
 
 /// A row of `8 * B` data cells and `8 * M` check cells of one bit each, or a mask over such a row.
 /// Cell `n` is bit `n % 8`, the lowest being bit 0, of byte `n / 8` of the data bytes followed by the check bytes.
@@ -71,15 +71,6 @@ impl<const B: usize, const M: usize> Cells<B, M> {
         and_with(&mut result.bits, &other.bits);
         and_with(&mut result.meta, &other.meta);
         result
-    }
-
-    /// Lets each masked cell hold its wanted value.
-    pub(crate) fn put(&mut self, mask: &Cells<B, M>, want: &Cells<B, M>)
-        ensures cells { (n : ℕ) → cell self.new n ≡ (if cell mask.now n then cell want.now n else cell self.old n) }
-        ensures whole { ((n : ℕ) → cell mask.now n ≡ false → cell self.old n ≡ cell want.now n) → self.new ≡ want.now }
-    {
-        put(&mut self.bits, &mask.bits, &want.bits);
-        put(&mut self.meta, &mask.meta, &want.meta);
     }
 
     /// The cells of a group of eight, as the bits of a byte.

@@ -1,7 +1,7 @@
 ghost use Rattle.std.specs.Prelude.{◌≡◌, ◌<◌};
 ghost use Rattle.pcm_cells.specs.Device.{IsShape};
 
-use crate::{Act, CellArray, Cells, LoggedArray, MemArray, PlainArray, Script, ScriptArray, Wear};
+use crate::{Act, CellArray, Cells, LoggedArray, MemArray, Script, ScriptArray, Wear};
 use std::test::Fail;
 
 // Every cell sticks in its first change.
@@ -76,24 +76,6 @@ fn wide_cells_are_bits_of_both_halves(rt: HostRuntime) {
     assert!(rt; row.get(1151) && !row.get(1150));
     assert!(rt; row.differ(&row).is_none() && !row.meet(&row).is_none());
     assert_eq!(rt; row.count(), 1);
-}
-
-#[test]
-fn perfect_cells_take_what_is_wanted(rt: HostRuntime) -> Result<(), Fail> {
-    let mut array: PlainArray<64, 8> = PlainArray::new();
-    array.power_up(rt.alloc(), 2)?;
-    assert_eq!(rt; array.lines(), 2);
-    let want = Cells {
-        bits: [0xa5; 64],
-        meta: [0; 8],
-    };
-    let mask = array.sense(1).differ(&want);
-    if !mask.is_none() {
-        array.pulse(1, &mask, &want);
-    }
-    assert_eq!(rt; array.sense(1).bits[63], 0xa5);
-    assert!(rt; array.sense(0).is_none());
-    Ok(())
 }
 
 #[test]

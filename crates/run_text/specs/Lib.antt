@@ -1,0 +1,3 @@
+-- What the contracts of printing a run cite.
+pub mod Gathering
+pub mod ResultText
