@@ -2,7 +2,7 @@
 //! with the status that this answers.
 #![tactic(auto)]
 
-use pcm_cells::PlainArray;
+use pcm_cells::MemArray;
 use pcm_io::{StdSink, StdSource, write_all};
 use pcm_top::pcm_run;
 use std::process::ExitCode;
@@ -31,7 +31,8 @@ fn main(rt: HostRuntime) -> ExitCode {
         Ok(words) => pcm_run(
             rt.alloc(),
             words.as_slice(),
-            &mut PlainArray::new(),
+            &mut MemArray::<64, 8>::new(),
+            &mut MemArray::<128, 16>::new(),
             &mut StdSource::new(rt.stdin()),
             &mut StdSink::new(rt.stdout()),
             &mut err,

@@ -1,16 +1,14 @@
 -- A bank runs on to a tick, and then a row arrives: both calls together are one step.
-use Rattle.std.proofs.Common.{◌≡◌, ◌≢◌, ℕ, ◌+◌, ◌<◌, ◌≤◌, ◌==◌, ◌||◌, Bool, true, false, List, [], ◌∷◌, ◌++◌, length, refl, sym, ap, subst, ◌∙◌, arith}
-use Rattle.std.specs.Prelude.{All, IsTrue, IsFalse}
+use Rattle.std.proofs.Common.{◌≡◌, ◌≢◌, ℕ, ◌≤◌, ◌==◌, ◌||◌, false, List, [], ◌∷◌, ◌++◌, refl, sym, ap, subst, ◌∙◌, arith}
+use Rattle.std.specs.Prelude.{IsTrue}
 use Rattle.std.proofs.lemmas.Bool.{ne_eqb}
-use Rattle.std.proofs.lemmas.List.Elements.{All-head, All-tail, All-nil, All-cons}
+use Rattle.std.proofs.lemmas.List.Elements.{All-head, All-tail}
 use Rattle.pcm_cells.specs.Device.{ArrayState}
 use Rattle.result_rows.specs.declared.Outcome.{Outcome}
-use Rattle.result_rows.specs.Table.{HasRow}
 use Rattle.bank_shape.specs.declared.BankShape.{BankShape}
 use Rattle.bank_model.specs.Events.{Write, Read, Serve, Begin, Iterate, Cut, RowsBelow}
-use Rattle.bank_model.specs.Timing.{Pacing, Happens, Core, Timed, core, core_of}
+use Rattle.bank_model.specs.Timing.{Happens, Core, Timed, core, core_of}
 use Rattle.bank_model.specs.Adding.{Adds}
-use Rattle.bank_model.specs.Lawful.{Lawful, MayCome}
 use Rattle.clock_laws.specs.State.{ClockState}
 use Rattle.clock_laws.specs.Leads.{Leads}
 use Rattle.clock_laws.specs.Recording.{outcome_on}
@@ -22,7 +20,7 @@ use Rattle.bank_timing.specs.Extending.{Extends, IsOpen, IsQuiet, EndsAction, ou
 use Rattle.bank_laws.specs.Ticks.{ends_action}
 use Rattle.pcm_module.specs.Stepping.{IsStep}
 use Rattle.pcm_module.proofs.Standing.{or_none, or_left, or_right}
-use Rattle.pcm_module.proofs.Moving.{untouched, open_kept, outcome_at_row, lawful_whole}
+use Rattle.pcm_module.proofs.Moving.{untouched, open_kept, outcome_at_row}
 
 module _ {n m : ℕ} where
   abbrev Ends : Timed n m → Type 0

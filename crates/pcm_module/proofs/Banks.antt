@@ -1,29 +1,26 @@
 -- One bank takes a step, and the banks beside it stay.
-use Rattle.std.proofs.Common.{◌≡◌, ◌≢◌, ◌⊎◌, ℕ, ◌+◌, ◌*◌, ◌<◌, ◌≤◌, ◌==◌, ◌&&◌, Bool, true, false, if◌then◌else◌, cond, List, [], ◌∷◌, ◌++◌, map, length, Option, Some, None, refl, sym, ap, subst, ◌∙◌, inl, inr, eqb-true, eq-eqb, suc, arith}
+use Rattle.std.proofs.Common.{◌≡◌, ◌≢◌, ℕ, ◌+◌, ◌*◌, ◌<◌, ◌≤◌, ◌==◌, ◌&&◌, Bool, true, false, if◌then◌else◌, cond, List, [], ◌∷◌, ◌++◌, map, Option, Some, None, refl, sym, ap, subst, ◌∙◌, inl, inr, eq-eqb, suc, arith}
 use Rattle.std.specs.Prelude.{filter, All, IsSomeAnd, slice_get, slice_set}
 use Rattle.std.proofs.lemmas.Bool.{ne_eqb, cases_lt, cases_eq}
 use Rattle.std.proofs.Math.Nat.{mul-le-mul_left, mul-suc, mul_comm}
 use Rattle.std.proofs.lemmas.Option.{slice_get_within}
-use Rattle.std.proofs.lemmas.List.Elements.{All-head, All-tail, All-nil, All-cons, All-weaker, All-same}
+use Rattle.std.proofs.lemmas.List.Elements.{All-nil, All-cons, All-weaker}
 use Rattle.circular_buffer.proofs.Places.{slice_get-set_same, slice_get-set_other}
 use Rattle.pcm_cells.specs.Device.{ArrayState}
 use Rattle.result_rows.specs.declared.Outcome.{Outcome}
 use Rattle.result_rows.specs.Table.{HasRow}
-use Rattle.row_laws.specs.declared.Asks.{Asks}
 use Rattle.row_laws.specs.Table.{is_of}
-use Rattle.bank_shape.specs.declared.BankShape.{BankShape}
 use Rattle.bank_model.specs.Timing.{Pacing, Timed}
 use Rattle.module_shape.specs.Addresses.{ModuleShape, bank_shape, array_lines_of}
 use Rattle.clock_laws.specs.State.{ClockState}
-use Rattle.clock_laws.specs.Leads.{Leads}
 use Rattle.clock_laws.specs.Standing.{arrives_with}
-use Rattle.module_laws.specs.Asking.{Asked, asked_in, asked_of, AreAsked}
-use Rattle.bank_timing.specs.Extending.{Extends, outcome_in}
+use Rattle.module_laws.specs.Asking.{Asked, asked_in, asked_of}
+use Rattle.bank_timing.specs.Extending.{outcome_in}
 use Rattle.pcm_module.specs.Stepping.{IsAt, IsStep}
 use Rattle.pcm_module.specs.Replaying.{BankReplays, RowsFall, outcome_so_far}
-use Rattle.pcm_module.proofs.Naming.{is_numbered, names, not_named, above_all, apart_rows, rows_of_bank_all, head_names, All-both, and_off}
+use Rattle.pcm_module.proofs.Naming.{is_numbered, names, not_named, above_all, rows_of_bank_all, All-both, and_off}
 use Rattle.pcm_module.proofs.Standing.{or_none}
-use Rattle.pcm_module.proofs.Logging.{IsIn, AreOff}
+use Rattle.pcm_module.proofs.Logging.{AreOff}
 use Rattle.pcm_module.proofs.Steps.{own_replays, other_replays}
 
 -- the lines of an earlier bank end before those of a later one

@@ -1,5 +1,5 @@
 -- The banks of a module are drained one after the other.
-use Rattle.std.proofs.Common.{◌≡◌, ◌≢◌, ℕ, ◌+◌, ◌*◌, ◌<◌, ◌≤◌, nat_lt, Bool, true, false, List, [], ◌++◌, length, Option, Some, None, refl, sym, ap, subst, ◌∙◌, inl, inr, append_assoc, arith}
+use Rattle.std.proofs.Common.{◌≡◌, ◌≢◌, ℕ, ◌+◌, ◌<◌, ◌≤◌, nat_lt, Bool, true, false, List, [], ◌++◌, Option, Some, None, refl, sym, ap, subst, ◌∙◌, inl, inr, append_assoc, arith}
 use Rattle.std.specs.Prelude.{All, IsSomeAnd, slice_get, slice_set, unwrap_or}
 use Rattle.std.proofs.lemmas.Bool.{cases_eq, lt-ltb, ltb-true}
 use Rattle.std.proofs.lemmas.List.Elements.{All-weaker}
@@ -12,7 +12,6 @@ use Rattle.result_rows.specs.Table.{HasRow}
 use Rattle.bank_shape.specs.declared.BankShape.{BankShape}
 use Rattle.bank_model.specs.Timing.{Timed}
 use Rattle.feistel_map.specs.Network.{Network}
-use Rattle.module_shape.specs.declared.raw.RawShape.{RawShape}
 use Rattle.module_shape.specs.Addresses.{module_of, bank_shape}
 use Rattle.clock_laws.specs.State.{ClockState}
 use Rattle.clock_laws.specs.Leads.{Leads}
@@ -24,7 +23,7 @@ use Rattle.end_laws.specs.Ends.{BankEnd}
 use Rattle.end_laws.specs.EndLaws.{IsEndOf}
 use Rattle.run_laws.specs.Runs.{pacing_in, bank_of_line, line_in_bank}
 use Rattle.run_laws.specs.Finishing.{IsFinished}
-use Rattle.pcm_module.specs.State.{ModuleState, StandsNowhere, AreEndsOf, bank_at, first_bank}
+use Rattle.pcm_module.specs.State.{ModuleState, AreEndsOf, bank_at, first_bank}
 use Rattle.pcm_module.specs.Shaped.{IsModule, IsBankOf}
 use Rattle.pcm_module.specs.Replaying.{Replays, ReplaysIn, IsReplayed, asked_in_bank}
 use Rattle.pcm_module.specs.Draining.{MayFinish, IsDrained, DrainedIf, AreDrained}

@@ -1,5 +1,5 @@
 -- A bank of a module is drained, and the banks beside it stay.
-use Rattle.std.proofs.Common.{◌≡◌, ◌≢◌, ℕ, ◌+◌, Bool, true, false, if◌then◌else◌, List, [], ◌++◌, map, refl, sym, ap, subst, ◌∙◌, arith}
+use Rattle.std.proofs.Common.{◌≡◌, ◌≢◌, ℕ, Bool, true, false, if◌then◌else◌, List, ◌++◌, map, refl, sym, ap, subst, ◌∙◌, arith}
 use Rattle.std.specs.Prelude.{All}
 use Rattle.pcm_cells.specs.Device.{ArrayState}
 use Rattle.masked_bytes.specs.declared.entry.Entry.{Entry}
@@ -13,7 +13,7 @@ use Rattle.bank_shape.specs.declared.BankShape.{BankShape}
 use Rattle.bank_model.specs.Timing.{Pacing, Timed, core}
 use Rattle.bank_model.specs.Adding.{Adds}
 use Rattle.bank_model.specs.Told.{tick_of_row}
-use Rattle.bank_model.specs.History.{Awaited, queue, waits}
+use Rattle.bank_model.specs.History.{Awaited, queue}
 use Rattle.bank_model.specs.Lawful.{Lawful, IsIdle}
 use Rattle.bank_laws.specs.Outcomes.{outcome_of, ended}
 use Rattle.bank_laws.specs.Settling.{AreOpen}

@@ -1,6 +1,6 @@
 -- A module that was just made.
 use Rattle.std.proofs.Common.{◌≡◌, ℕ, zero, suc, false, ◌+◌, ◌*◌, ◌<◌, ◌≤◌, List, [], ◌∷◌, ◌++◌, length, Some, refl, sym, ap, subst, ◌∙◌, inl, inr, arith}
-use Rattle.std.specs.Prelude.{All, IsSomeAnd, slice_get}
+use Rattle.std.specs.Prelude.{slice_get}
 use Rattle.std.proofs.lemmas.Bool.{cases_eq}
 use Rattle.std.proofs.lemmas.List.Elements.{All-nil}
 use Rattle.circular_buffer.proofs.Places.{slice_get-append_left, slice_get-last}
@@ -13,7 +13,7 @@ use Rattle.feistel_map.specs.Network.{Network, network_of}
 use Rattle.bank_shape.specs.declared.BankShape.{BankShape}
 use Rattle.bank_shape.specs.Shape.{IsBankShape}
 use Rattle.power_recovery.proofs.Bundle.{IsKept-first}
-use Rattle.bank_model.specs.Timing.{Pacing, Timed}
+use Rattle.bank_model.specs.Timing.{Pacing}
 use Rattle.bank_laws.specs.Laws.{log_of}
 use Rattle.bank_core.specs.Steps.{IsFreshFor}
 use Rattle.module_shape.specs.declared.raw.RawShape.{RawShape}
@@ -23,7 +23,7 @@ use Rattle.module_laws.specs.Asking.{Asked}
 use Rattle.module_laws.specs.Serves.{IsOfLines}
 use Rattle.clock_laws.specs.State.{ClockState}
 use Rattle.clock_laws.specs.Leads.{Leads}
-use Rattle.bank_timing.specs.Extending.{first_clock, IsOpen, outcome_in, last_tick}
+use Rattle.bank_timing.specs.Extending.{first_clock, outcome_in}
 use Rattle.run_laws.specs.Runs.{pacing_in}
 use Rattle.pcm_module.specs.State.{ModuleState, first_bank, banks_from}
 use Rattle.pcm_module.specs.Shaped.{IsModule, IsBankOf}
@@ -88,9 +88,9 @@ module _ (n m e : ℕ) (raw : RawShape) where
             ∙ ap (λ (c : ClockState n m e). ones bank 0 ++ c ∷ []) same ∙ sym (banks_more bank 0 bank (omega arith));
         first = λ k h. elim (cases_eq k bank) [
           | inl last ↦ subst IsFirst (sym last) (record {
-              leads = λ array fresh. subst (λ (c : ClockState n m e). Leads [] c array) same (first array (subst (λ (s : BankShape). IsFreshFor s array) (sym shaped) fresh));
-              shape = subst IsBankShape shaped in_range;
-            })
+            leads = λ array fresh. subst (λ (c : ClockState n m e). Leads [] c array) same (first array (subst (λ (s : BankShape). IsFreshFor s array) (sym shaped) fresh));
+            shape = subst IsBankShape shaped in_range;
+          })
           | inr other ↦ were.first k (omega (arith, h, other))
         ];
       }

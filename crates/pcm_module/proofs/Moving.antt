@@ -1,37 +1,26 @@
 -- What a row that arrives at one bank leaves of that bank and of the others.
-use Rattle.std.proofs.Common.{◌≡◌, ◌≢◌, ◌⊎◌, ℕ, ◌+◌, ◌-◌, ◌<◌, ◌≤◌, ◌==◌, ◌||◌, ◌&&◌, Bool, true, false, cond, List, [], ◌∷◌, ◌++◌, length, Option, Some, None, refl, sym, ap, subst, ◌∙◌, eqb-true, eq-eqb, inl, inr, append_assoc, arith}
-use Rattle.std.specs.Prelude.{filter, All, unwrap_or, IsFalse, nat_le, nat_lt, slice_get}
-use Rattle.std.proofs.lemmas.List.Elements.{All-head, All-tail, All-nil, All-cons, All-append, filter-append}
+use Rattle.std.proofs.Common.{◌≡◌, ◌⊎◌, ℕ, ◌-◌, ◌||◌, Bool, true, false, List, [], ◌∷◌, ◌++◌, length, Some, refl, sym, ap, subst, ◌∙◌, inl, inr, arith}
+use Rattle.std.specs.Prelude.{unwrap_or}
 use Rattle.circular_buffer.proofs.Places.{slice_get-some}
-use Rattle.pcm_cells.specs.declared.array.Sense.{Sense}
 use Rattle.pcm_cells.specs.Device.{ArrayState}
-use Rattle.masked_bytes.specs.declared.entry.Entry.{Entry}
 use Rattle.masked_bytes.specs.Entries.{has_row}
 use Rattle.result_rows.specs.declared.Outcome.{Outcome}
 use Rattle.result_rows.specs.declared.Outcome.TheVariants as out
-use Rattle.result_rows.specs.Table.{HasRow, outcome_at}
-use Rattle.row_laws.specs.declared.Asks.{Asks}
-use Rattle.row_laws.specs.declared.Asks.TheVariants.{Reads, Writes, Cuts}
+use Rattle.result_rows.specs.Table.{HasRow}
 use Rattle.bank_shape.specs.declared.BankShape.{BankShape}
-use Rattle.bank_shape.specs.Shape.{lines_in}
-use Rattle.bank_model.specs.History.{queue, waits}
-use Rattle.bank_model.specs.Timing.{Pacing, Timed, core}
-use Rattle.bank_model.specs.Adding.{Adds, senses_of}
+use Rattle.bank_model.specs.Timing.{Pacing, Timed}
 use Rattle.bank_model.specs.Lawful.{Lawful}
 use Rattle.bank_laws.specs.Outcomes.{outcome_of, outcome_with}
-use Rattle.bank_laws.specs.Laws.{log_of}
-use Rattle.bank_invariant.specs.declared.Waiting.{Waiting}
 use Rattle.clock_laws.specs.State.{ClockState}
 use Rattle.clock_laws.specs.Leads.{Leads}
 use Rattle.clock_laws.specs.Recording.{outcome_on}
 use Rattle.clock_laws.specs.Standing.{has_waiting, is_arrival_of, arrives_with}
 use Rattle.clock_laws.proofs.Recording.{whole_outcome_law}
 use Rattle.clock_laws.proofs.Others.{other_rows_law}
-use Rattle.clock_laws.proofs.Elsewhere.{elsewhere_law}
 use Rattle.module_laws.specs.Asking.{Asked, AreAsked}
-use Rattle.bank_timing.specs.Extending.{Extends, AreOpen, IsOpen, outcome_in}
+use Rattle.bank_timing.specs.Extending.{Extends, IsOpen, outcome_in}
 use Rattle.pcm_module.proofs.Standing.{StandsNot, stands_not, or_left, or_right}
-use Rattle.pcm_module.proofs.Naming.{is_numbered, names, not_named, of_named, All-both}
+use Rattle.pcm_module.proofs.Naming.{names, not_named}
 
 module _ {n m : ℕ} where
   pub off_both : (row : ℕ) (added xs : List (Timed n m)) → arrives_with (added ++ xs) row ≡ false → (arrives_with added row ≡ false) × (arrives_with xs row ≡ false)

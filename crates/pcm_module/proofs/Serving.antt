@@ -1,5 +1,5 @@
 -- A read and a write of a line are taken by the line's bank, and what a bank of a module has for them.
-use Rattle.std.proofs.Common.{◌≡◌, ◌≢◌, ℕ, ◌+◌, ◌<◌, ◌≤◌, ◌==◌, Bool, true, false, List, [], ◌∷◌, length, get_or, Option, Some, refl, sym, ap, subst, ◌∙◌, eq-eqb, inl, inr, arith}
+use Rattle.std.proofs.Common.{◌≡◌, ℕ, ◌+◌, ◌<◌, ◌≤◌, Bool, List, length, get_or, Some, refl, sym, ap, subst, ◌∙◌, eq-eqb, inl, inr, arith}
 use Rattle.std.specs.Prelude.{IsSomeAnd, slice_get, slice_set}
 use Rattle.std.proofs.lemmas.Bool.{ne_eqb, cases_eq}
 use Rattle.std.proofs.lemmas.Option.{get_or_from_slice_get}
@@ -16,13 +16,12 @@ use Rattle.module_shape.specs.Limits.{total_of}
 use Rattle.module_shape.specs.Addresses.{module_of, bank_shape}
 use Rattle.clock_laws.specs.State.{ClockState}
 use Rattle.clock_laws.specs.Leads.{Leads}
-use Rattle.module_laws.specs.Asking.{Asked}
 use Rattle.bank_timing.specs.Extending.{IsOpen, last_tick}
 use Rattle.run_laws.specs.Runs.{pacing_in, bank_of_line, line_in_bank}
 use Rattle.pcm_module.specs.State.{ModuleState}
 use Rattle.pcm_module.specs.Shaped.{IsModule, IsBankOf}
 use Rattle.pcm_module.specs.Stepping.{IsAt, IsStep}
-use Rattle.pcm_module.specs.Replaying.{BankReplays, ReplaysIn, IsReplayed, asked_in_bank}
+use Rattle.pcm_module.specs.Replaying.{BankReplays, IsReplayed, asked_in_bank}
 use Rattle.pcm_module.specs.Taking.{Takes}
 use Rattle.pcm_module.proofs.Banks.{from_get, at_get}
 use Rattle.pcm_module.proofs.TakenRows.{takes_one}

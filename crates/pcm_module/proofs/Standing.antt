@@ -1,5 +1,5 @@
 -- A row that didn't arrive in a history stands nowhere in the bank.
-use Rattle.std.proofs.Common.{◌≡◌, ℕ, ◌==◌, ◌||◌, Bool, true, false, if◌then◌else◌, List, [], ◌∷◌, ◌++◌, map, drop, Option, Some, None, refl, sym, ap, ◌∙◌}
+use Rattle.std.proofs.Common.{◌≡◌, ℕ, ◌==◌, ◌||◌, Bool, true, false, if◌then◌else◌, List, [], ◌∷◌, ◌++◌, map, drop, Option, Some, None, refl, ap, ◌∙◌}
 use Rattle.masked_bytes.specs.declared.entry.Entry.{Entry}
 use Rattle.masked_bytes.specs.Entries.{laid_on, merged, has_row}
 use Rattle.bank_shape.specs.declared.BankShape.{BankShape}
@@ -10,7 +10,6 @@ use Rattle.bank_model.specs.Events.{Event, Write, Read, Serve, Begin, Iterate, C
 use Rattle.bank_model.specs.History.{Awaited, queue, waits, begun, due_after}
 use Rattle.bank_model.specs.Timing.{Happens, Core, Timed, core, core_of}
 use Rattle.bank_laws.specs.Standing.{has_wait}
-use Rattle.bank_invariant.specs.declared.Waiting.{Waiting}
 use Rattle.bank_invariant.specs.Holds.{waiting_of}
 use Rattle.clock_laws.specs.Standing.{has_waiting, is_arrival_of, arrives_with}
 

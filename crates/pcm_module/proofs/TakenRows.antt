@@ -1,5 +1,5 @@
 -- A read or a write is taken by its own bank.
-use Rattle.std.proofs.Common.{◌≡◌, ◌≢◌, ℕ, ◌+◌, ◌*◌, ◌<◌, ◌≤◌, ◌==◌, Bool, true, false, cond, List, [], ◌∷◌, ◌++◌, map, length, Option, Some, None, refl, sym, ap, subst, ◌∙◌, inl, inr, arith}
+use Rattle.std.proofs.Common.{◌≡◌, ◌≢◌, ℕ, ◌+◌, ◌<◌, ◌≤◌, Bool, true, false, cond, List, ◌∷◌, ◌++◌, map, length, Some, refl, sym, ap, subst, ◌∙◌, arith}
 use Rattle.std.specs.Prelude.{filter, All, slice_get, slice_set, unwrap_or}
 use Rattle.std.proofs.lemmas.List.Elements.{All-cons, All-weaker}
 use Rattle.pcm_cells.specs.Device.{ArrayState}
@@ -11,14 +11,13 @@ use Rattle.row_laws.specs.declared.Asks.{Asks}
 use Rattle.row_laws.specs.declared.Asks.TheVariants.{Reads, Writes, Cuts}
 use Rattle.row_laws.specs.Table.{is_of}
 use Rattle.bank_shape.specs.declared.BankShape.{BankShape}
-use Rattle.bank_model.specs.Events.{RowsBelow}
 use Rattle.bank_model.specs.Timing.{Timed, core}
 use Rattle.bank_laws.specs.Settling.{AreOpen}
 use Rattle.bank_laws.specs.Outcomes.{outcome_of}
 use Rattle.bank_laws.proofs.Settling.{opens}
 use Rattle.bank_invariant.proofs.Quiet.{RowsBelow-more}
 use Rattle.module_shape.specs.Limits.{total_of}
-use Rattle.module_shape.specs.Addresses.{module_of, bank_shape, array_lines_of}
+use Rattle.module_shape.specs.Addresses.{module_of, bank_shape}
 use Rattle.clock_laws.specs.State.{ClockState}
 use Rattle.clock_laws.specs.Leads.{Leads}
 use Rattle.clock_laws.specs.Standing.{has_waiting}
@@ -26,7 +25,7 @@ use Rattle.module_laws.specs.Asking.{Asked, asked_in, AreAsked}
 use Rattle.module_laws.specs.Serves.{IsOfLines}
 use Rattle.bank_timing.specs.Extending.{IsOpen, outcome_in}
 use Rattle.run_laws.specs.Runs.{pacing_in, bank_of_line, line_in_bank}
-use Rattle.pcm_module.specs.State.{ModuleState, StandsNowhere, bank_at, first_bank}
+use Rattle.pcm_module.specs.State.{ModuleState, bank_at, first_bank}
 use Rattle.pcm_module.specs.Stepping.{IsAt, IsStep}
 use Rattle.pcm_module.specs.Replaying.{BankReplays, Replays, IsReplayed, RowsFall, outcome_so_far, asked_in_bank}
 use Rattle.pcm_module.specs.Taking.{Takes}

@@ -1,6 +1,5 @@
 -- Where a line of a module stands in the array: among the array lines of its bank, and no other line stands there.
-use Rattle.std.proofs.Common.{◌≡◌, ℕ, ◌+◌, ◌*◌, ◌/◌, ◌<◌, ◌≤◌, Option, Some, inl, inr, sym, ap, subst, ◌∙◌, arith}
-use Rattle.std.specs.Prelude.{slice_get}
+use Rattle.std.proofs.Common.{◌≡◌, ℕ, ◌+◌, ◌*◌, ◌<◌, ◌≤◌, inl, inr, sym, ap, subst, ◌∙◌, arith}
 use Rattle.std.proofs.lemmas.Bool.{cases_lt}
 use Rattle.std.proofs.lemmas.Nat.{mod_below, mul-le}
 use Rattle.bank_shape.specs.declared.BankShape.{BankShape}
@@ -11,7 +10,7 @@ use Rattle.power_recovery.specs.Kept.{KeptState, IsKept, slot_of, array_line, st
 use Rattle.power_recovery.proofs.Placing.{slot_of-within, slot_of-apart}
 use Rattle.bank_invariant.proofs.Retiring.{array_line-apart}
 use Rattle.feistel_map.specs.Network.{Network}
-use Rattle.module_shape.specs.Limits.{IsShape, total_of}
+use Rattle.module_shape.specs.Limits.{total_of}
 use Rattle.module_shape.specs.Addresses.{module_of, bank_shape, lines_of, array_lines_of}
 use Rattle.module_laws.specs.Serves.{AreLines}
 use Rattle.clock_laws.specs.State.{ClockState}

@@ -1,10 +1,9 @@
 //! Two banks side by side, of two regions of four lines each.
 #![tactic(auto, using(ecp_line::proofs::Sizes::layout_64))]
 
-ghost use Rattle.std.specs.Prelude.{◌≡◌, ◌+◌, ◌*◌, ◌<◌, ◌≤◌, ℕ, List, IfOk, IsTrue, false};
-ghost use Rattle.trace_reader.specs.Events.{IsEventFor, IsOpFor};
+ghost use Rattle.std.specs.Prelude.{◌≡◌, ◌+◌, ◌*◌, ◌<◌, ◌≤◌, ℕ, List, IfOk, IfSome, IsTrue, false};
+ghost use Rattle.trace_reader.specs.Events.{IsOpFor};
 ghost use Rattle.result_rows.specs.declared.Outcome.{Outcome as OutcomeOf};
-ghost use Rattle.module_shape.specs.Limits.{total_of};
 ghost use Rattle.bank_timing.specs.Extending.{IsOpen};
 ghost use Rattle.pcm_module.specs.Replaying.{IsReplayed};
 
@@ -15,6 +14,7 @@ use result_rows::{Outcome, Results};
 use std::alloc::{AllocError, Global};
 use std::test::Fail;
 use trace_reader::{Event, EventOp};
+use wear_report::Role;
 
 const WEAR: Wear = Wear {
     seed: 0,
@@ -72,13 +72,16 @@ enum Saw {
     Cut(u64),
 }
 
-fn event(tick: u64, call: Call) -> Event<64> {
-    let op = match call {
-        Call::Write(line, byte) => EventOp::Write(line, [byte; 64]),
-        Call::Read(line) => EventOp::Read(line),
-        Call::Cut => EventOp::Cut,
-    };
-    Event { tick, op }
+// What comes with a call at one of so many lines, if it is one.
+fn op_for(call: Call, lines: u32) -> Option<EventOp<64>>
+    ensures { IfSome result (λ op. IsOpFor lines op) }
+{
+    match call {
+        Call::Write(line, byte) if line < lines => Some(EventOp::Write(line, [byte; 64])),
+        Call::Read(line) if line < lines => Some(EventOp::Read(line)),
+        Call::Cut => Some(EventOp::Cut),
+        _ => None,
+    }
 }
 
 fn outcome(saw: Saw) -> Outcome<64> {
@@ -113,25 +116,14 @@ fn is_open(results: &Results<64>, row: u32) -> bool
     }
 }
 
-// Whether an operation is one for so many lines; masked writes are left out.
-fn is_op_for(op: &EventOp<64>, lines: u32) -> bool
-    ensures { IsTrue result → IsOpFor lines op.now }
-{
-    match op {
-        EventOp::Read(line) => *line < lines,
-        EventOp::Write(line, _) => *line < lines,
-        EventOp::Mask(..) => false,
-        EventOp::Cut => true,
-    }
-}
-
 // A row of this number comes, unless it can't.
 fn play<A: CellArray<64, 8>>(
     memory: &mut Module<64, 8, 6>,
     array: &mut A,
     results: &mut Results<64>,
     row: u32,
-    event: &Event<64>,
+    tick: u64,
+    call: Call,
 ) -> bool
     requires going { memory.old.finished ≡ false }
     requires replayed { IsReplayed memory.old (A.state array.old) results.old }
@@ -140,14 +132,13 @@ fn play<A: CellArray<64, 8>>(
     ensures replayed { IsReplayed memory.new (A.state array.new) results.new }
     ensures rises { memory.new.rows_below ≤ row + 1 }
 {
-    let lines = memory.shape().total();
-    if event.tick < memory.tick || event.tick > LAST_TICK {
+    if tick < memory.tick || tick > LAST_TICK || !is_open(results, row) {
         return false;
     }
-    if !is_op_for(&event.op, lines) || !is_open(results, row) {
+    let Some(op) = op_for(call, memory.shape().total()) else {
         return false;
-    }
-    memory.event(array, row, event, results);
+    };
+    memory.event(array, row, &Event { tick, op }, results);
     true
 }
 
@@ -162,7 +153,8 @@ fn powered<A: CellArray<64, 8>>(
     ensures rows { IfOk result (λ memory. memory.rows_below ≡ 0) }
 {
     array.power_up(alloc, shape.array_lines(), WEAR)?;
-    Module::new(alloc, shape, 0)
+    let memory = Module::new(alloc, shape, 0)?;
+    Ok(memory)
 }
 
 // Plays the rows from row 1 on up to the end: whether each could be played.
@@ -182,8 +174,7 @@ fn plays<A: CellArray<64, 8>>(
             return false;
         }
         row += 1;
-        let event = event(*tick, *call);
-        if !play(memory, array, results, row, &event) {
+        if !play(memory, array, results, row, *tick, *call) {
             return false;
         }
     }
@@ -206,31 +197,46 @@ fn first_other(results: &Results<64>, table: &[(u64, Call, Saw)]) -> Option<u32>
     None
 }
 
-// Plays the rows over a module of its own, and answers the first that couldn't be played (0) or whose outcome is another.
-fn differs<A: CellArray<64, 8>>(
+// Plays the rows over a module of its own: that module, and the first row that couldn't be played (0) or whose outcome is another.
+fn played<A: CellArray<64, 8>>(
     alloc: Global,
     array: &mut A,
     shape: Shape,
     table: &[(u64, Call, Saw)],
-) -> Result<Option<u32>, AllocError> {
-    let mut module = powered(alloc, array, shape)?;
+) -> Result<(Module<64, 8, 6>, Option<u32>), AllocError> {
+    let mut memory = powered(alloc, array, shape)?;
     let mut results = Results::new(alloc, 100)?;
-    if plays(&mut module, array, &mut results, table) {
-        Ok(first_other(&results, table))
+    let other = if plays(&mut memory, array, &mut results, table) {
+        first_other(&results, table)
     } else {
-        Ok(Some(0))
+        Some(0)
+    };
+    Ok((memory, other))
+}
+
+// A script in which seven cells of an array line stick at 0 at its first pulse, more than it can correct.
+fn worn(alloc: Global, line: u32) -> Result<Vec<Script>, AllocError> {
+    let mut script = Vec::new(alloc);
+    for cell in 0..7 {
+        script.push(Script {
+            line,
+            cell,
+            turn: 1,
+            act: Act::Stick(false),
+        })?;
     }
+    Ok(script)
 }
 
 #[test]
 fn lines_are_spread_over_the_banks(rt: HostRuntime) -> Result<(), Fail> {
     let shape = Shape::new(SIZES)?;
-    let module = Module::<64, 8, 6>::new(rt.alloc(), shape, 0)?;
-    let total = module.shape().total();
+    let memory = Module::<64, 8, 6>::new(rt.alloc(), shape, 0)?;
+    let total = memory.shape().total();
     assert_eq!(rt; total, 16);
-    assert_eq!(rt; module.translate(0), 6);
-    assert_eq!(rt; module.translate(8), 17);
-    assert_eq!(rt; module.translate(15), 13);
+    assert_eq!(rt; memory.translate(0), 6);
+    assert_eq!(rt; memory.translate(8), 17);
+    assert_eq!(rt; memory.translate(15), 13);
     Ok(())
 }
 
@@ -249,24 +255,16 @@ fn a_cut_reaches_both_banks(rt: HostRuntime) -> Result<(), Fail> {
         (8, Call::Read(0), Saw::Forwarded(8, 0xff)),
         (40, Call::Read(8), Saw::Read(45, 17, 0x11)),
     ];
-    assert_eq!(rt; differs(rt.alloc(), &mut array, shape, &table)?, None);
+    let (_, other) = played(rt.alloc(), &mut array, shape, &table)?;
+    assert_eq!(rt; other, None);
     Ok(())
 }
 
 #[test]
 fn a_bank_that_is_worn_out_leaves_the_other_going(rt: HostRuntime) -> Result<(), Fail> {
     let shape = Shape::new(NO_SPARES)?;
-    // The array line of line 8, in bank 1, has more stuck cells than it can correct.
-    let mut script = Vec::new(rt.alloc());
-    for cell in 0..7 {
-        script.push(Script {
-            line: 16,
-            cell,
-            turn: 1,
-            act: Act::Stick(false),
-        })?;
-    }
-    let mut array: ScriptArray<64, 8> = ScriptArray::new(script);
+    // Line 8, of bank 1, stands at array line 16.
+    let mut array: ScriptArray<64, 8> = ScriptArray::new(worn(rt.alloc(), 16)?);
     let table = [
         (0, Call::Write(8, 0xff), Saw::Queued(0)),
         (700, Call::Write(8, 0x11), Saw::Worn(700)),
@@ -274,6 +272,29 @@ fn a_bank_that_is_worn_out_leaves_the_other_going(rt: HostRuntime) -> Result<(),
         (700, Call::Read(8), Saw::Forwarded(700, 0xff)),
         (900, Call::Read(0), Saw::Read(905, 6, 0x22)),
     ];
-    assert_eq!(rt; differs(rt.alloc(), &mut array, shape, &table)?, None);
+    let (_, other) = played(rt.alloc(), &mut array, shape, &table)?;
+    assert_eq!(rt; other, None);
+    Ok(())
+}
+
+#[test]
+fn a_worn_line_gets_a_spare_of_its_own_bank(rt: HostRuntime) -> Result<(), Fail> {
+    let shape = Shape::new(SIZES)?;
+    // Line 8, of bank 1, stands at array line 17; the spare of that bank is array line 21.
+    let mut array: ScriptArray<64, 8> = ScriptArray::new(worn(rt.alloc(), 17)?);
+    let table = [
+        (0, Call::Write(8, 0xff), Saw::Stored(690, 21)),
+        (0, Call::Write(0, 0x22), Saw::Stored(15, 6)),
+    ];
+    let (memory, other) = played(rt.alloc(), &mut array, shape, &table)?;
+    assert_eq!(rt; other, None);
+    let lines = memory.shape().array_lines();
+    assert_eq!(rt; lines, 22);
+    assert_eq!(rt; memory.role(4), Role::Gap);
+    assert_eq!(rt; memory.role(6), Role::Line(0));
+    assert_eq!(rt; memory.role(10), Role::Free);
+    assert_eq!(rt; memory.role(17), Role::Retired);
+    assert_eq!(rt; memory.role(21), Role::Line(8));
+    assert_eq!(rt; memory.retired(), 1);
     Ok(())
 }

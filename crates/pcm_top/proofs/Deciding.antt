@@ -1,24 +1,33 @@
 -- How words and bytes decide the status of a call.
-use Rattle.std.proofs.Common.{◌≡◌, ◌≢◌, ℕ, ◌+◌, ◌-◌, ◌^◌, ◌<◌, ◌≤◌, ◌⊎◌, inl, inr, List, [], ◌++◌, length, true, false, Option, Some, None, refl, sym, ap, ◌∙◌, arith, nat_lt}
-use Rattle.std.specs.Prelude.{if◌then◌else◌, Result, Ok, Err, OnOk, IfErr}
+use Rattle.std.proofs.Common.{◌≡◌, ◌≢◌, ℕ, ◌+◌, ◌-◌, ◌^◌, ◌<◌, ◌≤◌, ◌⊎◌, inl, inr, List, [], ◌++◌, length, true, false, Bool, Option, Some, None, refl, sym, ap, ◌∙◌, subst, arith}
+use Rattle.std.specs.Prelude.{Result, Ok, Err, IfOk, IfErr}
 use Rattle.std.specs.Io.KnownBytes.{Consumes, IsAtEnd}
 use Rattle.std.proofs.lemmas.Bool.{cases_eq}
-use Rattle.std.proofs.lemmas.Bool.Decides.{nat_tests}
 use Rattle.std.proofs.lemmas.List.{append-nil, length-append}
 use Rattle.pcm_io.specs.Faults.{Rose}
 use Rattle.pcm_io.proofs.ByteLemmas.{Takes-nothing}
-use Rattle.pcm_cells.specs.declared.row.Cells.{Cells}
+use Rattle.pcm_cells.specs.Device.{ArrayState}
 use Rattle.trace_reader.specs.Trace.{trace_of}
 use Rattle.trace_reader.specs.declared.event.Event.{Event}
 use Rattle.trace_reader.specs.declared.fault.ParseFault.{ParseFault}
 use Rattle.trace_reader.specs.declared.fault.ParseFault.TheVariants as parsing
-use Rattle.pcm_top.specs.Reading.{IsReadFault, ReadsWhole, SourceChange, trace_room, TakesSome}
-use Rattle.pcm_top.specs.FaultLines.{status_of}
-use Rattle.pcm_top.specs.Running.{Does, DoesPart, HasCause, IsRefused, Runs, Tells, status_for, trace_status}
+use Rattle.module_shape.specs.Limits.{total_of}
 use Rattle.command_line.specs.declared.job.Job.{Job}
 use Rattle.command_line.specs.declared.job.Job.TheVariants.{Run, Gen, Map, Moves}
 use Rattle.command_line.specs.declared.job.RunJob.{RunJob}
+use Rattle.command_line.specs.declared.job.Input.{Input}
+use Rattle.command_line.specs.declared.job.Input.TheVariants.{Source, Drawn}
+use Rattle.command_line.specs.declared.job.LineSize.{LineSize}
+use Rattle.command_line.specs.declared.job.LineSize.TheVariants.{Bytes64, Bytes128}
 use Rattle.command_line.specs.declared.job.Refusal.{Refusal}
+use Rattle.pcm_top.specs.Jobs.{bytes_in}
+use Rattle.pcm_top.specs.Reading.{IsReadFault, ReadsTrace, ReadsWhole, SourceChange, TakesNothing, TakesSome, trace_room}
+use Rattle.pcm_top.specs.Inputs.{ComeFrom, IsFaultOf, is_source}
+use Rattle.pcm_top.specs.FaultLines.{status_of}
+use Rattle.pcm_top.specs.Running.{Does, DoesPart, HasCause, IsRefused, RunIsWritten, Runs, Tells, WritesRun, reads_source, room_of, status_done}
+use Rattle.pcm_top.specs.Statuses.{IsInputStatus, IsRunStatus, IsSourceStatus, IsStatusFor, IsTraceStatus}
+use Rattle.pcm_top.specs.declared.run.Done.{Done}
+use Rattle.pcm_top.specs.declared.run.Done.TheVariants.{Whole, Short}
 use Rattle.pcm_top.specs.declared.fault.Fault.{Fault}
 use Rattle.pcm_top.specs.declared.fault.Fault.TheVariants.{Usage, Trace, Read, Write, TooLong, NoMemory}
 
@@ -31,8 +40,8 @@ whole-go (Some xs) (Some ys) bytes found is took ended =
     let e : xs ≡ found ++ [] = rw ended at took in
     sym (append-nil found) ∙ sym e ∙ same
 
-reads-told : (s : SourceChange) (bytes found : List ℕ) → s.left_before ≡ Some bytes → ReadsWhole s found → found ≡ bytes
-reads-told s bytes found is whole = whole-go s.left_before s.left_now bytes found is whole.takes.first whole.ended
+reads-told : (n : ℕ) (s : SourceChange) (bytes found : List ℕ) → s.left_before ≡ Some bytes → ReadsWhole n s found → found ≡ bytes
+reads-told n s bytes found is whole = whole-go s.left_before s.left_now bytes found is whole.takes.first whole.ended
 
 -- it has at least the bytes that were taken
 more-go : (before now : Option (List ℕ)) (bytes found : List ℕ) → before ≡ Some bytes → Consumes before now found → length found ≤ length bytes
@@ -44,77 +53,83 @@ more-go (Some xs) (Some ys) bytes found is took =
     rw (← same, took) (omega arith)
 
 -- the status of bytes that are a trace's, or not
-run_status : {n : ℕ} → List ℕ → Result (List (Event n)) ParseFault → ℕ
-run_status bytes trace = if nat_lt trace_room (length bytes) then 6 else trace_status trace
+by-trace : (n lines : ℕ) (bytes found : List ℕ) (status : ℕ) (trace : Result (List (Event n)) ParseFault)
+    → found ≡ bytes → length found ≤ trace_room n → trace_of n lines found ≡ trace → IsTraceStatus trace status → IsSourceStatus n lines bytes status
+by-trace n lines bytes found status trace same within is has =
+    let Of : Result (List (Event n)) ParseFault → Type 0 = λ t. IsTraceStatus t status in
+    let With : List ℕ → Type 0 = λ bs. IsSourceStatus n lines bs status in
+    subst With same (inr (within, subst Of (sym is) has))
 
-status-within : (job : RunJob) (bytes : List ℕ) (trace : Result (List (Event 64)) ParseFault) → length bytes ≤ trace_room → trace_of 64 64 bytes ≡ trace → status_for (Ok (Run job)) bytes ≡ trace_status trace
-status-within job bytes trace within is =
-    let small : nat_lt trace_room (length bytes) ≡ false = grind (arith, nat_tests) in
-    rw (small, is) refl
-
-status-over : (job : RunJob) (bytes : List ℕ) → trace_room < length bytes → status_for (Ok (Run job)) bytes ≡ 6
-status-over job bytes over =
-    let great : nat_lt trace_room (length bytes) ≡ true = grind (arith, nat_tests) in
-    rw great refl
-
-fault-status : (job : RunJob) (fault : Fault) (s : SourceChange) (bytes : List ℕ) → s.left_before ≡ Some bytes → ¬ Rose s.faults_before s.faults_now → IsReadFault fault s
-    → (status_of fault ≡ status_for (Ok (Run job)) bytes) ⊎ (status_of fault ≡ 7)
-fault-status job Usage s bytes is calm cause = absurd cause
-fault-status job Write s bytes is calm cause = absurd cause
-fault-status job Read s bytes is calm cause = absurd (calm cause.0)
-fault-status job NoMemory s bytes is calm cause = inr refl
-fault-status job (Trace f) s bytes is calm cause =
-    let same = reads-told s bytes cause.0 is cause.1 in
-    let within : length bytes ≤ trace_room = rw same at cause.1.within in
-    inl (sym (status-within job bytes (Err (parsing.Trace f)) within (rw same at cause.2)))
-fault-status job TooLong s bytes is calm (inl more) =
+fault-status : (n lines : ℕ) (fault : Fault) (s : SourceChange) (bytes : List ℕ) → s.left_before ≡ Some bytes → ¬ Rose s.faults_before s.faults_now → IsReadFault n lines fault s
+    → IsSourceStatus n lines bytes (status_of fault) ⊎ (status_of fault ≡ 7)
+fault-status n lines Usage s bytes is calm cause = absurd cause
+fault-status n lines Write s bytes is calm cause = absurd cause
+fault-status n lines Read s bytes is calm cause = absurd (calm cause.0)
+fault-status n lines NoMemory s bytes is calm cause = inr refl
+fault-status n lines (Trace f) s bytes is calm cause =
+    inl (by-trace n lines bytes cause.0 3 (Err (parsing.Trace f)) (reads-told n s bytes cause.0 is cause.1) cause.1.within cause.2 refl)
+fault-status n lines TooLong s bytes is calm (inl more) =
     let size = more-go s.left_before s.left_now bytes more.0 is more.1.first in
     let over = more.2 in
-    inl (sym (status-over job bytes (omega arith)))
-fault-status job TooLong s bytes is calm (inr many) =
-    let same = reads-told s bytes many.0 is many.1 in
-    let within : length bytes ≤ trace_room = rw same at many.1.within in
-    inl (sym (status-within job bytes (Err parsing.TooMany) within (rw same at many.2)))
+    inl (inl (omega arith, refl))
+fault-status n lines TooLong s bytes is calm (inr many) =
+    inl (by-trace n lines bytes many.0 6 (Err parsing.TooMany) (reads-told n s bytes many.0 is many.1) many.1.within many.2 refl)
 
-tells-status : (job : Result Job Refusal) (s : SourceChange) (bytes : List ℕ) (fault : Fault) → s.left_before ≡ Some bytes → ¬ Rose s.faults_before s.faults_now → HasCause fault job s
-    → (status_of fault ≡ status_for job bytes) ⊎ (status_of fault ≡ 7)
-tells-status (Err e) s bytes fault is calm (inl usage) = inl (ap status_of usage)
-tells-status (Err e) s bytes fault is calm (inr memory) = inr (ap status_of memory)
-tells-status (Ok (Run job)) s bytes fault is calm cause = fault-status job fault s bytes is calm cause
-tells-status (Ok (Gen job)) s bytes fault is calm cause = inr (ap status_of cause)
-tells-status (Ok (Map job)) s bytes fault is calm cause = inr (ap status_of cause)
-tells-status (Ok (Moves job)) s bytes fault is calm cause = inr (ap status_of cause)
+-- why a run has no events, by where they come from
+input-fault-status : (job : RunJob) (input : Input) (fault : Fault) (s : SourceChange) (bytes : List ℕ) → (is_source input ≡ true → s.left_before ≡ Some bytes) → ¬ Rose s.faults_before s.faults_now
+    → IsFaultOf (bytes_in job.line) job input fault s → IsInputStatus job bytes (status_of fault) input ⊎ (status_of fault ≡ 7)
+input-fault-status job Source fault s bytes told calm cause = fault-status (bytes_in job.line) (total_of job.shape) fault s bytes (told refl) calm cause
+input-fault-status job (Drawn mix) fault s bytes told calm cause = inr (ap status_of cause)
 
-runs-status : (job : RunJob) (s : SourceChange) (array : List (Cells 64 8)) (bytes : List ℕ) → s.left_before ≡ Some bytes → Runs s array → 0 ≡ status_for (Ok (Run job)) bytes
-runs-status job s array bytes is run =
-    let same = reads-told s bytes run.bytes is run.whole in
-    let within : length bytes ≤ trace_room = rw same at run.whole.within in
-    sym (status-within job bytes (Ok run.events) within (rw same at run.trace))
+tells-status : (asked : Result Job Refusal) (s : SourceChange) (bytes : List ℕ) (fault : Fault) → (reads_source asked ≡ true → s.left_before ≡ Some bytes) → ¬ Rose s.faults_before s.faults_now → HasCause fault asked s
+    → IsStatusFor asked bytes (status_of fault) ⊎ (status_of fault ≡ 7)
+tells-status (Err e) s bytes fault told calm (inl usage) = inl (ap status_of usage)
+tells-status (Err e) s bytes fault told calm (inr memory) = inr (ap status_of memory)
+tells-status (Ok (Run job)) s bytes fault told calm cause = input-fault-status job job.input fault s bytes told calm cause
+tells-status (Ok (Gen job)) s bytes fault told calm cause = inr (ap status_of cause)
+tells-status (Ok (Map job)) s bytes fault told calm cause = inr (ap status_of cause)
+tells-status (Ok (Moves job)) s bytes fault told calm cause = inr (ap status_of cause)
+
+run-status : (done : Done) → IsRunStatus (status_done done)
+run-status Whole = inl refl
+run-status Short = inr refl
+
+-- where the events of a run come from decides that it is made
+come-status : (n : ℕ) (job : RunJob) (input : Input) (s : SourceChange) (events : List (Event n)) (bytes : List ℕ) (done : Done) → n ≡ bytes_in job.line → (is_source input ≡ true → s.left_before ≡ Some bytes)
+    → ComeFrom n job input s events → IsInputStatus job bytes (status_done done) input
+come-status n job Source s events bytes done size told come =
+    let With : ℕ → Type 0 = λ b. IsSourceStatus b (total_of job.shape) bytes (status_done done) in
+    subst With size
+    (by-trace n (total_of job.shape) bytes come.bytes (status_done done) (Ok events) (reads-told n s bytes come.bytes (told refl) come.whole) come.whole.within come.trace (run-status done))
+come-status n job (Drawn mix) s events bytes done size told come = run-status done
+
+written-status : (job : RunJob) (size : LineSize) (s : SourceChange) (array : ArrayState 64 8) (wide : ArrayState 128 16) (before now : Option (List ℕ)) (bytes : List ℕ) (done : Done)
+    → size ≡ job.line → (is_source job.input ≡ true → s.left_before ≡ Some bytes) → WritesRun s array wide before now job done size → IsInputStatus job bytes (status_done done) job.input
+written-status job Bytes64 s array wide before now bytes done of told run = come-status 64 job job.input s run.run.events bytes done (ap bytes_in of) told run.run.come
+written-status job Bytes128 s array wide before now bytes done of told run = come-status 128 job job.input s run.run.events bytes done (ap bytes_in of) told run.run.come
 
 -- the status of a job that was done
-does-status : (job : Result Job Refusal) (s : SourceChange) (array : List (Cells 64 8)) (before now : Option (List ℕ)) (bytes : List ℕ) → s.left_before ≡ Some bytes
-    → Does job s array before now → 0 ≡ status_for job bytes
-does-status (Err e) s array before now bytes is does = absurd does
-does-status (Ok (Run job)) s array before now bytes is does = runs-status job s array bytes is does.0
-does-status (Ok (Gen job)) s array before now bytes is does = refl
-does-status (Ok (Map job)) s array before now bytes is does = refl
-does-status (Ok (Moves job)) s array before now bytes is does = refl
+does-status : (asked : Result Job Refusal) (s : SourceChange) (array : ArrayState 64 8) (wide : ArrayState 128 16) (before now : Option (List ℕ)) (bytes : List ℕ) (done : Done)
+    → (reads_source asked ≡ true → s.left_before ≡ Some bytes) → Does s array wide before now asked done → IsStatusFor asked bytes (status_done done)
+does-status (Err e) s array wide before now bytes done told does = absurd does
+does-status (Ok (Run job)) s array wide before now bytes done told does = written-status job job.line s array wide before now bytes done refl told does
+does-status (Ok (Gen job)) s array wide before now bytes done told does = ap status_done does.1
+does-status (Ok (Map job)) s array wide before now bytes done told does = ap status_done does.1
+does-status (Ok (Moves job)) s array wide before now bytes done told does = ap status_done does.1
 
-pub status-decided : (job : Result Job Refusal) (s : SourceChange) (array : List (Cells 64 8)) (out_before out_now err_before err_now : Option (List ℕ)) (bytes : List ℕ) (status : ℕ)
-    → s.left_before ≡ Some bytes → ¬ Rose s.faults_before s.faults_now
-    → (status ≡ 0 → Does job s array out_before out_now)
-    → (status ≢ 0 → status ≢ 5 → Tells job s err_before err_now status)
-    → status ≢ 5 → (status ≡ status_for job bytes) ⊎ (status ≡ 7)
-status-decided job s array out_before out_now err_before err_now bytes status is calm does tells whole =
-    elim (cases_eq status 0) [
-      | inl zero ↦ inl (zero ∙ does-status job s array out_before out_now bytes is (does zero))
-      | inr other ↦
-          let t = tells other whole in
-          elim (tells-status job s bytes t.fault is calm t.cause) [
-            | inl e ↦ inl (t.answered ∙ e)
-            | inr e ↦ inr (t.answered ∙ e)
-          ]
-    ]
+pub done-decided : (asked : Result Job Refusal) (s : SourceChange) (array : ArrayState 64 8) (wide : ArrayState 128 16) (before now : Option (List ℕ)) (bytes : List ℕ) (done : Done) (status : ℕ)
+    → status ≡ status_done done → (reads_source asked ≡ true → s.left_before ≡ Some bytes) → Does s array wide before now asked done
+    → IsStatusFor asked bytes status ⊎ (status ≡ 7)
+done-decided asked s array wide before now bytes done status is told does =
+    let For : ℕ → Type 0 = λ n. IsStatusFor asked bytes n in
+    inl (subst For (sym is) (does-status asked s array wide before now bytes done told does))
+
+pub told-decided : (asked : Result Job Refusal) (s : SourceChange) (before now : Option (List ℕ)) (bytes : List ℕ) (status : ℕ)
+    → (reads_source asked ≡ true → s.left_before ≡ Some bytes) → ¬ Rose s.faults_before s.faults_now → Tells asked s before now status
+    → IsStatusFor asked bytes status ⊎ (status ≡ 7)
+told-decided asked s before now bytes status told calm tells =
+    let For : ℕ → Type 0 = λ n. IsStatusFor asked bytes n ⊎ (n ≡ 7) in
+    subst For (sym tells.answered) (tells-status asked s bytes tells.fault told calm tells.cause)
 
 -- a fault is of writing, or not
 pub is_write : (fault : Fault) → (fault ≡ Write) ⊎ (fault ≢ Write)
@@ -125,25 +140,23 @@ is_write Read = inr (λ e. cc e)
 is_write TooLong = inr (λ e. cc e)
 is_write NoMemory = inr (λ e. cc e)
 
--- what holds of a job that was read holds of the words' job
-pub does-asked : (asked : Result Job Refusal) (job : Job) (s : SourceChange) (array : List (Cells 64 8)) (before now : Option (List ℕ))
-    → asked ≡ Ok job → Does (Ok job) s array before now → Does asked s array before now
-does-asked asked job s array before now is does = rw is does
-
-pub part-asked : (asked : Result Job Refusal) (job : Job) (s : SourceChange) (array : List (Cells 64 8)) (before now : Option (List ℕ))
-    → asked ≡ Ok job → DoesPart (Ok job) s array before now → DoesPart asked s array before now
-part-asked asked job s array before now is part = rw is part
-
-pub cause-asked : (asked : Result Job Refusal) (job : Job) (fault : Fault) (s : SourceChange) → asked ≡ Ok job → HasCause fault (Ok job) s → HasCause fault asked s
-cause-asked asked job fault s is cause = rw is cause
-
 -- a source before and after nothing
 abbrev pub untouched : Option (List ℕ) → ℕ → ℕ → SourceChange
 untouched left taken faults = record { left_before = left; left_now = left; taken_before = taken; taken_now = taken; faults_before = faults; faults_now = faults }
 
+some-nothing : (n : ℕ) (left : Option (List ℕ)) (taken faults : ℕ) → TakesSome n (untouched left taken faults)
+some-nothing n left taken faults = ([], Takes-nothing left taken, omega arith)
+
+pub drawn-nothing : (left : Option (List ℕ)) (taken faults : ℕ) → TakesNothing (untouched left taken faults)
+drawn-nothing left taken faults = record { left = refl; taken = refl; faults = refl }
+
+input-memory : (n : ℕ) (job : RunJob) (input : Input) (left : Option (List ℕ)) (taken faults : ℕ) → IsFaultOf n job input NoMemory (untouched left taken faults)
+input-memory n job Source left taken faults = some-nothing n left taken faults
+input-memory n job (Drawn mix) left taken faults = refl
+
 memory-cause : (asked : Result Job Refusal) (left : Option (List ℕ)) (taken faults : ℕ) → HasCause NoMemory asked (untouched left taken faults)
 memory-cause (Err e) left taken faults = inr refl
-memory-cause (Ok (Run job)) left taken faults = ([], Takes-nothing left taken, omega arith)
+memory-cause (Ok (Run job)) left taken faults = input-memory (bytes_in job.line) job job.input left taken faults
 memory-cause (Ok (Gen job)) left taken faults = refl
 memory-cause (Ok (Map job)) left taken faults = refl
 memory-cause (Ok (Moves job)) left taken faults = refl
@@ -158,31 +171,45 @@ refused-before asked fault (inl memory) = λ e. cc (sym memory ∙ e)
 refused-before asked fault (inr usage) = λ e. cc (sym usage.0 ∙ e)
 
 -- the count of taken bytes rises by no more than was taken
-within-count : (s : SourceChange) → TakesSome s → s.taken_before + trace_room < 2 ^ 64 - 1 → s.taken_before + trace_room < s.taken_now → ⊥
-within-count s some low over =
+within-count : (n : ℕ) (s : SourceChange) → TakesSome n s → s.taken_before + trace_room n < 2 ^ 64 - 1 → s.taken_before + trace_room n < s.taken_now → ⊥
+within-count n s some low over =
     let counted = some.1.counted in
     let within = some.2 in
     omega arith
 
-too-much : (fault : Fault) (s : SourceChange) → IsReadFault fault s → s.taken_before + trace_room < 2 ^ 64 - 1 → s.taken_before + trace_room < s.taken_now → fault ≡ TooLong
-too-much Usage s cause low over = absurd cause
-too-much Write s cause low over = absurd cause
-too-much Read s cause low over = absurd (within-count s cause.1 low over)
-too-much NoMemory s cause low over = absurd (within-count s cause low over)
-too-much (Trace f) s cause low over = absurd (within-count s (cause.0, cause.1.takes, cause.1.within) low over)
-too-much TooLong s cause low over = refl
+too-much : (n lines : ℕ) (fault : Fault) (s : SourceChange) → IsReadFault n lines fault s → s.taken_before + trace_room n < 2 ^ 64 - 1 → s.taken_before + trace_room n < s.taken_now → fault ≡ TooLong
+too-much n lines Usage s cause low over = absurd cause
+too-much n lines Write s cause low over = absurd cause
+too-much n lines Read s cause low over = absurd (within-count n s cause.1 low over)
+too-much n lines NoMemory s cause low over = absurd (within-count n s cause low over)
+too-much n lines (Trace f) s cause low over = absurd (within-count n s (cause.0, cause.1.takes, cause.1.within) low over)
+too-much n lines TooLong s cause low over = refl
+
+-- a source that was read to its end within its room, and one of which nothing was taken
+come-within : (n : ℕ) (job : RunJob) (input : Input) (s : SourceChange) (events : List (Event n)) → ComeFrom n job input s events → s.taken_before + trace_room n < 2 ^ 64 - 1 → s.taken_before + trace_room n < s.taken_now → ⊥
+come-within n job Source s events come low over = within-count n s (come.bytes, come.whole.takes, come.whole.within) low over
+come-within n job (Drawn mix) s events come low over =
+    let same = come.0.taken in
+    omega arith
+
+input-too-much : (n : ℕ) (job : RunJob) (input : Input) (fault : Fault) (s : SourceChange) → (is_source input ≡ false → s.taken_now ≡ s.taken_before) → IsFaultOf n job input fault s
+    → s.taken_before + trace_room n < 2 ^ 64 - 1 → s.taken_before + trace_room n < s.taken_now → fault ≡ TooLong
+input-too-much n job Source fault s still cause low over = too-much n (total_of job.shape) fault s cause low over
+input-too-much n job (Drawn mix) fault s still cause low over =
+    let same = still refl in
+    absurd (omega arith)
 
 -- a run over too many bytes ends with that fault
-pub run-too_long : {T : Type 0} (result : Result T Fault) (s : SourceChange) (array : List (Cells 64 8)) → OnOk result (Runs s array) → (result ≡ Err Write → Runs s array)
-    → IfErr result (λ fault. fault ≢ Write → IsReadFault fault s)
-    → s.taken_before + trace_room < 2 ^ 64 - 1 → s.taken_before + trace_room < s.taken_now → result ≡ Err TooLong
-run-too_long (Ok x) s array run write read low over = absurd (within-count s (run.bytes, run.whole.takes, run.whole.within) low over)
-run-too_long (Err fault) s array run write read low over =
+pub run-too_long : {T : Type 0} (n m e : ℕ) (job : RunJob) (s : SourceChange) (array : ArrayState n m) (result : Result T Fault) → IfOk result (λ done. Runs n m e job s array) → (result ≡ Err Write → Runs n m e job s array)
+    → IfErr result (λ fault. fault ≢ Write → IsFaultOf n job job.input fault s) → (is_source job.input ≡ false → s.taken_now ≡ s.taken_before)
+    → s.taken_before + trace_room n < 2 ^ 64 - 1 → s.taken_before + trace_room n < s.taken_now → result ≡ Err TooLong
+run-too_long n m e job s array (Ok x) run write cause still low over = absurd (come-within n job job.input s run.events run.come low over)
+run-too_long n m e job s array (Err fault) run write cause still low over =
     elim (is_write fault) [
       | inl is ↦
           let made = write (ap Err is) in
-          absurd (within-count s (made.bytes, made.whole.takes, made.whole.within) low over)
-      | inr other ↦ ap Err (too-much fault s (read other) low over)
+          absurd (come-within n job job.input s made.events made.come low over)
+      | inr other ↦ ap Err (input-too-much n job job.input fault s still (cause other) low over)
     ]
 
 -- a fault over too many bytes is told as that, or can't be told

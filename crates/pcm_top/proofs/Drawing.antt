@@ -7,7 +7,7 @@ use Rattle.pcm_io.specs.Reserved.{Reserved, appended, reserved}
 use Rattle.pcm_io.proofs.ByteLemmas.{Appends-Appends}
 use Rattle.trace_reader.specs.declared.event.Event.{Event}
 use Rattle.trace_gen.specs.EventText.{event_row, event_rows, trace_header, trace_text}
-use Rattle.pcm_top.specs.Flushing.{Flushes}
+use Rattle.run_text.specs.Gathering.{Flushes}
 use Rattle.pcm_top.proofs.Printing.{Appends-nothing, AppendsPrefix-after}
 
 -- all but these rows are printed: some bytes are gone, some are in the text, and these rows are left

@@ -1,8 +1,12 @@
-pub mod Storing
-pub mod Rows
 pub mod Printing
 pub mod Reporting
 pub mod Shapes
 pub mod Drawing
 pub mod Telling
 pub mod Deciding
+mod Replaying
+mod Printable
+mod Wearing
+mod DrawnRuns
+mod Sizes
+mod Making

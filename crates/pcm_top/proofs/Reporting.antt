@@ -7,7 +7,7 @@ use Rattle.pcm_io.specs.Giving.{AppendsPrefix}
 use Rattle.pcm_io.specs.Reserved.{Reserved, appended, reserved}
 use Rattle.pcm_io.proofs.ByteLemmas.{Appends-Appends}
 use Rattle.rotation_reports.specs.Rows.{rows_from}
-use Rattle.pcm_top.specs.Flushing.{Flushes}
+use Rattle.run_text.specs.Gathering.{Flushes}
 use Rattle.pcm_top.proofs.Printing.{Appends-nothing, AppendsPrefix-after}
 
 -- the header and the first i rows are printed: some bytes are gone, and the others are in the text

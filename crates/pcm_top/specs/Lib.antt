@@ -1,8 +1,10 @@
-pub mod Newest
-pub mod Serving
-pub mod ResultText
-pub mod Flushing
 pub mod Jobs
 pub mod FaultLines
 pub mod Reading
+pub mod Inputs
+pub mod Rows
+pub mod Ready
+pub mod RunText
 pub mod Running
+pub mod Statuses
+pub mod Laws

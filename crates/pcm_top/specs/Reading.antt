@@ -1,5 +1,5 @@
 -- What a run read of its source.
-use Rattle.std.specs.Prelude.{◌≡◌, ℕ, ◌<◌, ◌≤◌, ◌⊎◌, List, length, Option, Ok, Err}
+use Rattle.std.specs.Prelude.{◌≡◌, ℕ, ◌*◌, ◌<◌, ◌≤◌, ◌⊎◌, List, length, Option, Ok, Err}
 use Rattle.std.specs.Io.KnownBytes.{IsAtEnd}
 use Rattle.pcm_io.specs.Faults.{Rose}
 use Rattle.pcm_io.specs.Taking.{Takes}
@@ -28,40 +28,50 @@ source_change left taken faults old new = record {
   faults_now = faults new;
 }
 
--- a trace has at most so many bytes
-abbrev pub trace_room : ℕ
-trace_room = 67108864
+-- a trace over lines of n bytes has at most so many bytes: 67,108,864 for lines of 64 bytes, 134,217,728 for lines of 128
+abbrev pub trace_room : ℕ → ℕ
+trace_room n = n * 1048576
 
 -- these bytes were taken
 abbrev pub TakesBytes : SourceChange → List ℕ → Type 0
 TakesBytes s bytes = Takes s.left_before s.left_now s.taken_before s.taken_now bytes
 
--- the source was read to its end and gave these bytes, no more than a trace may have
-pub record ReadsWhole (s : SourceChange) (bytes : List ℕ) : Type 0 where
-  pub takes : TakesBytes s bytes
-  pub ended : IsAtEnd s.left_now
-  pub within : length bytes ≤ trace_room
+-- nothing was taken, and no call failed
+pub record TakesNothing (s : SourceChange) : Type 0 where
+  pub left : s.left_now ≡ s.left_before
+  pub taken : s.taken_now ≡ s.taken_before
+  pub faults : s.faults_now ≡ s.faults_before
 
--- some bytes were taken, no more than a trace may have
-abbrev pub TakesSome : SourceChange → Type 0
-TakesSome s = (bytes : List ℕ) × TakesBytes s bytes × (length bytes ≤ trace_room)
+-- a trace over lines of n bytes
+module _ (n : ℕ) where
+  -- the source was read to its end and gave these bytes, no more than a trace may have
+  pub record ReadsWhole (s : SourceChange) (bytes : List ℕ) : Type 0 where
+    pub takes : TakesBytes s bytes
+    pub ended : IsAtEnd s.left_now
+    pub within : length bytes ≤ trace_room n
 
--- more bytes were taken than a trace may have
-abbrev pub TakesMore : SourceChange → Type 0
-TakesMore s = (bytes : List ℕ) × TakesBytes s bytes × (trace_room < length bytes)
+  -- some bytes were taken, no more than a trace may have
+  abbrev pub TakesSome : SourceChange → Type 0
+  TakesSome s = (bytes : List ℕ) × TakesBytes s bytes × (length bytes ≤ trace_room n)
 
--- why a trace gave no events: the source was read to its end and the bytes have this fault, or too many rows;
--- or it failed; or it gave too many bytes
-abbrev pub IsReadFault : Fault → SourceChange → Type 0
-IsReadFault (Trace f) s = (bytes : List ℕ) × ReadsWhole s bytes × (trace_of 64 64 bytes ≡ Err (parsing.Trace f))
-IsReadFault Read s = Rose s.faults_before s.faults_now × TakesSome s
-IsReadFault TooLong s = TakesMore s ⊎ ((bytes : List ℕ) × ReadsWhole s bytes × (trace_of 64 64 bytes ≡ Err parsing.TooMany))
-IsReadFault NoMemory s = TakesSome s
-IsReadFault Usage s = ⊥
-IsReadFault Write s = ⊥
+  -- more bytes were taken than a trace may have
+  abbrev pub TakesMore : SourceChange → Type 0
+  TakesMore s = (bytes : List ℕ) × TakesBytes s bytes × (trace_room n < length bytes)
 
--- the source was read to its end, and its bytes are a trace with these events
-pub record ReadsTrace (s : SourceChange) (events : List (Event 64)) : Type 0 where
-  pub bytes : List ℕ
-  pub whole : ReadsWhole s bytes
-  pub trace : trace_of 64 64 bytes ≡ Ok events
+-- one for so many lines
+module _ (n lines : ℕ) where
+  -- why a trace gave no events: the source was read to its end and the bytes have this fault, or too many rows;
+  -- or it failed; or it gave too many bytes
+  abbrev pub IsReadFault : Fault → SourceChange → Type 0
+  IsReadFault (Trace f) s = (bytes : List ℕ) × ReadsWhole n s bytes × (trace_of n lines bytes ≡ Err (parsing.Trace f))
+  IsReadFault Read s = Rose s.faults_before s.faults_now × TakesSome n s
+  IsReadFault TooLong s = TakesMore n s ⊎ ((bytes : List ℕ) × ReadsWhole n s bytes × (trace_of n lines bytes ≡ Err parsing.TooMany))
+  IsReadFault NoMemory s = TakesSome n s
+  IsReadFault Usage s = ⊥
+  IsReadFault Write s = ⊥
+
+  -- the source was read to its end, and its bytes are a trace with these events
+  pub record ReadsTrace (s : SourceChange) (events : List (Event n)) : Type 0 where
+    pub bytes : List ℕ
+    pub whole : ReadsWhole n s bytes
+    pub trace : trace_of n lines bytes ≡ Ok events

@@ -1,74 +1,127 @@
 -- What a job does, and why a call does none of it.
-use Rattle.std.specs.Prelude.{◌≡◌, ◌⊎◌, ◌==◌, ℕ, nat_lt, Bool, true, false, if◌then◌else◌, List, reverse, length, Option, Result, Ok, Err}
+use Rattle.std.specs.Prelude.{◌≡◌, ◌⊎◌, ℕ, Bool, true, false, if◌then◌else◌, List, length, Option, Result, Ok, Err}
 use Rattle.std.specs.Io.KnownBytes.{Appends}
 use Rattle.pcm_io.specs.Giving.{AppendsPrefix}
-use Rattle.pcm_cells.specs.declared.row.Cells.{Cells}
-use Rattle.trace_reader.specs.Trace.{trace_of}
+use Rattle.pcm_cells.specs.Device.{ArrayState}
 use Rattle.trace_reader.specs.declared.event.Event.{Event}
-use Rattle.trace_reader.specs.declared.fault.ParseFault.{ParseFault}
-use Rattle.trace_reader.specs.declared.fault.ParseFault.TheVariants as parsing
 use Rattle.result_rows.specs.declared.Outcome.{Outcome}
+use Rattle.result_summary.specs.Shortfall.{any_short}
 use Rattle.rotation_reports.specs.MapText.{map_text}
 use Rattle.rotation_reports.specs.MovesText.{moves_text}
-use Rattle.pcm_top.specs.Serving.{HoldsNewest, Serves}
-use Rattle.pcm_top.specs.ResultText.{results_text}
-use Rattle.pcm_top.specs.Reading.{IsReadFault, ReadsWhole, SourceChange, trace_room}
-use Rattle.pcm_top.specs.FaultLines.{fault_line, status_of}
-use Rattle.command_line.specs.Jobs.{job_of}
+use Rattle.end_laws.specs.Ends.{BankEnd}
+use Rattle.run_laws.specs.Runs.{RunsRight}
 use Rattle.command_line.specs.declared.job.Job.{Job}
 use Rattle.command_line.specs.declared.job.Job.TheVariants.{Run, Gen, Map, Moves}
+use Rattle.command_line.specs.declared.job.RunJob.{RunJob}
+use Rattle.command_line.specs.declared.job.LineSize.{LineSize}
+use Rattle.command_line.specs.declared.job.LineSize.TheVariants.{Bytes64, Bytes128}
 use Rattle.command_line.specs.declared.job.Refusal.{Refusal}
 use Rattle.command_line.specs.declared.job.Refusal.TheVariants as refusal
-use Rattle.pcm_top.specs.Jobs.{gen_text, map_options}
+use Rattle.pcm_top.specs.Jobs.{bytes_in, gen_text, map_options}
+use Rattle.pcm_top.specs.Reading.{SourceChange, trace_room}
+use Rattle.pcm_top.specs.Inputs.{ComeFrom, IsFaultOf, is_source}
+use Rattle.pcm_top.specs.Rows.{rows_of}
+use Rattle.pcm_top.specs.RunText.{IsRunText}
+use Rattle.pcm_top.specs.FaultLines.{fault_line, status_of}
+use Rattle.pcm_top.specs.declared.run.Done.{Done}
+use Rattle.pcm_top.specs.declared.run.Done.TheVariants.{Whole, Short}
 use Rattle.pcm_top.specs.declared.fault.Fault.{Fault}
 use Rattle.pcm_top.specs.declared.fault.Fault.TheVariants.{Usage, NoMemory}
 
--- a run: the source was read to its end, its bytes are a trace with these events, each row has its outcome,
--- and the array holds the newest bytes of every line
-pub record Runs (s : SourceChange) (array : List (Cells 64 8)) : Type 0 where
-  pub bytes : List ℕ
-  pub whole : ReadsWhole s bytes
-  pub events : List (Event 64)
-  pub trace : trace_of 64 64 bytes ≡ Ok events
-  pub outcomes : List (Outcome 64)
-  pub serves : Serves events outcomes
-  pub holds : HoldsNewest 64 (reverse events) array
+-- how a run was done, by the outcomes of its rows, and the status for that
+abbrev pub done_by : {n : ℕ} → List (Outcome n) → Done
+done_by outcomes = if any_short outcomes then Short else Whole
 
--- a run has no options yet
-abbrev pub run_alone : ℕ → Result Job Refusal → Result Job Refusal
-run_alone words (Err e) = Err e
-run_alone words (Ok (Run job)) = if words == 1 then Ok (Run job) else Err refusal.Usage
-run_alone words (Ok (Gen job)) = Ok (Gen job)
-run_alone words (Ok (Map job)) = Ok (Map job)
-run_alone words (Ok (Moves job)) = Ok (Moves job)
+abbrev pub status_done : Done → ℕ
+status_done Whole = 0
+status_done Short = 1
 
--- the job of the words behind the program's name
-abbrev pub asked_job : List (List ℕ) → Result Job Refusal
-asked_job words = run_alone (length words) (job_of words)
+-- lines of n bytes with m check bytes and e error-correcting pointers
+module _ (n m e : ℕ) (job : RunJob) (s : SourceChange) (array : ArrayState n m) where
+  -- a run: its events came from its input, each row has an outcome, and what a completed run leaves is right; a completed read
+  -- has its line's newest bytes, and each line's newest bytes are in the array or in a queue
+  pub record Runs : Type 0 where
+    pub events : List (Event n)
+    pub come : ComeFrom n job job.input s events
+    pub outcomes : List (Outcome n)
+    pub one_each : length outcomes ≡ length events
+    pub ends : ℕ → BankEnd
+    pub right : RunsRight e job.shape job.seed (rows_of events outcomes) array ends
 
--- whether the words ask for a run
-abbrev pub is_run : Result Job Refusal → Bool
-is_run (Err e) = false
-is_run (Ok (Run job)) = true
-is_run (Ok (Gen job)) = false
-is_run (Ok (Map job)) = false
-is_run (Ok (Moves job)) = false
+  -- this is its text
+  abbrev pub IsTextOf : Runs → List ℕ → Type 0
+  IsTextOf run text = IsRunText job.shape job.seed run.events run.outcomes run.ends array job.print text
 
--- what a job does: a run is made and its results are written; a generated trace or a report is written
-abbrev pub Does : Result Job Refusal → SourceChange → List (Cells 64 8) → Option (List ℕ) → Option (List ℕ) → Type 0
-Does (Err e) s array before now = ⊥
-Does (Ok (Run job)) s array before now = (run : Runs s array) × Appends before now (results_text run.events run.outcomes)
-Does (Ok (Gen job)) s array before now = Appends before now (gen_text job)
-Does (Ok (Map job)) s array before now = Appends before now (map_text (map_options job))
-Does (Ok (Moves job)) s array before now = Appends before now (moves_text job.lines job.from)
+  -- it was made, and exactly its text was written
+  pub record RunIsWritten (before now : Option (List ℕ)) (done : Done) : Type 0 where
+    pub run : Runs
+    pub text : List ℕ
+    pub is_text : IsTextOf run text
+    pub written : Appends before now text
+    pub ending : done ≡ done_by run.outcomes
 
--- the same, where only first bytes could be written
-abbrev pub DoesPart : Result Job Refusal → SourceChange → List (Cells 64 8) → Option (List ℕ) → Option (List ℕ) → Type 0
-DoesPart (Err e) s array before now = ⊥
-DoesPart (Ok (Run job)) s array before now = (run : Runs s array) × AppendsPrefix before now (results_text run.events run.outcomes)
-DoesPart (Ok (Gen job)) s array before now = AppendsPrefix before now (gen_text job)
-DoesPart (Ok (Map job)) s array before now = AppendsPrefix before now (map_text (map_options job))
-DoesPart (Ok (Moves job)) s array before now = AppendsPrefix before now (moves_text job.lines job.from)
+  -- it was made, and first bytes of its text were written
+  pub record RunIsWrittenInPart (before now : Option (List ℕ)) : Type 0 where
+    pub run : Runs
+    pub text : List ℕ
+    pub is_text : IsTextOf run text
+    pub written : AppendsPrefix before now text
+
+-- whether the words ask for a run of a trace that is read, and for one over lines of this size
+abbrev pub reads_source : Result Job Refusal → Bool
+reads_source (Err e) = false
+reads_source (Ok (Run job)) = is_source job.input
+reads_source (Ok (Gen job)) = false
+reads_source (Ok (Map job)) = false
+reads_source (Ok (Moves job)) = false
+
+abbrev pub is_size : LineSize → LineSize → Bool
+is_size Bytes64 Bytes64 = true
+is_size Bytes64 Bytes128 = false
+is_size Bytes128 Bytes64 = false
+is_size Bytes128 Bytes128 = true
+
+abbrev pub runs_on : LineSize → Result Job Refusal → Bool
+runs_on size (Err e) = false
+runs_on size (Ok (Run job)) = is_size size job.line
+runs_on size (Ok (Gen job)) = false
+runs_on size (Ok (Map job)) = false
+runs_on size (Ok (Moves job)) = false
+
+-- how many bytes may be read for it
+abbrev pub room_of : Result Job Refusal → ℕ
+room_of (Err e) = 0
+room_of (Ok (Run job)) = trace_room (bytes_in job.line)
+room_of (Ok (Gen job)) = 0
+room_of (Ok (Map job)) = 0
+room_of (Ok (Moves job)) = 0
+
+-- the arrays of lines of 64 and of 128 bytes
+module _ (s : SourceChange) (array : ArrayState 64 8) (wide : ArrayState 128 16) (before now : Option (List ℕ)) where
+  -- a run is made on the array of its lines, and its text is written
+  abbrev pub WritesRun : RunJob → Done → LineSize → Type 0
+  WritesRun job done Bytes64 = RunIsWritten 64 8 6 job s array before now done
+  WritesRun job done Bytes128 = RunIsWritten 128 16 8 job s wide before now done
+
+  -- what a job does: a run is made and its text is written; a generated trace or a report is written
+  abbrev pub Does : Result Job Refusal → Done → Type 0
+  Does (Err e) done = ⊥
+  Does (Ok (Run job)) done = WritesRun job done job.line
+  Does (Ok (Gen job)) done = Appends before now (gen_text job) × (done ≡ Whole)
+  Does (Ok (Map job)) done = Appends before now (map_text (map_options job)) × (done ≡ Whole)
+  Does (Ok (Moves job)) done = Appends before now (moves_text job.lines job.from) × (done ≡ Whole)
+
+  -- the same, where only first bytes could be written
+  abbrev pub WritesRunInPart : RunJob → LineSize → Type 0
+  WritesRunInPart job Bytes64 = RunIsWrittenInPart 64 8 6 job s array before now
+  WritesRunInPart job Bytes128 = RunIsWrittenInPart 128 16 8 job s wide before now
+
+  abbrev pub DoesPart : Result Job Refusal → Type 0
+  DoesPart (Err e) = ⊥
+  DoesPart (Ok (Run job)) = WritesRunInPart job job.line
+  DoesPart (Ok (Gen job)) = AppendsPrefix before now (gen_text job)
+  DoesPart (Ok (Map job)) = AppendsPrefix before now (map_text (map_options job))
+  DoesPart (Ok (Moves job)) = AppendsPrefix before now (moves_text job.lines job.from)
 
 -- why words give no job: they ask for none, or memory ran out
 abbrev pub IsRefused : Result Job Refusal → Fault → Type 0
@@ -77,7 +130,7 @@ IsRefused asked fault = (fault ≡ NoMemory) ⊎ ((fault ≡ Usage) × (asked �
 -- why a call doesn't do its work: the words ask for no job, a run has no events, or there is no memory
 abbrev pub HasCause : Fault → Result Job Refusal → SourceChange → Type 0
 HasCause fault (Err e) s = (fault ≡ Usage) ⊎ (fault ≡ NoMemory)
-HasCause fault (Ok (Run job)) s = IsReadFault fault s
+HasCause fault (Ok (Run job)) s = IsFaultOf (bytes_in job.line) job job.input fault s
 HasCause fault (Ok (Gen job)) s = fault ≡ NoMemory
 HasCause fault (Ok (Map job)) s = fault ≡ NoMemory
 HasCause fault (Ok (Moves job)) s = fault ≡ NoMemory
@@ -94,18 +147,3 @@ pub record TellsPart (job : Result Job Refusal) (s : SourceChange) (before now :
   pub fault : Fault
   pub cause : HasCause fault job s
   pub part : AppendsPrefix before now (fault_line fault)
-
--- the status for a trace
-abbrev pub trace_status : {n : ℕ} → Result (List (Event n)) ParseFault → ℕ
-trace_status (Ok events) = 0
-trace_status (Err (parsing.Trace f)) = 3
-trace_status (Err parsing.TooMany) = 6
-trace_status (Err parsing.NoMemory) = 7
-
--- the status for a job over these bytes, where memory suffices and nothing fails
-abbrev pub status_for : Result Job Refusal → List ℕ → ℕ
-status_for (Err e) bytes = 2
-status_for (Ok (Run job)) bytes = if nat_lt trace_room (length bytes) then 6 else trace_status (trace_of 64 64 bytes)
-status_for (Ok (Gen job)) bytes = 0
-status_for (Ok (Map job)) bytes = 0
-status_for (Ok (Moves job)) bytes = 0

@@ -10,14 +10,14 @@ ghost use Rattle.command_line.specs.Jobs.{IsMix as IsMixAsked};
 ghost use Rattle.pcm_top.specs.Jobs.{drawn_mix, gen_text};
 
 use crate::fault::Fault;
-use crate::print::{TEXT_ROOM, make_room};
 use command_line::{GenJob, LineSize};
 use pcm_io::{Sink, Text, WriteFault, write_all};
+use run_text::{TEXT_ROOM, make_room};
 use std::alloc::Global;
 use trace_gen::{Generator, Mix, header, print_event};
 
-// What the rows of a trace are, as the generator takes it.
-fn mix_of(asked: &command_line::Mix) -> Mix
+/// What the rows of a trace are, as the generator takes it.
+pub fn mix_of(asked: &command_line::Mix) -> Mix
     requires { IsMixAsked asked.now }
     ensures same { result ≡ drawn_mix asked.now }
     ensures in_range { IsMix result }

@@ -4,19 +4,17 @@
 
 mod drawn;
 mod fault;
+mod input;
+pub mod laws;
+mod memory;
 mod print;
 mod program;
+mod replay;
 mod report;
 mod run;
-mod serve;
+mod wear;
 
 pub use fault::Fault;
-pub use print::TEXT_ROOM;
+pub use input::TRACE_ROOM;
 pub use program::pcm_run;
-pub use run::TRACE_ROOM;
-
-/// The lines of the module; line `l` is array line `l`.
-pub const LINES: u32 = 64;
-
-#[cfg(test)]
-mod tests;
+pub use run_text::TEXT_ROOM;

@@ -1,89 +1,52 @@
-// The results, written as text.
-ghost use Rattle.std.specs.Prelude.{◌≡◌, ◌≤◌, length, OnOk, OnErr};
+// What a run writes.
+ghost use Rattle.std.specs.Prelude.{◌≡◌, ◌*◌, ◌≤◌, ℕ, List, length, OnOk, OnErr};
 ghost use Rattle.std.specs.Io.KnownBytes.{Appends};
 ghost use Rattle.pcm_io.specs.Faults.{Rose};
 ghost use Rattle.pcm_io.specs.Giving.{AppendsPrefix};
 ghost use Rattle.pcm_io.specs.Reserved.{reserved};
-ghost use Rattle.trace_reader.specs.Events.{AreEventsFor};
-ghost use Rattle.pcm_top.specs.Serving.{Serves};
-ghost use Rattle.pcm_top.specs.ResultText.{asked, named_line, results_text};
-ghost use Rattle.pcm_top.specs.Flushing.{Flushes};
+ghost use Rattle.module_shape.specs.Addresses.{array_lines_of, module_of};
+ghost use Rattle.end_laws.specs.Ends.{BankEnd};
+ghost use Rattle.run_text.specs.ResultText.{ArePrintable};
+ghost use Rattle.pcm_module.specs.State.{AreEndsOf};
+ghost use Rattle.pcm_top.specs.RunText.{HaveRoles, IsRunText};
 
-use crate::LINES;
-use pcm_io::{Sink, Text, WriteFault, write_all};
-use result_rows::{Op, Results, header, print_row};
-use trace_reader::{Event, EventOp, MOST_ROWS};
+use crate::wear::print_wear;
+use command_line::Print;
+use pcm_cells::CellArray;
+use pcm_io::{Sink, Text, WriteFault};
+use pcm_module::module::Module;
+use result_rows::Results;
+use result_summary::sum_pulses;
+use run_text::{TEXT_ROOM, print_counts, print_results};
+use trace_reader::{Event, MOST_ROWS};
 
-/// Bytes of text that are gathered before they are written.
-pub const TEXT_ROOM: usize = 65_536;
-
-// Bytes that a row takes at most, over lines of 128 bytes.
-const ROW_ROOM: usize = 320;
-
-// What a row asks for, as its result shows it.
-fn asked_by(op: &EventOp<64>) -> Op
-    ensures { result ≡ asked op.now }
-{
-    match op {
-        EventOp::Read(_) => Op::Read,
-        EventOp::Write(..) | EventOp::Mask(..) => Op::Write,
-        EventOp::Cut => Op::Cut,
-    }
-}
-
-// The line that a row names; a cut names none, and 0 stands for that.
-fn line_named_by(op: &EventOp<64>) -> u32
-    ensures { result ≡ named_line op.now }
-{
-    match op {
-        EventOp::Read(line) | EventOp::Write(line, _) | EventOp::Mask(line, _, _) => *line,
-        EventOp::Cut => 0,
-    }
-}
-
-/// Writes the text if the next row might not fit.
-pub fn make_room<K: Sink>(text: &mut Text, out: &mut K) -> Result<(), WriteFault>
-    requires { ROW_ROOM ≤ text.old.limit }
-    ensures ok { OnOk result (Flushes ROW_ROOM text.old text.new (K.written out.old) (K.written out.new)) }
-    ensures prefix { OnErr result (AppendsPrefix (K.written out.old) (K.written out.new) text.old.bytes) }
-    ensures fault { OnErr result (Rose (K.faults out.old) (K.faults out.new)) }
-    ensures never_falls { K.faults out.old ≤ K.faults out.new }
-{
-    if text.room() < ROW_ROOM {
-        write_all(out, text.bytes())?;
-        text.clear();
-    }
-    Ok(())
-}
-
-/// Writes the header and one row for each event.
-pub fn print_all<K: Sink>(
-    events: &[Event<64>],
-    results: &Results<64>,
+/// Writes what is asked for of a run that was made: its results, its summary or its wear report.
+pub fn print_run<const B: usize, const M: usize, const E: usize, A: CellArray<B, M>, K: Sink>(
+    print: Print,
+    pcm: &Module<B, M, E>,
+    array: &A,
+    events: &[Event<B>],
+    results: &Results<B>,
     text: &mut Text,
     out: &mut K,
 ) -> Result<(), WriteFault>
+    requires small { B ≤ 128 }
     requires room { text.old ≡ reserved TEXT_ROOM }
-    requires serves { Serves events.now results.now }
-    requires events { AreEventsFor LINES 0 events.now }
     requires rows { length events.now ≤ MOST_ROWS }
-    ensures ok { OnOk result (Appends (K.written out.old) (K.written out.new) (results_text events.now results.now)) }
-    ensures prefix { OnErr result (AppendsPrefix (K.written out.old) (K.written out.new) (results_text events.now results.now)) }
+    requires printable { ArePrintable events.now results.now }
+    requires size { (A.state array.now).lines ≡ pcm.now.shape.banks * array_lines_of (module_of pcm.now.shape) }
+    ensures ok { OnOk result ((ends : ℕ → BankEnd) → AreEndsOf pcm.now ends → HaveRoles pcm.now.shape pcm.now.seed ends
+        → (whole : List ℕ) × IsRunText pcm.now.shape pcm.now.seed events.now results.now ends (A.state array.now) print whole
+        × Appends (K.written out.old) (K.written out.new) whole) }
+    ensures prefix { OnErr result ((ends : ℕ → BankEnd) → AreEndsOf pcm.now ends → HaveRoles pcm.now.shape pcm.now.seed ends
+        → (whole : List ℕ) × IsRunText pcm.now.shape pcm.now.seed events.now results.now ends (A.state array.now) print whole
+        × AppendsPrefix (K.written out.old) (K.written out.new) whole) }
     ensures fault { OnErr result (Rose (K.faults out.old) (K.faults out.new)) }
     ensures never_falls { K.faults out.old ≤ K.faults out.new }
 {
-    text.push(header());
-    for (i, event) in events.iter().enumerate() {
-        make_room(text, out)?;
-        let row = i as u32 + 1;
-        print_row(
-            row,
-            asked_by(&event.op),
-            line_named_by(&event.op),
-            results.get(row),
-            text,
-        );
+    match print {
+        Print::Results => print_results(events, results, text, out),
+        Print::Summary => print_counts(results, pcm.retired(), sum_pulses(array), text, out),
+        Print::Wear => print_wear(pcm, array, text, out),
     }
-    let rest = text.bytes();
-    write_all(out, rest)
 }

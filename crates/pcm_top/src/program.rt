@@ -1,19 +1,23 @@
 // The program's one call.
-ghost use Rattle.std.specs.Prelude.{◌≡◌, ◌≢◌, ◌⊎◌, ◌+◌, ◌<◌, ◌≤◌, ◌^◌, ◌-◌, ℕ, List, false, map, string_bytes, Some, Ok, Err, IfOk, IfErr, IfSome, OnOk};
+ghost use Rattle.std.specs.Prelude.{◌≡◌, ◌≢◌, ◌⊎◌, ◌+◌, ◌<◌, ◌≤◌, ◌^◌, ◌-◌, ℕ, List, true, false, map, string_bytes, Some, Ok, Err, IfOk, IfErr, OnOk};
 ghost use Rattle.std.specs.Io.KnownBytes.{Appends};
 ghost use Rattle.pcm_io.specs.Faults.{Rose};
 ghost use Rattle.pcm_io.specs.Giving.{AppendsPrefix};
+ghost use Rattle.command_line.specs.Jobs.{IsJob, IsRun, job_of};
+ghost use Rattle.command_line.specs.declared.job.LineSize.TheVariants.{Bytes64, Bytes128};
+ghost use Rattle.pcm_top.specs.Jobs.{bytes_in};
 ghost use Rattle.pcm_top.specs.FaultLines.{fault_line, status_of};
-ghost use Rattle.pcm_top.specs.Reading.{source_change};
-ghost use Rattle.pcm_top.specs.Running.{Does, DoesPart, HasCause, Tells, TellsPart, IsRefused, asked_job, is_run, run_alone, status_for};
-ghost use Rattle.command_line.specs.Jobs.{IsJob, or_usage};
+ghost use Rattle.pcm_top.specs.Reading.{source_change, trace_room};
+ghost use Rattle.pcm_top.specs.Inputs.{IsFaultOf, is_source};
+ghost use Rattle.pcm_top.specs.Running.{Does, DoesPart, WritesRun, WritesRunInPart, HasCause, Tells, TellsPart, IsRefused, is_size, reads_source, runs_on, status_done, room_of};
+ghost use Rattle.pcm_top.specs.Statuses.{IsStatusFor};
 
 use crate::drawn::write_drawn;
 use crate::fault::{Fault, status, tell};
 use crate::report::{report_map, report_moves};
-use crate::run::{TRACE_ROOM, run};
-use command_line::{Job, Refusal, read_job};
-use pcm_cells::PlainArray;
+use crate::run::{Done, run};
+use command_line::{Job, LineSize, Refusal, RunJob, read_job};
+use pcm_cells::CellArray;
 use pcm_io::{Sink, Source};
 use std::alloc::Global;
 
@@ -31,148 +35,178 @@ fn give_up<F: Sink>(fault: Fault, err: &mut F) -> u8
     }
 }
 
-// A run has no options yet.
-fn alone(job: Job, words: usize) -> Option<Job>
-    requires { IsJob job }
-    ensures exact { or_usage result ≡ run_alone words (Ok job) }
-    ensures in_range { IfSome result IsJob }
-{
-    match job {
-        Job::Run(job) => {
-            if words == 1 {
-                Some(Job::Run(job))
-            } else {
-                None
-            }
-        }
-        Job::Gen(job) => Some(Job::Gen(job)),
-        Job::Map(job) => Some(Job::Map(job)),
-        Job::Moves(job) => Some(Job::Moves(job)),
-    }
-}
-
 // The job of the words.
 fn read_words(alloc: Global, words: &[String]) -> Result<Job, Fault>
-    ensures ok { IfOk result (λ job. asked_job (map string_bytes words.now) ≡ Ok job) }
-    ensures err { IfErr result (λ fault. IsRefused (asked_job (map string_bytes words.now)) fault) }
+    ensures ok { IfOk result (λ job. job_of (map string_bytes words.now) ≡ Ok job) }
+    ensures err { IfErr result (λ fault. IsRefused (job_of (map string_bytes words.now)) fault) }
     ensures in_range { IfOk result IsJob }
 {
     match read_job(alloc, words) {
-        Ok(job) => match alone(job, words.len()) {
-            Some(job) => Ok(job),
-            None => Err(Fault::Usage),
-        },
+        Ok(job) => Ok(job),
         Err(Refusal::Usage) => Err(Fault::Usage),
         Err(Refusal::NoMemory) => Err(Fault::NoMemory),
     }
 }
 
-// Does what a job asks for.
-fn carry_out<S: Source, K: Sink>(
+// Makes a run on the array of its lines; the other one stays as it is.
+fn run_on<A: CellArray<64, 8>, V: CellArray<128, 16>, S: Source, K: Sink>(
     alloc: Global,
-    job: Job,
-    array: &mut PlainArray<64, 8>,
+    job: &RunJob,
+    array: &mut A,
+    wide: &mut V,
     source: &mut S,
     out: &mut K,
-) -> Result<(), Fault>
+) -> Result<Done, Fault>
+    requires { IsRun job.now }
+    ensures done { IfOk result (λ done. WritesRun (source_change S.left S.taken S.faults source.old source.new) (A.state array.new) (V.state wide.new) (K.written out.old) (K.written out.new) job.now done job.now.line) }
+    ensures write { result ≡ Err Fault.Write → WritesRunInPart (source_change S.left S.taken S.faults source.old source.new) (A.state array.new) (V.state wide.new) (K.written out.old) (K.written out.new) job.now job.now.line
+        × Rose (K.faults out.old) (K.faults out.new) }
+    ensures cause { IfErr result (λ fault. fault ≢ Fault.Write → IsFaultOf (bytes_in job.now.line) job.now job.now.input fault (source_change S.left S.taken S.faults source.old source.new)) }
+    ensures out { IfErr result (λ fault. fault ≢ Fault.Write → out.new ≡ out.old) }
+    ensures arrays { IfErr result (λ fault. fault ≢ Fault.Write → fault ≢ Fault.NoMemory → (array.new ≡ array.old) × (wide.new ≡ wide.old)) }
+    ensures array { is_size Bytes64 job.now.line ≡ false → array.new ≡ array.old }
+    ensures wide { is_size Bytes128 job.now.line ≡ false → wide.new ≡ wide.old }
+    ensures drawn { is_source job.now.input ≡ false → source.new ≡ source.old }
+    ensures too_long { S.taken source.old + trace_room (bytes_in job.now.line) < 2 ^ 64 - 1
+        → S.taken source.old + trace_room (bytes_in job.now.line) < S.taken source.new → result ≡ Err Fault.TooLong }
+    ensures out_faults { K.faults out.old ≤ K.faults out.new }
+    ensures source_faults { S.faults source.old ≤ S.faults source.new }
+{
+    match job.line {
+        LineSize::Bytes64 => run::<64, 8, 6, A, S, K>(alloc, job, array, source, out),
+        LineSize::Bytes128 => run::<128, 16, 8, V, S, K>(alloc, job, wide, source, out),
+    }
+}
+
+// A report that was written is done wholly.
+fn whole(written: Result<(), Fault>) -> Result<Done, Fault>
+    ensures ok { OnOk written (result ≡ Ok Done.Whole) }
+    ensures err { IfErr written (λ fault. result ≡ Err fault) }
+{
+    match written {
+        Ok(()) => Ok(Done::Whole),
+        Err(fault) => Err(fault),
+    }
+}
+
+// Does what a job asks for.
+fn carry_out<A: CellArray<64, 8>, V: CellArray<128, 16>, S: Source, K: Sink>(
+    alloc: Global,
+    job: Job,
+    array: &mut A,
+    wide: &mut V,
+    source: &mut S,
+    out: &mut K,
+) -> Result<Done, Fault>
     requires { IsJob job }
-    ensures done { OnOk result (Does (Ok job) (source_change S.left S.taken S.faults source.old source.new) array.new (K.written out.old) (K.written out.new)) }
-    ensures write { result ≡ Err Fault.Write → DoesPart (Ok job) (source_change S.left S.taken S.faults source.old source.new) array.new (K.written out.old) (K.written out.new)
+    ensures done { IfOk result (Does (source_change S.left S.taken S.faults source.old source.new) (A.state array.new) (V.state wide.new) (K.written out.old) (K.written out.new) (Ok job)) }
+    ensures write { result ≡ Err Fault.Write → DoesPart (source_change S.left S.taken S.faults source.old source.new) (A.state array.new) (V.state wide.new) (K.written out.old) (K.written out.new) (Ok job)
         × Rose (K.faults out.old) (K.faults out.new) }
     ensures cause { IfErr result (λ fault. fault ≢ Fault.Write → HasCause fault (Ok job) (source_change S.left S.taken S.faults source.old source.new)) }
     ensures out { IfErr result (λ fault. fault ≢ Fault.Write → out.new ≡ out.old) }
-    ensures array { IfErr result (λ fault. fault ≢ Fault.Write → fault ≢ Fault.NoMemory → array.new ≡ array.old) }
-    ensures report { is_run (Ok job) ≡ false → (source.new ≡ source.old) × (array.new ≡ array.old) }
-    ensures too_long { S.taken source.old + TRACE_ROOM < 2 ^ 64 - 1 → S.taken source.old + TRACE_ROOM < S.taken source.new → result ≡ Err Fault.TooLong }
+    ensures arrays { IfErr result (λ fault. fault ≢ Fault.Write → fault ≢ Fault.NoMemory → (array.new ≡ array.old) × (wide.new ≡ wide.old)) }
+    ensures array { runs_on Bytes64 (Ok job) ≡ false → array.new ≡ array.old }
+    ensures wide { runs_on Bytes128 (Ok job) ≡ false → wide.new ≡ wide.old }
+    ensures unread { reads_source (Ok job) ≡ false → source.new ≡ source.old }
+    ensures too_long { S.taken source.old + room_of (Ok job) < 2 ^ 64 - 1 → S.taken source.old + room_of (Ok job) < S.taken source.new → result ≡ Err Fault.TooLong }
     ensures out_faults { K.faults out.old ≤ K.faults out.new }
     ensures source_faults { S.faults source.old ≤ S.faults source.new }
 {
     match job {
-        Job::Run(_) => run(alloc, array, source, out),
-        Job::Gen(job) => write_drawn(alloc, job, out),
-        Job::Map(job) => report_map(alloc, job, out),
-        Job::Moves(job) => report_moves(alloc, job, out),
+        Job::Run(job) => run_on(alloc, &job, array, wide, source, out),
+        Job::Gen(job) => whole(write_drawn(alloc, job, out)),
+        Job::Map(job) => whole(report_map(alloc, job, out)),
+        Job::Moves(job) => whole(report_moves(alloc, job, out)),
     }
 }
 
 // Does what the words ask for.
-fn work<S: Source, K: Sink>(
+fn work<A: CellArray<64, 8>, V: CellArray<128, 16>, S: Source, K: Sink>(
     alloc: Global,
     words: &[String],
-    array: &mut PlainArray<64, 8>,
+    array: &mut A,
+    wide: &mut V,
     source: &mut S,
     out: &mut K,
-) -> Result<(), Fault>
-    ensures done { OnOk result (Does (asked_job (map string_bytes words.now)) (source_change S.left S.taken S.faults source.old source.new) array.new (K.written out.old) (K.written out.new)) }
-    ensures write { result ≡ Err Fault.Write → DoesPart (asked_job (map string_bytes words.now)) (source_change S.left S.taken S.faults source.old source.new) array.new (K.written out.old) (K.written out.new)
+) -> Result<Done, Fault>
+    ensures done { IfOk result (Does (source_change S.left S.taken S.faults source.old source.new) (A.state array.new) (V.state wide.new) (K.written out.old) (K.written out.new) (job_of (map string_bytes words.now))) }
+    ensures write { result ≡ Err Fault.Write → DoesPart (source_change S.left S.taken S.faults source.old source.new) (A.state array.new) (V.state wide.new) (K.written out.old) (K.written out.new) (job_of (map string_bytes words.now))
         × Rose (K.faults out.old) (K.faults out.new) }
-    ensures cause { IfErr result (λ fault. fault ≢ Fault.Write → HasCause fault (asked_job (map string_bytes words.now)) (source_change S.left S.taken S.faults source.old source.new)) }
+    ensures cause { IfErr result (λ fault. fault ≢ Fault.Write → HasCause fault (job_of (map string_bytes words.now)) (source_change S.left S.taken S.faults source.old source.new)) }
     ensures out { IfErr result (λ fault. fault ≢ Fault.Write → out.new ≡ out.old) }
-    ensures array { IfErr result (λ fault. fault ≢ Fault.Write → fault ≢ Fault.NoMemory → array.new ≡ array.old) }
-    ensures report { is_run (asked_job (map string_bytes words.now)) ≡ false → (source.new ≡ source.old) × (array.new ≡ array.old) }
-    ensures usage { asked_job (map string_bytes words.now) ≡ Err Refusal.Usage → ((result ≡ Err Fault.Usage) ⊎ (result ≡ Err Fault.NoMemory)) × (out.new ≡ out.old) }
-    ensures too_long { S.taken source.old + TRACE_ROOM < 2 ^ 64 - 1 → S.taken source.old + TRACE_ROOM < S.taken source.new → result ≡ Err Fault.TooLong }
+    ensures arrays { IfErr result (λ fault. fault ≢ Fault.Write → fault ≢ Fault.NoMemory → (array.new ≡ array.old) × (wide.new ≡ wide.old)) }
+    ensures array { runs_on Bytes64 (job_of (map string_bytes words.now)) ≡ false → array.new ≡ array.old }
+    ensures wide { runs_on Bytes128 (job_of (map string_bytes words.now)) ≡ false → wide.new ≡ wide.old }
+    ensures unread { reads_source (job_of (map string_bytes words.now)) ≡ false → source.new ≡ source.old }
+    ensures usage { job_of (map string_bytes words.now) ≡ Err Refusal.Usage → ((result ≡ Err Fault.Usage) ⊎ (result ≡ Err Fault.NoMemory)) × (out.new ≡ out.old) }
+    ensures too_long { S.taken source.old + room_of (job_of (map string_bytes words.now)) < 2 ^ 64 - 1 → S.taken source.old + room_of (job_of (map string_bytes words.now)) < S.taken source.new → result ≡ Err Fault.TooLong }
 {
     let job = read_words(alloc, words)?;
-    carry_out(alloc, job, array, source, out)
+    carry_out(alloc, job, array, wide, source, out)
 }
 
-/// Runs the program on the words behind its name, and answers its status: 0 the work is done, 2 the words ask for
-/// no job, 3 the trace has a fault, 4 reading failed, 5 writing failed, 6 the trace is too long, 7 memory ran out.
-pub fn pcm_run<S: Source, K: Sink, F: Sink>(
+/// Runs the program on the words behind its name, and answers its status: 0 the work is done, 1 a run is done in which some
+/// row was refused, lost or left in a queue, 2 the words ask for no job, 3 the trace has a fault, 4 reading failed, 5 writing
+/// failed, 6 the trace is too long, 7 memory ran out. A run is made on the array of its lines, which is powered up first:
+/// `array` for lines of 64 bytes, `wide` for lines of 128.
+pub fn pcm_run<A: CellArray<64, 8>, V: CellArray<128, 16>, S: Source, K: Sink, F: Sink>(
     alloc: Global,
     words: &[String],
-    array: &mut PlainArray<64, 8>,
+    array: &mut A,
+    wide: &mut V,
     source: &mut S,
     out: &mut K,
     err: &mut F,
 ) -> u8
-    // The work was done: a run was made, with an outcome for every row, exactly its text written, and an array that holds
-    // what is newest; or exactly a report was written.
-    ensures done { result ≡ 0 → Does (asked_job (map string_bytes words.now))
-        (source_change S.left S.taken S.faults source.old source.new) array.new (K.written out.old) (K.written out.new) }
-    ensures silent { result ≡ 0 → err.new ≡ err.old }
+    // The work was done: a run was made that left what is right, and exactly its text was written; or exactly a report was
+    // written. The status of a run is 1 exactly where some row falls short.
+    ensures done { result ≤ 1 → (done : Done) × Does (source_change S.left S.taken S.faults source.old source.new)
+        (A.state array.new) (V.state wide.new) (K.written out.old) (K.written out.new) (job_of (map string_bytes words.now)) done × (result ≡ status_done done) }
+    ensures silent { result ≤ 1 → err.new ≡ err.old }
 
     // It was not: the status is that of a fault which has its cause, and its line was written.
-    ensures told { result ≢ 0 → result ≢ 5 → Tells (asked_job (map string_bytes words.now))
+    ensures told { 2 ≤ result → result ≢ 5 → Tells (job_of (map string_bytes words.now))
         (source_change S.left S.taken S.faults source.old source.new) (F.written err.old) (F.written err.new) result }
-    ensures unwritten { result ≢ 0 → result ≢ 5 → out.new ≡ out.old }
-    ensures untouched { result ≢ 0 → result ≢ 5 → result ≢ 7 → array.new ≡ array.old }
+    ensures unwritten { 2 ≤ result → result ≢ 5 → out.new ≡ out.old }
+    ensures untouched { 2 ≤ result → result ≢ 5 → result ≢ 7 → (array.new ≡ array.old) × (wide.new ≡ wide.old) }
 
-    // Writing failed: the results of a run or a report, or the line of a fault that has its cause.
+    // Writing failed: the text of a run or a report, or the line of a fault that has its cause.
     ensures broken { result ≡ 5 →
-        (DoesPart (asked_job (map string_bytes words.now))
-        (source_change S.left S.taken S.faults source.old source.new) array.new (K.written out.old) (K.written out.new)
+        (DoesPart (source_change S.left S.taken S.faults source.old source.new)
+        (A.state array.new) (V.state wide.new) (K.written out.old) (K.written out.new) (job_of (map string_bytes words.now))
         × Rose (K.faults out.old) (K.faults out.new)
         × AppendsPrefix (F.written err.old) (F.written err.new) (fault_line Fault.Write))
-        ⊎ ((t : TellsPart (asked_job (map string_bytes words.now))
+        ⊎ ((t : TellsPart (job_of (map string_bytes words.now))
         (source_change S.left S.taken S.faults source.old source.new) (F.written err.old) (F.written err.new))
         × Rose (F.faults err.old) (F.faults err.new)
         × (out.new ≡ out.old)
-        × (t.fault ≢ Fault.NoMemory → array.new ≡ array.old)) }
+        × (t.fault ≢ Fault.NoMemory → (array.new ≡ array.old) × (wide.new ≡ wide.old))) }
 
-    // Only a run touches the source and the array.
-    ensures report { is_run (asked_job (map string_bytes words.now)) ≡ false →
-        (source.new ≡ source.old) × (array.new ≡ array.old) }
+    // Only a run of a trace that is read touches the source, and only a run over lines of its size touches an array.
+    ensures unread { reads_source (job_of (map string_bytes words.now)) ≡ false → source.new ≡ source.old }
+    ensures narrow { runs_on Bytes64 (job_of (map string_bytes words.now)) ≡ false → array.new ≡ array.old }
+    ensures wide { runs_on Bytes128 (job_of (map string_bytes words.now)) ≡ false → wide.new ≡ wide.old }
 
     // Words that ask for no job touch nothing else; memory may run out while they are read.
-    ensures usage { asked_job (map string_bytes words.now) ≡ Err Refusal.Usage →
+    ensures usage { job_of (map string_bytes words.now) ≡ Err Refusal.Usage →
         ((result ≡ 2) ⊎ (result ≡ 7) ⊎ ((result ≡ 5) × Rose (F.faults err.old) (F.faults err.new)))
-        × (source.new ≡ source.old) × (array.new ≡ array.old) × (out.new ≡ out.old) }
+        × (out.new ≡ out.old) }
 
     // More bytes than a trace may have are always answered so; the count of taken bytes is not near its end.
-    ensures too_long { S.taken source.old + TRACE_ROOM < 2 ^ 64 - 1 → S.taken source.old + TRACE_ROOM < S.taken source.new
+    ensures too_long { S.taken source.old + room_of (job_of (map string_bytes words.now)) < 2 ^ 64 - 1 → S.taken source.old + room_of (job_of (map string_bytes words.now)) < S.taken source.new
         → (result ≡ 6) ⊎ ((result ≡ 5) × Rose (F.faults err.old) (F.faults err.new)) }
 
-    // Over a source that tells its bytes, where nothing fails, words and bytes decide the status, or memory runs out.
-    ensures exact { (bytes : List ℕ) → S.left source.old ≡ Some bytes
+    // Where nothing fails, words and bytes decide the status, but for the rows of a run that is made, or memory runs out. The
+    // bytes are those that the source tells, if it is read.
+    ensures exact { (bytes : List ℕ) → (reads_source (job_of (map string_bytes words.now)) ≡ true → S.left source.old ≡ Some bytes)
         → ¬ Rose (S.faults source.old) (S.faults source.new)
         → ¬ Rose (K.faults out.old) (K.faults out.new)
         → ¬ Rose (F.faults err.old) (F.faults err.new)
-        → (result ≡ status_for (asked_job (map string_bytes words.now)) bytes) ⊎ (result ≡ 7) }
+        → IsStatusFor (job_of (map string_bytes words.now)) bytes result ⊎ (result ≡ 7) }
 {
-    match work(alloc, words, array, source, out) {
-        Ok(()) => 0,
+    match work(alloc, words, array, wide, source, out) {
+        Ok(Done::Whole) => 0,
+        Ok(Done::Short) => 1,
         Err(fault) => give_up(fault, err),
     }
 }

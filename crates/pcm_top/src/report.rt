@@ -10,10 +10,10 @@ ghost use Rattle.command_line.specs.Jobs.{IsMoves};
 ghost use Rattle.pcm_top.specs.Jobs.{map_options};
 
 use crate::fault::Fault;
-use crate::print::{TEXT_ROOM, make_room};
 use command_line::{MapJob, MovesJob};
 use pcm_io::{Sink, Text, WriteFault, write_all};
 use rotation_reports::{Map, MapOptions, print_map_header, print_move_row, print_moves_header};
+use run_text::{TEXT_ROOM, make_room};
 use std::alloc::Global;
 
 // What a map is told of.

@@ -1,93 +1,90 @@
 // The command `run`.
-ghost use Rattle.std.specs.Prelude.{◌≡◌, ◌≢◌, ◌≤◌, replicate, vec_len, Err, IfOk, IfErr, OnOk, OnErr};
-ghost use Rattle.std.specs.Io.KnownBytes.{Appends};
+ghost use Rattle.std.specs.Prelude.{◌≡◌, ◌≢◌, ◌+◌, ◌-◌, ◌^◌, ◌<◌, ◌≤◌, false, Err, IfOk, IfErr};
 ghost use Rattle.pcm_io.specs.Faults.{Rose};
-ghost use Rattle.pcm_io.specs.Giving.{AppendsPrefix};
-ghost use Rattle.pcm_io.specs.Reserved.{reserved};
-ghost use Rattle.pcm_cells.specs.Rows.{zero_row};
-ghost use Rattle.trace_reader.specs.Events.{AreEventsFor};
-ghost use Rattle.result_rows.specs.declared.Outcome.TheVariants.{Unset};
-ghost use Rattle.pcm_top.specs.ResultText.{results_text};
-ghost use Rattle.pcm_top.specs.Reading.{IsReadFault, ReadsTrace, source_change};
-ghost use Rattle.pcm_top.specs.Running.{Runs};
+ghost use Rattle.ecp_line.specs.Layout.{IsLayout};
+ghost use Rattle.command_line.specs.Jobs.{IsRun};
+ghost use Rattle.pcm_top.specs.Reading.{source_change, trace_room};
+ghost use Rattle.pcm_top.specs.Inputs.{IsFaultOf, is_source};
+ghost use Rattle.pcm_top.specs.Running.{RunIsWritten, RunIsWrittenInPart, done_by};
 
-use crate::LINES;
 use crate::fault::Fault;
-use crate::print::{TEXT_ROOM, print_all};
-use crate::serve::serve_all;
-use pcm_cells::PlainArray;
-use pcm_io::{ReadAllFault, Sink, Source, Text, read_all};
+use crate::input::events_of;
+use crate::laws::right_runs_can_be_printed;
+use crate::memory::take_memory;
+use crate::print::print_run;
+use crate::replay::replay;
+use command_line::RunJob;
+use pcm_cells::CellArray;
+use pcm_io::{Sink, Source};
 use result_rows::Results;
-use std::alloc::{AllocError, Global};
-use trace_reader::{Event, MOST_ROWS, ParseFault, parse};
+use result_summary::any_short;
+use std::alloc::Global;
 
-/// Bytes that a trace may have.
-pub const TRACE_ROOM: usize = 67_108_864;
+/// How a job was done.
+#[derive(Clone, Copy, Debug, PartialEq, Eq)]
+pub enum Done {
+    /// Wholly: no row of a run fell short of what it asked for.
+    Whole,
+    /// A run was made in which some row was refused, lost or left in a queue.
+    Short,
+}
 
-// Reads the source to its end as a trace.
-fn read_trace<S: Source>(alloc: Global, source: &mut S) -> Result<Vec<Event<64>>, Fault>
-    ensures trace { IfOk result (λ events. ReadsTrace (source_change S.left S.taken S.faults source.old source.new) events.items) }
-    ensures events { IfOk result (λ events. AreEventsFor LINES 0 events.items) }
-    ensures rows { IfOk result (λ events. vec_len events ≤ MOST_ROWS) }
-    ensures fault { IfErr result (λ fault. IsReadFault fault (source_change S.left S.taken S.faults source.old source.new)) }
-    ensures never_falls { S.faults source.old ≤ S.faults source.new }
+// How a run was done, by its rows.
+fn ending<const B: usize>(results: &Results<B>) -> Done
+    requires { B ≤ 128 }
+    ensures { result ≡ done_by results.now }
 {
-    let bytes = match read_all(alloc, source, TRACE_ROOM) {
-        Ok(bytes) => bytes,
-        Err(ReadAllFault::Read) => return Err(Fault::Read),
-        Err(ReadAllFault::TooLong) => return Err(Fault::TooLong),
-        Err(ReadAllFault::NoMemory) => return Err(Fault::NoMemory),
-    };
-    match parse(alloc, bytes.as_slice(), LINES) {
-        Ok(events) => Ok(events),
-        Err(ParseFault::Trace(fault)) => Err(Fault::Trace(fault)),
-        Err(ParseFault::TooMany) => Err(Fault::TooLong),
-        Err(ParseFault::NoMemory) => Err(Fault::NoMemory),
+    if any_short(results) {
+        Done::Short
+    } else {
+        Done::Whole
     }
 }
 
-// Takes all the memory of a run: the array's, the table of outcomes and the text.
-fn take_memory(
+/// Replays the events of a job on the array, and writes what the job asks to see of it.
+pub fn run<const B: usize, const M: usize, const E: usize, A: CellArray<B, M>, S: Source, K: Sink>(
     alloc: Global,
-    array: &mut PlainArray<64, 8>,
-    rows: u32,
-) -> Result<(Results<64>, Text), AllocError>
-    ensures array { OnOk result (array.new ≡ replicate LINES (zero_row 64 8)) }
-    ensures results { IfOk result (λ taken. taken.0 ≡ replicate rows Unset) }
-    ensures text { IfOk result (λ taken. taken.1 ≡ reserved TEXT_ROOM) }
-{
-    array.power_up(alloc, LINES)?;
-    Ok((Results::new(alloc, rows)?, Text::new(alloc, TEXT_ROOM)?))
-}
-
-/// Replays the trace that the source gives on the array, and writes the results.
-pub fn run<S: Source, K: Sink>(
-    alloc: Global,
-    array: &mut PlainArray<64, 8>,
+    job: &RunJob,
+    array: &mut A,
     source: &mut S,
     out: &mut K,
-) -> Result<(), Fault>
-    ensures done { OnOk result ((run : Runs (source_change S.left S.taken S.faults source.old source.new) array.new)
-        × Appends (K.written out.old) (K.written out.new) (results_text run.events run.outcomes)) }
+) -> Result<Done, Fault>
+    requires layout { IsLayout B M E }
+    requires job { IsRun job.now }
+    ensures done { IfOk result (RunIsWritten B M E job.now (source_change S.left S.taken S.faults source.old source.new) (A.state array.new)
+        (K.written out.old) (K.written out.new)) }
 
     // Only a fault of writing comes after the first byte was written.
-    ensures write { result ≡ Err Fault.Write → (run : Runs (source_change S.left S.taken S.faults source.old source.new) array.new)
-        × AppendsPrefix (K.written out.old) (K.written out.new) (results_text run.events run.outcomes)
+    ensures write { result ≡ Err Fault.Write →
+        RunIsWrittenInPart B M E job.now (source_change S.left S.taken S.faults source.old source.new) (A.state array.new) (K.written out.old) (K.written out.new)
         × Rose (K.faults out.old) (K.faults out.new) }
-    ensures read { IfErr result (λ fault. fault ≢ Fault.Write → IsReadFault fault (source_change S.left S.taken S.faults source.old source.new)) }
+    ensures cause { IfErr result (λ fault. fault ≢ Fault.Write → IsFaultOf B job.now job.now.input fault (source_change S.left S.taken S.faults source.old source.new)) }
     ensures out { IfErr result (λ fault. fault ≢ Fault.Write → out.new ≡ out.old) }
     ensures array { IfErr result (λ fault. fault ≢ Fault.Write → fault ≢ Fault.NoMemory → array.new ≡ array.old) }
+    ensures drawn { is_source job.now.input ≡ false → source.new ≡ source.old }
+    ensures too_long { S.taken source.old + trace_room B < 2 ^ 64 - 1 → S.taken source.old + trace_room B < S.taken source.new → result ≡ Err Fault.TooLong }
     ensures out_faults { K.faults out.old ≤ K.faults out.new }
     ensures source_faults { S.faults source.old ≤ S.faults source.new }
 {
-    let events = read_trace(alloc, source)?;
-    let (mut results, mut text) = match take_memory(alloc, array, events.len() as u32) {
+    let events = events_of::<B, S>(alloc, job, source)?;
+    let taken = take_memory::<B, M, E, A>(alloc, job, array, events.len() as u32);
+    let (mut pcm, mut results, mut text) = match taken {
         Ok(taken) => taken,
         Err(_) => return Err(Fault::NoMemory),
     };
-    serve_all(array, events.as_slice(), &mut results);
-    match print_all(events.as_slice(), &results, &mut text, out) {
-        Ok(()) => Ok(()),
+    right_runs_can_be_printed();
+    replay(&mut pcm, array, events.as_slice(), &mut results);
+    let written = print_run(
+        job.print,
+        &pcm,
+        array,
+        events.as_slice(),
+        &results,
+        &mut text,
+        out,
+    );
+    match written {
+        Ok(()) => Ok(ending(&results)),
         Err(_) => Err(Fault::Write),
     }
 }

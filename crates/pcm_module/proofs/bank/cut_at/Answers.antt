@@ -1,17 +1,10 @@
-use Rattle.std.proofs.Common.{◌≡◌, ℕ, ◌<◌, ◌∷◌, ◌++◌, List, refl, sym, ap, subst, ◌∙◌, arith}
-use Rattle.row_laws.specs.declared.Asks.{Asks}
-use Rattle.row_laws.specs.declared.Asks.TheVariants.{Reads, Writes, Cuts}
-use Rattle.bank_shape.specs.declared.BankShape.{BankShape}
-use Rattle.bank_model.specs.Events.{Write, Read}
+use Rattle.std.proofs.Common.{◌∷◌, ◌++◌, refl, sym, ◌∙◌, arith}
+use Rattle.row_laws.specs.declared.Asks.TheVariants.{Cuts}
 use Rattle.bank_model.specs.declared.clock.Doing.TheVariants.{Iterating}
 use Rattle.bank_model.specs.Timing.{Timed, is_doing}
-use Rattle.bank_invariant.specs.Serving.{read_from}
-use Rattle.bank_core.specs.Steps.{write_from}
-use Rattle.power_recovery.specs.Slots.{bank_lines}
-use Rattle.clock_laws.specs.Arriving.{arrival}
 use Rattle.clock_laws.specs.Cutting.{cut}
 use Rattle.module_laws.specs.Asking.{Asked}
-use Rattle.pcm_module.proofs.Arriving.{open_on, step_on}
+use Rattle.pcm_module.proofs.Arriving.{step_on}
 use Rattle.pcm_module.proofs.Sizes.{timed_fits, row_fits}
 use Rattle.pcm_module.proofs.bank.cut_at.Goals as goal
 

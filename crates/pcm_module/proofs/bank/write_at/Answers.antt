@@ -1,16 +1,12 @@
-use Rattle.std.proofs.Common.{◌≡◌, ℕ, ◌<◌, ◌∷◌, ◌++◌, List, refl, sym, ap, subst, ◌∙◌, arith}
+use Rattle.std.proofs.Common.{ℕ, ◌<◌, ◌∷◌, ◌++◌, sym, ap, subst, ◌∙◌, arith}
 use Rattle.std.proofs.lemmas.Bool.{ne_eqb}
-use Rattle.row_laws.specs.declared.Asks.{Asks}
-use Rattle.row_laws.specs.declared.Asks.TheVariants.{Reads, Writes, Cuts}
+use Rattle.row_laws.specs.declared.Asks.TheVariants.{Writes}
 use Rattle.bank_shape.specs.declared.BankShape.{BankShape}
-use Rattle.bank_model.specs.Events.{Write, Read}
-use Rattle.bank_model.specs.declared.clock.Doing.TheVariants.{Iterating}
-use Rattle.bank_model.specs.Timing.{Timed, is_doing}
-use Rattle.bank_invariant.specs.Serving.{read_from}
+use Rattle.bank_model.specs.Events.{Write}
+use Rattle.bank_model.specs.Timing.{Timed}
 use Rattle.bank_core.specs.Steps.{write_from}
 use Rattle.power_recovery.specs.Slots.{bank_lines}
 use Rattle.clock_laws.specs.Arriving.{arrival}
-use Rattle.clock_laws.specs.Cutting.{cut}
 use Rattle.module_laws.specs.Asking.{Asked}
 use Rattle.pcm_module.proofs.Arriving.{open_on, step_on}
 use Rattle.pcm_module.proofs.Sizes.{timed_fits, row_fits, bytes_fit}

@@ -1,7 +1,33 @@
-use Rattle.std.proofs.Common.{◌≡◌, ◌≢◌, inl, inr, ap, Err}
+use Rattle.std.proofs.Common.{◌≡◌, ◌≢◌, inl, inr, ap, refl, Err}
 use Rattle.pcm_top.specs.declared.fault.Fault.TheVariants.{TooLong, Write}
-use Rattle.pcm_top.proofs.Deciding.{is_write, too_long-told}
+use Rattle.pcm_top.specs.declared.run.Done.TheVariants.{Short, Whole}
+use Rattle.pcm_top.proofs.Deciding.{done-decided, is_write, told-decided, too_long-told}
 use Rattle.pcm_top.proofs.program.pcm_run.Goals as goal
+
+pub returns-in-Ok-Whole-clause-exact : goal.returns-in-Ok-Whole-clause-exact
+returns-in-Ok-Whole-clause-exact g c =
+    λ bytes told calm writes tells. done-decided _ _ _ _ _ _ bytes c.in-Ok-Whole.field-0 0 (cc) told c.in-Ok-Whole.ensures.done
+
+pub returns-in-Ok-Short-clause-exact : goal.returns-in-Ok-Short-clause-exact
+returns-in-Ok-Short-clause-exact g c =
+    λ bytes told calm writes tells. done-decided _ _ _ _ _ _ bytes c.in-Ok-Short.field-0 1 (cc) told c.in-Ok-Short.ensures.done
+
+pub returns-in-Err-clause-exact : goal.returns-in-Err-clause-exact
+returns-in-Err-clause-exact g c =
+    λ bytes told calm writes tells.
+    let whole : c.give_up.result ≢ 5 =
+        λ five. elim (is_write c.in-Err.fault) [
+          | inl write ↦ writes ((c.in-Err.ensures.write (ap Err write)).1)
+          | inr other ↦ tells (c.give_up.ensures.broken five other)
+        ] in
+    let other : c.in-Err.fault ≢ Write = λ write. whole (c.give_up.ensures.write write) in
+    told-decided _ _ _ _ bytes c.give_up.result told calm
+    (record {
+      fault = c.in-Err.fault;
+      cause = c.in-Err.ensures.cause other;
+      answered = (c.give_up.ensures.told whole).0;
+      line = (c.give_up.ensures.told whole).1;
+    })
 
 pub returns-in-Err-clause-broken : goal.returns-in-Err-clause-broken
 returns-in-Err-clause-broken g c =
@@ -13,15 +39,6 @@ returns-in-Err-clause-broken g c =
         record { fault = c.in-Err.fault; cause = c.in-Err.ensures.cause other; part = c.give_up.ensures.part },
         c.give_up.ensures.broken five other,
         c.in-Err.ensures.out other,
-        c.in-Err.ensures.array other,
+        c.in-Err.ensures.arrays other,
       )
     ]
-
-pub returns-in-Err-clause-too_long : goal.returns-in-Err-clause-too_long
-returns-in-Err-clause-too_long g c =
-    λ low over.
-    let same = c.in-Err.ensures.too_long low over in
-    let is : c.in-Err.fault ≡ TooLong = cc in
-    let differ : TooLong ≢ Write = λ e. cc e in
-    too_long-told c.in-Err.fault c.give_up.result _ is
-    (λ whole. (c.give_up.ensures.told whole).0) (λ five. c.give_up.ensures.broken five (rw is differ))

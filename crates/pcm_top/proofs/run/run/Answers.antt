@@ -1,33 +1,68 @@
+use Rattle.std.proofs.Common.{◌≡◌, ◌≤◌, ℕ, List, length, ap, ◌∙◌, arith}
+use Rattle.end_laws.specs.Ends.{BankEnd}
+use Rattle.run_laws.specs.Runs.{RunsRight}
+use Rattle.pcm_module.specs.State.{AreEndsOf}
+use Rattle.pcm_module.proofs.Sizes.{timed_fits}
+use Rattle.pcm_top.specs.Rows.{rows_of}
+use Rattle.pcm_top.proofs.Making.{can-print, run-part, run-written}
+use Rattle.pcm_top.proofs.Sizes.{event_fits}
 use Rattle.pcm_top.proofs.run.run.Goals as goal
 
-pub returns-in-Ok-print_all-clause-done : goal.returns-in-Ok-print_all-clause-done
-returns-in-Ok-print_all-clause-done g c =
-    let t = c.in_ok-events.ensures.trace in (
-      record {
-        bytes = t.bytes;
-        whole = t.whole;
-        events = c.in_ok-events.events.items;
-        trace = t.trace;
-        outcomes = c.serve_all.new.results;
-        serves = rw c.as_slice.ensures.value at c.serve_all.ensures.results;
-        holds = rw c.as_slice.ensures.value at c.serve_all.ensures.array;
-      },
-      rw c.as_slice-2.ensures.value at c.in-Ok-print_all.ensures.ok,
-    )
+pub drop-pcm-inside-requires-room-T-Destruct : goal.drop-pcm-inside-requires-room-T-Destruct
+drop-pcm-inside-requires-room-T-Destruct g c κs = timed_fits g.row.B g.row.M g.row.E c.requires.layout
+
+pub drop-pcm-inside-requires-2-room-T-Destruct : goal.drop-pcm-inside-requires-2-room-T-Destruct
+drop-pcm-inside-requires-2-room-T-Destruct g c κs = timed_fits g.row.B g.row.M g.row.E c.requires.layout
+
+-- what the replay left, with the events as they are printed
+pub print_run-written-requires : goal.print_run-written-requires
+print_run-written-requires g c =
+    let job = c.args.job.now in
+    let events = c.as_slice-2.result.now in
+    let same : c.as_slice.result.now ≡ events = cc in
+    let shape : c.replay.new.pcm.shape ≡ job.shape = c.replay.ensures.shape ∙ c.in-Ok.ensures.ready.shape in
+    let seeded : c.replay.new.pcm.seed ≡ job.seed = c.replay.ensures.seed ∙ c.in-Ok.ensures.ready.seeded in
+    let can =
+        can-print job (g.A.CellArray.state c.replay.new.array) events c.replay.new.results c.replay.new.pcm shape seeded (c.replay.ensures.table ∙ ap length same) (rw same at c.replay.ensures.right)
+        c.right_runs_can_be_printed.ensures c.requires.job.shape (rw (← c.as_slice-2.ensures.value) at c.in_ok-events.ensures.events) in
+    let few : length events ≤ 400000 = omega (arith, c.as_slice-2.ensures.len, c.in_ok-events.ensures.rows) in
+    (omega arith,
+    (event_fits g.row.B c.requires.layout.shape.1,
+    (omega arith,
+    (c.requires.layout.shape.1,
+    (c.in-Ok.ensures.text,
+    (few,
+    (can.rows, c.replay.ensures.right.2.size)))))))
+
+pub returns-in-Ok-written-clause-done : goal.returns-in-Ok-written-clause-done
+returns-in-Ok-written-clause-done g c =
+    let job = c.args.job.now in
+    let events = c.as_slice-2.result.now in
+    let same : c.as_slice.result.now ≡ events = cc in
+    let shape : c.replay.new.pcm.shape ≡ job.shape = c.replay.ensures.shape ∙ c.in-Ok.ensures.ready.shape in
+    let seeded : c.replay.new.pcm.seed ≡ job.seed = c.replay.ensures.seed ∙ c.in-Ok.ensures.ready.seeded in
+    let size = c.replay.ensures.table ∙ ap length same in
+    let array = g.A.CellArray.state c.replay.new.array in
+    let left = rw same at c.replay.ensures.right in
+    let can =
+        can-print job array events c.replay.new.results c.replay.new.pcm shape seeded size left
+        c.right_runs_can_be_printed.ensures c.requires.job.shape (rw (← c.as_slice-2.ensures.value) at c.in_ok-events.ensures.events) in
+    run-written job array events c.replay.new.results c.replay.new.pcm shape seeded size left _ (rw (← c.as_slice-2.ensures.value) at c.in_ok-events.ensures.come)
+    (g.K.Sink.written c.args.out.now) (g.K.Sink.written c.print_run-written.new.out) c.ending.result c.ending.ensures can.roles c.in-Ok-written.ensures.ok
 
 pub returns-clause-write : goal.returns-clause-write
 returns-clause-write g c =
-    let t = c.in_ok-events.ensures.trace in
-    λ is. (
-      record {
-        bytes = t.bytes;
-        whole = t.whole;
-        events = c.in_ok-events.events.items;
-        trace = t.trace;
-        outcomes = c.serve_all.new.results;
-        serves = rw c.as_slice.ensures.value at c.serve_all.ensures.results;
-        holds = rw c.as_slice.ensures.value at c.serve_all.ensures.array;
-      },
-      rw c.as_slice-2.ensures.value at c.in-Err-print_all.ensures.prefix,
-      c.in-Err-print_all.ensures.fault,
-    )
+    λ _.
+    let job = c.args.job.now in
+    let events = c.as_slice-2.result.now in
+    let same : c.as_slice.result.now ≡ events = cc in
+    let shape : c.replay.new.pcm.shape ≡ job.shape = c.replay.ensures.shape ∙ c.in-Ok.ensures.ready.shape in
+    let seeded : c.replay.new.pcm.seed ≡ job.seed = c.replay.ensures.seed ∙ c.in-Ok.ensures.ready.seeded in
+    let size = c.replay.ensures.table ∙ ap length same in
+    let array = g.A.CellArray.state c.replay.new.array in
+    let left = rw same at c.replay.ensures.right in
+    let can =
+        can-print job array events c.replay.new.results c.replay.new.pcm shape seeded size left
+        c.right_runs_can_be_printed.ensures c.requires.job.shape (rw (← c.as_slice-2.ensures.value) at c.in_ok-events.ensures.events) in
+    (run-part job array events c.replay.new.results c.replay.new.pcm shape seeded size left _ (rw (← c.as_slice-2.ensures.value) at c.in_ok-events.ensures.come)
+    (g.K.Sink.written c.args.out.now) (g.K.Sink.written c.print_run-written.new.out) can.roles c.in-Err-written.ensures.prefix, c.in-Err-written.ensures.fault)

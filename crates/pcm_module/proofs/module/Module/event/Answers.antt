@@ -1,4 +1,4 @@
-use Rattle.std.proofs.Common.{◌≡◌, ◌<◌, ◌∙◌, ◌∷◌, refl, sym, ap, subst, arith}
+use Rattle.std.proofs.Common.{◌<◌, arith}
 use Rattle.trace_reader.specs.declared.event.EventOp.TheVariants.{Read, Write, Mask, Cut}
 use Rattle.masked_bytes.proofs.Layering.{IsMasked-all_given}
 use Rattle.module_shape.specs.Limits.{total_of}

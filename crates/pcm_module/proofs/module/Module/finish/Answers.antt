@@ -1,17 +1,8 @@
-use Rattle.std.proofs.Common.{◌≡◌, ℕ, ◌*◌, ◌<◌, refl, sym, subst, List, map, Some, ◌++◌, true}
-use Rattle.result_rows.specs.declared.Outcome.{Outcome}
-use Rattle.result_rows.specs.Table.{HasRow}
-use Rattle.bank_model.specs.Timing.{Timed, core}
-use Rattle.module_shape.specs.Addresses.{module_of, array_lines_of}
-use Rattle.module_laws.specs.Asking.{Asked, row_with}
+use Rattle.std.proofs.Common.{◌≡◌, refl, sym, subst, ◌++◌, true}
 use Rattle.bank_timing.specs.Extending.{outcome_in}
-use Rattle.end_laws.specs.Ends.{BankEnd}
-use Rattle.run_laws.specs.Runs.{RunsRight}
-use Rattle.run_laws.specs.Finishing.{IsFinished}
 use Rattle.run_laws.specs.FinishedLaws.{ends_of}
-use Rattle.pcm_module.specs.State.{ModuleState, StandsNowhere, AreEndsOf, bank_at}
-use Rattle.pcm_module.specs.Replaying.{Replays, IsReplayed}
-use Rattle.pcm_module.specs.Taking.{StaysBeyond}
+use Rattle.pcm_module.specs.State.{ModuleState, bank_at}
+use Rattle.pcm_module.specs.Replaying.{IsReplayed}
 use Rattle.pcm_module.specs.Draining.{MayFinish}
 use Rattle.pcm_module.proofs.Draining.{drain_every, drained_ends, module_drained}
 use Rattle.pcm_module.proofs.Sizes.{timed_fits, row_fits}

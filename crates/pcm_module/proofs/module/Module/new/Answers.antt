@@ -1,11 +1,7 @@
-use Rattle.std.proofs.Common.{◌≡◌, ℕ, ◌∙◌, refl, sym, ap, subst}
+use Rattle.std.proofs.Common.{ℕ, ◌∙◌, ap, subst}
 use Rattle.pace.specs.Policies.{pacing_of}
-use Rattle.pace.specs.declared.Pace.{Pace}
 use Rattle.feistel_map.specs.Network.{network_of}
-use Rattle.feistel_map.specs.Log2.{log2}
-use Rattle.module_shape.specs.Limits.{total_of}
-use Rattle.bank_timing.specs.Extending.{first_clock}
-use Rattle.pcm_module.proofs.Sizes.{timed_fits, module_fits}
+use Rattle.pcm_module.proofs.Sizes.{timed_fits}
 use Rattle.pcm_module.proofs.Making.{AreMade, made_none, made_one, made_replays, made_module_is, end_is, next_is}
 use Rattle.pcm_module.proofs.module.Module.new.Goals as goal
 

@@ -1,10 +1,8 @@
 use Rattle.std.proofs.Common.{◌≡◌, ℕ, ◌/◌, ◌<◌, ap, subst}
-use Rattle.wear_report.specs.declared.Role.{Role}
 use Rattle.wear_report.specs.declared.Role.TheVariants.{Line}
 use Rattle.bank_shape.specs.declared.BankShape.{BankShape}
 use Rattle.module_shape.specs.declared.raw.RawShape.{RawShape}
 use Rattle.module_shape.specs.Addresses.{module_of, array_lines_of, bank_shape}
-use Rattle.end_laws.specs.Ends.{BankEnd}
 use Rattle.end_laws.specs.Roles.{IsRole}
 use Rattle.run_laws.specs.Runs.{line_named}
 use Rattle.pcm_module.specs.State.{ModuleState}

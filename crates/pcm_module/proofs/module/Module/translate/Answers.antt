@@ -1,6 +1,4 @@
 use Rattle.std.proofs.Common.{◌≡◌, ℕ, ◌+◌, ◌*◌, ◌<◌, ◌≤◌, sym, subst, ◌∙◌}
-use Rattle.bank_shape.specs.declared.BankShape.{BankShape}
-use Rattle.power_recovery.specs.Slots.{bank_lines}
 use Rattle.module_shape.specs.Addresses.{module_of, array_lines_of}
 use Rattle.run_laws.specs.Runs.{bank_of_line}
 use Rattle.run_laws.proofs.Mixing.{lines_law}

@@ -1,0 +1,131 @@
+-- That a run of drawn events is a run of their text.
+use Rattle.std.proofs.Common.{◌≡◌, ℕ, ◌+◌, ◌*◌, ◌≤◌, inl, inr, List, length, Option, refl, sym, ap, ◌∙◌, subst, arith, rules}
+use Rattle.std.specs.Io.KnownBytes.{IsAtEnd}
+use Rattle.pcm_cells.specs.Device.{ArrayState}
+use Rattle.trace_reader.specs.declared.event.Event.{Event}
+use Rattle.trace_gen.specs.EventText.{trace_text}
+use Rattle.trace_gen.specs.Generated.{IsMix as IsDrawn, generated}
+use Rattle.trace_gen.specs.Laws.{GeneratedSizeLaw, GeneratedTextLaw}
+use Rattle.module_shape.specs.Limits.{IsShape, total_of}
+use Rattle.command_line.specs.Jobs.{IsInput, IsMix, IsRun}
+use Rattle.command_line.specs.declared.job.RunJob.{RunJob}
+use Rattle.command_line.specs.declared.job.Mix.{Mix}
+use Rattle.command_line.specs.declared.job.Input.{Input}
+use Rattle.command_line.specs.declared.job.Input.TheVariants.{Drawn}
+use Rattle.command_line.specs.declared.job.LineSize.{LineSize}
+use Rattle.command_line.specs.declared.job.LineSize.TheVariants.{Bytes64, Bytes128}
+use Rattle.pcm_top.specs.Jobs.{bytes_in, drawn_mix, gen_text}
+use Rattle.pcm_top.specs.Reading.{ReadsTrace, SourceChange, TakesBytes, TakesNothing, trace_room}
+use Rattle.pcm_top.specs.Inputs.{ComeFrom}
+use Rattle.pcm_top.specs.Running.{RunIsWritten, RunIsWrittenInPart, Runs, WritesRun, WritesRunInPart}
+use Rattle.pcm_top.specs.Laws.{DrawnLaw, gen_with, run_of_source}
+use Rattle.pcm_top.specs.declared.run.Done.{Done}
+
+-- a mix is in range as the generator takes it
+drawn-mix : (mix : Mix) → IsMix mix → IsDrawn (drawn_mix mix)
+drawn-mix mix is = record {
+  some_rows = is.some_rows;
+  few_rows = is.few_rows;
+  percent = is.percent;
+  few_cuts = is.few_cuts;
+  small_step = is.small_step;
+  few_hot = is.few_hot;
+}
+
+input-mix : (input : Input) (mix : Mix) → input ≡ Drawn mix → IsInput input → IsMix mix
+input-mix input mix is has = subst IsInput is has
+
+some-lines : (job : RunJob) → IsShape job.shape → 1 ≤ total_of job.shape
+some-lines job shape = some_product job.shape.banks job.shape.regions job.shape.lines shape.some_banks shape.some_regions (omega (arith, shape.some_lines))
+  where
+    some_product : (a b c : ℕ) → 1 ≤ a → 1 ≤ b → 1 ≤ c → 1 ≤ a * b * c
+    some_product a b c x y z = search rules
+
+module _ (texts : GeneratedTextLaw) (sizes : GeneratedSizeLaw) (job : RunJob) (mix : Mix) (run : IsRun job) (draws : job.input ≡ Drawn mix) (read : SourceChange) (ended : IsAtEnd read.left_now) where
+  -- the text of the drawn events over lines of n bytes
+  abbrev text_of : ℕ → List ℕ
+  text_of n = trace_text (generated n job.seed (total_of job.shape) (drawn_mix mix))
+
+  mixed : IsDrawn (drawn_mix mix)
+  mixed = drawn-mix mix (input-mix job.input mix draws run.input)
+
+  -- it fits where lines are long enough
+  reads : (n : ℕ) (drawn : SourceChange) (events : List (Event n)) → TakesBytes read (text_of n) → length (text_of n) ≤ trace_room n
+      → ComeFrom n job job.input drawn events → ReadsTrace n (total_of job.shape) read events
+  reads n drawn events takes fits come =
+      let From : Input → Type 0 = λ input. ComeFrom n job input drawn events in
+      let is = (subst From draws come).1 in
+      record {
+        bytes = text_of n;
+        whole = record { takes = takes; ended = ended; within = fits };
+        trace = rw is (texts n job.seed (total_of job.shape) (drawn_mix mix) (some-lines job run.shape) run.shape.few_in_all mixed);
+      }
+
+  short-64 : length (text_of 64) ≤ trace_room 64
+  short-64 =
+      let size = sizes 64 job.seed (total_of job.shape) (drawn_mix mix) (some-lines job run.shape) run.shape.few_in_all mixed in
+      let few = mixed.few_rows in
+      omega arith
+
+  short-128 : length (text_of 128) ≤ trace_room 128
+  short-128 =
+      let size = sizes 128 job.seed (total_of job.shape) (drawn_mix mix) (some-lines job run.shape) run.shape.few_in_all mixed in
+      let few = mixed.few_rows in
+      omega arith
+
+  -- the same run of a trace that is read
+  same-run : (n m e : ℕ) (drawn : SourceChange) (array : ArrayState n m) → TakesBytes read (text_of n) → length (text_of n) ≤ trace_room n
+      → Runs n m e job drawn array → Runs n m e (run_of_source job) read array
+  same-run n m e drawn array takes fits made = record {
+    events = made.events;
+    come = reads n drawn made.events takes fits made.come;
+    outcomes = made.outcomes;
+    one_each = made.one_each;
+    ends = made.ends;
+    right = made.right;
+  }
+
+  same-written : (n m e : ℕ) (drawn : SourceChange) (array : ArrayState n m) (before now : Option (List ℕ)) (done : Done) → TakesBytes read (text_of n) → length (text_of n) ≤ trace_room n
+      → RunIsWritten n m e job drawn array before now done → RunIsWritten n m e (run_of_source job) read array before now done
+  unfolding same-run
+  same-written n m e drawn array before now done takes fits is = record {
+    run = same-run n m e drawn array takes fits is.run;
+    text = is.text;
+    is_text = is.is_text;
+    written = is.written;
+    ending = is.ending;
+  }
+
+  same-part : (n m e : ℕ) (drawn : SourceChange) (array : ArrayState n m) (before now : Option (List ℕ)) → TakesBytes read (text_of n) → length (text_of n) ≤ trace_room n
+      → RunIsWrittenInPart n m e job drawn array before now → RunIsWrittenInPart n m e (run_of_source job) read array before now
+  unfolding same-run
+  same-part n m e drawn array before now takes fits is = record {
+    run = same-run n m e drawn array takes fits is.run;
+    text = is.text;
+    is_text = is.is_text;
+    written = is.written;
+  }
+
+  -- at either size of lines
+  takes-of : (size : LineSize) → size ≡ job.line → TakesBytes read (text_of (bytes_in job.line)) → TakesBytes read (text_of (bytes_in size))
+  takes-of size of takes =
+      let Of : LineSize → Type 0 = λ l. TakesBytes read (text_of (bytes_in l)) in
+      subst Of (sym of) takes
+
+  pub whole-run : (size : LineSize) (drawn : SourceChange) (array : ArrayState 64 8) (wide : ArrayState 128 16) (before now : Option (List ℕ)) (done : Done)
+      → size ≡ job.line → TakesBytes read (text_of (bytes_in job.line))
+      → WritesRun drawn array wide before now job done size → WritesRun read array wide before now (run_of_source job) done size
+  whole-run Bytes64 drawn array wide before now done of takes is = same-written 64 8 6 drawn array before now done (takes-of Bytes64 of takes) short-64 is
+  whole-run Bytes128 drawn array wide before now done of takes is = same-written 128 16 8 drawn wide before now done (takes-of Bytes128 of takes) short-128 is
+
+  pub part-run : (size : LineSize) (drawn : SourceChange) (array : ArrayState 64 8) (wide : ArrayState 128 16) (before now : Option (List ℕ))
+      → size ≡ job.line → TakesBytes read (text_of (bytes_in job.line))
+      → WritesRunInPart drawn array wide before now job size → WritesRunInPart read array wide before now (run_of_source job) size
+  part-run Bytes64 drawn array wide before now of takes is = same-part 64 8 6 drawn array before now (takes-of Bytes64 of takes) short-64 is
+  part-run Bytes128 drawn array wide before now of takes is = same-part 128 16 8 drawn wide before now (takes-of Bytes128 of takes) short-128 is
+
+pub drawn-law : GeneratedTextLaw → GeneratedSizeLaw → DrawnLaw
+drawn-law texts sizes job mix drawn read array wide before now run draws takes ended = (
+  (λ done is. whole-run texts sizes job mix run draws read ended job.line drawn array wide before now done refl takes is),
+  (λ is. part-run texts sizes job mix run draws read ended job.line drawn array wide before now refl takes is),
+)

@@ -1,0 +1,63 @@
+-- What a run that was made is, and that what is written of it is its text.
+use Rattle.std.proofs.Common.{◌≡◌, ℕ, ◌<◌, List, length, Option, sym, ◌∙◌, subst}
+use Rattle.std.specs.Io.KnownBytes.{Appends}
+use Rattle.pcm_io.specs.Giving.{AppendsPrefix}
+use Rattle.pcm_cells.specs.Device.{ArrayState}
+use Rattle.trace_reader.specs.Events.{AreEventsFor}
+use Rattle.trace_reader.specs.declared.event.Event.{Event}
+use Rattle.result_rows.specs.declared.Outcome.{Outcome}
+use Rattle.module_shape.specs.declared.raw.RawShape.{RawShape}
+use Rattle.module_shape.specs.Limits.{IsShape, total_of}
+use Rattle.end_laws.specs.Ends.{BankEnd}
+use Rattle.run_laws.specs.Runs.{RunsRight}
+use Rattle.pcm_module.specs.State.{AreEndsOf, ModuleState}
+use Rattle.command_line.specs.declared.job.RunJob.{RunJob}
+use Rattle.pcm_top.specs.Reading.{SourceChange}
+use Rattle.pcm_top.specs.Inputs.{ComeFrom}
+use Rattle.pcm_top.specs.Rows.{rows_of}
+use Rattle.pcm_top.specs.RunText.{HaveRoles, IsRunText}
+use Rattle.pcm_top.specs.Running.{RunIsWritten, RunIsWrittenInPart, Runs, done_by}
+use Rattle.pcm_top.specs.Laws.{CanBePrinted, PrintableLaw}
+use Rattle.pcm_top.specs.declared.run.Done.{Done}
+
+module _ {n m e : ℕ} (job : RunJob) (array : ArrayState n m) (events : List (Event n)) (outcomes : List (Outcome n)) (pcm : ModuleState n m e)
+    (shape : pcm.shape ≡ job.shape) (seeded : pcm.seed ≡ job.seed) (size : length outcomes ≡ length events)
+    (left : (ends : ℕ → BankEnd) × AreEndsOf pcm ends × RunsRight e pcm.shape pcm.seed (rows_of events outcomes) array ends) where
+  -- it can be printed
+  pub can-print : PrintableLaw → IsShape job.shape → AreEventsFor (total_of job.shape) 0 events → CanBePrinted pcm.shape pcm.seed events outcomes left.0
+  can-print law in_range lawful =
+      let For : RawShape → Type 0 = λ raw. AreEventsFor (total_of raw) 0 events in
+      law n m e pcm.shape pcm.seed events outcomes array left.0 (subst IsShape (sym shape) in_range) (subst For (sym shape) lawful) size left.2
+
+  -- it is one of the job's
+  of-job : RunsRight e job.shape job.seed (rows_of events outcomes) array left.0
+  of-job =
+      let Shaped : RawShape → Type 0 = λ raw. RunsRight e raw pcm.seed (rows_of events outcomes) array left.0 in
+      let Seeded : ℕ → Type 0 = λ seed. RunsRight e job.shape seed (rows_of events outcomes) array left.0 in
+      subst Seeded seeded (subst Shaped shape left.2)
+
+  module _ (s : SourceChange) (come : ComeFrom n job job.input s events) where
+    abbrev made : Runs n m e job s array
+    made = record { events = events; come = come; outcomes = outcomes; one_each = size; ends = left.0; right = of-job }
+
+    text-of-job : (whole : List ℕ) → IsRunText pcm.shape pcm.seed events outcomes left.0 array job.print whole → IsRunText job.shape job.seed events outcomes left.0 array job.print whole
+    text-of-job whole is =
+        let Shaped : RawShape → Type 0 = λ raw. IsRunText raw pcm.seed events outcomes left.0 array job.print whole in
+        let Seeded : ℕ → Type 0 = λ seed. IsRunText job.shape seed events outcomes left.0 array job.print whole in
+        subst Seeded seeded (subst Shaped shape is)
+
+    pub run-written : (before now : Option (List ℕ)) (done : Done) → done ≡ done_by outcomes → HaveRoles pcm.shape pcm.seed left.0
+        → ((ends : ℕ → BankEnd) → AreEndsOf pcm ends → HaveRoles pcm.shape pcm.seed ends
+        → (whole : List ℕ) × IsRunText pcm.shape pcm.seed events outcomes ends array job.print whole × Appends before now whole)
+        → RunIsWritten n m e job s array before now done
+    run-written before now done is roles writes =
+        let text = writes left.0 left.1 roles in
+        record { run = made; text = text.0; is_text = text-of-job text.0 text.1; written = text.2; ending = is }
+
+    pub run-part : (before now : Option (List ℕ)) → HaveRoles pcm.shape pcm.seed left.0
+        → ((ends : ℕ → BankEnd) → AreEndsOf pcm ends → HaveRoles pcm.shape pcm.seed ends
+        → (whole : List ℕ) × IsRunText pcm.shape pcm.seed events outcomes ends array job.print whole × AppendsPrefix before now whole)
+        → RunIsWrittenInPart n m e job s array before now
+    run-part before now roles writes =
+        let text = writes left.0 left.1 roles in
+        record { run = made; text = text.0; is_text = text-of-job text.0 text.1; written = text.2 }

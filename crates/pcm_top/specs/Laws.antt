@@ -1,0 +1,51 @@
+-- What every run that was made is, and what runs of drawn events are.
+use Rattle.std.specs.Prelude.{◌≡◌, ℕ, List, length, Option, Ok}
+use Rattle.std.specs.Io.KnownBytes.{IsAtEnd}
+use Rattle.pcm_cells.specs.Device.{ArrayState}
+use Rattle.trace_reader.specs.Events.{AreEventsFor}
+use Rattle.trace_reader.specs.declared.event.Event.{Event}
+use Rattle.result_rows.specs.declared.Outcome.{Outcome}
+use Rattle.module_shape.specs.declared.raw.RawShape.{RawShape}
+use Rattle.module_shape.specs.Limits.{IsShape, total_of}
+use Rattle.end_laws.specs.Ends.{BankEnd}
+use Rattle.run_laws.specs.Runs.{RunsRight}
+use Rattle.run_text.specs.ResultText.{ArePrintable}
+use Rattle.command_line.specs.Jobs.{IsRun}
+use Rattle.command_line.specs.declared.job.Job.TheVariants.{Run}
+use Rattle.command_line.specs.declared.job.RunJob.{RunJob}
+use Rattle.command_line.specs.declared.job.GenJob.{GenJob}
+use Rattle.command_line.specs.declared.job.Mix.{Mix}
+use Rattle.command_line.specs.declared.job.Input.TheVariants.{Source, Drawn}
+use Rattle.pcm_top.specs.Jobs.{gen_text}
+use Rattle.pcm_top.specs.Reading.{SourceChange, TakesBytes}
+use Rattle.pcm_top.specs.Rows.{rows_of}
+use Rattle.pcm_top.specs.RunText.{HaveRoles}
+use Rattle.pcm_top.specs.Running.{Does, DoesPart}
+use Rattle.pcm_top.specs.declared.run.Done.{Done}
+
+-- each row of a right run can be printed, and each array line has a role
+pub record CanBePrinted {n : ℕ} (raw : RawShape) (seed : ℕ) (events : List (Event n)) (outcomes : List (Outcome n)) (ends : ℕ → BankEnd) : Type 0 where
+  pub rows : ArePrintable events outcomes
+  pub roles : HaveRoles raw seed ends
+
+abbrev pub PrintableLaw : Type 0
+PrintableLaw =
+    (n m e : ℕ) (raw : RawShape) (seed : ℕ) (events : List (Event n)) (outcomes : List (Outcome n)) (array : ArrayState n m) (ends : ℕ → BankEnd)
+    → IsShape raw → AreEventsFor (total_of raw) 0 events → length outcomes ≡ length events
+    → RunsRight e raw seed (rows_of events outcomes) array ends → CanBePrinted raw seed events outcomes ends
+
+-- the job of `gen` with the options of a run that draws its events
+abbrev pub gen_with : RunJob → Mix → GenJob
+gen_with job mix = record { line = job.line; shape = job.shape; seed = job.seed; mix = mix }
+
+-- the same run of a trace that is read
+abbrev pub run_of_source : RunJob → RunJob
+run_of_source job = record { line = job.line; shape = job.shape; seed = job.seed; wear = job.wear; print = job.print; input = Source }
+
+-- what a run of drawn events does is what a run does over a source that holds the text of `gen` with the same options
+abbrev pub DrawnLaw : Type 0
+DrawnLaw =
+    (job : RunJob) (mix : Mix) (drawn read : SourceChange) (array : ArrayState 64 8) (wide : ArrayState 128 16) (before now : Option (List ℕ))
+    → IsRun job → job.input ≡ Drawn mix → TakesBytes read (gen_text (gen_with job mix)) → IsAtEnd read.left_now
+    → ((done : Done) → Does drawn array wide before now (Ok (Run job)) done → Does read array wide before now (Ok (Run (run_of_source job))) done)
+    × (DoesPart drawn array wide before now (Ok (Run job)) → DoesPart read array wide before now (Ok (Run (run_of_source job))))

@@ -1,0 +1,92 @@
+// The events of a run: those of the trace that the source gives, or those that a seed draws.
+ghost use Rattle.std.specs.Prelude.{◌≡◌, ◌+◌, ◌-◌, ◌^◌, ◌<◌, ◌≤◌, false, vec_len, Err, IfOk, IfErr};
+ghost use Rattle.trace_gen.specs.Generated.{generated};
+ghost use Rattle.trace_reader.specs.Events.{AreEventsFor};
+ghost use Rattle.module_shape.specs.Limits.{IsShape, total_of};
+ghost use Rattle.command_line.specs.Jobs.{IsMix, IsRun};
+ghost use Rattle.pcm_top.specs.Jobs.{drawn_mix};
+ghost use Rattle.pcm_top.specs.Reading.{IsReadFault, ReadsTrace, source_change, trace_room};
+ghost use Rattle.pcm_top.specs.Inputs.{ComeFrom, IsFaultOf, is_source};
+
+use crate::drawn::mix_of;
+use crate::fault::Fault;
+use command_line::{Input, RunJob};
+use pcm_io::{ReadAllFault, Source, read_all};
+use std::alloc::Global;
+use trace_gen::generate;
+use trace_reader::{Event, MOST_ROWS, ParseFault, parse};
+
+/// Bytes that a trace may have, for each byte of a line: 67,108,864 over lines of 64 bytes, 134,217,728 over lines of 128.
+pub const TRACE_ROOM: usize = 1_048_576;
+
+// Reads the source to its end as a trace for so many lines of `B` bytes.
+fn read_trace<const B: usize, S: Source>(
+    alloc: Global,
+    lines: u32,
+    source: &mut S,
+) -> Result<Vec<Event<B>>, Fault>
+    requires small { B ≤ 128 }
+    requires lines { 1 ≤ lines }
+    ensures trace { IfOk result (λ events. ReadsTrace B lines (source_change S.left S.taken S.faults source.old source.new) events.items) }
+    ensures events { IfOk result (λ events. AreEventsFor lines 0 events.items) }
+    ensures rows { IfOk result (λ events. vec_len events ≤ MOST_ROWS) }
+    ensures fault { IfErr result (λ fault. IsReadFault B lines fault (source_change S.left S.taken S.faults source.old source.new)) }
+    ensures never_falls { S.faults source.old ≤ S.faults source.new }
+{
+    let bytes = match read_all(alloc, source, B * TRACE_ROOM) {
+        Ok(bytes) => bytes,
+        Err(ReadAllFault::Read) => return Err(Fault::Read),
+        Err(ReadAllFault::TooLong) => return Err(Fault::TooLong),
+        Err(ReadAllFault::NoMemory) => return Err(Fault::NoMemory),
+    };
+    match parse(alloc, bytes.as_slice(), lines) {
+        Ok(events) => Ok(events),
+        Err(ParseFault::Trace(fault)) => Err(Fault::Trace(fault)),
+        Err(ParseFault::TooMany) => Err(Fault::TooLong),
+        Err(ParseFault::NoMemory) => Err(Fault::NoMemory),
+    }
+}
+
+// Draws the trace of a seed for so many lines of `B` bytes.
+fn draw_trace<const B: usize>(
+    alloc: Global,
+    seed: u64,
+    lines: u32,
+    mix: &command_line::Mix,
+) -> Result<Vec<Event<B>>, Fault>
+    requires small { B ≤ 128 }
+    requires some_lines { 1 ≤ lines }
+    requires few_lines { lines ≤ 65536 }
+    requires mix { IsMix mix.now }
+    ensures drawn { IfOk result (λ events. events.items ≡ generated B seed lines (drawn_mix mix.now)) }
+    ensures events { IfOk result (λ events. AreEventsFor lines 0 events.items) }
+    ensures rows { IfOk result (λ events. vec_len events ≤ MOST_ROWS) }
+    ensures fault { IfErr result (λ fault. fault ≡ Fault.NoMemory) }
+{
+    match generate(alloc, seed, lines, mix_of(mix)) {
+        Ok(events) => Ok(events),
+        Err(_) => Err(Fault::NoMemory),
+    }
+}
+
+/// The events of a run, from where its job takes them.
+pub fn events_of<const B: usize, S: Source>(
+    alloc: Global,
+    job: &RunJob,
+    source: &mut S,
+) -> Result<Vec<Event<B>>, Fault>
+    requires small { B ≤ 128 }
+    requires job { IsRun job.now }
+    ensures come { IfOk result (λ events. ComeFrom B job.now job.now.input (source_change S.left S.taken S.faults source.old source.new) events.items) }
+    ensures events { IfOk result (λ events. AreEventsFor (total_of job.now.shape) 0 events.items) }
+    ensures rows { IfOk result (λ events. vec_len events ≤ MOST_ROWS) }
+    ensures fault { IfErr result (λ fault. IsFaultOf B job.now job.now.input fault (source_change S.left S.taken S.faults source.old source.new)) }
+    ensures untouched { is_source job.now.input ≡ false → source.new ≡ source.old }
+    ensures never_falls { S.faults source.old ≤ S.faults source.new }
+{
+    let lines = job.shape.total();
+    match job.input {
+        Input::Source => read_trace(alloc, lines, source),
+        Input::Drawn(mix) => draw_trace(alloc, job.seed, lines, &mix),
+    }
+}

@@ -1,0 +1,26 @@
+//! The laws of the program. A law is what a function here ensures; the functions do nothing when they run.
+ghost use Rattle.pcm_top.specs.Laws.{DrawnLaw, PrintableLaw};
+
+use run_laws::{
+    array_lines_are_few, array_lines_have_one_role, places_are_array_lines,
+    rows_have_their_own_outcomes,
+};
+use trace_gen::laws::{gen_text_is_short, gen_text_reads_back};
+
+/// Each row of a right run can be printed, and each array line has one role.
+pub fn right_runs_can_be_printed()
+    ensures { PrintableLaw }
+{
+    rows_have_their_own_outcomes();
+    places_are_array_lines();
+    array_lines_are_few();
+    array_lines_have_one_role();
+}
+
+/// What a run of drawn events does is what a run does over a source that holds the text of `gen` with the same options.
+pub fn drawn_runs_are_runs_of_their_text()
+    ensures { DrawnLaw }
+{
+    gen_text_reads_back();
+    gen_text_is_short();
+}
