@@ -17,6 +17,3 @@ mod wear;
 pub use fault::Fault;
 pub use input::TRACE_ROOM;
 pub use program::pcm_run;
-
-#[cfg(test)]
-mod tests;
