@@ -14,12 +14,13 @@ fn check_corrected(
     rt: &impl Abort,
     alloc: Global,
     script: &[Script],
-    iterations: u64,
+    iterations: u8,
     first: u8,
     check_bytes: [u8; 8],
 ) -> Result<(), AllocError> {
     let mut array = scripted(alloc, script)?;
     let mut wide = scripted(alloc, script)?;
+    let iterations = u64::from(iterations);
     let tick = 5 + 10 * iterations;
     let row = format!(in alloc; "1,W,0,stored,{tick},3,")?;
     let case = Case {
