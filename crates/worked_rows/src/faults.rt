@@ -227,9 +227,10 @@ fn a_line_that_is_not_told_is_a_fault_of_writing(rt: HostRuntime) -> Result<(), 
 fn a_fault_amid_the_output_leaves_its_beginning(rt: HostRuntime) -> Result<(), Fail> {
     let mut trace = String::from_str(rt.alloc(), "tick,op,arg,data\n")?;
     let mut rows = String::new(rt.alloc());
-    for i in 1..=1000 {
-        writeln!(trace, "{},R,0,", 10 * i)?;
-        writeln!(rows, "{i},R,0,read,{},3,[00]", 10 * i + 5)?;
+    for i in 1..1001_u16 {
+        let row = u32::from(i);
+        writeln!(trace, "{},R,0,", 10 * row)?;
+        writeln!(rows, "{row},R,0,read,{},3,[00]", 10 * row + 5)?;
     }
     let whole = text_of(rt.alloc(), CASE.header, rows.as_str(), 64)?;
     let (ends, status) = run_failing(rt.alloc(), trace.as_bytes(), NO_FAILS)?;
