@@ -1,11 +1,9 @@
 -- Lists of bytes, bit by bit.
-use Rattle.std.proofs.Common.{◌≡◌, ◌≢◌, ℕ, ◌+◌, ◌-◌, ◌*◌, ◌/◌, ◌%◌, ◌^◌, ◌<◌, ◌≤◌, ◌&&◌, Bool, true, false, cond, eqb, List, ◌++◌, length, get_or, set, refl, sym, ◌∙◌, ap, inl, inr, arith, ext_get_or, get_or-set_same, get_or-set_other, eq-eqb, ne_eqb, w8, true≢false, not, min, max, bit_and, bit_or, bit_xor, zero, suc}
+use Rattle.std.proofs.Common.{◌≡◌, ◌≢◌, ℕ, ◌+◌, ◌-◌, ◌*◌, ◌/◌, ◌%◌, ◌<◌, ◌≤◌, ◌&&◌, Bool, true, false, cond, eqb, List, ◌++◌, length, get_or, set, refl, sym, ◌∙◌, ap, inl, inr, arith, ext_get_or, get_or-set_same, get_or-set_other, eq-eqb, ne_eqb, w8, true≢false, not, min, max, bit_and, bit_or, bit_xor}
 use Rattle.std.proofs.Math.ListN.{get_or-append}
 use Rattle.std.proofs.lemmas.List.{get_or-append_right, get_or_past}
 use Rattle.std.proofs.lemmas.Bool.{cases_eq, cases_lt, eqb-true}
-use Rattle.std.proofs.lemmas.Nat.Bits.{bit_at-zero, bit_at-lt, bit_at_xor, bit_at_and, bit_at_or, and_pow, bit_at-trailing_zeros, same_from_bits_below}
-use Rattle.std.proofs.lemmas.Nat.{pow_pos}
-use Rattle.std.proofs.Math.Pow.{pow-lt}
+use Rattle.std.proofs.lemmas.Nat.Bits.{bit_at-zero, bit_at-lt, bit_at_xor, bit_at_and, bit_at_or, bit_at-trailing_zeros, same_from_bits_below}
 use Rattle.std.specs.Int.{bit_at, trailing_zeros}
 use Rattle.pcm_cells.specs.Rows.{bit_of, xor}
 use Rattle.pcm_cells.specs.Planes.{bit_in}
@@ -247,27 +245,12 @@ pub digit_without : (byte other i : ℕ) → bit_in (bit_xor byte (bit_and byte 
 digit_without byte other i =
     digit_xor byte (bit_and byte other) i ∙ ap (xor (bit_in byte i)) (digit_and byte other i) ∙ lacking (bit_in byte i) (bit_in other i)
 
--- the byte whose bits of even number are 1
-even_bits : (i : ℕ) → i < 8 → bit_in 85 i ≡ not (eqb (i % 2) 1)
-even_bits zero h = refl
-even_bits (suc zero) h = refl
-even_bits (suc (suc zero)) h = refl
-even_bits (suc (suc (suc zero))) h = refl
-even_bits (suc (suc (suc (suc zero)))) h = refl
-even_bits (suc (suc (suc (suc (suc zero))))) h = refl
-even_bits (suc (suc (suc (suc (suc (suc zero)))))) h = refl
-even_bits (suc (suc (suc (suc (suc (suc (suc zero))))))) h = refl
-even_bits (suc (suc (suc (suc (suc (suc (suc (suc n)))))))) h = absurd (omega arith)
-
 -- both, the other first
 pub swapped : (a b : Bool) → a && b ≡ b && a
 swapped true true = refl
 swapped true false = refl
 swapped false true = refl
 swapped false false = refl
-
-pub digit_even : (byte i : ℕ) → i < 8 → bit_in (bit_and byte 85) i ≡ not (eqb (i % 2) 1) && bit_in byte i
-digit_even byte i h = digit_and byte 85 i ∙ ap (λ b. bit_in byte i && b) (even_bits i h) ∙ swapped (bit_in byte i) (not (eqb (i % 2) 1))
 
 -- bit i of byte k
 pub bit_of_byte : (bytes : List ℕ) (k i : ℕ) → i < 8 → bit_of bytes (8 * k + i) ≡ bit_in (get_or bytes k 0) i
@@ -283,15 +266,3 @@ bit_of_written bytes k byte i within h =
 
 pub bit_of_kept : (bytes : List ℕ) (k byte n : ℕ) → n / 8 ≢ k → bit_of (set bytes k byte) n ≡ bit_of bytes n
 bit_of_kept bytes k byte n apart = ap (λ x. eqb (bit_at x (n % 8)) 1) (get_or-set_other bytes k (n / 8) byte 0 apart)
-
--- the test of one bit
-pub digit_test : (byte place : ℕ) → place < 8 → not (eqb (bit_and byte (1 * 2 ^ place % 256)) 0) ≡ bit_in byte place
-digit_test byte place h =
-    let power : 1 * 2 ^ place % 256 ≡ 2 ^ place = omega (arith, pow-lt {i = place} {j = 8} h) in
-    rw (power, and_pow byte place)
-    (elim (cases_eq (bit_at byte place) 1) as (λ _. not (eqb (bit_at byte place * 2 ^ place) 0) ≡ bit_in byte place) [
-      | inl one ↦
-          let more : 1 * 2 ^ place ≢ 0 = λ e. absurd (omega (arith, e, pow_pos place)) in
-          rw (one, ne_eqb (1 * 2 ^ place) 0 more) refl
-      | inr none ↦ let zero : bit_at byte place ≡ 0 = omega (arith, bit_at-lt byte place) in rw (zero, eq-eqb (0 * 2 ^ place) 0 (omega arith)) refl
-    ])

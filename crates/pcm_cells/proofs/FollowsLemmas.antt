@@ -76,14 +76,14 @@ followed_all {X} top mask rule old new all past n =
       | inr high ↦ rw (past n high) (all.above n high)
     ]
 
--- a group of eight, of which each cell was done, and no other
-pub followed_eight : {X : Type 0} (group : ℕ) (mask : ℕ → Bool) (rule : ℕ → X → X) (old new : ℕ → X)
-    → ((i : ℕ) → i < 8 → new (8 * group + i) ≡ cond (mask (8 * group + i)) (rule (8 * group + i) (old (8 * group + i))) (old (8 * group + i)))
-    → ((n : ℕ) → n / 8 ≢ group → new n ≡ old n) → FollowsIn (8 * group) (8 * group + 8) mask rule old new
-followed_eight {X} group mask rule old new here others = record {
+-- a block, of which each cell was done, and no other
+pub followed_block : {X : Type 0} (block : ℕ) (mask : ℕ → Bool) (rule : ℕ → X → X) (old new : ℕ → X)
+    → ((i : ℕ) → i < 64 → new (64 * block + i) ≡ cond (mask (64 * block + i)) (rule (64 * block + i) (old (64 * block + i))) (old (64 * block + i)))
+    → ((n : ℕ) → n / 64 ≢ block → new n ≡ old n) → FollowsIn (64 * block) (64 * block + 64) mask rule old new
+followed_block {X} block mask rule old new here others = record {
   inside = λ n from to.
-      let is : 8 * group + (n - 8 * group) ≡ n = omega arith in
-      subst (λ k. new k ≡ cond (mask k) (rule k (old k)) (old k)) is (here (n - 8 * group) (omega arith));
+      let is : 64 * block + (n - 64 * block) ≡ n = omega arith in
+      subst (λ k. new k ≡ cond (mask k) (rule k (old k)) (old k)) is (here (n - 64 * block) (omega arith));
   below = λ n h. others n (λ e. omega arith);
   above = λ n h. others n (λ e. omega arith);
 }

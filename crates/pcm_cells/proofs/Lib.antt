@@ -1,4 +1,5 @@
 pub mod ByteLemmas
+pub mod BlockLemmas
 pub mod RowLemmas
 pub mod FollowsLemmas
 pub mod LineLemmas

@@ -1,13 +1,12 @@
 -- Rows of cells, by their data bytes and their check bytes.
-use Rattle.std.proofs.Common.{◌≡◌, ℕ, ◌+◌, ◌-◌, ◌*◌, ◌/◌, ◌%◌, ◌<◌, ◌≤◌, Bool, true, false, cond, eqb, length, get_or, set, replicate, ◌≢◌, refl, sym, ◌∙◌, ap, inl, inr, arith, eq-eqb, ne_eqb, add-one, add-zero, subst, zero, suc}
+use Rattle.std.proofs.Common.{◌≡◌, ℕ, ◌+◌, ◌-◌, ◌*◌, ◌/◌, ◌%◌, ◌<◌, ◌≤◌, Bool, true, false, cond, eqb, length, replicate, ◌≢◌, refl, sym, ◌∙◌, ap, inl, inr, arith, eq-eqb, ne_eqb, add-one, add-zero, subst, zero, suc}
 use Rattle.std.proofs.lemmas.List.{get_or-replicate, length-replicate}
 use Rattle.std.proofs.lemmas.Bool.{cases_eq, cases_lt}
 use Rattle.std.proofs.lemmas.Nat.Bits.{bit_at-zero}
 use Rattle.std.specs.Int.{bit_at}
 use Rattle.pcm_cells.specs.declared.row.Cells.{Cells}
 use Rattle.pcm_cells.specs.Rows.{bit_of, cell, members}
-use Rattle.pcm_cells.specs.Planes.{bit_in}
-use Rattle.pcm_cells.proofs.ByteLemmas.{bit_of-append, bit_of-append_right, bit_of_past, bit_of_byte, bit_of_written, bit_of_kept}
+use Rattle.pcm_cells.proofs.ByteLemmas.{bit_of-append, bit_of-append_right, bit_of_past}
 
 -- a data cell is a bit of the data bytes
 pub cell-bits : {B M : ℕ} (row : Cells B M) (n : ℕ) → length row.bits ≡ B → n < 8 * B → cell row n ≡ bit_of row.bits n
@@ -149,46 +148,34 @@ members-more has n is = members-suc has n ∙ ap (λ b. members has n + cond b 1
 pub members-same : (has : ℕ → Bool) (n : ℕ) → has n ≡ false → members has (n + 1) ≡ members has n
 members-same has n isnt = members-suc has n ∙ ap (λ b. members has n + cond b 1 0) isnt ∙ add-zero _
 
--- the cells of a group of eight are the bits of its byte
-pub group-bits : {B M : ℕ} (row : Cells B M) (group i : ℕ) → length row.bits ≡ B → group < B → i < 8 → bit_in (get_or row.bits group 0) i ≡ cell row (8 * group + i)
-group-bits row group i len within h =
-    sym (bit_of_byte row.bits group i h) ∙ sym (cell-bits row (8 * group + i) len (omega arith))
+-- a data block and a check block, as bits of their bytes
+pub block-bits : {B M : ℕ} (row : Cells B M) (block i : ℕ) → length row.bits ≡ B → B % 8 ≡ 0 → 8 * block < B → i < 64
+    → cell row (64 * block + i) ≡ bit_of row.bits (64 * block + i)
+block-bits row block i len whole within low = cell-bits row (64 * block + i) len (omega arith)
 
-pub group-meta : {B M : ℕ} (row : Cells B M) (group i : ℕ) → length row.bits ≡ B → B ≤ group → i < 8 → bit_in (get_or row.meta (group - B) 0) i ≡ cell row (8 * group + i)
-group-meta {B} {M} row group i len within h =
-    let place : 8 * group + i - 8 * B ≡ 8 * (group - B) + i = omega arith in
-    sym (bit_of_byte row.meta (group - B) i h) ∙ ap (bit_of row.meta) (sym place) ∙ sym (cell-meta row (8 * group + i) len (omega arith))
+pub block-meta : {B M : ℕ} (row : Cells B M) (block i : ℕ) → length row.bits ≡ B → B % 8 ≡ 0 → B ≤ 8 * block
+    → cell row (64 * block + i) ≡ bit_of row.meta (64 * (block - B / 8) + i)
+block-meta {B} {M} row block i len whole from =
+    let place : 64 * block + i - 8 * B ≡ 64 * (block - B / 8) + i = omega arith in
+    cell-meta row (64 * block + i) len (omega arith) ∙ ap (bit_of row.meta) place
 
--- a group is written
-pub written-bits : {B M : ℕ} (row : Cells B M) (group byte i : ℕ) → length row.bits ≡ B → length (set row.bits group byte) ≡ B → group < B → i < 8
-    → cell {B = B} {M = M} (record row { bits = set row.bits group byte }) (8 * group + i) ≡ bit_in byte i
-written-bits {B} {M} row group byte i len len_new within h =
-    cell-bits {B = B} {M = M} (record row { bits = set row.bits group byte }) (8 * group + i) len_new (omega arith)
-    ∙ bit_of_written row.bits group byte i (omega arith) h
-
-pub written-meta : {B M : ℕ} (row : Cells B M) (group byte i : ℕ) → length row.bits ≡ B → length row.meta ≡ M → B ≤ group → group < B + M → i < 8
-    → cell {B = B} {M = M} (record row { meta = set row.meta (group - B) byte }) (8 * group + i) ≡ bit_in byte i
-written-meta {B} {M} row group byte i len len_meta from within h =
-    let place : 8 * group + i - 8 * B ≡ 8 * (group - B) + i = omega arith in
-    cell-meta {B = B} {M = M} (record row { meta = set row.meta (group - B) byte }) (8 * group + i) len (omega arith)
-    ∙ ap (bit_of (set row.meta (group - B) byte)) place ∙ bit_of_written row.meta (group - B) byte i (omega arith) h
-
-pub kept-bits : {B M : ℕ} (row : Cells B M) (group byte n : ℕ) → length row.bits ≡ B → length (set row.bits group byte) ≡ B → n / 8 ≢ group
-    → cell {B = B} {M = M} (record row { bits = set row.bits group byte }) n ≡ cell row n
-kept-bits {B} {M} row group byte n len len_new apart =
-    let new : Cells B M = record row { bits = set row.bits group byte } in
-    elim (cases_lt n (8 * B)) as (λ _. cell new n ≡ cell row n) [
-      | inl low ↦ cell-bits new n len_new low ∙ bit_of_kept row.bits group byte n apart ∙ sym (cell-bits row n len low)
-      | inr high ↦ cell-meta new n len_new high ∙ sym (cell-meta row n len high)
+-- a block of data bytes is written
+pub kept-bits : {B M : ℕ} (old new : Cells B M) (block n : ℕ) → length old.bits ≡ B → length new.bits ≡ B → new.meta ≡ old.meta
+    → ((k : ℕ) → k / 64 ≢ block → bit_of new.bits k ≡ bit_of old.bits k) → n / 64 ≢ block → cell new n ≡ cell old n
+kept-bits {B} {M} old new block n len len_new meta others apart =
+    elim (cases_lt n (8 * B)) as (λ _. cell new n ≡ cell old n) [
+      | inl low ↦ cell-bits new n len_new low ∙ others n apart ∙ sym (cell-bits old n len low)
+      | inr high ↦ cell-meta new n len_new high ∙ ap (λ bytes. bit_of bytes (n - 8 * B)) meta ∙ sym (cell-meta old n len high)
     ]
 
-pub kept-meta : {B M : ℕ} (row : Cells B M) (group byte n : ℕ) → length row.bits ≡ B → B ≤ group → n / 8 ≢ group
-    → cell {B = B} {M = M} (record row { meta = set row.meta (group - B) byte }) n ≡ cell row n
-kept-meta {B} {M} row group byte n len from apart =
-    let new : Cells B M = record row { meta = set row.meta (group - B) byte } in
-    elim (cases_lt n (8 * B)) as (λ _. cell new n ≡ cell row n) [
-      | inl low ↦ cell-bits new n len low ∙ sym (cell-bits row n len low)
+-- a block of check bytes is written
+pub kept-meta : {B M : ℕ} (old new : Cells B M) (block n : ℕ) → length old.bits ≡ B → length new.bits ≡ B → new.bits ≡ old.bits
+    → B % 8 ≡ 0 → B ≤ 8 * block
+    → ((k : ℕ) → k / 64 ≢ block - B / 8 → bit_of new.meta k ≡ bit_of old.meta k) → n / 64 ≢ block → cell new n ≡ cell old n
+kept-meta {B} {M} old new block n len len_new bits whole from others apart =
+    elim (cases_lt n (8 * B)) as (λ _. cell new n ≡ cell old n) [
+      | inl low ↦ cell-bits new n len_new low ∙ ap (λ bytes. bit_of bytes n) bits ∙ sym (cell-bits old n len low)
       | inr high ↦
-          let place : (n - 8 * B) / 8 ≢ group - B = λ e. apart (omega arith) in
-          cell-meta new n len high ∙ bit_of_kept row.meta (group - B) byte (n - 8 * B) place ∙ sym (cell-meta row n len high)
+          let place : (n - 8 * B) / 64 ≢ block - B / 8 = λ e. apart (omega arith) in
+          cell-meta new n len_new high ∙ others (n - 8 * B) place ∙ sym (cell-meta old n len high)
     ]

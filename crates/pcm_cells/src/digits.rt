@@ -1,9 +1,10 @@
 // Small numbers of a row's cells, as planes of their binary digits.
 ghost use Rattle.std.specs.Prelude.{◌≡◌, ◌≢◌, ℕ, ◌+◌, ◌*◌, ◌/◌, ◌<◌, ◌≤◌, true, nat_eq, nat_lt, if◌then◌else◌};
 ghost use Rattle.pcm_cells.specs.Planes.{bit_in, digit, zero_digits};
+ghost use Rattle.pcm_cells.specs.Shape.{IsWhole};
 
 use crate::Cells;
-use crate::bytes::{chosen, without};
+use crate::blocks::{chosen, without};
 
 /// A number from 0 to 7 of each cell of a row: its binary digits, the lowest in `low`.
 #[derive(Clone, Copy, Drop)]
@@ -34,34 +35,36 @@ impl<const B: usize, const M: usize> Digits<B, M> {
         self.high.set(number, value / 4 % 2 == 1);
     }
 
-    // As a mask over a group of eight cells: those whose number is below their limit.
-    pub(crate) fn below(&self, limits: &Digits<B, M>, group: usize) -> u8
-        requires { group < B + M }
-        ensures { (i : ℕ) → i < 8 → bit_in result i ≡ nat_lt (digit self.now (8 * group + i)) (digit limits.now (8 * group + i)) }
+    // As a mask over a block: the cells whose number is below their limit.
+    pub(crate) fn below(&self, limits: &Digits<B, M>, block: usize) -> u64
+        requires whole { IsWhole B M }
+        requires exists { 8 * block < B + M }
+        ensures { (i : ℕ) → i < 64 → bit_in result i ≡ nat_lt (digit self.now (64 * block + i)) (digit limits.now (64 * block + i)) }
     {
-        let (middle, high) = (self.middle.byte(group), self.high.byte(group));
-        let (middle_limit, high_limit) = (limits.middle.byte(group), limits.high.byte(group));
-        let by_low = without(limits.low.byte(group), self.low.byte(group));
+        let (middle, high) = (self.middle.block(block), self.high.block(block));
+        let (middle_limit, high_limit) = (limits.middle.block(block), limits.high.block(block));
+        let by_low = without(limits.low.block(block), self.low.block(block));
         let by_middle = chosen(by_low, middle ^ middle_limit, middle_limit);
         chosen(by_middle, high ^ high_limit, high_limit)
     }
 
-    // Over a group of eight cells: the numbers of those in `none` become 0, and of the others those in `more` grow by one.
-    pub(crate) fn advance(&mut self, group: usize, more: u8, none: u8)
-        requires exists { group < B + M }
-        requires few { (i : ℕ) → i < 8 → bit_in more i ≡ true → digit self.old (8 * group + i) < 7 }
-        ensures here { (i : ℕ) → i < 8 → digit self.new (8 * group + i) ≡ (if bit_in none i then 0 else if bit_in more i then digit self.old (8 * group + i) + 1 else digit self.old (8 * group + i)) }
-        ensures others { (n : ℕ) → n / 8 ≢ group → digit self.new n ≡ digit self.old n }
+    // Over a block: the numbers of the cells in `none` become 0, and of the others those in `more` grow by one.
+    pub(crate) fn advance(&mut self, block: usize, more: u64, none: u64)
+        requires whole { IsWhole B M }
+        requires exists { 8 * block < B + M }
+        requires few { (i : ℕ) → i < 64 → bit_in more i ≡ true → digit self.old (64 * block + i) < 7 }
+        ensures here { (i : ℕ) → i < 64 → digit self.new (64 * block + i) ≡ (if bit_in none i then 0 else if bit_in more i then digit self.old (64 * block + i) + 1 else digit self.old (64 * block + i)) }
+        ensures others { (n : ℕ) → n / 64 ≢ block → digit self.new n ≡ digit self.old n }
     {
         let (low, middle, high) = (
-            self.low.byte(group),
-            self.middle.byte(group),
-            self.high.byte(group),
+            self.low.block(block),
+            self.middle.block(block),
+            self.high.block(block),
         );
         let carry = more & low;
-        self.low.set_byte(group, without(more ^ low, none));
-        self.middle.set_byte(group, without(carry ^ middle, none));
+        self.low.set_block(block, without(more ^ low, none));
+        self.middle.set_block(block, without(carry ^ middle, none));
         self.high
-            .set_byte(group, without((carry & middle) ^ high, none));
+            .set_block(block, without((carry & middle) ^ high, none));
     }
 }

@@ -3,6 +3,7 @@
 #![tactic(auto)]
 
 mod array;
+mod blocks;
 mod bytes;
 mod digits;
 mod line;

@@ -1,9 +1,10 @@
 // Rows of cells, and masks over them.
 ghost use Rattle.std.specs.Prelude.{◌≡◌, ◌≢◌, ℕ, ◌+◌, ◌*◌, ◌/◌, ◌<◌, ◌≤◌, ◌&&◌, true, false, IsTrue, IsFalse, nat_eq, if◌then◌else◌};
 ghost use Rattle.pcm_cells.specs.Rows.{cell, zero_row, xor, members};
-ghost use Rattle.pcm_cells.specs.Shape.{IsShape};
+ghost use Rattle.pcm_cells.specs.Shape.{IsShape, IsWhole};
 ghost use Rattle.pcm_cells.specs.Planes.{bit_in};
 
+use crate::blocks::{read_block, write_block};
 use crate::bytes::{and_with, bit, is_zero, set_bit, xor_with};
 
 /// A row of `8 * B` data cells and `8 * M` check cells of one bit each, or a mask over such a row.
@@ -73,28 +74,30 @@ impl<const B: usize, const M: usize> Cells<B, M> {
         result
     }
 
-    /// The cells of a group of eight, as the bits of a byte.
-    pub(crate) fn byte(&self, group: usize) -> u8
-        requires { group < B + M }
-        ensures { (i : ℕ) → i < 8 → bit_in result i ≡ cell self.now (8 * group + i) }
+    /// The cells of a block of 64, as the bits of a number.
+    pub(crate) fn block(&self, block: usize) -> u64
+        requires whole { IsWhole B M }
+        requires exists { 8 * block < B + M }
+        ensures { (i : ℕ) → i < 64 → bit_in result i ≡ cell self.now (64 * block + i) }
     {
-        if group < B {
-            self.bits[group]
+        if 8 * block < B {
+            read_block(&self.bits, block)
         } else {
-            self.meta[group - B]
+            read_block(&self.meta, block - B / 8)
         }
     }
 
-    /// Lets the cells of a group of eight be the bits of a byte.
-    pub(crate) fn set_byte(&mut self, group: usize, byte: u8)
-        requires { group < B + M }
-        ensures here { (i : ℕ) → i < 8 → cell self.new (8 * group + i) ≡ bit_in byte i }
-        ensures others { (n : ℕ) → n / 8 ≢ group → cell self.new n ≡ cell self.old n }
+    /// Lets the cells of a block of 64 be the bits of a number.
+    pub(crate) fn set_block(&mut self, block: usize, bits: u64)
+        requires whole { IsWhole B M }
+        requires exists { 8 * block < B + M }
+        ensures here { (i : ℕ) → i < 64 → cell self.new (64 * block + i) ≡ bit_in bits i }
+        ensures others { (n : ℕ) → n / 64 ≢ block → cell self.new n ≡ cell self.old n }
     {
-        if group < B {
-            self.bits[group] = byte;
+        if 8 * block < B {
+            write_block(&mut self.bits, block, bits);
         } else {
-            self.meta[group - B] = byte;
+            write_block(&mut self.meta, block - B / 8, bits);
         }
     }
 

@@ -1,7 +1,7 @@
 // The array whose cells wear out as a seed says.
 ghost use Rattle.std.specs.Prelude.{◌≡◌, ◌≢◌, ℕ, ◌+◌, ◌-◌, ◌*◌, ◌%◌, ◌<◌, ◌≤◌, true, false, length, IfOk, OnOk, OnErr, slice_index, bit_xor};
 
-use crate::bytes::{chosen, reached, spend, without};
+use crate::blocks::{chosen, reached, spend, without};
 use crate::digits::Digits;
 use crate::{CellArray, CellState, Cells, Wear};
 use rand_core::{Rng, SeedableRng};
@@ -69,7 +69,7 @@ impl<const B: usize, const M: usize> Model for SeededLine<B, M> {
 }
 
 ghost use Rattle.pcm_cells.specs.Rows.{cell};
-ghost use Rattle.pcm_cells.specs.Shape.{IsShape};
+ghost use Rattle.pcm_cells.specs.Shape.{IsShape, IsWhole};
 ghost use Rattle.pcm_cells.specs.Device.{counted};
 ghost use Rattle.pcm_cells.specs.Follows.{Follows, FollowsIn};
 ghost use Rattle.pcm_cells.specs.Seeded.{seeded_cell, IsDrawn};
@@ -102,33 +102,36 @@ impl<const B: usize, const M: usize> SeededLine<B, M> {
         })
     }
 
-    // The masked cells of one group of eight in a pulse or in a tear.
-    fn wear_group(&mut self, tearing: bool, group: usize, mask: &Cells<B, M>, want: &Cells<B, M>)
-        requires exists { group < B + M }
+    // The masked cells of one block in a pulse or in a tear.
+    fn wear_block(&mut self, tearing: bool, block: usize, mask: &Cells<B, M>, want: &Cells<B, M>)
+        requires exists { 8 * block < B + M }
         requires shape { IsShape B M }
-        ensures cells { FollowsIn (8 * group) (8 * group + 8) (cell mask.now) (seeded tearing (cell want.now)) (seeded_cell self.old) (seeded_cell self.new) }
+        requires whole { IsWhole B M }
+        ensures cells { FollowsIn (64 * block) (64 * block + 64) (cell mask.now) (seeded tearing (cell want.now)) (seeded_cell self.old) (seeded_cell self.new) }
         ensures pulses { self.new.line.pulses ≡ self.old.line.pulses }
     {
-        let live = without(reached(tearing, mask.byte(group)), self.stuck.byte(group));
-        let missing = live & self.misses.below(&self.limits, group);
+        let stuck = self.stuck.block(block);
+        let live = without(reached(tearing, mask.block(block)), stuck);
+        let missing = live & self.misses.below(&self.limits, block);
         let changing = without(live, missing);
-        let last = spend(self.left.as_mut_slice(), group, changing);
-        let value = chosen(want.byte(group), last, self.ends.byte(group));
-        self.held
-            .set_byte(group, chosen(self.held.byte(group), changing, value));
-        self.stuck.set_byte(group, last | self.stuck.byte(group));
-        self.misses.advance(group, missing, changing);
+        let last = spend(self.left.as_mut_slice(), block, changing);
+        let value = chosen(want.block(block), last, self.ends.block(block));
+        let held = chosen(self.held.block(block), changing, value);
+        self.held.set_block(block, held);
+        self.stuck.set_block(block, last | stuck);
+        self.misses.advance(block, missing, changing);
     }
 
     // A pulse or a tear of the line.
     fn wear(&mut self, tearing: bool, mask: &Cells<B, M>, want: &Cells<B, M>)
-        requires { IsShape B M }
+        requires shape { IsShape B M }
+        requires whole { IsWhole B M }
         ensures cells { Follows (cell mask.now) (seeded tearing (cell want.now)) (seeded_cell self.old) (seeded_cell self.new) }
         ensures pulses { self.new.line.pulses ≡ counted self.old.line.pulses }
     {
-        for group in 0..B + M {
-            if !mask.is_clear(group) {
-                self.wear_group(tearing, group, mask, want);
+        for block in 0..(B + M) / 8 {
+            if mask.block(block) != 0 {
+                self.wear_block(tearing, block, mask, want);
             }
         }
         self.pulses = self.pulses.saturating_add(1);
@@ -166,19 +169,20 @@ pub struct MemArray<const B: usize, const M: usize> {
 impl<const B: usize, const M: usize> Model for MemArray<B, M> {
     ghost use Rattle.std.specs.Prelude.{◌^◌, ◌<◌, length};
     ghost use Rattle.pcm_cells.specs.Seeded.{SeededArray, seeded_lines};
-    ghost use Rattle.pcm_cells.specs.Shape.{IsShape};
+    ghost use Rattle.pcm_cells.specs.Shape.{IsShape, IsWhole};
 
     ghost Value = { SeededArray B M };
 
     ghost view = { λ a. record { lines = seeded_lines a.lines; tears = a.tears } };
 
-    ghost invariant = { λ a. (length (seeded_lines a.lines) < 2 ^ 32) × IsShape B M };
+    ghost invariant = { λ a. (length (seeded_lines a.lines) < 2 ^ 32) × IsShape B M × IsWhole B M };
 }
 
 impl<const B: usize, const M: usize> MemArray<B, M> {
-    /// An array without lines.
+    /// An array without lines, whose rows are to be whole blocks of 64 cells.
     pub fn new() -> MemArray<B, M>
-        requires { IsShape B M }
+        requires shape { IsShape B M }
+        requires whole { IsWhole B M }
         ensures { result ≡ record { lines = []; tears = 0 } }
     {
         MemArray {

@@ -6,9 +6,9 @@ use Rattle.std.proofs.Common.{bit_and}
 use Rattle.std.specs.Vec.{with_items}
 use Rattle.std.proofs.lemmas.List.{with_items_is}
 use Rattle.pcm_cells.proofs.ByteLemmas.{digit_and, digit_or}
-use Rattle.pcm_cells.proofs.FollowsLemmas.{followed_eight}
+use Rattle.pcm_cells.proofs.FollowsLemmas.{followed_block}
 use Rattle.pcm_cells.proofs.SeededLemmas.{worn_follows, worn_kept, missing_few}
-use Rattle.pcm_cells.proofs.seeded.SeededLine.wear_group.Goals as goal
+use Rattle.pcm_cells.proofs.seeded.SeededLine.wear_block.Goals as goal
 
 pub advance-requires : goal.advance-requires
 advance-requires g c =
@@ -17,16 +17,19 @@ advance-requires g c =
     let live = bit_in c.without-live.result in (
       search rules,
       (
-        c.requires.exists,
-        λ i low h.
-            missing_few c.self.inside.misses c.self.inside.limits (8 * c.args.group + i) (live i) (bit_in (bit_and c.without-live.result c.below.result) i)
-            (digit_and c.without-live.result c.below.result i ∙ ap (λ b. live i && b) (c.below.ensures i low)) h,
+        c.requires.whole,
+        (
+          c.requires.exists,
+          λ i low h.
+              missing_few c.self.inside.misses c.self.inside.limits (64 * c.args.block + i) (live i) (bit_in (bit_and c.without-live.result c.below.result) i)
+              (digit_and c.without-live.result c.below.result i ∙ ap (λ b. live i && b) (c.below.ensures i low)) h,
+        ),
       ),
     )
 
 pub returns-clause-cells : goal.returns-clause-cells
 returns-clause-cells g c =
-    let group = c.args.group in
+    let block = c.args.block in
     let old : LifeLine g.row.B g.row.M =
     record {
       line = record { held = c.self.inside.held; stuck = c.self.inside.stuck; misses = c.self.inside.misses; pulses = c.self.inside.pulses };
@@ -36,7 +39,7 @@ returns-clause-cells g c =
     } in
     let new : LifeLine g.row.B g.row.M =
     record {
-      line = record { held = c.set_byte.new.self; stuck = c.set_byte-2.new.self; misses = c.advance.new.self; pulses = c.self.inside.pulses };
+      line = record { held = c.set_block.new.self; stuck = c.set_block-2.new.self; misses = c.advance.new.self; pulses = c.self.inside.pulses };
       left = (with_items c.self.inside.left c.spend-last.new.left).items;
       limits = c.self.inside.limits;
       ends = c.self.inside.ends;
@@ -45,19 +48,19 @@ returns-clause-cells g c =
     let size : length c.spend-last.new.left ≡ c.self.inside.left.len = search rules in
     let written = with_items_is c.self.inside.left c.spend-last.new.left size in
     rw (← c.self.view_is)
-    (followed_eight group (cell c.args.mask.now) (seeded c.args.tearing (cell c.args.want.now)) (seeded_cell old) (seeded_cell new)
+    (followed_block block (cell c.args.mask.now) (seeded c.args.tearing (cell c.args.want.now)) (seeded_cell old) (seeded_cell new)
     (λ i low.
-    let n : ℕ = 8 * group + i in
+    let n : ℕ = 64 * block + i in
     let parity : n % 2 ≡ i % 2 = omega arith in
     worn_follows c.args.mask.now c.args.want.now c.args.tearing old new n
     (bit_in c.without-live.result i) (bit_in (bit_and c.without-live.result c.below.result) i) (bit_in c.without-changing.result i) (bit_in c.spend-last.result i)
-    (c.without-live.ensures i ∙ rw (c.byte-2.ensures i low, c.reached.ensures i low, c.byte.ensures i low, parity) refl)
+    (c.without-live.ensures i ∙ rw (c.block-stuck.ensures i low, c.reached.ensures i low, c.block.ensures i low, parity) refl)
     (digit_and c.without-live.result c.below.result i ∙ ap (λ b. bit_in c.without-live.result i && b) (c.below.ensures i low))
     (c.without-changing.ensures i)
     (rw same at c.spend-last.ensures.last i low)
-    (c.set_byte.ensures.here i low ∙ c.chosen.ensures.bits i ∙ rw (c.chosen-value.ensures.bits i, c.byte-3.ensures i low, c.byte-4.ensures i low, c.byte-5.ensures i low) refl)
-    (c.set_byte-2.ensures.here i low ∙ digit_or c.spend-last.result c.byte-6.result i ∙ ap (λ b. cond (bit_in c.spend-last.result i) true b) (c.byte-6.ensures i low))
+    (c.set_block.ensures.here i low ∙ c.chosen-held.ensures.bits i ∙ rw (c.chosen-value.ensures.bits i, c.block-2.ensures i low, c.block-3.ensures i low, c.block-4.ensures i low) refl)
+    (c.set_block-2.ensures.here i low ∙ digit_or c.spend-last.result c.block-stuck.result i ∙ ap (λ b. cond (bit_in c.spend-last.result i) true b) (c.block-stuck.ensures i low))
     (c.advance.ensures.here i low)
     (ap (λ xs. slice_index xs n) written ∙ (rw same at c.spend-last.ensures.here i low))
     refl refl)
-    (λ n apart. worn_kept old new n (c.set_byte.ensures.others n apart) (c.set_byte-2.ensures.others n apart) (c.advance.ensures.others n apart) (ap (λ xs. slice_index xs n) written ∙ (rw same at c.spend-last.ensures.others n apart)) refl refl))
+    (λ n apart. worn_kept old new n (c.set_block.ensures.others n apart) (c.set_block-2.ensures.others n apart) (c.advance.ensures.others n apart) (ap (λ xs. slice_index xs n) written ∙ (rw same at c.spend-last.ensures.others n apart)) refl refl))

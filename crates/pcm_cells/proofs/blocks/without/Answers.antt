@@ -1,0 +1,5 @@
+use Rattle.pcm_cells.proofs.ByteLemmas.{digit_without}
+use Rattle.pcm_cells.proofs.blocks.without.Goals as goal
+
+pub returns : goal.returns
+returns c i = digit_without c.args.bits c.args.other i

@@ -1,0 +1,91 @@
+// Blocks of 64 cells, each as the bits of a number, the lowest bit first.
+ghost use Rattle.std.specs.Prelude.{◌≡◌, ◌≢◌, ℕ, ◌+◌, ◌-◌, ◌*◌, ◌/◌, ◌%◌, ◌<◌, ◌≤◌, ◌&&◌, true, false, not, bit_and, bit_xor, length, nat_eq, nat_le, if◌then◌else◌, slice_index};
+ghost use Rattle.pcm_cells.specs.Rows.{bit_of};
+ghost use Rattle.pcm_cells.specs.Planes.{bit_in};
+
+// Eight bytes of the list, the first of them lowest.
+pub(crate) fn read_block(bytes: &[u8], block: usize) -> u64
+    requires { 8 * block + 8 ≤ length bytes.now }
+    ensures { (i : ℕ) → i < 64 → bit_in result i ≡ bit_of bytes.now (64 * block + i) }
+{
+    let mut bits = 0;
+    for place in 0..8 {
+        bits |= (bytes[8 * block + place] as u64) << (8 * place);
+    }
+    bits
+}
+
+pub(crate) fn write_block(bytes: &mut [u8], block: usize, bits: u64)
+    requires { 8 * block + 8 ≤ length bytes.old }
+    ensures here { (i : ℕ) → i < 64 → bit_of bytes.new (64 * block + i) ≡ bit_in bits i }
+    ensures others { (n : ℕ) → n / 64 ≢ block → bit_of bytes.new n ≡ bit_of bytes.old n }
+{
+    for place in 0..8 {
+        bytes[8 * block + place] = (bits >> (8 * place) & 0xff) as u8;
+    }
+}
+
+// Of each cell that is in the mask the wanted bit, and of each other one the bit as it is.
+pub(crate) fn chosen(bits: u64, mask: u64, want: u64) -> u64
+    ensures is { result ≡ bit_xor bits (bit_and (bit_xor bits want) mask) }
+    ensures bits { (i : ℕ) → bit_in result i ≡ (if bit_in mask i then bit_in want i else bit_in bits i) }
+{
+    bits ^ (bits ^ want) & mask
+}
+
+// The bits that the other number lacks.
+pub(crate) fn without(bits: u64, other: u64) -> u64
+    ensures { (i : ℕ) → bit_in result i ≡ not (bit_in other i) && bit_in bits i }
+{
+    bits ^ bits & other
+}
+
+// The cells that a pulse reaches, or a tear, which reaches those of even number alone.
+pub(crate) fn reached(tearing: bool, bits: u64) -> u64
+    ensures { (i : ℕ) → i < 64 → bit_in result i ≡ not (tearing && nat_eq (i % 2) 1) && bit_in bits i }
+{
+    if tearing {
+        bits & 0x5555_5555_5555_5555
+    } else {
+        bits
+    }
+}
+
+// The number with this bit too, if the value is true.
+fn joined(bits: u64, place: u32, value: bool) -> u64
+    requires { place < 64 }
+    ensures is { bit_in bits place ≡ false → bit_in result place ≡ value }
+    ensures kept { (i : ℕ) → i ≢ place → bit_in result i ≡ bit_in bits i }
+{
+    if value { bits | 1 << place } else { bits }
+}
+
+// The number without this bit, which it has.
+fn cleared(bits: u64, place: u32) -> u64
+    requires fits { place < 64 }
+    requires has { bit_in bits place ≡ true }
+    ensures is { bit_in result place ≡ false }
+    ensures kept { (i : ℕ) → i < 64 → i ≢ place → bit_in result i ≡ bit_in bits i }
+    ensures less { result < bits }
+{
+    bits & !(1 << place)
+}
+
+// Takes one from each count of a block that is in the mask, and answers those of them that were at most one.
+pub(crate) fn spend(left: &mut [u32], block: usize, mask: u64) -> u64
+    requires { 64 * block + 64 ≤ length left.old }
+    ensures last { (i : ℕ) → i < 64 → bit_in result i ≡ bit_in mask i && nat_le (slice_index left.old (64 * block + i)) 1 }
+    ensures here { (i : ℕ) → i < 64 → slice_index left.new (64 * block + i) ≡ (if bit_in mask i then slice_index left.old (64 * block + i) - 1 else slice_index left.old (64 * block + i)) }
+    ensures others { (n : ℕ) → n / 64 ≢ block → slice_index left.new n ≡ slice_index left.old n }
+{
+    let mut last = 0;
+    let mut rest = mask;
+    while rest != 0 {
+        let place = rest.trailing_zeros();
+        let count = &mut left[64 * block + place as usize];
+        last = joined(last, place, *count <= 1);
+        *count = count.saturating_sub(1);
+        rest = cleared(rest, place);
+    }
+    last
+}
