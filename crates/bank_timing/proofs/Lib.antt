@@ -1,4 +1,5 @@
 mod Sizes
+mod Views
 mod Rows
 mod Standing
 mod Acting

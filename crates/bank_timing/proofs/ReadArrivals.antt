@@ -34,7 +34,7 @@ use Rattle.clock_laws.specs.Arriving.{arrival, action_after_read, after_read, Ke
 use Rattle.clock_laws.specs.Standing.{has_waiting, AreApart, is_arrival_of}
 use Rattle.clock_laws.proofs.Arriving.{read_law}
 use Rattle.clock_laws.proofs.Extending.{arrival_added_law}
-use Rattle.clock_laws.proofs.Others.{other_rows_law}
+use Rattle.clock_laws.proofs.Others.{apart_law, other_rows_law}
 use Rattle.bank_timing.specs.Extending.{Extends, AreOpen, IsOpen, StandOpen, LeavesOthersThan, outcome_in}
 use Rattle.bank_timing.proofs.Rows.{rows-set, in-set}
 use Rattle.bank_timing.specs.Clock.{IsClock}
@@ -91,80 +91,107 @@ module _ {n m e : ℕ} where
       extends.outcomes row there
       ∙ other_rows_law n m e row (arrival clock.tick event ∷ []) xs clock array (outcome_in results) leads lawful unqueued unawaited (quiet row other)
 
-module _ {n m e : ℕ} (row line : ℕ) (clock : ClockState n m e) (results : List (Outcome n)) (quiet : is_cancelling clock.pace.policy ≡ false)
-    (rises : clock.bank.rows_below ≤ row) (unset : AreOpen clock.bank results) (fresh : IsOpen results row) where
-  read-rows : (answer : ReadAnswer n) → length (read_recorded answer clock.tick row results) ≡ length results
-  read-rows (came.Forwarded bytes) = rows-set results row (out.Forwarded clock.tick bytes)
-  read-rows came.Waiting = refl
-  read-rows came.Busy = rows-set results row (out.Busy clock.tick)
+-- a bank takes a read, with an answer: what is true of its clock and of the results before, and what the bank promises
+pub record TakesRead {n m e : ℕ} (row line : ℕ) (clock : ClockState n m e) (results : List (Outcome n)) (answer : ReadAnswer n) (bank : BankState n m e) : Type 0 where
+  pub quiet : is_cancelling clock.pace.policy ≡ false
+  pub led : (xs : List (Timed n m)) × (array : ArrayState n m) × Leads xs clock array
+  pub rises : clock.bank.rows_below ≤ row
+  pub unset : AreOpen clock.bank results
+  pub fresh : IsOpen results row
+  pub answered : read_from clock.bank line ≡ answer
+  pub left : bank ≡ bank_after_read clock.bank row line answer
+  pub holds : (h : List (Event n)) (array : ArrayState n m) → Holds h clock.bank array → Holds (Read row line answer ∷ h) bank array
 
-  read-outcomes : (answer : ReadAnswer n) (ws : List Awaited) (at : ℕ) → HasRow results at
-      → outcome_in (read_recorded answer clock.tick row results) at ≡ unwrap_or (outcome_by ws (Read row line answer) clock.tick at) (outcome_in results at)
-  read-outcomes (came.Forwarded bytes) ws at there = in-set results row (out.Forwarded clock.tick bytes) at fresh.exists there
-  read-outcomes came.Waiting ws at there = refl
-  read-outcomes came.Busy ws at there = in-set results row (out.Busy clock.tick) at fresh.exists there
+module _ {n : ℕ} where
+  -- each row still has its place in the results
+  read-rows : (row tick : ℕ) (results : List (Outcome n)) (answer : ReadAnswer n) → length (read_recorded answer tick row results) ≡ length results
+  read-rows row tick results (came.Forwarded bytes) = rows-set results row (out.Forwarded tick bytes)
+  read-rows row tick results came.Waiting = refl
+  read-rows row tick results came.Busy = rows-set results row (out.Busy tick)
 
-  read-keeps : (answer : ReadAnswer n) → KeepsWork clock.bank (bank_after_read clock.bank row line answer)
-  read-keeps (came.Forwarded bytes) = record { shape = refl; running = refl; lost = refl }
-  read-keeps came.Waiting = record { shape = refl; running = refl; lost = refl }
-  read-keeps came.Busy = record { shape = refl; running = refl; lost = refl }
+  -- each row has the outcome that the read makes of it, or else the one that it had
+  read-outcomes : (row line tick : ℕ) (results : List (Outcome n)) → IsOpen results row → (answer : ReadAnswer n) (ws : List Awaited) (at : ℕ) → HasRow results at
+      → outcome_in (read_recorded answer tick row results) at ≡ unwrap_or (outcome_by ws (Read row line answer) tick at) (outcome_in results at)
+  read-outcomes row line tick results fresh (came.Forwarded bytes) ws at there = in-set results row (out.Forwarded tick bytes) at fresh.exists there
+  read-outcomes row line tick results fresh came.Waiting ws at there = refl
+  read-outcomes row line tick results fresh came.Busy ws at there = in-set results row (out.Busy tick) at fresh.exists there
 
-  module _ (answer : ReadAnswer n) (is : read_from clock.bank line ≡ answer) (bank : BankState n m e) (left : bank ≡ bank_after_read clock.bank row line answer) where
-    pub read-extends : ((h : List (Event n)) (array : ArrayState n m) → Holds h clock.bank array → Holds (Read row line answer ∷ h) bank array)
-        → (xs : List (Timed n m)) (array : ArrayState n m) → Leads xs clock array
-        → Extends xs (arrival clock.tick (Read row line (read_from clock.bank line)) ∷ []) clock (after_read clock bank line answer) array array results (read_recorded answer clock.tick row results)
-    read-extends holds xs array leads =
-        subst (λ (a : ReadAnswer n). Extends xs (arrival clock.tick (Read row line a) ∷ []) clock (after_read clock bank line answer) array array results (read_recorded answer clock.tick row results)) (sym is)
-        (record {
-          leads = read_law n m e row line answer xs clock bank array leads quiet (RowsBelow-more (core xs) clock.bank.rows_below row rises leads.holds.rows) keeps (holds (core xs) array leads.holds);
-          shape = keeps.shape;
-          pace = refl;
-          adds = arrival_added_law n m clock.tick clock.bank.kept.shape (Read row line answer) array refl;
-          rows = read-rows answer;
-          outcomes = λ at there. read-outcomes answer (waits clock.bank.kept.shape (core xs)) at there;
-        })
-      where
-        keeps : KeepsWork clock.bank bank
-        keeps = subst (λ (b : BankState n m e). KeepsWork clock.bank b) (sym left) (read-keeps answer)
+-- a bank that answered a read has the work that it had
+read-keeps : {n m e : ℕ} (bank : BankState n m e) (row line : ℕ) (answer : ReadAnswer n) → KeepsWork bank (bank_after_read bank row line answer)
+read-keeps bank row line (came.Forwarded bytes) = record { shape = refl; running = refl; lost = refl }
+read-keeps bank row line came.Waiting = record { shape = refl; running = refl; lost = refl }
+read-keeps bank row line came.Busy = record { shape = refl; running = refl; lost = refl }
 
-    pub read-unset : AreApart clock.bank.kept.entries clock.bank.waiting clock.bank.rows_below → AreOpen bank (read_recorded answer clock.tick row results)
-    read-unset apart = subst (λ (b : BankState n m e). AreOpen b (read_recorded answer clock.tick row results)) (sym left) (by answer)
-      where
-        stay : (o : Outcome n) → StandOpen clock.bank.kept.entries clock.bank.waiting (with_outcome results row o)
-        stay o = stay-unset clock.bank.kept.entries clock.bank.waiting results row o fresh.exists (apart.queued_below row rises) (apart.waiting_below row rises) unset
+module _ {n m e row line : ℕ} {clock : ClockState n m e} {results : List (Outcome n)} {answer : ReadAnswer n} {bank : BankState n m e} (r : TakesRead row line clock results answer bank) where
+  -- each history that led to the clock goes on with the arrival of the read
+  pub read-extends : (xs : List (Timed n m)) (array : ArrayState n m) → Leads xs clock array
+      → Extends xs (arrival clock.tick (Read row line (read_from clock.bank line)) ∷ []) clock (after_read clock bank line answer) array array results (read_recorded answer clock.tick row results)
+  read-extends xs array leads =
+      subst (λ (a : ReadAnswer n). Extends xs (arrival clock.tick (Read row line a) ∷ []) clock (after_read clock bank line answer) array array results (read_recorded answer clock.tick row results)) (sym r.answered)
+      (record {
+        leads = read_law n m e row line answer xs clock bank array leads r.quiet (RowsBelow-more (core xs) clock.bank.rows_below row r.rises leads.holds.rows) keeps (r.holds (core xs) array leads.holds);
+        shape = keeps.shape;
+        pace = refl;
+        adds = arrival_added_law n m clock.tick clock.bank.kept.shape (Read row line answer) array refl;
+        rows = read-rows row clock.tick results answer;
+        outcomes = λ at there. read-outcomes row line clock.tick results r.fresh answer (waits clock.bank.kept.shape (core xs)) at there;
+      })
+    where
+      keeps : KeepsWork clock.bank bank
+      keeps = subst (λ (b : BankState n m e). KeepsWork clock.bank b) (sym r.left) (read-keeps clock.bank row line answer)
 
-        by : (answer : ReadAnswer n) → AreOpen (bank_after_read clock.bank row line answer) (read_recorded answer clock.tick row results)
-        by (came.Forwarded bytes) = stay (out.Forwarded clock.tick bytes)
-        by came.Busy = stay (out.Busy clock.tick)
-        by came.Waiting = record {
-          queued = unset.queued;
-          waiting = λ at there.
-              elim (has-pushed (kept_with row line (layer_of clock.bank.kept.entries line)) at clock.bank.waiting there (has_waiting clock.bank.waiting at) refl) [
-                | inl old ↦ unset.waiting at old
-                | inr own ↦ subst (λ (at : ℕ). IsOpen results at) (sym own) fresh
-              ];
-        }
+  -- the rows that stand in the bank then have no outcome
+  pub read-unset : AreOpen bank (read_recorded answer clock.tick row results)
+  read-unset = subst (λ (b : BankState n m e). AreOpen b (read_recorded answer clock.tick row results)) (sym r.left) (by answer)
+    where
+      apart : AreApart clock.bank.kept.entries clock.bank.waiting clock.bank.rows_below
+      apart = apart_law n m e r.led.0 clock r.led.1 r.led.2
 
-    pub read-clock : (pace : Pace) (places : ℕ) → IsClock clock.bank pace clock.tick clock.action places → IsClock bank pace clock.tick (action_after_read clock.bank.kept line answer clock.action) places
-    read-clock pace places inv = subst (λ (b : BankState n m e). IsClock b pace clock.tick (action_after_read clock.bank.kept line answer clock.action) places) (sym left) (by answer)
-      where
-        begun-still : (b : Bool) → IfSome clock.action (λ a. a.first ≤ clock.tick) → IfSome (if b then None else clock.action) (λ a. a.first ≤ clock.tick)
-        begun-still true own = tt
-        begun-still false own = own
+      stay : (o : Outcome n) → StandOpen clock.bank.kept.entries clock.bank.waiting (with_outcome results row o)
+      stay o = stay-unset clock.bank.kept.entries clock.bank.waiting results row o r.fresh.exists (apart.queued_below row r.rises) (apart.waiting_below row r.rises) r.unset
 
-        by : (answer : ReadAnswer n) → IsClock (bank_after_read clock.bank row line answer) pace clock.tick (action_after_read clock.bank.kept line answer clock.action) places
-        by (came.Forwarded bytes) = record { layout = inv.layout; paced = inv.paced; room = inv.room; begun = inv.begun; fit = fit-same clock.bank (row + 1) clock.action inv.fit }
-        by came.Waiting = record {
-          layout = inv.layout;
-          paced = inv.paced;
-          room = inv.room;
-          begun = begun-still _ inv.begun;
-          fit = fit_read_law n m e row line clock.action clock.bank inv.fit;
-        }
-        by came.Busy = record { layout = inv.layout; paced = inv.paced; room = inv.room; begun = inv.begun; fit = fit-same clock.bank (row + 1) clock.action inv.fit }
+      by : (answer : ReadAnswer n) → AreOpen (bank_after_read clock.bank row line answer) (read_recorded answer clock.tick row results)
+      by (came.Forwarded bytes) = stay (out.Forwarded clock.tick bytes)
+      by came.Busy = stay (out.Busy clock.tick)
+      by came.Waiting = record {
+        queued = r.unset.queued;
+        waiting = λ at there.
+            elim (has-pushed (kept_with row line (layer_of clock.bank.kept.entries line)) at clock.bank.waiting there (has_waiting clock.bank.waiting at) refl) [
+              | inl old ↦ r.unset.waiting at old
+              | inr own ↦ subst (λ (at : ℕ). IsOpen results at) (sym own) r.fresh
+            ];
+      }
 
-    pub read-others : ((h : List (Event n)) (array : ArrayState n m) → Holds h clock.bank array → Holds (Read row line answer ∷ h) bank array)
-        → ((xs : List (Timed n m)) × (array : ArrayState n m) × Leads xs clock array) → LeavesOthersThan row clock.bank results (read_recorded answer clock.tick row results)
-    read-others holds led =
-        arrival-others row (Read row line (read_from clock.bank line)) clock (after_read clock bank line answer) led.1 results (read_recorded answer clock.tick row results)
-        (λ at other. no-other row at other) led.0 led.2 (read-extends holds led.0 led.1 led.2)
+  -- the bank and the action that runs then are still those that the clock may have
+  pub read-clock : {pace : Pace} {places : ℕ} → IsClock clock.bank pace clock.tick clock.action places → IsClock bank pace clock.tick (action_after_read clock.bank.kept line answer clock.action) places
+  read-clock {pace} {places} inv = subst (λ (b : BankState n m e). IsClock b pace clock.tick (action_after_read clock.bank.kept line answer clock.action) places) (sym r.left) (by answer)
+    where
+      begun-still : (b : Bool) → IfSome clock.action (λ a. a.first ≤ clock.tick) → IfSome (if b then None else clock.action) (λ a. a.first ≤ clock.tick)
+      begun-still true own = tt
+      begun-still false own = own
+
+      by : (answer : ReadAnswer n) → IsClock (bank_after_read clock.bank row line answer) pace clock.tick (action_after_read clock.bank.kept line answer clock.action) places
+      by (came.Forwarded bytes) = record { layout = inv.layout; paced = inv.paced; room = inv.room; begun = inv.begun; fit = fit-same clock.bank (row + 1) clock.action inv.fit }
+      by came.Waiting = record {
+        layout = inv.layout;
+        paced = inv.paced;
+        room = inv.room;
+        begun = begun-still _ inv.begun;
+        fit = fit_read_law n m e row line clock.action clock.bank inv.fit;
+      }
+      by came.Busy = record { layout = inv.layout; paced = inv.paced; room = inv.room; begun = inv.begun; fit = fit-same clock.bank (row + 1) clock.action inv.fit }
+
+  -- the read leaves each other row that has no part in it
+  pub read-others : LeavesOthersThan row clock.bank results (read_recorded answer clock.tick row results)
+  read-others =
+      arrival-others row (Read row line (read_from clock.bank line)) clock (after_read clock bank line answer) r.led.1 results (read_recorded answer clock.tick row results)
+      (λ at other. no-other row at other) r.led.0 r.led.2 (read-extends r.led.0 r.led.1 r.led.2)
+
+  -- the rows that came are below the next one
+  pub read-bound : bank.rows_below ≡ row + 1
+  read-bound = ap (λ (b : BankState n m e). b.rows_below) r.left ∙ by answer
+    where
+      by : (answer : ReadAnswer n) → (bank_after_read clock.bank row line answer).rows_below ≡ row + 1
+      by (came.Forwarded bytes) = refl
+      by came.Waiting = refl
+      by came.Busy = refl

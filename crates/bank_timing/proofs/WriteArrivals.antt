@@ -142,164 +142,186 @@ module _ {n : ℕ} (es : List (Entry n)) (ws : List (Waiting n)) (next row : ℕ
         waiting = λ r there. open-set results old o r has (apart-by (has_waiting ws) r old there (apart.one_place old stands)) (unset.waiting r there);
       }
 
-module _ {n m e : ℕ} (row line : ℕ) (bytes : List ℕ) (given : List Bool) (clock : ClockState n m e) (results : List (Outcome n)) (rises : clock.bank.rows_below ≤ row)
-    (unset : AreOpen clock.bank results) (fresh : IsOpen results row) where
-  abbrev entry_of : Entry n
-  entry_of = record { row = row; line = line; bytes = bytes; given = given }
+-- a bank takes a write, with an answer: what is true of its clock and of the results before, and what the bank promises
+pub record TakesWrite {n m e : ℕ} (row line : ℕ) (bytes : List ℕ) (given : List Bool) (clock : ClockState n m e) (results : List (Outcome n)) (answer : WriteAnswer) (bank : BankState n m e) : Type 0 where
+  pub led : (xs : List (Timed n m)) × (array : ArrayState n m) × Leads xs clock array
+  pub rises : clock.bank.rows_below ≤ row
+  pub unset : AreOpen clock.bank results
+  pub fresh : IsOpen results row
+  pub answered : write_from clock.bank line ≡ answer
+  pub left : bank ≡ bank_after_write clock.bank (record { row = row; line = line; bytes = bytes; given = given }) answer
+  pub holds : (h : List (Event n)) (array : ArrayState n m) → Holds h clock.bank array → Holds (Write row line bytes given answer ∷ h) bank array
 
+-- each row still has its place in the results
+write-rows : {n : ℕ} (row tick : ℕ) (results : List (Outcome n)) (answer : WriteAnswer) → length (write_recorded answer tick row results) ≡ length results
+write-rows row tick results wrote.Accepted = refl
+write-rows row tick results (wrote.Merged old) = rows-set results old (out.Merged tick)
+write-rows row tick results wrote.Full = rows-set results row (out.Full tick)
+write-rows row tick results wrote.Exhausted = rows-set results row (out.Worn tick)
+
+module _ {n m e : ℕ} where
   -- a write is merged into the entry of a row that stands in the queue
-  merges-into : (old : ℕ) (bank : BankState n m e) (array : ArrayState n m) (xs : List (Timed n m)) → Leads xs clock array → bank.kept.shape ≡ clock.bank.kept.shape
-      → Holds (Write row line bytes given (wrote.Merged old) ∷ core xs) bank array → has_row clock.bank.kept.entries old ≡ true
-  merges-into old bank array xs leads same holds =
+  merges-into : (row line : ℕ) (bytes : List ℕ) (given : List Bool) (clock : ClockState n m e) (old : ℕ) (bank : BankState n m e) (array : ArrayState n m) (xs : List (Timed n m)) → Leads xs clock array
+      → bank.kept.shape ≡ clock.bank.kept.shape → Holds (Write row line bytes given (wrote.Merged old) ∷ core xs) bank array → has_row clock.bank.kept.entries old ≡ true
+  merges-into row line bytes given clock old bank array xs leads same holds =
       let shape : BankShape = clock.bank.kept.shape in
       let h : List (Event n) = core xs in
       let may = (subst (λ (shape : BankShape). MayAll shape (most_steps e) (Write row line bytes given (wrote.Merged old) ∷ h)) same holds.past).0 in
       let told = answer_merged shape h (has_exhausted h) (candidate (head_busy_after shape h) (queue shape h) line) old may.2 in
       subst (λ (es : List (Entry n)). has_row es old ≡ true) (sym leads.holds.entries) (candidate-there (head_busy_after shape h) (queue shape h) line old told.1)
 
-  write-rows : (answer : WriteAnswer) → length (write_recorded answer clock.tick row results) ≡ length results
-  write-rows wrote.Accepted = refl
-  write-rows (wrote.Merged old) = rows-set results old (out.Merged clock.tick)
-  write-rows wrote.Full = rows-set results row (out.Full clock.tick)
-  write-rows wrote.Exhausted = rows-set results row (out.Worn clock.tick)
-
   -- the row that a write is merged into, if there is one
-  abbrev Stands : WriteAnswer → Type 0
-  Stands (wrote.Merged old) = has_row clock.bank.kept.entries old ≡ true
-  Stands _ = Unit {0}
+  abbrev Stands : BankState n m e → WriteAnswer → Type 0
+  Stands bank (wrote.Merged old) = has_row bank.kept.entries old ≡ true
+  Stands bank _ = Unit {0}
 
-  write-outcomes : (answer : WriteAnswer) → Stands answer → (ws : List Awaited) (at : ℕ) → HasRow results at
+  -- each row has the outcome that the write makes of it, or else the one that it had
+  write-outcomes : (row line : ℕ) (bytes : List ℕ) (given : List Bool) (clock : ClockState n m e) (results : List (Outcome n)) → AreOpen clock.bank results → IsOpen results row
+      → (answer : WriteAnswer) → Stands clock.bank answer → (ws : List Awaited) (at : ℕ) → HasRow results at
       → outcome_in (write_recorded answer clock.tick row results) at ≡ unwrap_or (outcome_by ws (Write row line bytes given answer) clock.tick at) (outcome_in results at)
-  write-outcomes wrote.Accepted stands ws at there = refl
-  write-outcomes (wrote.Merged old) stands ws at there = in-set results old (out.Merged clock.tick) at (unset.queued old stands).exists there
-  write-outcomes wrote.Full stands ws at there = in-set results row (out.Full clock.tick) at fresh.exists there
-  write-outcomes wrote.Exhausted stands ws at there = in-set results row (out.Worn clock.tick) at fresh.exists there
+  write-outcomes row line bytes given clock results unset fresh wrote.Accepted stands ws at there = refl
+  write-outcomes row line bytes given clock results unset fresh (wrote.Merged old) stands ws at there = in-set results old (out.Merged clock.tick) at (unset.queued old stands).exists there
+  write-outcomes row line bytes given clock results unset fresh wrote.Full stands ws at there = in-set results row (out.Full clock.tick) at fresh.exists there
+  write-outcomes row line bytes given clock results unset fresh wrote.Exhausted stands ws at there = in-set results row (out.Worn clock.tick) at fresh.exists there
 
-  write-keeps : (answer : WriteAnswer) → KeepsWork clock.bank (bank_after_write clock.bank entry_of answer)
-  write-keeps wrote.Accepted = record { shape = refl; running = refl; lost = refl }
-  write-keeps (wrote.Merged old) = record { shape = refl; running = refl; lost = refl }
-  write-keeps wrote.Full = record { shape = refl; running = refl; lost = refl }
-  write-keeps wrote.Exhausted = record { shape = refl; running = refl; lost = refl }
+  -- a bank that answered a write has the work that it had
+  write-keeps : (bank : BankState n m e) (entry : Entry n) (answer : WriteAnswer) → KeepsWork bank (bank_after_write bank entry answer)
+  write-keeps bank entry wrote.Accepted = record { shape = refl; running = refl; lost = refl }
+  write-keeps bank entry (wrote.Merged old) = record { shape = refl; running = refl; lost = refl }
+  write-keeps bank entry wrote.Full = record { shape = refl; running = refl; lost = refl }
+  write-keeps bank entry wrote.Exhausted = record { shape = refl; running = refl; lost = refl }
 
-  module _ (answer : WriteAnswer) (bank : BankState n m e) (left : bank ≡ bank_after_write clock.bank entry_of answer)
-      (holds : (h : List (Event n)) (array : ArrayState n m) → Holds h clock.bank array → Holds (Write row line bytes given answer ∷ h) bank array) where
-    keeps : KeepsWork clock.bank bank
-    keeps = subst (λ (b : BankState n m e). KeepsWork clock.bank b) (sym left) (write-keeps answer)
+module _ {n m e row line : ℕ} {bytes : List ℕ} {given : List Bool} {clock : ClockState n m e} {results : List (Outcome n)} {answer : WriteAnswer} {bank : BankState n m e}
+    (w : TakesWrite row line bytes given clock results answer bank) where
+  abbrev entry_of : Entry n
+  entry_of = record { row = row; line = line; bytes = bytes; given = given }
 
-    stands-by : (xs : List (Timed n m)) (array : ArrayState n m) → Leads xs clock array → Stands answer
-    stands-by xs array leads = by answer (holds (core xs) array leads.holds)
-      where
-        by : (answer : WriteAnswer) → Holds (Write row line bytes given answer ∷ core xs) bank array → Stands answer
-        by wrote.Accepted after = tt
-        by (wrote.Merged old) after = merges-into old bank array xs leads keeps.shape after
-        by wrote.Full after = tt
-        by wrote.Exhausted after = tt
+  keeps : KeepsWork clock.bank bank
+  keeps = subst (λ (b : BankState n m e). KeepsWork clock.bank b) (sym w.left) (write-keeps clock.bank entry_of answer)
 
-    pub write-extends : (place : ℕ) → IsPlaceOf bank.kept row place answer → write_from clock.bank line ≡ answer → (xs : List (Timed n m)) (array : ArrayState n m) → Leads xs clock array
-        → Extends xs (arrival clock.tick (Write row line bytes given (write_from clock.bank line)) ∷ []) clock (after_write clock bank place answer) array array results (write_recorded answer clock.tick row results)
-    write-extends place at is xs array leads =
-        subst (λ (a : WriteAnswer). Extends xs (arrival clock.tick (Write row line bytes given a) ∷ []) clock (after_write clock bank place answer) array array results (write_recorded answer clock.tick row results)) (sym is)
-        (record {
-          leads = write_law n m e row line place bytes given answer xs clock bank array leads (RowsBelow-more (core xs) clock.bank.rows_below row rises leads.holds.rows) keeps (holds (core xs) array leads.holds) at;
-          shape = keeps.shape;
-          pace = refl;
-          adds = arrival_added_law n m clock.tick clock.bank.kept.shape (Write row line bytes given answer) array refl;
-          rows = write-rows answer;
-          outcomes = λ at there. write-outcomes answer (stands-by xs array leads) (waits clock.bank.kept.shape (core xs)) at there;
-        })
-
-    pub write-others : (place : ℕ) → IsPlaceOf bank.kept row place answer → write_from clock.bank line ≡ answer → ((xs : List (Timed n m)) × (array : ArrayState n m) × Leads xs clock array)
-        → LeavesOthersThan row clock.bank results (write_recorded answer clock.tick row results)
-    write-others place at is led =
-        arrival-others row (Write row line bytes given (write_from clock.bank line)) clock (after_write clock bank place answer) led.1 results (write_recorded answer clock.tick row results)
-        (λ other apart. no-other row other apart) led.0 led.2 (write-extends place at is led.0 led.1 led.2)
-
-    -- the entries are those of the history that the write extends
-    entries-then : (xs : List (Timed n m)) (array : ArrayState n m) → Leads xs clock array → bank.kept.entries ≡ queue clock.bank.kept.shape (Write row line bytes given answer ∷ core xs)
-    entries-then xs array leads = (holds (core xs) array leads.holds).entries ∙ ap (λ shape. queue shape (Write row line bytes given answer ∷ core xs)) keeps.shape
-
-    waiting-then : bank.waiting ≡ clock.bank.waiting
-    waiting-then = ap (λ (b : BankState n m e). b.waiting) left ∙ by answer
-      where
-        by : (answer : WriteAnswer) → (bank_after_write clock.bank entry_of answer).waiting ≡ clock.bank.waiting
-        by wrote.Accepted = refl
-        by (wrote.Merged old) = refl
-        by wrote.Full = refl
-        by wrote.Exhausted = refl
-
-    pub write-unset : ((xs : List (Timed n m)) × (array : ArrayState n m) × Leads xs clock array) → AreOpen bank (write_recorded answer clock.tick row results)
-    write-unset led =
-        subst (λ (ws : List (Waiting n)). StandOpen bank.kept.entries ws (write_recorded answer clock.tick row results)) (sym waiting-then)
-        (subst (λ (es : List (Entry n)). StandOpen es clock.bank.waiting (write_recorded answer clock.tick row results)) (sym (entries-then led.0 led.1 led.2 ∙ now answer))
-        (by answer (stands-by led.0 led.1 led.2)))
-      where
-        apart : AreApart clock.bank.kept.entries clock.bank.waiting clock.bank.rows_below
-        apart = apart_law n m e led.0 clock led.1 led.2
-
-        -- the queue then, over that of before
-        after : WriteAnswer → List (Entry n) → List (Entry n)
-        after wrote.Accepted es = es ++ entry_of ∷ []
-        after (wrote.Merged old) es = merged old row bytes given es
-        after wrote.Full es = es
-        after wrote.Exhausted es = es
-
-        now : (answer : WriteAnswer) → queue clock.bank.kept.shape (Write row line bytes given answer ∷ core led.0) ≡ after answer clock.bank.kept.entries
-        now wrote.Accepted = ap (λ (es : List (Entry n)). es ++ entry_of ∷ []) (sym led.2.holds.entries)
-        now (wrote.Merged old) = ap (λ (es : List (Entry n)). merged old row bytes given es) (sym led.2.holds.entries)
-        now wrote.Full = sym led.2.holds.entries
-        now wrote.Exhausted = sym led.2.holds.entries
-
-        stay : (o : Outcome n) → StandOpen clock.bank.kept.entries clock.bank.waiting (with_outcome results row o)
-        stay o = stay-unset clock.bank.kept.entries clock.bank.waiting results row o fresh.exists (apart.queued_below row rises) (apart.waiting_below row rises) unset
-
-        by : (answer : WriteAnswer) → Stands answer → StandOpen (after answer clock.bank.kept.entries) clock.bank.waiting (write_recorded answer clock.tick row results)
-        by wrote.Accepted stands = pushed-unset clock.bank.kept.entries clock.bank.waiting clock.bank.rows_below row bytes given results apart rises unset fresh entry_of refl
-        by (wrote.Merged old) stands = merged-unset clock.bank.kept.entries clock.bank.waiting clock.bank.rows_below row bytes given results apart rises unset fresh old (out.Merged clock.tick) stands
-        by wrote.Full stands = stay (out.Full clock.tick)
-        by wrote.Exhausted stands = stay (out.Worn clock.tick)
-
-    pub write-clock : (pace : Pace) (places : ℕ) → IsClock clock.bank pace clock.tick clock.action places → IsClock bank pace clock.tick clock.action places
-    write-clock pace places inv =
-        record {
-          layout = inv.layout;
-          paced = inv.paced;
-          room = inv.room ∙ ap (λ shape. shape.writes) (sym keeps.shape);
-          begun = inv.begun;
-          fit = subst (λ (b : BankState n m e). IsFit b clock.action) (sym left) (by answer);
-        }
-      where
-        by : (answer : WriteAnswer) → IsFit (bank_after_write clock.bank entry_of answer) clock.action
-        by wrote.Accepted = fit_write_law n m e entry_of clock.action clock.bank inv.fit
-        by (wrote.Merged old) = fit_write_law n m e entry_of clock.action clock.bank inv.fit
-        by wrote.Full = fit-same clock.bank (row + 1) clock.action inv.fit
-        by wrote.Exhausted = fit-same clock.bank (row + 1) clock.action inv.fit
-
-  -- the row that a merge ends has no outcome yet, and the row that it brings stands in the queue
-  pub merge-unset : (old : ℕ) (bank : BankState n m e) → bank ≡ bank_after_write clock.bank entry_of (wrote.Merged old)
-      → ((h : List (Event n)) (array : ArrayState n m) → Holds h clock.bank array → Holds (Write row line bytes given (wrote.Merged old) ∷ h) bank array)
-      → ((xs : List (Timed n m)) × (array : ArrayState n m) × Leads xs clock array) → IsOpen results old
-  merge-unset old bank left holds led = unset.queued old (stands-by (wrote.Merged old) bank left holds led.0 led.1 led.2)
-
-  pub merge-there : (old : ℕ) (bank : BankState n m e) → bank ≡ bank_after_write clock.bank entry_of (wrote.Merged old)
-      → ((h : List (Event n)) (array : ArrayState n m) → Holds h clock.bank array → Holds (Write row line bytes given (wrote.Merged old) ∷ h) bank array)
-      → ((xs : List (Timed n m)) × (array : ArrayState n m) × Leads xs clock array) → has_row bank.kept.entries row ≡ true
-  merge-there old bank left holds led =
-      let queue-then = entries-then (wrote.Merged old) bank left holds led.0 led.1 led.2 in
-      let there : has_row (queue clock.bank.kept.shape (core led.0)) old ≡ true =
-      subst (λ (es : List (Entry n)). has_row es old ≡ true) led.2.holds.entries (stands-by (wrote.Merged old) bank left holds led.0 led.1 led.2) in
-      subst (λ (es : List (Entry n)). has_row es row ≡ true) (sym queue-then) (new-merged old row bytes given (queue clock.bank.kept.shape (core led.0)) there)
-
-  -- there is room for the arrival tick of a write that is accepted
-  pub accept-room : (bank : BankState n m e) → bank ≡ bank_after_write clock.bank entry_of wrote.Accepted
-      → ((h : List (Event n)) (array : ArrayState n m) → Holds h clock.bank array → Holds (Write row line bytes given wrote.Accepted ∷ h) bank array)
-      → ((xs : List (Timed n m)) × (array : ArrayState n m) × Leads xs clock array) → length clock.arrivals < bank.kept.shape.writes
-  accept-room bank left holds led =
-      let after = holds (core led.0) led.1 led.2.holds in
-      let told = ap length led.2.told.arrived in
-      let queued-now = ap length (entries-then wrote.Accepted bank left holds led.0 led.1 led.2) in
-      let few = after.kept.few_entries in
-      plain (length clock.arrivals) (length (queue clock.bank.kept.shape (core led.0))) bank.kept.shape.writes (length bank.kept.entries) (told ∙ length-map (queue clock.bank.kept.shape (core led.0)) _)
-      (queued-now ∙ length-append (queue clock.bank.kept.shape (core led.0)) (entry_of ∷ [])) few
+  stands-by : (xs : List (Timed n m)) (array : ArrayState n m) → Leads xs clock array → Stands clock.bank answer
+  stands-by xs array leads = by answer (w.holds (core xs) array leads.holds)
     where
-      plain : (arrivals queued writes entries : ℕ) → arrivals ≡ queued → entries ≡ queued + 1 → entries ≤ writes → arrivals < writes
-      plain arrivals queued writes entries told is few = omega (arith, told, is, few)
+      by : (answer : WriteAnswer) → Holds (Write row line bytes given answer ∷ core xs) bank array → Stands clock.bank answer
+      by wrote.Accepted after = tt
+      by (wrote.Merged old) after = merges-into row line bytes given clock old bank array xs leads keeps.shape after
+      by wrote.Full after = tt
+      by wrote.Exhausted after = tt
+
+  -- each history that led to the clock goes on with the arrival of the write
+  pub write-extends : (place : ℕ) → IsPlaceOf bank.kept row place answer → (xs : List (Timed n m)) (array : ArrayState n m) → Leads xs clock array
+      → Extends xs (arrival clock.tick (Write row line bytes given (write_from clock.bank line)) ∷ []) clock (after_write clock bank place answer) array array results (write_recorded answer clock.tick row results)
+  write-extends place at xs array leads =
+      subst (λ (a : WriteAnswer). Extends xs (arrival clock.tick (Write row line bytes given a) ∷ []) clock (after_write clock bank place answer) array array results (write_recorded answer clock.tick row results)) (sym w.answered)
+      (record {
+        leads = write_law n m e row line place bytes given answer xs clock bank array leads (RowsBelow-more (core xs) clock.bank.rows_below row w.rises leads.holds.rows) keeps (w.holds (core xs) array leads.holds) at;
+        shape = keeps.shape;
+        pace = refl;
+        adds = arrival_added_law n m clock.tick clock.bank.kept.shape (Write row line bytes given answer) array refl;
+        rows = write-rows row clock.tick results answer;
+        outcomes = λ at there. write-outcomes row line bytes given clock results w.unset w.fresh answer (stands-by xs array leads) (waits clock.bank.kept.shape (core xs)) at there;
+      })
+
+  -- it leaves each other row that has no part in it
+  pub write-others : (place : ℕ) → IsPlaceOf bank.kept row place answer → LeavesOthersThan row clock.bank results (write_recorded answer clock.tick row results)
+  write-others place at =
+      arrival-others row (Write row line bytes given (write_from clock.bank line)) clock (after_write clock bank place answer) w.led.1 results (write_recorded answer clock.tick row results)
+      (λ other apart. no-other row other apart) w.led.0 w.led.2 (write-extends place at w.led.0 w.led.1 w.led.2)
+
+  -- the entries are those of the history that the write extends
+  entries-then : (xs : List (Timed n m)) (array : ArrayState n m) → Leads xs clock array → bank.kept.entries ≡ queue clock.bank.kept.shape (Write row line bytes given answer ∷ core xs)
+  entries-then xs array leads = (w.holds (core xs) array leads.holds).entries ∙ ap (λ shape. queue shape (Write row line bytes given answer ∷ core xs)) keeps.shape
+
+  waiting-then : bank.waiting ≡ clock.bank.waiting
+  waiting-then = ap (λ (b : BankState n m e). b.waiting) w.left ∙ by answer
+    where
+      by : (answer : WriteAnswer) → (bank_after_write clock.bank entry_of answer).waiting ≡ clock.bank.waiting
+      by wrote.Accepted = refl
+      by (wrote.Merged old) = refl
+      by wrote.Full = refl
+      by wrote.Exhausted = refl
+
+  -- the rows that stand in the bank then have no outcome
+  pub write-unset : AreOpen bank (write_recorded answer clock.tick row results)
+  write-unset =
+      subst (λ (ws : List (Waiting n)). StandOpen bank.kept.entries ws (write_recorded answer clock.tick row results)) (sym waiting-then)
+      (subst (λ (es : List (Entry n)). StandOpen es clock.bank.waiting (write_recorded answer clock.tick row results)) (sym (entries-then w.led.0 w.led.1 w.led.2 ∙ now answer))
+      (by answer (stands-by w.led.0 w.led.1 w.led.2)))
+    where
+      apart : AreApart clock.bank.kept.entries clock.bank.waiting clock.bank.rows_below
+      apart = apart_law n m e w.led.0 clock w.led.1 w.led.2
+
+      -- the queue then, over that of before
+      after : WriteAnswer → List (Entry n) → List (Entry n)
+      after wrote.Accepted es = es ++ entry_of ∷ []
+      after (wrote.Merged old) es = merged old row bytes given es
+      after wrote.Full es = es
+      after wrote.Exhausted es = es
+
+      now : (answer : WriteAnswer) → queue clock.bank.kept.shape (Write row line bytes given answer ∷ core w.led.0) ≡ after answer clock.bank.kept.entries
+      now wrote.Accepted = ap (λ (es : List (Entry n)). es ++ entry_of ∷ []) (sym w.led.2.holds.entries)
+      now (wrote.Merged old) = ap (λ (es : List (Entry n)). merged old row bytes given es) (sym w.led.2.holds.entries)
+      now wrote.Full = sym w.led.2.holds.entries
+      now wrote.Exhausted = sym w.led.2.holds.entries
+
+      stay : (o : Outcome n) → StandOpen clock.bank.kept.entries clock.bank.waiting (with_outcome results row o)
+      stay o = stay-unset clock.bank.kept.entries clock.bank.waiting results row o w.fresh.exists (apart.queued_below row w.rises) (apart.waiting_below row w.rises) w.unset
+
+      by : (answer : WriteAnswer) → Stands clock.bank answer → StandOpen (after answer clock.bank.kept.entries) clock.bank.waiting (write_recorded answer clock.tick row results)
+      by wrote.Accepted stands = pushed-unset clock.bank.kept.entries clock.bank.waiting clock.bank.rows_below row bytes given results apart w.rises w.unset w.fresh entry_of refl
+      by (wrote.Merged old) stands = merged-unset clock.bank.kept.entries clock.bank.waiting clock.bank.rows_below row bytes given results apart w.rises w.unset w.fresh old (out.Merged clock.tick) stands
+      by wrote.Full stands = stay (out.Full clock.tick)
+      by wrote.Exhausted stands = stay (out.Worn clock.tick)
+
+  -- the bank is still one that its clock may have
+  pub write-clock : {pace : Pace} {places : ℕ} → IsClock clock.bank pace clock.tick clock.action places → IsClock bank pace clock.tick clock.action places
+  write-clock inv =
+      record {
+        layout = inv.layout;
+        paced = inv.paced;
+        room = inv.room ∙ ap (λ shape. shape.writes) (sym keeps.shape);
+        begun = inv.begun;
+        fit = subst (λ (b : BankState n m e). IsFit b clock.action) (sym w.left) (by answer);
+      }
+    where
+      by : (answer : WriteAnswer) → IsFit (bank_after_write clock.bank entry_of answer) clock.action
+      by wrote.Accepted = fit_write_law n m e entry_of clock.action clock.bank inv.fit
+      by (wrote.Merged old) = fit_write_law n m e entry_of clock.action clock.bank inv.fit
+      by wrote.Full = fit-same clock.bank (row + 1) clock.action inv.fit
+      by wrote.Exhausted = fit-same clock.bank (row + 1) clock.action inv.fit
+
+  -- the rows that came are below the next one
+  pub write-bound : bank.rows_below ≡ row + 1
+  write-bound = ap (λ (b : BankState n m e). b.rows_below) w.left ∙ by answer
+    where
+      by : (answer : WriteAnswer) → (bank_after_write clock.bank entry_of answer).rows_below ≡ row + 1
+      by wrote.Accepted = refl
+      by (wrote.Merged old) = refl
+      by wrote.Full = refl
+      by wrote.Exhausted = refl
+
+module _ {n m e row line old : ℕ} {bytes : List ℕ} {given : List Bool} {clock : ClockState n m e} {results : List (Outcome n)} {bank : BankState n m e}
+    (w : TakesWrite row line bytes given clock results (wrote.Merged old) bank) where
+  -- the row that a merge ends has no outcome yet
+  pub merge-unset : IsOpen results old
+  merge-unset = w.unset.queued old (stands-by w w.led.0 w.led.1 w.led.2)
+
+  -- the row that it brings stands in the queue
+  pub merge-there : has_row bank.kept.entries row ≡ true
+  merge-there =
+      let there : has_row (queue clock.bank.kept.shape (core w.led.0)) old ≡ true =
+      subst (λ (es : List (Entry n)). has_row es old ≡ true) w.led.2.holds.entries (stands-by w w.led.0 w.led.1 w.led.2) in
+      subst (λ (es : List (Entry n)). has_row es row ≡ true) (sym (entries-then w w.led.0 w.led.1 w.led.2)) (new-merged old row bytes given (queue clock.bank.kept.shape (core w.led.0)) there)
+
+-- there is room for the arrival tick of a write that is accepted
+pub accept-room : {n m e row line : ℕ} {bytes : List ℕ} {given : List Bool} {clock : ClockState n m e} {results : List (Outcome n)} {bank : BankState n m e}
+    → TakesWrite row line bytes given clock results wrote.Accepted bank → length clock.arrivals < bank.kept.shape.writes
+accept-room {n = n} {row = row} {line = line} {bytes = bytes} {given = given} {clock = clock} {bank = bank} w =
+    let queued : List (Entry n) = queue clock.bank.kept.shape (core w.led.0) in
+    let told = ap length w.led.2.told.arrived in
+    let queued-now = ap length (entries-then w w.led.0 w.led.1 w.led.2) in
+    plain (length clock.arrivals) (length queued) bank.kept.shape.writes (length bank.kept.entries) (told ∙ length-map queued _)
+    (queued-now ∙ length-append queued (record { row = row; line = line; bytes = bytes; given = given } ∷ [])) (w.holds (core w.led.0) w.led.1 w.led.2.holds).kept.few_entries
+  where
+    plain : (arrivals queued writes entries : ℕ) → arrivals ≡ queued → entries ≡ queued + 1 → entries ≤ writes → arrivals < writes
+    plain arrivals queued writes entries told is few = omega (arith, told, is, few)
