@@ -128,14 +128,28 @@ same_torn true None = refl
 same_torn true (Some op) = refl
 same_torn false running = refl
 
-module _ {n m e : ℕ} (clock : ClockState n m e) (tearing : Bool) (same : tearing ≡ is_doing Iterating clock.action) (old new : ArrayState n m) (results : List (Outcome n))
-    (led : (xs : List (Timed n m)) × Leads xs clock old) (unset : AreOpen clock.bank results) where
+-- a cut that tears an iteration or none meets a clock: some history leads there over an array, and the rows that stand have no outcome yet
+pub record MeetsCut {n m e : ℕ} (clock : ClockState n m e) (tearing : Bool) (old : ArrayState n m) (results : List (Outcome n)) : Type 0 where
+  pub same : tearing ≡ is_doing Iterating clock.action
+  pub led : (xs : List (Timed n m)) × Leads xs clock old
+  pub unset : AreOpen clock.bank results
+
+-- what a power cut asks for says so
+pub meets : {n m e : ℕ} {clock now : ClockState n m e} {tearing : Bool} {old : ArrayState n m} {results : List (Outcome n)} → clock ≡ now
+    → tearing ≡ is_doing Iterating clock.action → (xs : List (Timed n m)) × Leads xs now old → AreOpen now.bank results → MeetsCut clock tearing old results
+meets {n = n} {m = m} {e = e} {old = old} {results = results} view same led unset = record {
+  same = same;
+  led = subst (λ (clock : ClockState n m e). (xs : List (Timed n m)) × Leads xs clock old) (sym view) led;
+  unset = subst (λ (clock : ClockState n m e). AreOpen clock.bank results) (sym view) unset;
+}
+
+module _ {n m e : ℕ} {clock : ClockState n m e} {tearing : Bool} {old : ArrayState n m} {results : List (Outcome n)} (c : MeetsCut clock tearing old results) where
   apart : AreApart clock.bank.kept.entries clock.bank.waiting clock.bank.rows_below
-  apart = apart_law n m e led.0 clock old led.1
+  apart = apart_law n m e c.led.0 clock old c.led.1
 
   -- an iteration runs only where a line write is in progress
   pub cut-ready : IsFit clock.bank clock.action → IsTrue tearing → IsTrue (is_some clock.bank.running)
-  cut-ready fit torn = by clock.action fit (sym same ∙ torn)
+  cut-ready fit torn = by clock.action fit (sym c.same ∙ torn)
     where
       by : (a : Option Action) → IsFit clock.bank a → is_doing Iterating a ≡ true → is_some clock.bank.running ≡ true
       by None fit is = absurd (cc)
@@ -147,7 +161,7 @@ module _ {n m e : ℕ} (clock : ClockState n m e) (tearing : Bool) (same : teari
           iterates Iterating fit is = fit
 
   pub cut-open : LosesOpen clock.tick (rows_of clock.bank.waiting) results
-  cut-open = loses-open clock.tick clock.bank.waiting results apart.waiting_apart unset.waiting
+  cut-open = loses-open clock.tick clock.bank.waiting results apart.waiting_apart c.unset.waiting
 
   abbrev after : BankState n m e
   after = bank_with_lost [] (cut_off clock.bank)
@@ -157,15 +171,15 @@ module _ {n m e : ℕ} (clock : ClockState n m e) (tearing : Bool) (same : teari
 
   pub cut-unset : AreOpen after recorded
   cut-unset = record {
-    queued = λ row there. kept-open clock.tick clock.bank.waiting results row apart.waiting_apart unset.waiting (apart.one_place row there) (unset.queued row there);
+    queued = λ row there. kept-open clock.tick clock.bank.waiting results row apart.waiting_apart c.unset.waiting (apart.one_place row there) (c.unset.queued row there);
     waiting = λ row there. absurd (false≢true there);
   }
 
-  module _ (holds : (h : List (Event n)) → Holds h clock.bank old → Holds (Cut tearing ∷ h) after new) (touches : Touches clock.tick [] (torn_line tearing clock.bank.running) tearing old new) where
+  module _ {new : ArrayState n m} (holds : (h : List (Event n)) → Holds h clock.bank old → Holds (Cut tearing ∷ h) after new) (touches : Touches clock.tick [] (torn_line tearing clock.bank.running) tearing old new) where
     pub cut-extends : (xs : List (Timed n m)) → Leads xs clock old
         → Extends xs (cut xs clock (is_doing Iterating clock.action) ∷ []) clock (after_cut clock after) old new results recorded
     cut-extends xs leads =
-        subst (λ (b : Bool). Extends xs (cut xs clock b ∷ []) clock (after_cut clock after) old new results recorded) same
+        subst (λ (b : Bool). Extends xs (cut xs clock b ∷ []) clock (after_cut clock after) old new results recorded) c.same
         (record {
           leads = ends.leads;
           shape = refl;
@@ -173,21 +187,21 @@ module _ {n m e : ℕ} (clock : ClockState n m e) (tearing : Bool) (same : teari
           adds = ends.adds;
           rows = lost-rows clock.tick (rows_of clock.bank.waiting) results;
           outcomes = λ row there.
-              lost-in clock.tick clock.bank.waiting results row apart.waiting_apart unset.waiting there
+              lost-in clock.tick clock.bank.waiting results row apart.waiting_apart c.unset.waiting there
               ∙ ap (λ (b : Bool). unwrap_or (if b then Some (out.Lost clock.tick) else None) (outcome_in results row))
               (ap (λ (ws : List (Waiting n)). has_waiting ws row) leads.holds.waiting ∙ same_wait n (waits clock.bank.kept.shape (core xs)) row);
         })
       where
         ends : CutEnds clock.bank.kept.shape xs (cut xs clock tearing) (after_cut clock after) old new
         ends =
-            cut_ends_law n m e tearing xs clock after old new leads same (holds (core xs) leads.holds) refl refl refl
+            cut_ends_law n m e tearing xs clock after old new leads c.same (holds (core xs) leads.holds) refl refl refl
             (subst (λ (pulsed : Option ℕ). Touches clock.tick [] pulsed tearing old new) (same_torn tearing clock.bank.running) touches)
 
     pub cut-others : LeavesOthers clock.bank results recorded
     cut-others row there unqueued unawaited =
-        let extends = cut-extends led.0 led.1 in
+        let extends = cut-extends c.led.0 c.led.1 in
         extends.outcomes row there
-        ∙ other_rows_law n m e row (cut led.0 clock (is_doing Iterating clock.action) ∷ []) led.0 clock old (outcome_in results) led.1 extends.leads.lawful unqueued unawaited refl
+        ∙ other_rows_law n m e row (cut c.led.0 clock (is_doing Iterating clock.action) ∷ []) c.led.0 clock old (outcome_in results) c.led.1 extends.leads.lawful unqueued unawaited refl
 
 -- what a cut promises of every history that led to the clock
 abbrev pub CutExtends : {n m e : ℕ} → ClockState n m e → ClockState n m e → ArrayState n m → ArrayState n m → List (Outcome n) → List (Outcome n) → Type 0
