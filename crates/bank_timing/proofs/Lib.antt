@@ -3,6 +3,7 @@ mod Views
 mod Rows
 mod Standing
 mod Acting
+mod Due
 mod Serves
 mod LineWrites
 mod Begins
