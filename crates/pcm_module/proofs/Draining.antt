@@ -189,64 +189,71 @@ module _ {n m e : ℕ} (module_ : ModuleState n m e) (before : ArrayState n m) (
             stays = stays_both _ before between after so_far.stays (stays_by (module_of module_.shape) reached clock.bank.kept.shape d.0 between after exists first.shaped d.1.adds);
           }
 
-  module _ (banks : List (ClockState n m e)) (after : ArrayState n m) (recorded : List (Outcome n)) (d : AreDrained module_ module_.shape.banks banks before after results recorded) where
-    abbrev drained_module : ModuleState n m e
-    drained_module = record module_ { banks = banks; finished = true }
+-- a module may be finished with the banks that it has
+pub may_finish : {n m e : ℕ} {old now : ModuleState n m e} {network : Network} {before : ArrayState n m} {results : List (Outcome n)}
+    → old ≡ now → IsModule old.shape old.seed network old.banks old.tick → IsReplayed now before results → MayFinish old old.banks before results
+may_finish {n = n} {m = m} {e = e} {before = before} {results = results} same inv led =
+    record { same = refl; count = inv.count; in_time = inv.in_time; led = subst (λ (o : ModuleState n m e). IsReplayed o before results) (sym same) led }
 
-    module _ (h : ℕ → List (Timed n m)) (asked : List (Asked n)) (f : Replays h asked module_ before results) where
-      each : (k : ℕ) → k < module_.shape.banks
-          → IsSomeAnd (slice_get banks k) (IsDrained (bank_shape (module_of module_.shape) k) (pacing_in module_.shape) ((d.replays h asked f).0 k ++ h k) (asked_in_bank module_ k asked) after recorded)
-      each k there =
-          subst (λ (b : Bool). IsSomeAnd (slice_get banks k) (DrainedIf module_ b k ((d.replays h asked f).0 k ++ h k) asked after recorded)) (lt-ltb k module_.shape.banks there)
-          ((d.replays h asked f).1 k there)
+module _ {n m e : ℕ} {module_ : ModuleState n m e} {banks : List (ClockState n m e)} {before after : ArrayState n m} {results recorded : List (Outcome n)}
+    (d : AreDrained module_ module_.shape.banks banks before after results recorded) where
+  abbrev drained_module : ModuleState n m e
+  drained_module = record module_ { banks = banks; finished = true }
 
-      drained_at : (k : ℕ) → k < module_.shape.banks
-          → IsDrained (bank_shape (module_of module_.shape) k) (pacing_in module_.shape) ((d.replays h asked f).0 k ++ h k) (asked_in_bank module_ k asked) after recorded (bank_at drained_module k)
-      drained_at k there =
-          at_bank drained_module (IsDrained (bank_shape (module_of module_.shape) k) (pacing_in module_.shape) ((d.replays h asked f).0 k ++ h k) (asked_in_bank module_ k asked) after recorded) k (each k there)
+  module _ (h : ℕ → List (Timed n m)) (asked : List (Asked n)) (f : Replays h asked module_ before results) where
+    each : (k : ℕ) → k < module_.shape.banks
+        → IsSomeAnd (slice_get banks k) (IsDrained (bank_shape (module_of module_.shape) k) (pacing_in module_.shape) ((d.replays h asked f).0 k ++ h k) (asked_in_bank module_ k asked) after recorded)
+    each k there =
+        subst (λ (b : Bool). IsSomeAnd (slice_get banks k) (DrainedIf module_ b k ((d.replays h asked f).0 k ++ h k) asked after recorded)) (lt-ltb k module_.shape.banks there)
+        ((d.replays h asked f).1 k there)
 
-      -- all banks are drained
-      pub drain_every : (added : ℕ → List (Timed n m)) × IsFinished module_.shape module_.seed (λ k. added k ++ h k) asked (bank_at drained_module) after (outcome_in recorded)
-      drain_every = (
-        (d.replays h asked f).0,
-        record {
-          size = d.stays.lines ∙ f.size;
-          shapes = λ k there. (drained_at k there).shaped;
-          paces = λ k there. (drained_at k there).paced;
-          leads = λ k there. (drained_at k there).leads;
-          idle = λ k there. (drained_at k there).idle;
-          asked = λ k there. (drained_at k there).arrived;
-          recorded = λ k there. (drained_at k there).recorded;
-          ticks = f.ticks;
-          exist = f.exist;
-          log = λ log told k there. (drained_at k there).logged log told;
-        },
-      )
+    drained_at : (k : ℕ) → k < module_.shape.banks
+        → IsDrained (bank_shape (module_of module_.shape) k) (pacing_in module_.shape) ((d.replays h asked f).0 k ++ h k) (asked_in_bank module_ k asked) after recorded (bank_at drained_module k)
+    drained_at k there =
+        at_bank drained_module (IsDrained (bank_shape (module_of module_.shape) k) (pacing_in module_.shape) ((d.replays h asked f).0 k ++ h k) (asked_in_bank module_ k asked) after recorded) k (each k there)
 
-    -- ends of the banks of their numbers are ends of the banks that are there
-    pub drained_ends : (ends : ℕ → BankEnd) → ((k : ℕ) → k < module_.shape.banks → IsEndOf (bank_at drained_module k).bank.kept (ends k)) → AreEndsOf drained_module ends
-    drained_ends ends own k there =
-        let clock = slice_get-some banks k (omega (arith, d.count, there)) in
-        at_get (λ (c : ClockState n m e). IsEndOf c.bank.kept (ends k)) (slice_get banks k) clock.0 clock.1
-        (subst (λ (c : ClockState n m e). IsEndOf c.bank.kept (ends k)) (bank_there drained_module k clock.0 clock.1) (own k there))
+    -- all banks are drained
+    pub drain_every : (added : ℕ → List (Timed n m)) × IsFinished module_.shape module_.seed (λ k. added k ++ h k) asked (bank_at drained_module) after (outcome_in recorded)
+    drain_every = (
+      (d.replays h asked f).0,
+      record {
+        size = d.stays.lines ∙ f.size;
+        shapes = λ k there. (drained_at k there).shaped;
+        paces = λ k there. (drained_at k there).paced;
+        leads = λ k there. (drained_at k there).leads;
+        idle = λ k there. (drained_at k there).idle;
+        asked = λ k there. (drained_at k there).arrived;
+        recorded = λ k there. (drained_at k there).recorded;
+        ticks = f.ticks;
+        exist = f.exist;
+        log = λ log told k there. (drained_at k there).logged log told;
+      },
+    )
 
-    -- a module whose banks were drained is still one
-    pub module_drained : (network : Network) → IsModule module_.shape module_.seed network module_.banks module_.tick → IsReplayed module_ before results
-        → IsModule module_.shape module_.seed network banks module_.tick
-    module_drained network is led = record {
-      layout = is.layout;
-      in_range = is.in_range;
-      mixing = is.mixing;
-      count = d.count;
-      of_shape = λ k there. shaped k (slice_get banks k) ((d.replays led.0 led.1 led.2).0 k ++ led.0 k) (asked_in_bank module_ k led.1) (each led.0 led.1 led.2 k there);
-      in_time = is.in_time;
-    }
-      where
-        shaped : (k : ℕ) (o : Option (ClockState n m e)) (xs : List (Timed n m)) (own : List (Asked n))
-            → IsSomeAnd o (IsDrained (bank_shape (module_of module_.shape) k) (pacing_in module_.shape) xs own after recorded)
-            → IsSomeAnd o (IsBankOf (bank_shape (module_of module_.shape) k))
-        shaped k None xs own f = f
-        shaped k (Some c) xs own f = record { shaped = f.shaped; kept = f.leads.holds.kept }
+  -- ends of the banks of their numbers are ends of the banks that are there
+  pub drained_ends : (ends : ℕ → BankEnd) → ((k : ℕ) → k < module_.shape.banks → IsEndOf (bank_at drained_module k).bank.kept (ends k)) → AreEndsOf drained_module ends
+  drained_ends ends own k there =
+      let clock = slice_get-some banks k (omega (arith, d.count, there)) in
+      at_get (λ (c : ClockState n m e). IsEndOf c.bank.kept (ends k)) (slice_get banks k) clock.0 clock.1
+      (subst (λ (c : ClockState n m e). IsEndOf c.bank.kept (ends k)) (bank_there drained_module k clock.0 clock.1) (own k there))
+
+  -- a module whose banks were drained is still one
+  pub module_drained : {network : Network} → IsModule module_.shape module_.seed network module_.banks module_.tick → IsReplayed module_ before results
+      → IsModule module_.shape module_.seed network banks module_.tick
+  module_drained is led = record {
+    layout = is.layout;
+    in_range = is.in_range;
+    mixing = is.mixing;
+    count = d.count;
+    of_shape = λ k there. shaped k (slice_get banks k) ((d.replays led.0 led.1 led.2).0 k ++ led.0 k) (asked_in_bank module_ k led.1) (each led.0 led.1 led.2 k there);
+    in_time = is.in_time;
+  }
+    where
+      shaped : (k : ℕ) (o : Option (ClockState n m e)) (xs : List (Timed n m)) (own : List (Asked n))
+          → IsSomeAnd o (IsDrained (bank_shape (module_of module_.shape) k) (pacing_in module_.shape) xs own after recorded)
+          → IsSomeAnd o (IsBankOf (bank_shape (module_of module_.shape) k))
+      shaped k None xs own f = f
+      shaped k (Some c) xs own f = record { shaped = f.shaped; kept = f.leads.holds.kept }
 
 -- the bank that a loop over all banks has reached is one of them, and in the end all were
 pub reached_bank : (i end count banks : ℕ) → i < end → end ≡ count → count ≡ banks → i < banks

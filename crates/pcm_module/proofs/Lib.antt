@@ -1,4 +1,5 @@
 mod Standing
+mod Views
 mod Naming
 mod Moving
 mod Logging

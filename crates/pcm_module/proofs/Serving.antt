@@ -10,10 +10,13 @@ use Rattle.result_rows.specs.declared.Outcome.{Outcome}
 use Rattle.row_laws.specs.declared.Asks.TheVariants.{Reads, Writes}
 use Rattle.bank_model.specs.Timing.{Timed}
 use Rattle.feistel_map.specs.Network.{Network}
+use Rattle.bank_shape.specs.declared.BankShape.{BankShape}
 use Rattle.power_recovery.specs.Kept.{IsKept}
+use Rattle.power_recovery.specs.Slots.{bank_lines}
+use Rattle.module_laws.specs.Asking.{Asked}
 use Rattle.module_shape.specs.declared.raw.RawShape.{RawShape}
 use Rattle.module_shape.specs.Limits.{total_of}
-use Rattle.module_shape.specs.Addresses.{module_of, bank_shape}
+use Rattle.module_shape.specs.Addresses.{module_of, lines_of, bank_shape}
 use Rattle.clock_laws.specs.State.{ClockState}
 use Rattle.clock_laws.specs.Leads.{Leads}
 use Rattle.bank_timing.specs.Extending.{IsOpen, last_tick}
@@ -73,26 +76,90 @@ module _ {n m e : ℕ} where
       from_get (BankReplays (bank_shape (module_of old.shape) bank) (pacing_in old.shape) old.tick old.rows_below (led.0 bank) (asked_in_bank old bank led.1) before results)
       (slice_get old.banks bank) clock is (led.2.banks bank exists)
 
-module _ {n m e : ℕ} (old : ModuleState n m e) (row tick line bank at : ℕ) (clock next : ClockState n m e) (before after : ArrayState n m) (results recorded : List (Outcome n))
-    (home : bank ≡ bank_of_line old.shape old.seed line) (number : at ≡ line_in_bank old.shape old.seed line) (of_lines : line < total_of old.shape)
-    (rises : old.tick ≤ tick) (above : old.rows_below ≤ row) (fresh : IsOpen results row)
-    (exists : bank < old.shape.banks) (is : slice_get old.banks bank ≡ Some clock) (there : IsAt tick (row + 1) next recorded) where
-  pub read_taken : ((xs : List (Timed n m)) → Leads xs clock before
-      → (added : List (Timed n m)) × IsStep xs added (record { row = row; tick = tick; asks = Reads at }) clock next before after results recorded)
-      → IsReplayed old before results
-      → Takes (record { row = row; tick = tick; asks = Reads line }) old (record old { banks = slice_set old.banks bank next; tick = tick; rows_below = row + 1 }) before after results recorded
-  read_taken step led =
-      takes_one (record { row = row; tick = tick; asks = Reads line }) old bank clock next before after results recorded
-      (eq-eqb (bank_of_line old.shape old.seed line) bank (sym home)) (λ other off. ne_eqb (bank_of_line old.shape old.seed line) other (λ e. off (sym e ∙ sym home))) refl of_lines
-      rises above fresh exists is there
-      (λ xs leads. subst (λ (k : ℕ). (added : List (Timed n m)) × IsStep xs added (record { row = row; tick = tick; asks = Reads k }) clock next before after results recorded) number (step xs leads)) led
+-- a row that asks for a line comes to a bank, which stands at its number in the module, and where the line has this number
+pub record ComesTo {n m e : ℕ} (old : ModuleState n m e) (before : ArrayState n m) (results : List (Outcome n)) (row tick line bank at : ℕ) (clock : ClockState n m e) : Type 0 where
+  pub led : IsReplayed old before results
+  pub forward : old.tick ≤ tick
+  pub above : old.rows_below ≤ row
+  pub of_lines : line < total_of old.shape
+  pub fresh : IsOpen results row
+  pub home : bank ≡ bank_of_line old.shape old.seed line
+  pub number : at ≡ line_in_bank old.shape old.seed line
+  pub exists : bank < old.shape.banks
+  pub of_bank : at < lines_of (module_of old.shape)
+  pub within : bank < length old.banks
+  pub is : slice_get old.banks bank ≡ Some clock
 
-  pub write_taken : (bytes : List ℕ) (given : List Bool) → ((xs : List (Timed n m)) → Leads xs clock before
+-- what a read and a write ask for says that the row comes to the bank at which the line was placed
+pub comes : {n m e row tick line bank at : ℕ} {old now : ModuleState n m e} {network : Network} {before : ArrayState n m} {results : List (Outcome n)} {clock : ClockState n m e}
+    → old ≡ now → IsModule old.shape old.seed network old.banks old.tick
+    → IsReplayed now before results → now.tick ≤ tick → now.rows_below ≤ row → line < total_of now.shape → IsOpen results row
+    → bank ≡ bank_of_line now.shape now.seed line → at ≡ line_in_bank now.shape now.seed line → bank < now.shape.banks → at < lines_of (module_of now.shape)
+    → clock ≡ get_or old.banks bank clock → ComesTo old before results row tick line bank at clock
+comes {n = n} {m = m} {e = e} {row = row} {tick = tick} {line = line} {bank = bank} {at = at} {network = network} {before = before} {results = results} {clock = clock}
+    same inv led forward above of_lines fresh home number exists of_bank value =
+    subst (λ (o : ModuleState n m e). IsModule o.shape o.seed network o.banks o.tick → clock ≡ get_or o.banks bank clock → ComesTo o before results row tick line bank at clock) (sym same)
+    (λ inv value.
+    let within = subst (λ (k : ℕ). bank < k) (sym inv.count) exists in
+    record {
+      led = led;
+      forward = forward;
+      above = above;
+      of_lines = of_lines;
+      fresh = fresh;
+      home = home;
+      number = number;
+      exists = exists;
+      of_bank = of_bank;
+      within = within;
+      is = get_is _ bank clock within value;
+    }) inv value
+
+module _ {n m e row tick line bank at : ℕ} {old : ModuleState n m e} {before : ArrayState n m} {results : List (Outcome n)} {clock : ClockState n m e}
+    (c : ComesTo old before results row tick line bank at clock) where
+  -- the bank replays what was asked of it
+  pub bank_replays : BankReplays (bank_shape (module_of old.shape) bank) (pacing_in old.shape) old.tick old.rows_below (c.led.0 bank) (asked_in_bank old bank c.led.1) before results clock
+  bank_replays = replayed_at old before results bank clock c.led c.exists c.is
+
+  -- the bank isn't past the row's tick
+  pub bank_forward : clock.tick ≤ tick
+  bank_forward = omega (arith, bank_replays.in_time, c.forward)
+
+  -- it has the line
+  pub bank_has : at < bank_lines clock.bank.kept.shape
+  bank_has = subst (λ (b : BankShape). at < bank_lines b) (sym bank_replays.shaped) c.of_bank
+
+  -- the rows that it took are below
+  pub bank_rises : clock.bank.rows_below ≤ row
+  bank_rises = omega (arith, bank_replays.below, c.above)
+
+  -- the module is still one with the bank that took the row
+  pub taken_kept : {network : Network} {a : Asked n} {next : ClockState n m e} {after : ArrayState n m} {recorded : List (Outcome n)}
+      → IsModule old.shape old.seed network old.banks old.tick → tick ≤ last_tick
+      → ((xs : List (Timed n m)) → Leads xs clock before → (added : List (Timed n m)) × IsStep xs added a clock next before after results recorded)
+      → IsModule old.shape old.seed network (slice_set old.banks bank next) tick
+  taken_kept {network = network} {next = next} inv in_time step =
+      let stepped = step (c.led.0 bank) bank_replays.leads in
+      module_kept old.shape old.seed network old.banks old.tick tick bank clock next inv in_time c.within c.is stepped.1.extends.shape stepped.1.extends.leads.holds.kept
+
+  -- a read that the bank took is taken by the module
+  pub read_taken : {next : ClockState n m e} {after : ArrayState n m} {recorded : List (Outcome n)} → IsAt tick (row + 1) next recorded
+      → ((xs : List (Timed n m)) → Leads xs clock before
+      → (added : List (Timed n m)) × IsStep xs added (record { row = row; tick = tick; asks = Reads at }) clock next before after results recorded)
+      → Takes (record { row = row; tick = tick; asks = Reads line }) old (record old { banks = slice_set old.banks bank next; tick = tick; rows_below = row + 1 }) before after results recorded
+  read_taken {next} {after} {recorded} there step =
+      takes_one (record { row = row; tick = tick; asks = Reads line }) old bank clock next before after results recorded
+      (eq-eqb (bank_of_line old.shape old.seed line) bank (sym c.home)) (λ other off. ne_eqb (bank_of_line old.shape old.seed line) other (λ e. off (sym e ∙ sym c.home))) refl c.of_lines
+      c.forward c.above c.fresh c.exists c.is there
+      (λ xs leads. subst (λ (k : ℕ). (added : List (Timed n m)) × IsStep xs added (record { row = row; tick = tick; asks = Reads k }) clock next before after results recorded) c.number (step xs leads)) c.led
+
+  -- so is a write
+  pub write_taken : {bytes : List ℕ} {given : List Bool} {next : ClockState n m e} {after : ArrayState n m} {recorded : List (Outcome n)} → IsAt tick (row + 1) next recorded
+      → ((xs : List (Timed n m)) → Leads xs clock before
       → (added : List (Timed n m)) × IsStep xs added (record { row = row; tick = tick; asks = Writes at bytes given }) clock next before after results recorded)
-      → IsReplayed old before results
       → Takes (record { row = row; tick = tick; asks = Writes line bytes given }) old (record old { banks = slice_set old.banks bank next; tick = tick; rows_below = row + 1 }) before after results recorded
-  write_taken bytes given step led =
+  write_taken {bytes} {given} {next} {after} {recorded} there step =
       takes_one (record { row = row; tick = tick; asks = Writes line bytes given }) old bank clock next before after results recorded
-      (eq-eqb (bank_of_line old.shape old.seed line) bank (sym home)) (λ other off. ne_eqb (bank_of_line old.shape old.seed line) other (λ e. off (sym e ∙ sym home))) refl of_lines
-      rises above fresh exists is there
-      (λ xs leads. subst (λ (k : ℕ). (added : List (Timed n m)) × IsStep xs added (record { row = row; tick = tick; asks = Writes k bytes given }) clock next before after results recorded) number (step xs leads)) led
+      (eq-eqb (bank_of_line old.shape old.seed line) bank (sym c.home)) (λ other off. ne_eqb (bank_of_line old.shape old.seed line) other (λ e. off (sym e ∙ sym c.home))) refl c.of_lines
+      c.forward c.above c.fresh c.exists c.is there
+      (λ xs leads. subst (λ (k : ℕ). (added : List (Timed n m)) × IsStep xs added (record { row = row; tick = tick; asks = Writes k bytes given }) clock next before after results recorded) c.number (step xs leads)) c.led

@@ -1,97 +1,26 @@
-use Rattle.std.proofs.Common.{◌≡◌, ℕ, ◌<◌, ◌≤◌, ◌*◌, length, Some, sym, subst, arith}
-use Rattle.std.specs.Prelude.{slice_get}
-use Rattle.bank_shape.specs.declared.BankShape.{BankShape}
-use Rattle.power_recovery.specs.Slots.{bank_lines}
-use Rattle.module_shape.specs.Limits.{total_of}
-use Rattle.run_laws.specs.Runs.{bank_of_line, line_in_bank}
-use Rattle.pcm_module.specs.State.{ModuleState}
-use Rattle.pcm_module.specs.Replaying.{IsReplayed}
-use Rattle.pcm_module.proofs.Serving.{get_is, module_kept, replayed_at, read_taken}
+use Rattle.pcm_module.proofs.Views.{state_of}
+use Rattle.pcm_module.proofs.Serving.{ComesTo, comes, bank_replays, bank_forward, bank_has, bank_rises, taken_kept, read_taken}
 use Rattle.pcm_module.proofs.Sizes.{timed_fits, row_fits}
+use Rattle.pcm_module.proofs.module.Module.read.Given.{Over}
+use Rattle.pcm_module.proofs.module.Module.read.Goals.{After-index_mut-timed}
 use Rattle.pcm_module.proofs.module.Module.read.Goals as goal
+
+-- the read comes to the bank of its line
+arrives : (g : Over) (c : After-index_mut-timed g)
+    → ComesTo (state_of c.self.inside) (g.A.CellArray.state c.args.array.now) c.args.results.now c.args.row c.args.tick c.args.line c.place-place.result.bank c.place-place.result.line c.index_mut-timed.result.now
+arrives g c =
+    let place = c.place-place.ensures in
+    comes c.self.view_is c.self.invariant c.requires.led c.requires.forward c.requires.rises c.requires.exists c.requires.fresh
+    place.bank place.line place.bank_exists place.line_exists c.index_mut-timed.ensures.value
 
 pub read_at-requires : goal.read_at-requires
 read_at-requires g c =
-    let s = c.self.inside in
-    let old : ModuleState g.row.B g.row.M g.row.E = record { shape = s.shape; seed = s.seed; banks = s.banks.items; tick = s.tick; rows_below = s.rows_below; finished = s.finished } in
-    let same : old ≡ c.args.self.now = c.self.view_is in
-    let bank = c.place-place.result.bank in
-    let clock = c.index_mut-timed.result.now in
-    let before = g.A.CellArray.state c.args.array.now in
-    let led : IsReplayed old before c.args.results.now = subst (λ (o : ModuleState g.row.B g.row.M g.row.E). IsReplayed o before c.args.results.now) (sym same) c.requires.led in
-    let exists : bank < s.shape.banks = subst (λ (o : ModuleState g.row.B g.row.M g.row.E). bank < o.shape.banks) (sym same) c.place-place.ensures.bank_exists in
-    let within : bank < length s.banks.items = subst (λ (k : ℕ). bank < k) (sym c.self.invariant.count) exists in
-    let is : slice_get s.banks.items bank ≡ Some clock = get_is s.banks.items bank clock within c.index_mut-timed.ensures.value in
-    let f = replayed_at old before c.args.results.now bank clock led exists is in
-    let of_bank : c.place-place.result.line < bank_lines clock.bank.kept.shape =
-    subst (λ (b : BankShape). c.place-place.result.line < bank_lines b) (sym f.shaped)
-    (subst (λ (o : ModuleState g.row.B g.row.M g.row.E). c.place-place.result.line < o.shape.regions * o.shape.lines) (sym same) c.place-place.ensures.line_exists) in
-    let forward : s.tick ≤ c.args.tick = subst (λ (o : ModuleState g.row.B g.row.M g.row.E). o.tick ≤ c.args.tick) (sym same) c.requires.forward in
-    let rises : s.rows_below ≤ c.args.row = subst (λ (o : ModuleState g.row.B g.row.M g.row.E). o.rows_below ≤ c.args.row) (sym same) c.requires.rises in (
-      timed_fits g.row.B g.row.M g.row.E c.self.invariant.layout,
-      (
-        row_fits,
-        (
-          c.self.invariant.layout,
-          (
-            f.going,
-            (
-              (led.0 bank, f.leads),
-              (
-                omega (arith, f.in_time, forward),
-                (
-                  c.requires.within,
-                  (
-                    of_bank,
-                    (
-                      omega (arith, f.below, rises),
-                      (f.open_rows, c.requires.fresh),
-                    ),
-                  ),
-                ),
-              ),
-            ),
-          ),
-        ),
-      ),
-    )
+    let h = arrives g (goal.at.read_at-requires g c).After-index_mut-timed in
+    let b = bank_replays h in
+    (timed_fits g.row.B g.row.M g.row.E c.self.invariant.layout, (row_fits, (c.self.invariant.layout, (b.going, ((h.led.0 c.place-place.result.bank, b.leads), (bank_forward h, (c.requires.within, (bank_has h, (bank_rises h, (b.open_rows, c.requires.fresh))))))))))
 
 pub invariant_of-self : goal.invariant_of-self
-invariant_of-self g c =
-    let s = c.self.inside in
-    let old : ModuleState g.row.B g.row.M g.row.E = record { shape = s.shape; seed = s.seed; banks = s.banks.items; tick = s.tick; rows_below = s.rows_below; finished = s.finished } in
-    let same : old ≡ c.args.self.now = c.self.view_is in
-    let bank = c.place-place.result.bank in
-    let clock = c.index_mut-timed.result.now in
-    let before = g.A.CellArray.state c.args.array.now in
-    let led : IsReplayed old before c.args.results.now = subst (λ (o : ModuleState g.row.B g.row.M g.row.E). IsReplayed o before c.args.results.now) (sym same) c.requires.led in
-    let exists : bank < s.shape.banks = subst (λ (o : ModuleState g.row.B g.row.M g.row.E). bank < o.shape.banks) (sym same) c.place-place.ensures.bank_exists in
-    let within : bank < length s.banks.items = subst (λ (k : ℕ). bank < k) (sym c.self.invariant.count) exists in
-    let is : slice_get s.banks.items bank ≡ Some clock = get_is s.banks.items bank clock within c.index_mut-timed.ensures.value in
-    let f = replayed_at old before c.args.results.now bank clock led exists is in
-    let stepped = c.read_at.ensures.step (led.0 bank) f.leads in
-    module_kept s.shape s.seed s.feistel s.banks.items s.tick c.args.tick bank clock c.read_at.new.timed c.self.invariant c.requires.within within is
-    stepped.1.extends.shape stepped.1.extends.leads.holds.kept
+invariant_of-self g c = taken_kept (arrives g (goal.at.invariant_of-self g c).After-index_mut-timed) c.self.invariant c.requires.within c.read_at.ensures.step
 
 pub returns : goal.returns
-returns g c =
-    let s = c.self.inside in
-    let old : ModuleState g.row.B g.row.M g.row.E = record { shape = s.shape; seed = s.seed; banks = s.banks.items; tick = s.tick; rows_below = s.rows_below; finished = s.finished } in
-    let same : old ≡ c.args.self.now = c.self.view_is in
-    let bank = c.place-place.result.bank in
-    let clock = c.index_mut-timed.result.now in
-    let before = g.A.CellArray.state c.args.array.now in
-    let led : IsReplayed old before c.args.results.now = subst (λ (o : ModuleState g.row.B g.row.M g.row.E). IsReplayed o before c.args.results.now) (sym same) c.requires.led in
-    let exists : bank < s.shape.banks = subst (λ (o : ModuleState g.row.B g.row.M g.row.E). bank < o.shape.banks) (sym same) c.place-place.ensures.bank_exists in
-    let within : bank < length s.banks.items = subst (λ (k : ℕ). bank < k) (sym c.self.invariant.count) exists in
-    let is : slice_get s.banks.items bank ≡ Some clock = get_is s.banks.items bank clock within c.index_mut-timed.ensures.value in
-    let f = replayed_at old before c.args.results.now bank clock led exists is in
-    let taken =
-    read_taken old c.args.row c.args.tick c.args.line bank c.place-place.result.line clock c.read_at.new.timed before (g.A.CellArray.state c.read_at.new.array) c.args.results.now c.read_at.new.results
-    (subst (λ (o : ModuleState g.row.B g.row.M g.row.E). bank ≡ bank_of_line o.shape o.seed c.args.line) (sym same) c.place-place.ensures.bank)
-    (subst (λ (o : ModuleState g.row.B g.row.M g.row.E). c.place-place.result.line ≡ line_in_bank o.shape o.seed c.args.line) (sym same) c.place-place.ensures.line)
-    (subst (λ (o : ModuleState g.row.B g.row.M g.row.E). c.args.line < total_of o.shape) (sym same) c.requires.exists)
-    (subst (λ (o : ModuleState g.row.B g.row.M g.row.E). o.tick ≤ c.args.tick) (sym same) c.requires.forward)
-    (subst (λ (o : ModuleState g.row.B g.row.M g.row.E). o.rows_below ≤ c.args.row) (sym same) c.requires.rises)
-    c.requires.fresh exists is c.read_at.ensures.at c.read_at.ensures.step led in
-    rw (← same) (record { takes = taken })
+returns g c = rw (← c.self.view_is) (record { takes = read_taken (arrives g (goal.at.returns g c).After-index_mut-timed) c.read_at.ensures.at c.read_at.ensures.step })
