@@ -25,6 +25,7 @@ pub record IsDue {n m e : ℕ} (clock : ClockState n m e) (action : Action) (kin
 
 module _ {n m e : ℕ} (t : Inside n m e) {now : ClockState n m e} {action : Action} (same : clock_of t ≡ now) (inv : IsClock t.bank t.pace t.tick t.action t.arrivals.capacity)
     (next : next_action now ≡ Some action) where
+  -- the action is that which runs from now on, by the fields too
   runs : next_action (clock_of t) ≡ Some action
   runs = subst (λ (clock : ClockState n m e). next_action clock ≡ Some action) (sym same) next
 

@@ -160,6 +160,7 @@ module _ {n m e : ℕ} {clock : ClockState n m e} {tearing : Bool} {old : ArrayS
           iterates Beginning fit is = absurd (cc)
           iterates Iterating fit is = fit
 
+  -- the reads that the cut takes away have no outcome yet
   pub cut-open : LosesOpen clock.tick (rows_of clock.bank.waiting) results
   cut-open = loses-open clock.tick clock.bank.waiting results apart.waiting_apart c.unset.waiting
 
@@ -169,6 +170,7 @@ module _ {n m e : ℕ} {clock : ClockState n m e} {tearing : Bool} {old : ArrayS
   abbrev recorded : List (Outcome n)
   recorded = lost_recorded clock.tick (rows_of clock.bank.waiting) results
 
+  -- nor have the rows that stand in the bank then
   pub cut-unset : AreOpen after recorded
   cut-unset = record {
     queued = λ row there. kept-open clock.tick clock.bank.waiting results row apart.waiting_apart c.unset.waiting (apart.one_place row there) (c.unset.queued row there);
@@ -176,6 +178,7 @@ module _ {n m e : ℕ} {clock : ClockState n m e} {tearing : Bool} {old : ArrayS
   }
 
   module _ {new : ArrayState n m} (holds : (h : List (Event n)) → Holds h clock.bank old → Holds (Cut tearing ∷ h) after new) (touches : Touches clock.tick [] (torn_line tearing clock.bank.running) tearing old new) where
+    -- each history that led to the clock goes on with the cut
     pub cut-extends : (xs : List (Timed n m)) → Leads xs clock old
         → Extends xs (cut xs clock (is_doing Iterating clock.action) ∷ []) clock (after_cut clock after) old new results recorded
     cut-extends xs leads =
@@ -197,6 +200,7 @@ module _ {n m e : ℕ} {clock : ClockState n m e} {tearing : Bool} {old : ArrayS
             cut_ends_law n m e tearing xs clock after old new leads c.same (holds (core xs) leads.holds) refl refl refl
             (subst (λ (pulsed : Option ℕ). Touches clock.tick [] pulsed tearing old new) (same_torn tearing clock.bank.running) touches)
 
+    -- each row that neither stood in the queue nor waited keeps its outcome
     pub cut-others : LeavesOthers clock.bank results recorded
     cut-others row there unqueued unawaited =
         let extends = cut-extends c.led.0 c.led.1 in

@@ -181,13 +181,13 @@ module _ {n m e row line : ℕ} {clock : ClockState n m e} {results : List (Outc
       }
       by came.Busy = record { layout = inv.layout; paced = inv.paced; room = inv.room; begun = inv.begun; fit = fit-same clock.bank (row + 1) clock.action inv.fit }
 
-  -- the read leaves each other row that has no part in it
+  -- each other row that neither stood in the queue nor waited keeps its outcome
   pub read-others : LeavesOthersThan row clock.bank results (read_recorded answer clock.tick row results)
   read-others =
       arrival-others row (Read row line (read_from clock.bank line)) clock (after_read clock bank line answer) r.led.1 results (read_recorded answer clock.tick row results)
       (λ at other. no-other row at other) r.led.0 r.led.2 (read-extends r.led.0 r.led.1 r.led.2)
 
-  -- the rows that came are below the next one
+  -- the bound below which rows came is just above this row
   pub read-bound : bank.rows_below ≡ row + 1
   read-bound = ap (λ (b : BankState n m e). b.rows_below) r.left ∙ by answer
     where

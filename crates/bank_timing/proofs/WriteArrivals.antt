@@ -196,9 +196,11 @@ module _ {n m e row line : ℕ} {bytes : List ℕ} {given : List Bool} {clock : 
   abbrev entry_of : Entry n
   entry_of = record { row = row; line = line; bytes = bytes; given = given }
 
+  -- the bank has the work that it had
   keeps : KeepsWork clock.bank bank
   keeps = subst (λ (b : BankState n m e). KeepsWork clock.bank b) (sym w.left) (write-keeps clock.bank entry_of answer)
 
+  -- the row that the write is merged into stands in the queue
   stands-by : (xs : List (Timed n m)) (array : ArrayState n m) → Leads xs clock array → Stands clock.bank answer
   stands-by xs array leads = by answer (w.holds (core xs) array leads.holds)
     where
@@ -222,7 +224,7 @@ module _ {n m e row line : ℕ} {bytes : List ℕ} {given : List Bool} {clock : 
         outcomes = λ at there. write-outcomes row line bytes given clock results w.unset w.fresh answer (stands-by xs array leads) (waits clock.bank.kept.shape (core xs)) at there;
       })
 
-  -- it leaves each other row that has no part in it
+  -- each other row that neither stood in the queue nor waited keeps its outcome
   pub write-others : (place : ℕ) → IsPlaceOf bank.kept row place answer → LeavesOthersThan row clock.bank results (write_recorded answer clock.tick row results)
   write-others place at =
       arrival-others row (Write row line bytes given (write_from clock.bank line)) clock (after_write clock bank place answer) w.led.1 results (write_recorded answer clock.tick row results)
@@ -232,6 +234,7 @@ module _ {n m e row line : ℕ} {bytes : List ℕ} {given : List Bool} {clock : 
   entries-then : (xs : List (Timed n m)) (array : ArrayState n m) → Leads xs clock array → bank.kept.entries ≡ queue clock.bank.kept.shape (Write row line bytes given answer ∷ core xs)
   entries-then xs array leads = (w.holds (core xs) array leads.holds).entries ∙ ap (λ shape. queue shape (Write row line bytes given answer ∷ core xs)) keeps.shape
 
+  -- the same reads wait
   waiting-then : bank.waiting ≡ clock.bank.waiting
   waiting-then = ap (λ (b : BankState n m e). b.waiting) w.left ∙ by answer
     where
@@ -290,7 +293,7 @@ module _ {n m e row line : ℕ} {bytes : List ℕ} {given : List Bool} {clock : 
       by wrote.Full = fit-same clock.bank (row + 1) clock.action inv.fit
       by wrote.Exhausted = fit-same clock.bank (row + 1) clock.action inv.fit
 
-  -- the rows that came are below the next one
+  -- the bound below which rows came is just above this row
   pub write-bound : bank.rows_below ≡ row + 1
   write-bound = ap (λ (b : BankState n m e). b.rows_below) w.left ∙ by answer
     where
