@@ -1,8 +1,8 @@
 mod Sizes
-mod Views
 mod Rows
 mod Standing
 mod Acting
+mod Views
 mod Due
 mod Serves
 mod LineWrites
