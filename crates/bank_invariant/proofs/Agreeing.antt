@@ -18,7 +18,7 @@ use Rattle.power_recovery.proofs.Placing.{region-exists, slot_of-after}
 use Rattle.power_recovery.proofs.Bundle.{due_region-Some, due_region-is, due_region-None}
 use Rattle.bank_model.specs.declared.answer.Step.TheVariants as did
 use Rattle.bank_model.specs.Events.{Event, Write, Read, Serve, Begin, Iterate, Cut, line_of_row}
-use Rattle.bank_model.specs.History.{Awaited, waits, in_progress, stores, moved_in, stored_in, due_after, has_exhausted, first_or}
+use Rattle.bank_model.specs.History.{Awaited, queue, waits, in_progress, stores, moved_in, stored_in, due_after, has_exhausted, first_or}
 use Rattle.bank_model.specs.After as after
 use Rattle.bank_model.specs.After.{slot_after, array_line_after, stands_at_after, work_after, slot_of_work, target_after, is_ready, may_begin_after}
 use Rattle.bank_model.specs.Answers.{MayAll, head_busy_after}
@@ -165,6 +165,17 @@ module _ {n m e : ℕ} (h : List (Event n)) (bank : BankState n m e) (array : Ar
       ap (λ slot. array_line bank.kept slot) (same_target (next_work bank.kept))
       ∙ agree_lines (slot_of_work bank.kept.shape h (next_work bank.kept))
       ∙ ap (λ work. array_line_after bank.kept.shape h (slot_of_work bank.kept.shape h work)) agree_work
+
+  -- the array line that what is due writes, also of a bank that begins nothing since no spare was left
+  pub due-target : target_of bank.kept (due_work (due_region bank.kept) bank.kept bank.kept.entries)
+      ≡ array_line_after bank.kept.shape h (slot_of_work bank.kept.shape h (after.due_work bank.kept.shape h (due_after bank.kept.shape h) (queue bank.kept.shape h)))
+  due-target =
+      ap (λ work. target_of bank.kept work)
+      (same_due (due_region bank.kept) bank.kept.entries (λ region is. (due_region-Some bank.kept region holds.kept is).0) holds.kept.known
+      ∙ ap (λ due. after.due_work bank.kept.shape h due bank.kept.entries) agree_due
+      ∙ ap (λ es. after.due_work bank.kept.shape h (due_after bank.kept.shape h) es) holds.entries)
+      ∙ ap (λ slot. array_line bank.kept slot) (same_target (after.due_work bank.kept.shape h (due_after bank.kept.shape h) (queue bank.kept.shape h)))
+      ∙ agree_lines (slot_of_work bank.kept.shape h (after.due_work bank.kept.shape h (due_after bank.kept.shape h) (queue bank.kept.shape h)))
 
   storing_by : (running : Option (Operation n m e)) → IfSome running (IsRunning bank.kept array bank.waiting)
       → is_storing running ≡ (is_some running && is_store (next_work bank.kept))
