@@ -5,4 +5,4 @@ mod Kept
 mod Queued
 mod Ending
 mod Roles
-mod Used
+pub mod Used

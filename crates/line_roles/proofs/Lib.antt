@@ -1,3 +1,2 @@
--- That the table of an end uses as many spares as the bank has, and that a slot's role is what the registers give.
-mod Used
+-- That a slot's role is what the registers give.
 mod Placed

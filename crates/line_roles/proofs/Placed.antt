@@ -10,7 +10,7 @@ use Rattle.power_recovery.specs.Kept.{KeptState, IsKept, region_at, array_line}
 use Rattle.end_laws.specs.Ends.{BankEnd}
 use Rattle.end_laws.specs.EndLaws.{IsEndOf}
 use Rattle.end_laws.specs.Roles.{IsRole, used_spares}
-use Rattle.line_roles.proofs.Used.{used-same}
+use Rattle.end_laws.proofs.Used.{used-same}
 
 module _ {n : ℕ} (kept : KeptState n) (range : IsKept kept) where
   -- ---- the region of a slot, and its place there

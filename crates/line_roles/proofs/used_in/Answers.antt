@@ -1,4 +1,4 @@
-use Rattle.line_roles.proofs.Used.{used-same}
+use Rattle.end_laws.proofs.Used.{used-same}
 use Rattle.line_roles.proofs.used_in.Goals as goal
 
 pub returns-clause-used : goal.returns-clause-used
