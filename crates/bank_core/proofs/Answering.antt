@@ -21,7 +21,7 @@ use Rattle.bank_invariant.specs.State.{BankState}
 use Rattle.bank_invariant.specs.Tied.{IsTied}
 use Rattle.bank_invariant.specs.Holds.{Holds}
 use Rattle.bank_invariant.specs.Serving.{kept_with, read_from, served_from, served}
-use Rattle.bank_invariant.proofs.Quiet.{forwarded_law, busy_law}
+use Rattle.bank_invariant.proofs.Quiet.{same_said, forwarded_law, busy_law}
 use Rattle.bank_invariant.proofs.Awaiting.{may_read_law, waiting_law, may_serve_law, served_law, tied_waiting, tied_sensed, gives_all-head}
 use Rattle.bank_core.specs.Bank.{IsBank}
 use Rattle.bank_core.specs.Steps.{after_read, lost_taken}
@@ -87,23 +87,7 @@ module _ {n m e : ℕ} where
       ∙ ap (λ b. cond b came.Busy came.Waiting) (eq-eqb (length bank.waiting) bank.kept.shape.reads all))
 
   pub lost_law : (h : List (Event n)) (bank : BankState n m e) (array : ArrayState n m) → Holds h bank array → Holds h (lost_taken bank) array
-  lost_law h bank array holds = record {
-    past = holds.past;
-    newest = holds.newest;
-    waiting = holds.waiting;
-    few_waiting = holds.few_waiting;
-    served = holds.served;
-    running = holds.running;
-    steps = holds.steps;
-    tied = holds.tied;
-    regions = holds.regions;
-    due_last = holds.due_last;
-    entries = holds.entries;
-    table = holds.table;
-    exhausted = holds.exhausted;
-    rows = holds.rows;
-    kept = holds.kept;
-  }
+  lost_law h bank array holds = same_said h h bank array (drop 1 bank.lost) bank.rows_below holds refl holds.past holds.rows
 
   pub serve_tied : (bank : BankState n m e) (old new : ArrayState n m) → new.lines ≡ old.lines → ((line : ℕ) → new.line line ≡ old.line line)
       → IsTied bank old → IsTied (served bank) new

@@ -21,54 +21,26 @@ use Rattle.power_recovery.specs.Events.{is_store, is_copy, accepted_kept}
 use Rattle.power_recovery.proofs.Frames.{head-accepted_busy, next_work-accepted, next_work-due}
 use Rattle.power_recovery.proofs.Bundle.{IsKept-accepted, next_work-store, next_work-copy}
 use Rattle.bank_model.specs.declared.answer.WriteAnswer.TheVariants as wrote
-use Rattle.bank_model.specs.Events.{Event, newest}
+use Rattle.bank_model.specs.Events.{Event, Write, newest}
 use Rattle.bank_model.specs.History.{queue, has_exhausted}
 use Rattle.bank_model.specs.Answers.{accept_answer, head_busy_after}
 use Rattle.bank_invariant.specs.declared.Waiting.{Waiting}
 use Rattle.bank_invariant.specs.State.{Operation, target_of, is_storing}
 use Rattle.bank_invariant.specs.Tied.{decoded, IsOf, IsRunning, AreTied}
 use Rattle.bank_invariant.specs.Writes.{FullLaw, ExhaustedWriteLaw, AcceptedLaw, MergedLaw}
-use Rattle.bank_invariant.proofs.Quiet.{RowsBelow-more}
+use Rattle.bank_invariant.proofs.Quiet.{RowsBelow-more, same_said}
 
 -- Refused
 
 pub full_law : FullLaw
-full_law n m e row line bytes given h bank array holds above may = record {
-  past = (may, holds.past);
-  newest = holds.newest;
-  waiting = holds.waiting;
-  few_waiting = holds.few_waiting;
-  served = holds.served;
-  running = holds.running;
-  steps = holds.steps;
-  tied = holds.tied;
-  regions = holds.regions;
-  due_last = holds.due_last;
-  entries = holds.entries;
-  table = holds.table;
-  exhausted = holds.exhausted;
-  rows = (omega arith, RowsBelow-more h bank.rows_below row above holds.rows);
-  kept = holds.kept;
-}
+full_law n m e row line bytes given h bank array holds above may =
+    same_said h (Write row line bytes given wrote.Full ∷ h) bank array bank.lost (row + 1) holds refl (may, holds.past)
+    (omega arith, RowsBelow-more h bank.rows_below row above holds.rows)
 
 pub exhausted_write_law : ExhaustedWriteLaw
-exhausted_write_law n m e row line bytes given h bank array holds above may = record {
-  past = (may, holds.past);
-  newest = holds.newest;
-  waiting = holds.waiting;
-  few_waiting = holds.few_waiting;
-  served = holds.served;
-  running = holds.running;
-  steps = holds.steps;
-  tied = holds.tied;
-  regions = holds.regions;
-  due_last = holds.due_last;
-  entries = holds.entries;
-  table = holds.table;
-  exhausted = holds.exhausted;
-  rows = (omega arith, RowsBelow-more h bank.rows_below row above holds.rows);
-  kept = holds.kept;
-}
+exhausted_write_law n m e row line bytes given h bank array holds above may =
+    same_said h (Write row line bytes given wrote.Exhausted ∷ h) bank array bank.lost (row + 1) holds refl (may, holds.past)
+    (omega arith, RowsBelow-more h bank.rows_below row above holds.rows)
 
 -- What an answer says of the bank
 
