@@ -1,5 +1,5 @@
 -- What the begin of a line write senses, writes, answers and leaves.
-use Rattle.std.specs.Prelude.{◌≡◌, ℕ, ◌≤◌, List, [], ◌∷◌, ◌++◌}
+use Rattle.std.specs.Prelude.{◌≡◌, ℕ, ◌≤◌, List, [], ◌∷◌}
 use Rattle.masked_bytes.specs.Masked.{laid}
 use Rattle.masked_bytes.specs.declared.entry.Entry.{Entry}
 use Rattle.pcm_cells.specs.declared.row.Cells.{Cells}
@@ -16,16 +16,6 @@ use Rattle.bank_invariant.specs.Tied.{decoded, IsSoundLine}
 use Rattle.bank_core.specs.Stepping.{with_kept, step_from, left_by}
 
 module _ {n : ℕ} where
-  -- the array line that a work copies
-  abbrev pub sources_of : KeptState n → Work → List ℕ
-  sources_of kept Nothing = []
-  sources_of kept (Store line slot) = []
-  sources_of kept (Copy region step) = array_line kept (slot_at kept.shape region step.from) ∷ []
-
-  -- the array lines that the begin of a work senses, in this order: a copy's source, and the target
-  abbrev pub lines_sensed : KeptState n → Work → List ℕ
-  lines_sensed kept work = sources_of kept work ++ target_of kept work ∷ []
-
   -- the bytes that the head gives, over these
   abbrev pub head_over : List (Entry n) → List ℕ → List ℕ
   head_over [] under = under

@@ -12,10 +12,11 @@ ghost use Rattle.bank_model.specs.Touching.{Touches};
 ghost use Rattle.bank_invariant.specs.State.{may_begin, is_free, target_of};
 ghost use Rattle.bank_invariant.specs.Tied.{IsTied, IsSoundLine};
 ghost use Rattle.bank_invariant.specs.Holds.{Holds};
+ghost use Rattle.bank_invariant.specs.Beginning.{lines_sensed};
 ghost use Rattle.bank_core.specs.Running.{running_of};
 ghost use Rattle.bank_core.specs.Steps.{is_some_work};
 ghost use Rattle.bank_core.specs.Stepping.{step_from, left_by};
-ghost use Rattle.bank_core.specs.Beginning.{IsBegin, IsOfSoundLine, lines_sensed};
+ghost use Rattle.bank_core.specs.Beginning.{IsBegin, IsOfSoundLine};
 
 use crate::bank::{Bank, Running};
 use bank_model::answer::Step;

@@ -1,9 +1,10 @@
 -- How a line write begins, and that the invariant is kept.
-use Rattle.std.specs.Prelude.{◌≡◌, ℕ, ◌≤◌, List, ◌∷◌, Some, IsTrue, IsSomeAnd, slice_get}
+use Rattle.std.specs.Prelude.{◌≡◌, ℕ, ◌≤◌, List, [], ◌∷◌, ◌++◌, Some, IsTrue, IsSomeAnd, slice_get}
 use Rattle.masked_bytes.specs.Masked.{laid}
 use Rattle.pcm_cells.specs.Device.{ArrayState}
 use Rattle.start_gap.specs.declared.Move.{Move}
-use Rattle.bank_shape.specs.declared.Work.TheVariants.{Store, Copy}
+use Rattle.bank_shape.specs.declared.Work.{Work}
+use Rattle.bank_shape.specs.declared.Work.TheVariants.{Nothing, Store, Copy}
 use Rattle.bank_shape.specs.Shape.{slot_at}
 use Rattle.line_writer.specs.Writing.{steps_left, most_steps}
 use Rattle.power_recovery.specs.Kept.{KeptState, array_line, next_work}
@@ -13,6 +14,17 @@ use Rattle.bank_model.specs.Events.{Event, Begin}
 use Rattle.bank_invariant.specs.State.{BankState, Operation, may_begin, target_of}
 use Rattle.bank_invariant.specs.Tied.{decoded, IsUnderWay}
 use Rattle.bank_invariant.specs.Holds.{Holds}
+
+module _ {n : ℕ} where
+  -- the array line that a work copies
+  abbrev pub sources : KeptState n → Work → List ℕ
+  sources kept Nothing = []
+  sources kept (Store line slot) = []
+  sources kept (Copy region step) = array_line kept (slot_at kept.shape region step.from) ∷ []
+
+  -- the array lines that the begin of a work senses, in this order: a copy's source, and the target
+  abbrev pub lines_sensed : KeptState n → Work → List ℕ
+  lines_sensed kept work = sources kept work ++ target_of kept work ∷ []
 
 module _ {n m e : ℕ} where
   -- the bank that keeps this, with this line write in progress

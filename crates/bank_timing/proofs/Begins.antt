@@ -6,12 +6,11 @@ use Rattle.pcm_cells.specs.Device.{ArrayState, LineState}
 use Rattle.ecp_line.specs.Reading.{decode}
 use Rattle.result_rows.specs.declared.Outcome.{Outcome}
 use Rattle.bank_shape.specs.declared.Work.{Work}
-use Rattle.bank_shape.specs.declared.Work.TheVariants.{Nothing, Store, Copy}
 use Rattle.line_writer.specs.declared.writer.LineWriter.{LineWriter}
 use Rattle.line_writer.specs.declared.writer.Progress.{Progress}
 use Rattle.line_writer.specs.declared.writer.Progress.TheVariants as progress
 use Rattle.line_writer.specs.Writing.{IsProgress}
-use Rattle.power_recovery.specs.Kept.{KeptState, next_work}
+use Rattle.power_recovery.specs.Kept.{next_work}
 use Rattle.bank_model.specs.declared.answer.Step.{Step}
 use Rattle.bank_model.specs.declared.clock.Doing.{Doing}
 use Rattle.bank_model.specs.declared.clock.Doing.TheVariants.{Beginning}
@@ -22,24 +21,20 @@ use Rattle.bank_model.specs.Touching.{Touches}
 use Rattle.bank_invariant.specs.State.{BankState, is_free, may_begin}
 use Rattle.bank_invariant.specs.Tied.{decoded}
 use Rattle.bank_invariant.specs.Holds.{Holds}
+use Rattle.bank_invariant.specs.Beginning.{lines_sensed}
 use Rattle.bank_core.specs.Stepping.{step_from}
-use Rattle.bank_core.specs.Beginning.{IsBegin, lines_sensed}
+use Rattle.bank_core.specs.Beginning.{IsBegin}
 use Rattle.clock_laws.specs.State.{ClockState, next_action}
 use Rattle.clock_laws.specs.Leads.{Leads}
 use Rattle.clock_laws.specs.Fitting.{Fits, IsFit}
 use Rattle.clock_laws.specs.Completing.{after_action}
-use Rattle.clock_laws.specs.Actions.{IsCompletion, GoesOn, begin_lines, LeavesBegun}
+use Rattle.clock_laws.specs.Actions.{IsCompletion, GoesOn, LeavesBegun}
 use Rattle.clock_laws.proofs.Ending.{begin_ends_law}
 use Rattle.clock_laws.proofs.Others.{apart_law}
 use Rattle.bank_timing.specs.Extending.{AreOpen}
 use Rattle.bank_timing.specs.Completing.{Completes, step_recorded}
 use Rattle.bank_timing.proofs.Acting.{next-fits, next-ends}
 use Rattle.bank_timing.proofs.LineWrites.{Steps, step-completes, begin-steps, begin-leaves}
-
-same_lines : {n : ℕ} (kept : KeptState n) (work : Work) → lines_sensed kept work ≡ begin_lines kept work
-same_lines kept Nothing = refl
-same_lines kept (Store line slot) = refl
-same_lines kept (Copy region step) = refl
 
 -- where a line write may be begun, none is in progress, and the work is free
 free-parts : {A : Type 0} (r : Option A) (free : Bool) → (not (is_some r) && free) ≡ true → (r ≡ None) × (free ≡ true)
@@ -96,9 +91,7 @@ module _ {n m e : ℕ} (clock : ClockState n m e) (action : Action) (next : next
 
         goes : (xs : List (Timed n m)) → Leads xs clock old → GoesOn xs clock bank (Begin answer) action old new
         goes xs leads =
-            let lines : lines_sensed clock.bank.kept (next_work clock.bank.kept) ≡ begin_lines clock.bank.kept begins.op.work =
-            same_lines clock.bank.kept (next_work clock.bank.kept) ∙ ap (λ work. begin_lines clock.bank.kept work) (sym begins.work) in
-            let end : IsCompletion xs clock bank (Begin answer) action (begin_lines clock.bank.kept begins.op.work) None old new =
+            let end : IsCompletion xs clock bank (Begin answer) action (lines_sensed clock.bank.kept begins.op.work) None old new =
             record {
               next = next;
               doing = doing;
@@ -106,6 +99,6 @@ module _ {n m e : ℕ} (clock : ClockState n m e) (action : Action) (next : next
               holds = holds (core xs) leads.holds;
               shape = begun-steps.shape;
               taken = begun-steps.lost ∙ leads.taken;
-              touches = subst (λ (sensed : List ℕ). Touches (ends clock.pace action) sensed None false old new) lines touches;
+              touches = subst (λ (work : Work). Touches (ends clock.pace action) (lines_sensed clock.bank.kept work) None false old new) (sym begins.work) touches;
             } in
             begin_ends_law n m e answer action begins.op.work xs clock bank old new leads (sym begins.work) end leaves

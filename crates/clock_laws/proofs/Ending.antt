@@ -32,6 +32,7 @@ use Rattle.bank_invariant.specs.declared.Waiting.{Waiting}
 use Rattle.bank_invariant.specs.State.{BankState, Operation, target_of}
 use Rattle.bank_invariant.specs.Tied.{decoded, IsOf}
 use Rattle.bank_invariant.specs.Holds.{waiting_of}
+use Rattle.bank_invariant.specs.Beginning.{sources, lines_sensed}
 use Rattle.bank_invariant.proofs.Targets.{length-decode, next_store-slot}
 use Rattle.bank_invariant.proofs.Tearing.{running_of}
 use Rattle.bank_invariant.proofs.Awaiting.{waits-known}
@@ -42,7 +43,7 @@ use Rattle.clock_laws.specs.Leads.{Leads, CopiesWhatItSensed}
 use Rattle.clock_laws.specs.Completing.{completed, EndsDoing}
 use Rattle.clock_laws.specs.Extending.{is_tear}
 use Rattle.clock_laws.specs.Cutting.{cut}
-use Rattle.clock_laws.specs.Actions.{IsCompletion, GoesOn, ServeEndsLaw, sources, begin_lines, WritesCopy, ReadsAsHead, BeginEndsLaw, IterateEndsLaw, torn_line, CutEndsLaw}
+use Rattle.clock_laws.specs.Actions.{IsCompletion, GoesOn, ServeEndsLaw, WritesCopy, ReadsAsHead, BeginEndsLaw, IterateEndsLaw, torn_line, CutEndsLaw}
 use Rattle.clock_laws.proofs.Ties.{agrees}
 use Rattle.clock_laws.proofs.Ranges.{pulsed-in}
 use Rattle.clock_laws.proofs.Completing.{completion_law}
@@ -58,9 +59,9 @@ module _ {n m e : ℕ} (xs : List (Timed n m)) (clock : ClockState n m e) (array
   same_sources (Store line slot) = refl
   same_sources (Copy region step) = ap (λ line. line ∷ []) (sym ((agrees xs clock array leads).lines (slot_at clock.bank.kept.shape region step.from)))
 
-  begin-senses : (answer : Step) (work : Work) → next_work clock.bank.kept ≡ work → begin_lines clock.bank.kept work ≡ sensed_by clock.bank.kept.shape (core xs) (Begin answer)
+  begin-senses : (answer : Step) (work : Work) → next_work clock.bank.kept ≡ work → lines_sensed clock.bank.kept work ≡ sensed_by clock.bank.kept.shape (core xs) (Begin answer)
   begin-senses answer work is =
-      ap (λ work. begin_lines clock.bank.kept work) (sym is)
+      ap (λ work. lines_sensed clock.bank.kept work) (sym is)
       ∙ ap (λ target. sources clock.bank.kept (next_work clock.bank.kept) ++ target ∷ []) (agrees xs clock array leads).target
       ∙ ap (λ lines. lines ++ target_after clock.bank.kept.shape (core xs) ∷ []) (sym (same_sources (next_work clock.bank.kept)))
       ∙ ap (λ work. sources_of clock.bank.kept.shape (core xs) work ++ target_after clock.bank.kept.shape (core xs) ∷ []) (agrees xs clock array leads).work
@@ -213,7 +214,7 @@ module _ {n m e : ℕ} (xs : List (Timed n m)) (clock : ClockState n m e) (old :
 
 module _ {n m e : ℕ} (action : Action) (xs : List (Timed n m)) (clock : ClockState n m e) (bank : BankState n m e) (old new : ArrayState n m) (leads : Leads xs clock old) where
   -- a gap move that goes on writes what its begin sensed
-  copies-begun : (work : Work) (bytes : List ℕ) (sensed : List ℕ) (tick : ℕ) → begin_lines clock.bank.kept work ≡ sensed → ((line : ℕ) → decoded e new line ≡ decoded e old line)
+  copies-begun : (work : Work) (bytes : List ℕ) (sensed : List ℕ) (tick : ℕ) → lines_sensed clock.bank.kept work ≡ sensed → ((line : ℕ) → decoded e new line ≡ decoded e old line)
       → WritesCopy e clock.bank.kept old bytes work → IsTrue (is_copy work)
       → IsSomeAnd (begun_with (Core (Begin did.More)) (shown tick sensed new) (copied xs)) (λ source. bytes ≡ decode e source)
   copies-begun Nothing bytes sensed tick lines same writes copies = absurd (cc)
@@ -223,12 +224,12 @@ module _ {n m e : ℕ} (action : Action) (xs : List (Timed n m)) (clock : ClockS
       subst (λ (sensed : List ℕ). IsSomeAnd (begun_with (Core (Begin did.More)) (shown tick sensed new) (copied xs)) (λ source. bytes ≡ decode e source)) lines (writes ∙ sym (same source))
 
   begun-more : (work : Work) → next_work clock.bank.kept ≡ work
-      → IsCompletion xs clock bank (Begin did.More) action (begin_lines clock.bank.kept work) None old new
+      → IsCompletion xs clock bank (Begin did.More) action (lines_sensed clock.bank.kept work) None old new
       → IsSomeAnd bank.running (λ op. (op.work ≡ work) × WritesCopy e clock.bank.kept old op.writer.bytes work) → GoesOn xs clock bank (Begin did.More) action old new
   begun-more work next end leaves =
-      finish xs clock bank (Begin did.More) action (begin_lines clock.bank.kept work) None old new leads end lines refl tt (by bank.running leaves)
+      finish xs clock bank (Begin did.More) action (lines_sensed clock.bank.kept work) None old new leads end lines refl tt (by bank.running leaves)
     where
-      lines : begin_lines clock.bank.kept work ≡ sensed_by clock.bank.kept.shape (core xs) (Begin did.More)
+      lines : lines_sensed clock.bank.kept work ≡ sensed_by clock.bank.kept.shape (core xs) (Begin did.More)
       lines = begin-senses xs clock old leads did.More work next
 
       by : (r : Option (Operation n m e)) → IsSomeAnd r (λ op. (op.work ≡ work) × WritesCopy e clock.bank.kept old op.writer.bytes work)
@@ -236,7 +237,7 @@ module _ {n m e : ℕ} (action : Action) (xs : List (Timed n m)) (clock : ClockS
       by None own = tt
       by (Some op) own = λ copies.
           copies-begun work op.writer.bytes (sensed_by clock.bank.kept.shape (core xs) (Begin did.More)) (ends clock.pace action) lines
-          (λ line. same-read xs clock bank (Begin did.More) action (begin_lines clock.bank.kept work) None old new leads end line refl) own.1
+          (λ line. same-read xs clock bank (Begin did.More) action (lines_sensed clock.bank.kept work) None old new leads end line refl) own.1
           (ap (λ work. is_copy work) (sym own.0) ∙ copies)
 
   begun-done : (answer : Step) (work : Work) (sensed : List ℕ) → next_work clock.bank.kept ≡ work → IsCompletion xs clock bank (Begin answer) action sensed None old new
@@ -246,12 +247,12 @@ module _ {n m e : ℕ} (action : Action) (xs : List (Timed n m)) (clock : ClockS
       (may-end xs clock bank (Begin answer) action sensed None old new leads end).1
 
   begun-stored : (row place : ℕ) (work : Work) → next_work clock.bank.kept ≡ work
-      → IsCompletion xs clock bank (Begin (did.Stored row place)) action (begin_lines clock.bank.kept work) None old new
+      → IsCompletion xs clock bank (Begin (did.Stored row place)) action (lines_sensed clock.bank.kept work) None old new
       → bank.running ≡ None → ReadsAsHead e clock.bank.kept old work → GoesOn xs clock bank (Begin (did.Stored row place)) action old new
   begun-stored row place Nothing next end none reads =
-      let done : ⊥ = begun-done (did.Stored row place) Nothing (begin_lines clock.bank.kept Nothing) next end in absurd done
+      let done : ⊥ = begun-done (did.Stored row place) Nothing (lines_sensed clock.bank.kept Nothing) next end in absurd done
   begun-stored row place (Store line slot) next end none reads =
-      let done = begun-done (did.Stored row place) (Store line slot) (begin_lines clock.bank.kept (Store line slot)) next end in
+      let done = begun-done (did.Stored row place) (Store line slot) (lines_sensed clock.bank.kept (Store line slot)) next end in
       let target : ℕ = array_line clock.bank.kept slot in
       finish xs clock bank (Begin (did.Stored row place)) action (target ∷ []) None old new leads end
       (begin-senses xs clock old leads (did.Stored row place) (Store line slot) next) refl
@@ -259,15 +260,15 @@ module _ {n m e : ℕ} (action : Action) (xs : List (Timed n m)) (clock : ClockS
       ∙ under-bytes xs clock old leads line slot row next done.0 reads)
       (none-copies xs clock bank (Begin (did.Stored row place)) action (target ∷ []) None old new leads end (completed xs clock action (Begin (did.Stored row place)) new) none)
   begun-stored row place (Copy region step) next end none reads =
-      let done : ⊥ = begun-done (did.Stored row place) (Copy region step) (begin_lines clock.bank.kept (Copy region step)) next end in absurd done
+      let done : ⊥ = begun-done (did.Stored row place) (Copy region step) (lines_sensed clock.bank.kept (Copy region step)) next end in absurd done
 
   begun-moved : (moved : Move) (work : Work) → next_work clock.bank.kept ≡ work
-      → IsCompletion xs clock bank (Begin (did.Moved moved)) action (begin_lines clock.bank.kept work) None old new
+      → IsCompletion xs clock bank (Begin (did.Moved moved)) action (lines_sensed clock.bank.kept work) None old new
       → bank.running ≡ None → WritesCopy e clock.bank.kept old (decoded e old (target_of clock.bank.kept work)) work → GoesOn xs clock bank (Begin (did.Moved moved)) action old new
   begun-moved moved Nothing next end none writes =
-      let done : ⊥ = begun-done (did.Moved moved) Nothing (begin_lines clock.bank.kept Nothing) next end in absurd done
+      let done : ⊥ = begun-done (did.Moved moved) Nothing (lines_sensed clock.bank.kept Nothing) next end in absurd done
   begun-moved moved (Store line slot) next end none writes =
-      let done : ⊥ = begun-done (did.Moved moved) (Store line slot) (begin_lines clock.bank.kept (Store line slot)) next end in absurd done
+      let done : ⊥ = begun-done (did.Moved moved) (Store line slot) (lines_sensed clock.bank.kept (Store line slot)) next end in absurd done
   begun-moved moved (Copy region step) next end none writes =
       let source : ℕ = array_line clock.bank.kept (slot_at clock.bank.kept.shape region step.from) in
       let target : ℕ = target_of clock.bank.kept (Copy region step) in

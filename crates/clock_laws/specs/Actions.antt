@@ -1,5 +1,5 @@
 -- The laws of each action that ends, and of a cut, in terms of what the bank keeps.
-use Rattle.std.specs.Prelude.{◌≡◌, ℕ, ◌<◌, Bool, true, false, List, [], ◌∷◌, ◌++◌, Option, Some, None, IsSomeAnd, slice_get}
+use Rattle.std.specs.Prelude.{◌≡◌, ℕ, ◌<◌, Bool, true, false, List, [], ◌∷◌, Option, Some, None, IsSomeAnd, slice_get}
 use Rattle.masked_bytes.specs.Masked.{laid}
 use Rattle.pcm_cells.specs.Device.{ArrayState}
 use Rattle.bank_shape.specs.declared.BankShape.{BankShape}
@@ -20,6 +20,7 @@ use Rattle.bank_invariant.specs.declared.Waiting.{Waiting}
 use Rattle.bank_invariant.specs.State.{BankState, Operation, target_of}
 use Rattle.bank_invariant.specs.Tied.{decoded}
 use Rattle.bank_invariant.specs.Holds.{Holds}
+use Rattle.bank_invariant.specs.Beginning.{lines_sensed}
 use Rattle.clock_laws.specs.State.{ClockState, next_action}
 use Rattle.clock_laws.specs.Leads.{Leads}
 use Rattle.clock_laws.specs.Completing.{EndsDoing, completed, after_action}
@@ -61,17 +62,6 @@ ServeEndsLaw =
 
 -- Begins
 
-module _ {n : ℕ} where
-  -- the array line that a work copies
-  abbrev pub sources : KeptState n → Work → List ℕ
-  sources kept Nothing = []
-  sources kept (Store line slot) = []
-  sources kept (Copy region step) = array_line kept (slot_at kept.shape region step.from) ∷ []
-
-  -- the array lines that the begin of a work senses
-  abbrev pub begin_lines : KeptState n → Work → List ℕ
-  begin_lines kept work = sources kept work ++ target_of kept work ∷ []
-
 module _ {n m : ℕ} where
   -- a gap move writes what the line that it copies is read as
   abbrev pub WritesCopy : ℕ → KeptState n → ArrayState n m → List ℕ → Work → Type 0
@@ -97,7 +87,7 @@ BeginEndsLaw =
     (n m e : ℕ) (answer : Step) (action : Action) (work : Work) (xs : List (Timed n m))
     (clock : ClockState n m e) (bank : BankState n m e) (old new : ArrayState n m)
     → Leads xs clock old → next_work clock.bank.kept ≡ work
-    → IsCompletion xs clock bank (Begin answer) action (begin_lines clock.bank.kept work) None old new
+    → IsCompletion xs clock bank (Begin answer) action (lines_sensed clock.bank.kept work) None old new
     → LeavesBegun clock.bank.kept work old bank.running answer
     → GoesOn xs clock bank (Begin answer) action old new
 
