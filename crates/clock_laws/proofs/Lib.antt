@@ -1,4 +1,4 @@
-mod Deciding
+pub mod Deciding
 pub mod Ties
 pub mod Ranges
 pub mod Stepping
@@ -10,6 +10,7 @@ pub mod Freshness
 pub mod Ending
 pub mod Leaving
 pub mod Elsewhere
+pub mod Absent
 pub mod Others
 pub mod Apart
 pub mod Settled
