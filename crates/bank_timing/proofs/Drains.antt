@@ -1,5 +1,5 @@
 -- What a drain leaves: a settled bank, whose queued writes are told.
-use Rattle.std.proofs.Common.{◌≡◌, ℕ, ◌==◌, ◌||◌, if◌then◌else◌, Bool, true, false, List, [], ◌∷◌, ◌++◌, length, drop, map, Option, Some, None, sym, ap, ◌∙◌, arith}
+use Rattle.std.proofs.Common.{◌≡◌, ℕ, if◌then◌else◌, true, false, List, [], ◌∷◌, ◌++◌, length, map, None, sym, ap, ◌∙◌, arith}
 use Rattle.std.specs.Prelude.{IsTrue, unwrap_or}
 use Rattle.std.proofs.lemmas.List.{length-map}
 use Rattle.std.proofs.lemmas.List.Elements.{All-head, All-tail}
@@ -9,53 +9,27 @@ use Rattle.result_rows.specs.declared.Outcome.TheVariants.{Queued}
 use Rattle.masked_bytes.specs.declared.entry.Entry.{Entry}
 use Rattle.masked_bytes.specs.Entries.{has_row}
 use Rattle.bank_shape.specs.declared.BankShape.{BankShape}
-use Rattle.bank_model.specs.declared.answer.Step.TheVariants as did
-use Rattle.bank_model.specs.Events.{Event, Write, Read, Serve, Begin, Iterate, Cut, newest}
-use Rattle.bank_model.specs.History.{queue, begun, due_after}
+use Rattle.bank_model.specs.Events.{Event}
+use Rattle.bank_model.specs.History.{queue}
 use Rattle.bank_model.specs.Timing.{Happens, Core, Timed, core, core_of}
 use Rattle.bank_model.specs.Told.{tick_of_row}
 use Rattle.bank_laws.specs.Ticks.{ends_action}
 use Rattle.clock_laws.specs.State.{ClockState, next_action}
 use Rattle.clock_laws.specs.Leads.{Leads}
+use Rattle.clock_laws.proofs.Absent.{queue-lacks}
 use Rattle.clock_laws.proofs.Others.{apart_law}
 use Rattle.clock_laws.proofs.Passing.{idle_law}
 use Rattle.bank_timing.specs.Extending.{RunsOn, LeavesOthers, EndsAction, IsQuiet, outcome_in}
 use Rattle.bank_timing.specs.Draining.{Drains, AreQueueable, AreQueued, queued_outcome}
-use Rattle.bank_timing.proofs.Running.{ran-others}
+use Rattle.bank_timing.proofs.Running.{end-brings_none, ran-others}
 use Rattle.bank_timing.proofs.Queued.{none-left, queued-told}
-
-neither-right : (a b : Bool) → (a || b) ≡ false → b ≡ false
-neither-right true b h = absurd (cc)
-neither-right false b h = h
 
 -- A row that doesn't stand in the queue does not come to stand there where actions end
 
 module _ {n : ℕ} where
-  out-drop : (es : List (Entry n)) (row : ℕ) → has_row es row ≡ false → has_row (drop 1 es) row ≡ false
-  out-drop [] row none = none
-  out-drop (e ∷ es) row none = neither-right (e.row == row) _ none
-
-  out-begun : (due : Option ℕ) (newest_of : ℕ → List ℕ) (es : List (Entry n)) (row : ℕ) → has_row es row ≡ false → has_row (begun due newest_of es) row ≡ false
-  out-begun (Some region) newest_of es row none = none
-  out-begun None newest_of [] row none = none
-  out-begun None newest_of (e ∷ es) row none = none
-
   out-by : (shape : BankShape) (row : ℕ) (h : Happens n) (past : List (Event n)) → IsTrue (ends_action h)
       → has_row (queue shape past) row ≡ false → has_row (queue shape (core_of h past)) row ≡ false
-  out-by shape row (Core (Write at line bytes given answer)) past quiet none = absurd (cc)
-  out-by shape row (Core (Read at line answer)) past quiet none = none
-  out-by shape row (Core (Serve answer)) past quiet none = none
-  out-by shape row (Core (Begin (did.Stored at place))) past quiet none = out-drop (queue shape past) row none
-  out-by shape row (Core (Begin did.More)) past quiet none = out-begun (due_after shape past) (newest past) (queue shape past) row none
-  out-by shape row (Core (Begin (did.Moved step))) past quiet none = out-begun (due_after shape past) (newest past) (queue shape past) row none
-  out-by shape row (Core (Begin (did.Retired slot line))) past quiet none = out-begun (due_after shape past) (newest past) (queue shape past) row none
-  out-by shape row (Core (Begin did.Exhausted)) past quiet none = out-begun (due_after shape past) (newest past) (queue shape past) row none
-  out-by shape row (Core (Iterate (did.Stored at place))) past quiet none = out-drop (queue shape past) row none
-  out-by shape row (Core (Iterate did.More)) past quiet none = none
-  out-by shape row (Core (Iterate (did.Moved step))) past quiet none = none
-  out-by shape row (Core (Iterate (did.Retired slot line))) past quiet none = none
-  out-by shape row (Core (Iterate did.Exhausted)) past quiet none = none
-  out-by shape row (Core (Cut tearing)) past quiet none = none
+  out-by shape row (Core event) past quiet none = queue-lacks shape past row none event (end-brings_none (Core event) row quiet)
 
 stays-out : {n m : ℕ} (shape : BankShape) (row : ℕ) (added xs : List (Timed n m)) → IsQuiet added
     → has_row (queue shape (core xs)) row ≡ false → has_row (queue shape (core (added ++ xs))) row ≡ false

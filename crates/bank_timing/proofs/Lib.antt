@@ -1,4 +1,4 @@
-mod Sizes
+pub mod Sizes
 mod Rows
 mod Standing
 mod Acting

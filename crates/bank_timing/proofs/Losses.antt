@@ -25,6 +25,7 @@ use Rattle.clock_laws.specs.Cutting.{cut, after_cut}
 use Rattle.clock_laws.specs.Actions.{torn_line as line_torn, LeadsOn as CutEnds}
 use Rattle.clock_laws.specs.Standing.{has_waiting, WaitingApart, AreApart}
 use Rattle.clock_laws.proofs.Ending.{cut_ends_law}
+use Rattle.clock_laws.proofs.Deciding.{or_left, or_right, or_back}
 use Rattle.clock_laws.proofs.Others.{apart_law, same_wait, other_rows_law}
 use Rattle.bank_timing.specs.Extending.{Extends, AreOpen, IsOpen, LeavesOthers, outcome_in}
 use Rattle.pace.specs.declared.Pace.{Pace}
@@ -32,7 +33,7 @@ use Rattle.pace.specs.Policies.{pacing_of}
 use Rattle.bank_timing.specs.Clock.{IsClock}
 use Rattle.bank_timing.specs.Losing.{lost_recorded, LosesOpen, bank_with_lost}
 use Rattle.bank_timing.proofs.Rows.{rows-set, has-set, in-set, open-set}
-use Rattle.bank_timing.proofs.Standing.{or-right, waits-head, apart-by}
+use Rattle.bank_timing.proofs.Standing.{waits-head, apart-by}
 
 -- the rows of waiting reads
 abbrev pub rows_of : {n : ℕ} → List (Waiting n) → List ℕ
@@ -47,7 +48,7 @@ module _ {n : ℕ} (tick : ℕ) where
   rest-open : (w : Waiting n) (ws : List (Waiting n)) (results : List (Outcome n)) → WaitingApart (w ∷ ws) → ((row : ℕ) → has_waiting (w ∷ ws) row ≡ true → IsOpen results row)
       → (row : ℕ) → has_waiting ws row ≡ true → IsOpen (with_outcome results w.row (out.Lost tick)) row
   rest-open w ws results apart unset row there =
-      open-set results w.row (out.Lost tick) row (unset w.row (waits-head w ws)).exists (apart-by (has_waiting ws) row w.row there apart.0) (unset row (or-right (w.row == row) (has_waiting ws row) there))
+      open-set results w.row (out.Lost tick) row (unset w.row (waits-head w ws)).exists (apart-by (has_waiting ws) row w.row there apart.0) (unset row (or_back (w.row == row) (has_waiting ws row) there))
 
   pub loses-open : (ws : List (Waiting n)) (results : List (Outcome n)) → WaitingApart ws → ((row : ℕ) → has_waiting ws row ≡ true → IsOpen results row) → LosesOpen tick (rows_of ws) results
   loses-open [] results apart unset = tt
@@ -59,17 +60,9 @@ module _ {n : ℕ} (tick : ℕ) where
       → has_waiting ws row ≡ false → IsOpen results row → IsOpen (lost_recorded tick (rows_of ws) results) row
   kept-open [] results row apart unset none own = own
   kept-open (w ∷ ws) results row apart unset none own =
-      kept-open ws (with_outcome results w.row (out.Lost tick)) row apart.1 (rest-open w ws results apart unset) (right (w.row == row) _ none)
-      (open-set results w.row (out.Lost tick) row (unset w.row (waits-head w ws)).exists (λ same. absurd (differ (w.row == row) (left (w.row == row) _ none) (eq-eqb w.row row (sym same)))) own)
+      kept-open ws (with_outcome results w.row (out.Lost tick)) row apart.1 (rest-open w ws results apart unset) (or_right (w.row == row) _ none)
+      (open-set results w.row (out.Lost tick) row (unset w.row (waits-head w ws)).exists (λ same. absurd (differ (w.row == row) (or_left (w.row == row) _ none) (eq-eqb w.row row (sym same)))) own)
     where
-      right : (a b : Bool) → (a || b) ≡ false → b ≡ false
-      right true b h = absurd (cc)
-      right false b h = h
-
-      left : (a b : Bool) → (a || b) ≡ false → a ≡ false
-      left true b h = h
-      left false b h = refl
-
       differ : (a : Bool) → a ≡ false → a ≡ true → ⊥
       differ true h k = cc
       differ false h k = cc

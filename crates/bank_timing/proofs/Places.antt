@@ -1,19 +1,16 @@
 -- Where a row stands in a queue.
-use Rattle.std.proofs.Common.{◌≡◌, ℕ, zero, suc, ◌+◌, ◌==◌, ◌||◌, Bool, true, false, List, [], ◌∷◌, drop, slice_get, None, refl, ap, add-one}
+use Rattle.std.proofs.Common.{◌≡◌, ℕ, zero, suc, ◌+◌, ◌==◌, true, false, List, [], ◌∷◌, drop, slice_get, None, refl, ap, add-one}
 use Rattle.std.proofs.Math.ListN.{set}
 use Rattle.masked_bytes.specs.declared.entry.Entry.{Entry}
 use Rattle.masked_bytes.specs.Entries.{has_row}
+use Rattle.clock_laws.proofs.Deciding.{or_rest}
 use Rattle.bank_timing.specs.Queueing.{entry_has_row}
-
-rest-or : (a b : Bool) → a ≡ false → (a || b) ≡ true → b ≡ true
-rest-or true b lacks has = absurd (cc)
-rest-or false b lacks has = has
 
 module _ {n : ℕ} (row : ℕ) where
   drop-suc : (es : List (Entry n)) (place : ℕ) → entry_has_row row (slice_get es place) ≡ false → has_row (drop place es) row ≡ true → has_row (drop (suc place) es) row ≡ true
   drop-suc [] zero lacks has = has
   drop-suc [] (suc place) lacks has = has
-  drop-suc (e ∷ es) zero lacks has = rest-or (e.row == row) (has_row es row) lacks has
+  drop-suc (e ∷ es) zero lacks has = or_rest (e.row == row) (has_row es row) lacks has
   drop-suc (e ∷ es) (suc place) lacks has = drop-suc es place lacks has
 
   -- a row that isn't at a place stands behind it

@@ -1,8 +1,6 @@
 -- The writes that stand in the queue of a settled bank are queued, with the ticks of their arrival.
 use Rattle.std.proofs.Common.{◌≡◌, ℕ, suc, zero, ◌+◌, ◌<◌, ◌≤◌, ◌==◌, ◌||◌, if◌then◌else◌, Bool, true, false, List, [], ◌∷◌, length, drop, map, Option, Some, None, slice_get, refl, sym, ap, subst, ◌∙◌, arith, eqb-true}
-use Rattle.std.specs.Prelude.{◌*◌, unwrap_or, IsSomeAnd}
-use Prim.Native.Nat.{max}
-use prog.Memory.{up}
+use Rattle.std.specs.Prelude.{unwrap_or, IsSomeAnd}
 use Rattle.std.proofs.lemmas.List.{drop-drop, length-drop}
 use Rattle.std.proofs.Math.ListN.{drop_of_length-le}
 use Rattle.result_rows.specs.declared.Outcome.{Outcome}
@@ -10,26 +8,11 @@ use Rattle.result_rows.specs.declared.Outcome.TheVariants.{Queued}
 use Rattle.result_rows.specs.Table.{HasRow, with_outcome}
 use Rattle.masked_bytes.specs.declared.entry.Entry.{Entry}
 use Rattle.masked_bytes.specs.Entries.{has_row}
+use Rattle.clock_laws.proofs.Deciding.{or_back}
 use Rattle.bank_timing.specs.Extending.{outcome_in, IsOpen}
 use Rattle.bank_timing.specs.Draining.{AreQueueable, AreQueued, queued_outcome}
 use Rattle.bank_timing.proofs.Rows.{rows-set, in-set, open-set}
-use Rattle.bank_timing.proofs.Standing.{or-right, has-head, apart-by}
-
-max_le : (a b c : ℕ) → a ≤ c → b ≤ c → max a b ≤ c
-max_le a b c h k = omega arith
-
--- an entry and an outcome fit in memory
-pub entry_small : (b : ℕ) → b ≤ 128 → up 4 (up 1 (8 + (b * 1)) + (b * 1)) < 9223372036854775808
-entry_small b few = omega arith
-
-pub outcome_small : (b : ℕ) → b ≤ 128
-    → up 8 (max 1 (max 20 (max 16 (max 16 (max 16 (max 16 (max (20 + (b * 1)) (max (16 + (b * 1)) 16)))))))) < 9223372036854775808
-outcome_small b few =
-    up8 _ (max_le 1 _ 200 (omega arith) (max_le 20 _ 200 (omega arith) (max_le 16 _ 200 (omega arith) (max_le 16 _ 200 (omega arith) (max_le 16 _ 200 (omega arith) (max_le 16 _ 200 (omega arith)
-    (max_le (20 + (b * 1)) _ 200 (omega (arith, few)) (max_le (16 + (b * 1)) 16 200 (omega (arith, few)) (omega arith)))))))))
-  where
-    up8 : (x : ℕ) → x ≤ 200 → up 8 x < 9223372036854775808
-    up8 x h = omega (arith, h)
+use Rattle.bank_timing.proofs.Standing.{has-head, apart-by}
 
 pub below-of : (i end len : ℕ) → i < end → end ≡ len → i < len
 below-of i end len h is = omega (arith, h, is)
@@ -106,7 +89,7 @@ module _ {n : ℕ} where
     rest = record {
       told = (let told = ready.told in omega (arith, told));
       apart = ready.apart.1;
-      unset = λ row there. open-set results e.row (Queued tick) row here.exists (apart-by (has_row es) row e.row there ready.apart.0) (ready.unset row (or-right (e.row == row) (has_row es row) there));
+      unset = λ row there. open-set results e.row (Queued tick) row here.exists (apart-by (has_row es) row e.row there ready.apart.0) (ready.unset row (or_back (e.row == row) (has_row es row) there));
     };
     rows = rows-set results e.row (Queued tick);
     outcomes = λ row there.

@@ -1,5 +1,5 @@
 -- A bank runs on: action after action, and time between them.
-use Rattle.std.proofs.Common.{◌≡◌, ℕ, ◌+◌, ◌^◌, ◌<◌, ◌≤◌, ◌||◌, Bool, true, false, List, [], ◌∷◌, ◌++◌, refl, ap, subst, ◌∙◌, arith}
+use Rattle.std.proofs.Common.{◌≡◌, ℕ, ◌+◌, ◌^◌, ◌<◌, ◌≤◌, false, List, [], ◌∷◌, ◌++◌, refl, ap, subst, ◌∙◌, arith}
 use Rattle.std.specs.Prelude.{IsTrue, unwrap_or}
 use Rattle.std.proofs.lemmas.List.Elements.{All-nil, All-cons, All-head, All-tail}
 use Rattle.pcm_cells.specs.Device.{ArrayState}
@@ -17,6 +17,7 @@ use Rattle.clock_laws.specs.State.{ClockState, next_action}
 use Rattle.clock_laws.specs.Leads.{Leads}
 use Rattle.clock_laws.specs.Passing.{at_tick}
 use Rattle.clock_laws.specs.Standing.{is_arrival_of, arrives_with}
+use Rattle.clock_laws.proofs.Deciding.{or_none}
 use Rattle.clock_laws.proofs.Extending.{nothing_added_law, both_added_law}
 use Rattle.clock_laws.proofs.Others.{other_rows_law}
 use Rattle.bank_timing.specs.Extending.{Extends, RunsOn, AreOpen, EndsAction, IsQuiet, LeavesOthers, outcome_in}
@@ -31,27 +32,24 @@ ends-by new end to lasts is same by = omega (arith, is, same, by)
 pub first-fits : (first tick to : ℕ) → first ≤ tick → tick < to → to ≤ 2 ^ 40 → first + 4294967296 < 18446744073709551616
 first-fits first tick to begun before within = omega (arith, begun, before, within)
 
-or-none : (a b : Bool) → a ≡ false → b ≡ false → (a || b) ≡ false
-or-none true b h k = h
-or-none false b h k = k
+module _ {n : ℕ} where
+  -- no row arrives with the end of an action
+  pub end-brings_none : (h : Happens n) (row : ℕ) → IsTrue (ends_action h) → is_arrival_of h row ≡ false
+  end-brings_none (Core (Write at line bytes given answer)) row ends = absurd (cc)
+  end-brings_none (Core (Read at line answer)) row ends = absurd (cc)
+  end-brings_none (Core (Serve answer)) row ends = refl
+  end-brings_none (Core (Begin answer)) row ends = refl
+  end-brings_none (Core (Iterate answer)) row ends = refl
+  end-brings_none (Core (Cut tearing)) row ends = refl
 
 module _ {n m : ℕ} where
   abbrev Ends : Timed n m → Type 0
   Ends x = EndsAction x
 
-  -- no row arrives with the end of an action
   none-arrives : (added : List (Timed n m)) (row : ℕ) → IsQuiet added → arrives_with added row ≡ false
   none-arrives [] row quiet = refl
   none-arrives (x ∷ added) row quiet =
-      or-none (is_arrival_of x.happens row) _ (by x.happens (All-head Ends x added quiet)) (none-arrives added row (All-tail Ends x added quiet))
-    where
-      by : (h : Happens n) → IsTrue (ends_action h) → is_arrival_of h row ≡ false
-      by (Core (Write at line bytes given answer)) ends = absurd (cc)
-      by (Core (Read at line answer)) ends = absurd (cc)
-      by (Core (Serve answer)) ends = refl
-      by (Core (Begin answer)) ends = refl
-      by (Core (Iterate answer)) ends = refl
-      by (Core (Cut tearing)) ends = refl
+      or_none (is_arrival_of x.happens row) _ (end-brings_none x.happens row (All-head Ends x added quiet)) (none-arrives added row (All-tail Ends x added quiet))
 
 module _ {n m e : ℕ} where
   pub no-events : (xs : List (Timed n m)) (clock : ClockState n m e) (array : ArrayState n m) (results : List (Outcome n)) → Leads xs clock array

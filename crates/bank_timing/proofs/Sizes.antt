@@ -67,14 +67,19 @@ pub timed_fits : (b m e : ℕ) → IsLayout b m e
     → up 8 (up 1 (up 8 (up 8 (up 8 (up 4 (0 + up 8 (up 8 (up 8 (up 8 (152 + up 4 (max 1 (max (4 + up 4 (24 + up 2 (up 2 (up 1 (up 1 (up 1 (0 + up 1 (up 1 (up 1 (up 1 (0 + up 1 (up 1 (0 + (b * 1)) + (m * 1))) + up 1 (up 1 (0 + (b * 1)) + (m * 1))) + up 1 (up 1 (0 + (b * 1)) + (m * 1))) + 1)) + (b * 1)) + 1) + 1) + 6))) 1))) + 32) + 32) + 8)) + 12) + 8) + 24) + 32) + 1) < 9223372036854775808
 timed_fits b m e layout = clock_fits _ (bank_size b m e layout)
 
-pub outcome_fits : (b m e : ℕ) → IsLayout b m e
+-- an outcome fits, by the bytes of a line or by its layout
+pub outcome_small : (b : ℕ) → b ≤ 128
     → up 8 (max 1 (max 20 (max 16 (max 16 (max 16 (max 16 (max (20 + (b * 1)) (max (16 + (b * 1)) 16)))))))) < 9223372036854775808
-outcome_fits b m e layout =
+outcome_small b few =
     bound (up8_le _ 200 (max_le 1 _ 200 (omega arith) (max_le 20 _ 200 (omega arith) (max_le 16 _ 200 (omega arith) (max_le 16 _ 200 (omega arith) (max_le 16 _ 200 (omega arith) (max_le 16 _ 200 (omega arith)
-    (max_le (20 + (b * 1)) _ 200 (omega (arith, layout.shape.1)) (max_le (16 + (b * 1)) 16 200 (omega (arith, layout.shape.1)) (omega arith))))))))))
+    (max_le (20 + (b * 1)) _ 200 (omega (arith, few)) (max_le (16 + (b * 1)) 16 200 (omega (arith, few)) (omega arith))))))))))
   where
     bound : {x : ℕ} → x ≤ 208 → x < 9223372036854775808
     bound h = omega (arith, h)
+
+pub outcome_fits : (b m e : ℕ) → IsLayout b m e
+    → up 8 (max 1 (max 20 (max 16 (max 16 (max 16 (max 16 (max (20 + (b * 1)) (max (16 + (b * 1)) 16)))))))) < 9223372036854775808
+outcome_fits b m e layout = outcome_small b layout.shape.1
 
 pub served_fits : (b m e : ℕ) → IsLayout b m e → up 4 (8 + (b * 1)) < 9223372036854775808
 served_fits b m e layout = omega (arith, layout.shape.1)

@@ -1,5 +1,5 @@
 -- A write arrives: what becomes of the clock and of the results.
-use Rattle.std.proofs.Common.{◌≡◌, ◌≢◌, ℕ, ◌+◌, ◌<◌, ◌≤◌, ◌==◌, ◌||◌, Bool, true, false, List, [], ◌∷◌, ◌++◌, length, Option, Some, None, ◌⊎◌, inl, inr, refl, sym, ap, subst, ◌∙◌, arith, eqb-true, eq-eqb, length-append}
+use Rattle.std.proofs.Common.{◌≡◌, ◌≢◌, ℕ, ◌+◌, ◌<◌, ◌≤◌, ◌==◌, ◌||◌, Bool, true, false, List, [], ◌∷◌, ◌++◌, length, ◌⊎◌, inl, inr, refl, sym, ap, subst, ◌∙◌, arith, eqb-true, eq-eqb, length-append}
 use Rattle.std.specs.Prelude.{unwrap_or, if◌then◌else◌}
 use Rattle.std.proofs.lemmas.List.{length-map}
 use Rattle.std.proofs.lemmas.Bool.{ne_eqb, false≢true}
@@ -8,7 +8,7 @@ use Rattle.result_rows.specs.declared.Outcome.{Outcome}
 use Rattle.result_rows.specs.declared.Outcome.TheVariants as out
 use Rattle.result_rows.specs.Table.{HasRow, with_outcome}
 use Rattle.masked_bytes.specs.declared.entry.Entry.{Entry}
-use Rattle.masked_bytes.specs.Entries.{has_row, merged, laid_on, newest_row, or_this, candidate, RowsApart}
+use Rattle.masked_bytes.specs.Entries.{has_row, merged, laid_on, candidate, RowsApart}
 use Rattle.bank_shape.specs.declared.BankShape.{BankShape}
 use Rattle.line_writer.specs.Writing.{most_steps}
 use Rattle.pace.specs.declared.Pace.{Pace}
@@ -33,11 +33,13 @@ use Rattle.clock_laws.specs.Standing.{has_waiting, AreApart}
 use Rattle.clock_laws.proofs.Arriving.{write_law}
 use Rattle.clock_laws.proofs.Fitting.{fit_write_law}
 use Rattle.clock_laws.proofs.Extending.{arrival_added_law}
-use Rattle.clock_laws.proofs.Others.{apart_law}
+use Rattle.clock_laws.proofs.Deciding.{or_none, or_first, or_back}
+use Rattle.clock_laws.proofs.Absent.{lacks-push, lacks-merged}
+use Rattle.clock_laws.proofs.Others.{apart_law, candidate-there}
 use Rattle.bank_timing.specs.Clock.{IsClock}
 use Rattle.bank_timing.specs.Extending.{Extends, AreOpen, IsOpen, StandOpen, LeavesOthersThan, outcome_in}
 use Rattle.bank_timing.proofs.Rows.{rows-set, in-set, open-set}
-use Rattle.bank_timing.proofs.Standing.{or-left, or-right, clash, apart-by, stay-unset}
+use Rattle.bank_timing.proofs.Standing.{clash, apart-by, stay-unset}
 use Rattle.bank_timing.proofs.ReadArrivals.{no-other, fit-same, arrival-others}
 
 -- the results after a write was answered
@@ -47,58 +49,15 @@ write_recorded (wrote.Merged old) tick row results = with_outcome results old (o
 write_recorded wrote.Full tick row results = with_outcome results row (out.Full tick)
 write_recorded wrote.Exhausted tick row results = with_outcome results row (out.Worn tick)
 
-none-or : (a b : Bool) → a ≡ false → b ≡ false → (a || b) ≡ false
-none-or true b h k = h
-none-or false b h k = k
-
-left-none : (a b : Bool) → (a || b) ≡ false → a ≡ false
-left-none true b h = h
-left-none false b h = refl
-
-right-none : (a b : Bool) → (a || b) ≡ false → b ≡ false
-right-none true b h = absurd (cc)
-right-none false b h = h
-
 module _ {n : ℕ} where
   -- the rows of a queue that took a write
-  lacks-push : (es : List (Entry n)) (x : Entry n) (r : ℕ) → has_row es r ≡ false → (x.row == r) ≡ false → has_row (es ++ x ∷ []) r ≡ false
-  lacks-push [] x r h k = none-or (x.row == r) false k refl
-  lacks-push (e ∷ es) x r h k = none-or (e.row == r) _ (left-none (e.row == r) _ h) (lacks-push es x r (right-none (e.row == r) _ h) k)
-
-  lacks-merged : (old row : ℕ) (bytes : List ℕ) (given : List Bool) (es : List (Entry n)) (r : ℕ) → has_row es r ≡ false → (row == r) ≡ false → has_row (merged old row bytes given es) r ≡ false
-  lacks-merged old row bytes given [] r h k = refl
-  lacks-merged old row bytes given (e ∷ es) r h k = by (e.row == old) (lacks-merged old row bytes given es r (right-none (e.row == r) _ h) k)
-    where
-      by : (b : Bool) → has_row (merged old row bytes given es) r ≡ false → has_row (if b then laid_on row bytes given e ∷ es else e ∷ merged old row bytes given es) r ≡ false
-      by true rest = none-or (row == r) _ k (right-none (e.row == r) _ h)
-      by false rest = none-or (e.row == r) _ (left-none (e.row == r) _ h) rest
-
   lacks-old : (old row : ℕ) (bytes : List ℕ) (given : List Bool) (es : List (Entry n)) → RowsApart es → (row == old) ≡ false → has_row (merged old row bytes given es) old ≡ false
   lacks-old old row bytes given [] a h = refl
   lacks-old old row bytes given (e ∷ es) a h = by (e.row == old) refl (lacks-old old row bytes given es a.1 h)
     where
       by : (b : Bool) → (e.row == old) ≡ b → has_row (merged old row bytes given es) old ≡ false → has_row (if b then laid_on row bytes given e ∷ es else e ∷ merged old row bytes given es) old ≡ false
-      by true is rest = none-or (row == old) _ h (subst (λ (r : ℕ). has_row es r ≡ false) (eqb-true e.row old is) a.0)
-      by false is rest = none-or (e.row == old) _ is rest
-
-  -- the row that a write is merged into stands in the queue
-  newest-there : (es : List (Entry n)) (line old : ℕ) → newest_row es line ≡ Some old → has_row es old ≡ true
-  newest-there [] line old is = absurd (cc)
-  newest-there (e ∷ es) line old is = by (newest_row es line) (newest-there es line old) (e.line == line) is
-    where
-      by : (found : Option ℕ) → (found ≡ Some old → has_row es old ≡ true) → (b : Bool) → or_this found (if b then Some e.row else None) ≡ Some old → (e.row == old || has_row es old) ≡ true
-      by (Some row) there b is = or-right (e.row == old) (has_row es old) (there is)
-      by None there true is = or-left (e.row == old) (has_row es old) (eq-eqb e.row old (cc))
-      by None there false is = absurd (cc)
-
-  candidate-there : (busy : Bool) (es : List (Entry n)) (line old : ℕ) → candidate busy es line ≡ Some old → has_row es old ≡ true
-  candidate-there busy [] line old is = absurd (cc)
-  candidate-there busy (e ∷ es) line old is = by (newest_row es line) (newest-there es line old) _ is
-    where
-      by : (found : Option ℕ) → (found ≡ Some old → has_row es old ≡ true) → (b : Bool) → or_this found (if b then Some e.row else None) ≡ Some old → (e.row == old || has_row es old) ≡ true
-      by (Some row) there b is = or-right (e.row == old) (has_row es old) (there is)
-      by None there true is = or-left (e.row == old) (has_row es old) (eq-eqb e.row old (cc))
-      by None there false is = absurd (cc)
+      by true is rest = or_none (row == old) _ h (subst (λ (r : ℕ). has_row es r ≡ false) (eqb-true e.row old is) a.0)
+      by false is rest = or_none (e.row == old) _ is rest
 
   new-merged : (old row : ℕ) (bytes : List ℕ) (given : List Bool) (es : List (Entry n)) → has_row es old ≡ true → has_row (merged old row bytes given es) row ≡ true
   new-merged old row bytes given [] there = absurd (false≢true there)
@@ -106,8 +65,8 @@ module _ {n : ℕ} where
     where
       by : (b : Bool) → (has_row es old ≡ true → has_row (merged old row bytes given es) row ≡ true) → (b || has_row es old) ≡ true
           → has_row (if b then laid_on row bytes given e ∷ es else e ∷ merged old row bytes given es) row ≡ true
-      by true rest there = or-left (row == row) (has_row es row) (eq-eqb row row refl)
-      by false rest there = or-right (e.row == row) (has_row (merged old row bytes given es) row) (rest there)
+      by true rest there = or_first (row == row) (has_row es row) (eq-eqb row row refl)
+      by false rest there = or_back (e.row == row) (has_row (merged old row bytes given es) row) (rest there)
 
   -- a row of the queue then is one of before, or the new one
   old-or-new : (before after : List (Entry n)) (row r : ℕ) → (has_row before r ≡ false → (row == r) ≡ false → has_row after r ≡ false) → has_row after r ≡ true

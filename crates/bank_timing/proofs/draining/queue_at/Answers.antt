@@ -1,10 +1,11 @@
 use Rattle.std.proofs.Common.{arith}
 use Rattle.bank_timing.specs.Extending.{IsOpen}
-use Rattle.bank_timing.proofs.Queued.{entry_small, outcome_small, opened, not-past}
+use Rattle.bank_timing.proofs.Sizes.{entry_fits, outcome_small}
+use Rattle.bank_timing.proofs.Queued.{opened, not-past}
 use Rattle.bank_timing.proofs.draining.queue_at.Goals as goal
 
 pub at-requires : goal.at-requires
-at-requires g c = (omega arith, entry_small g.row.B c.requires.few)
+at-requires g c = (omega arith, entry_fits g.row.B c.requires.few)
 
 pub set-requires : goal.set-requires
 set-requires g c =
