@@ -18,8 +18,8 @@ use Rattle.clock_laws.proofs.Extending.{both_added_law}
 use Rattle.module_laws.specs.Asking.{Asked, AreAsked, IsAsked}
 use Rattle.bank_timing.specs.Extending.{Extends, IsOpen, IsQuiet, EndsAction, outcome_in}
 use Rattle.bank_laws.specs.Ticks.{ends_action}
+use Rattle.clock_laws.proofs.Deciding.{or_none, or_left, or_right}
 use Rattle.pcm_module.specs.Stepping.{IsStep}
-use Rattle.pcm_module.proofs.Standing.{or_none, or_left, or_right}
 use Rattle.pcm_module.proofs.Moving.{untouched, open_kept, outcome_at_row}
 
 module _ {n m : ℕ} where

@@ -16,10 +16,10 @@ use Rattle.clock_laws.specs.State.{ClockState}
 use Rattle.clock_laws.specs.Standing.{arrives_with}
 use Rattle.module_laws.specs.Asking.{Asked, asked_in, asked_of}
 use Rattle.bank_timing.specs.Extending.{outcome_in}
+use Rattle.clock_laws.proofs.Deciding.{or_none}
 use Rattle.pcm_module.specs.Stepping.{IsAt, IsStep}
 use Rattle.pcm_module.specs.Replaying.{BankReplays, RowsFall, outcome_so_far}
 use Rattle.pcm_module.proofs.Naming.{is_numbered, names, not_named, above_all, rows_of_bank_all, All-both, and_off}
-use Rattle.pcm_module.proofs.Standing.{or_none}
 use Rattle.pcm_module.proofs.Logging.{AreOff}
 use Rattle.pcm_module.proofs.Steps.{own_replays, other_replays}
 

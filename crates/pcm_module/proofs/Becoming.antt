@@ -18,13 +18,11 @@ use Rattle.bank_model.specs.Told.{tick_by, tick_of_row}
 use Rattle.bank_laws.specs.Outcomes.{ended}
 use Rattle.clock_laws.specs.Standing.{is_arrival_of, arrives_with}
 use Rattle.module_laws.specs.Asking.{Asked, asked_in, asked_of, AreAsked, IsAsked}
+use Rattle.clock_laws.proofs.Deciding.{or_none, or_back}
+use Rattle.clock_laws.proofs.Absent.{queue-lacks}
 use Rattle.pcm_module.specs.Replaying.{RowsFall}
-use Rattle.pcm_module.proofs.Standing.{stands_not, queue-lacks, or_none}
+use Rattle.pcm_module.proofs.Standing.{stands_not}
 use Rattle.pcm_module.proofs.Naming.{names, not_named, is_numbered, rows_of_bank_all, and_off, All-both}
-
-or_also : (a b : Bool) → b ≡ true → (a || b) ≡ true
-or_also true b h = refl
-or_also false b h = h
 
 module _ {n : ℕ} where
   pub ended_set : (tick : ℕ) (o : Outcome n) → o ≢ out.Unset → ended tick o ≡ o
@@ -94,7 +92,7 @@ module _ {n m : ℕ} (shape : BankShape) where
       by : (asks : Asks n) → Becomes xs c asks → BecomesBy xs x.happens x.tick c asks
       by (Reads line) was = lacks_step xs x.happens c.row off was
       by (Writes line bytes given) was =
-          (tick_off x.happens x.tick (tick_of_row c.row xs) c.row off ∙ was.0, or_also (is_arrival_of x.happens c.row) (arrives_with xs c.row) was.1)
+          (tick_off x.happens x.tick (tick_of_row c.row xs) c.row off ∙ was.0, or_back (is_arrival_of x.happens c.row) (arrives_with xs c.row) was.1)
       by Cuts was = tt
 
   -- a write that has just arrived

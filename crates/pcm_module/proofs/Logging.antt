@@ -12,6 +12,7 @@ use Rattle.bank_model.specs.Adding.{Adds, senses_of}
 use Rattle.bank_laws.specs.Laws.{log_of}
 use Rattle.clock_laws.specs.State.{ClockState}
 use Rattle.clock_laws.specs.Leads.{Leads}
+use Rattle.clock_laws.proofs.Deciding.{both, both_left, both_right}
 use Rattle.log_laws.proofs.Within.{within_law}
 use Rattle.pcm_module.specs.Replaying.{IsLogged}
 
@@ -23,18 +24,6 @@ IsIn shape line = (shape.base ≤ line) × (line < shape.base + lines_in shape)
 abbrev pub AreOff : BankShape → BankShape → Type 0
 AreOff shape other = (line : ℕ) → IsIn other line → (line < shape.base) ⊎ (shape.base + lines_in shape ≤ line)
 
-and_both : (a b : Bool) → a ≡ true → b ≡ true → (a && b) ≡ true
-and_both true b h k = k
-and_both false b h k = h
-
-and_first : (a b : Bool) → (a && b) ≡ true → a ≡ true
-and_first true b h = refl
-and_first false b h = h
-
-and_second : (a b : Bool) → (a && b) ≡ true → b ≡ true
-and_second true b h = h
-and_second false b h = cc
-
 module _ {n m : ℕ} (shape : BankShape) where
   -- a sense of a line of the bank
   abbrev pub IsOwnSense : Sense n m → Type 0
@@ -45,7 +34,7 @@ module _ {n m : ℕ} (shape : BankShape) where
   log_own (s ∷ senses) own =
       let here : IsIn shape s.line = All-head IsOwnSense s senses own in
       ap (λ (b : Bool). cond b (s ∷ log_of shape senses) (log_of shape senses))
-      (and_both (nat_le shape.base s.line) _ (le-leb shape.base s.line here.0) (lt-ltb s.line (shape.base + lines_in shape) here.1))
+      (both (nat_le shape.base s.line) _ (le-leb shape.base s.line here.0) (lt-ltb s.line (shape.base + lines_in shape) here.1))
       ∙ ap (λ (rest : List (Sense n m)). s ∷ rest) (log_own senses (All-tail IsOwnSense s senses own))
 
   log_off : (other : BankShape) → AreOff shape other → (senses : List (Sense n m)) → All IsOwnSense senses → log_of other senses ≡ []
@@ -57,8 +46,8 @@ module _ {n m : ℕ} (shape : BankShape) where
           → cond b (s ∷ log_of other senses) (log_of other senses) ≡ []
       by here false is rest = rest
       by here true is rest =
-          let low : other.base ≤ s.line = leb-true other.base s.line (and_first (nat_le other.base s.line) _ is) in
-          let high : s.line + 1 ≤ other.base + lines_in other = omega (arith, leb-true _ _ (and_second (nat_le other.base s.line) _ is)) in
+          let low : other.base ≤ s.line = leb-true other.base s.line (both_left (nat_le other.base s.line) _ is) in
+          let high : s.line + 1 ≤ other.base + lines_in other = omega (arith, leb-true _ _ (both_right (nat_le other.base s.line) _ is)) in
           elim (off s.line (low, omega arith)) [ inl below ↦ absurd (omega (arith, here.0)) | inr above ↦ absurd (omega (arith, here.1)) ]
 
 senses-append : {n m : ℕ} (added xs : List (Timed n m)) → senses_of (added ++ xs) ≡ senses_of xs ++ senses_of added

@@ -1,5 +1,5 @@
 -- What a row that arrives at one bank leaves of that bank and of the others.
-use Rattle.std.proofs.Common.{◌≡◌, ◌⊎◌, ℕ, ◌-◌, ◌||◌, Bool, true, false, List, [], ◌∷◌, ◌++◌, length, Some, refl, sym, ap, subst, ◌∙◌, inl, inr, arith}
+use Rattle.std.proofs.Common.{◌≡◌, ◌⊎◌, ℕ, ◌-◌, Bool, true, false, List, [], ◌∷◌, ◌++◌, length, Some, refl, sym, ap, subst, ◌∙◌, inl, inr, arith}
 use Rattle.std.specs.Prelude.{unwrap_or}
 use Rattle.circular_buffer.proofs.Places.{slice_get-some}
 use Rattle.pcm_cells.specs.Device.{ArrayState}
@@ -19,7 +19,8 @@ use Rattle.clock_laws.proofs.Recording.{whole_outcome_law}
 use Rattle.clock_laws.proofs.Others.{other_rows_law}
 use Rattle.module_laws.specs.Asking.{Asked, AreAsked}
 use Rattle.bank_timing.specs.Extending.{Extends, IsOpen, outcome_in}
-use Rattle.pcm_module.proofs.Standing.{StandsNot, stands_not, or_left, or_right}
+use Rattle.clock_laws.proofs.Deciding.{or_left, or_right, or_none}
+use Rattle.pcm_module.proofs.Standing.{StandsNot, stands_not}
 use Rattle.pcm_module.proofs.Naming.{names, not_named}
 
 module _ {n m : ℕ} where
@@ -27,11 +28,7 @@ module _ {n m : ℕ} where
   off_both row [] xs off = (refl, off)
   off_both row (x ∷ added) xs off =
       let rest = off_both row added xs (or_right (is_arrival_of x.happens row) _ off) in
-      (by (is_arrival_of x.happens row) _ (or_left (is_arrival_of x.happens row) _ off) rest.0, rest.1)
-    where
-      by : (a b : Bool) → a ≡ false → b ≡ false → (a || b) ≡ false
-      by true b h k = cc
-      by false b h k = k
+      (or_none (is_arrival_of x.happens row) _ (or_left (is_arrival_of x.happens row) _ off) rest.0, rest.1)
 
   -- the outcome of a row depends on its own alone
   pub outcome_at_row : (shape : BankShape) (added xs : List (Timed n m)) (before other : ℕ → Outcome n) (row : ℕ) → before row ≡ other row

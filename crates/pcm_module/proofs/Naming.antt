@@ -10,8 +10,8 @@ use Rattle.bank_model.specs.Events.{Write, Read, Serve, Begin, Iterate, Cut}
 use Rattle.bank_model.specs.Timing.{Happens, Core, Timed}
 use Rattle.module_laws.specs.Asking.{Asked, asked_in, asked_of, AreAsked, IsAsked}
 use Rattle.clock_laws.specs.Standing.{is_arrival_of, arrives_with}
+use Rattle.clock_laws.proofs.Deciding.{or_left, or_right, or_none}
 use Rattle.pcm_module.specs.Replaying.{RowsFall}
-use Rattle.pcm_module.proofs.Standing.{or_left, or_right, or_none}
 
 -- whether a row with this operation has a number in a bank's history: a cut has none there
 abbrev pub is_numbered : {n : ℕ} → Asks n → Bool

@@ -1,96 +1,15 @@
 -- A row that didn't arrive in a history stands nowhere in the bank.
-use Rattle.std.proofs.Common.{◌≡◌, ℕ, ◌==◌, ◌||◌, Bool, true, false, if◌then◌else◌, List, [], ◌∷◌, ◌++◌, map, drop, Option, Some, None, refl, ap, ◌∙◌}
-use Rattle.masked_bytes.specs.declared.entry.Entry.{Entry}
-use Rattle.masked_bytes.specs.Entries.{laid_on, merged, has_row}
+use Rattle.std.proofs.Common.{◌≡◌, ℕ, false, List, [], ◌∷◌, map, refl, ◌∙◌}
+use Rattle.masked_bytes.specs.Entries.{has_row}
 use Rattle.bank_shape.specs.declared.BankShape.{BankShape}
-use Rattle.bank_model.specs.declared.answer.WriteAnswer.TheVariants as wrote
-use Rattle.bank_model.specs.declared.answer.ReadAnswer.TheVariants as came
-use Rattle.bank_model.specs.declared.answer.Step.TheVariants as did
-use Rattle.bank_model.specs.Events.{Event, Write, Read, Serve, Begin, Iterate, Cut, newest}
-use Rattle.bank_model.specs.History.{Awaited, queue, waits, begun, due_after}
+use Rattle.bank_model.specs.History.{queue, waits}
 use Rattle.bank_model.specs.Timing.{Happens, Core, Timed, core, core_of}
 use Rattle.bank_laws.specs.Standing.{has_wait}
 use Rattle.bank_invariant.specs.Holds.{waiting_of}
 use Rattle.clock_laws.specs.Standing.{has_waiting, is_arrival_of, arrives_with}
-
-same_wait : (n : ℕ) (ws : List Awaited) (row : ℕ) → has_waiting (map (waiting_of {n = n}) ws) row ≡ has_wait ws row
-same_wait n [] row = refl
-same_wait n (w ∷ ws) row = ap (λ b. (w.row == row) || b) (same_wait n ws row)
-
-pub or_left : (a b : Bool) → (a || b) ≡ false → a ≡ false
-or_left true b h = cc
-or_left false b h = refl
-
-pub or_right : (a b : Bool) → (a || b) ≡ false → b ≡ false
-or_right true b h = cc
-or_right false b h = h
-
-pub or_none : (a b : Bool) → a ≡ false → b ≡ false → (a || b) ≡ false
-or_none true b h k = cc
-or_none false b h k = k
-
-no_wait-push : (ws : List Awaited) (w : Awaited) (row : ℕ) → has_wait ws row ≡ false → (w.row == row) ≡ false → has_wait (ws ++ w ∷ []) row ≡ false
-no_wait-push [] w row none off = or_none (w.row == row) false off refl
-no_wait-push (v ∷ ws) w row none off = or_none (v.row == row) _ (or_left (v.row == row) _ none) (no_wait-push ws w row (or_right (v.row == row) _ none) off)
-
-no_wait-drop : (ws : List Awaited) (row : ℕ) → has_wait ws row ≡ false → has_wait (drop 1 ws) row ≡ false
-no_wait-drop [] row none = none
-no_wait-drop (w ∷ ws) row none = or_right (w.row == row) _ none
-
-module _ {n : ℕ} where
-  lacks-push : (es : List (Entry n)) (x : Entry n) (row : ℕ) → has_row es row ≡ false → (x.row == row) ≡ false → has_row (es ++ x ∷ []) row ≡ false
-  lacks-push [] x row none off = or_none (x.row == row) false off refl
-  lacks-push (e ∷ es) x row none off = or_none (e.row == row) _ (or_left (e.row == row) _ none) (lacks-push es x row (or_right (e.row == row) _ none) off)
-
-  lacks-drop : (es : List (Entry n)) (row : ℕ) → has_row es row ≡ false → has_row (drop 1 es) row ≡ false
-  lacks-drop [] row none = none
-  lacks-drop (e ∷ es) row none = or_right (e.row == row) _ none
-
-  lacks-begun : (due : Option ℕ) (newest_of : ℕ → List ℕ) (es : List (Entry n)) (row : ℕ) → has_row es row ≡ false → has_row (begun due newest_of es) row ≡ false
-  lacks-begun (Some region) newest_of es row none = none
-  lacks-begun None newest_of [] row none = none
-  lacks-begun None newest_of (e ∷ es) row none = none
-
-  lacks-merged : (old at : ℕ) (bytes : List ℕ) (given : List Bool) (es : List (Entry n)) (row : ℕ) → has_row es row ≡ false → (at == row) ≡ false → has_row (merged old at bytes given es) row ≡ false
-  lacks-merged old at bytes given [] row none off = refl
-  lacks-merged old at bytes given (e ∷ es) row none off = by (e.row == old) (lacks-merged old at bytes given es row (or_right (e.row == row) _ none) off)
-    where
-      by : (b : Bool) → has_row (merged old at bytes given es) row ≡ false → has_row (if b then laid_on at bytes given e ∷ es else e ∷ merged old at bytes given es) row ≡ false
-      by true rest = or_none (at == row) _ off (or_right (e.row == row) _ none)
-      by false rest = or_none (e.row == row) _ (or_left (e.row == row) _ none) rest
-
-  -- a row comes into the queue by its own write alone, and begins to wait by its own read alone
-  module _ (shape : BankShape) (h : List (Event n)) (row : ℕ) where
-    module _ (none : has_row (queue shape h) row ≡ false) where
-      pub queue-lacks : (event : Event n) → is_arrival_of (Core event) row ≡ false → has_row (queue shape (event ∷ h)) row ≡ false
-      queue-lacks (Write at line bytes given wrote.Accepted) off = lacks-push (queue shape h) _ row none off
-      queue-lacks (Write at line bytes given (wrote.Merged old)) off = lacks-merged old at bytes given (queue shape h) row none off
-      queue-lacks (Write at line bytes given wrote.Full) off = none
-      queue-lacks (Write at line bytes given wrote.Exhausted) off = none
-      queue-lacks (Read at line answer) off = none
-      queue-lacks (Serve answer) off = none
-      queue-lacks (Begin (did.Stored at place)) off = lacks-drop (queue shape h) row none
-      queue-lacks (Begin did.More) off = lacks-begun (due_after shape h) (newest h) (queue shape h) row none
-      queue-lacks (Begin (did.Moved step)) off = lacks-begun (due_after shape h) (newest h) (queue shape h) row none
-      queue-lacks (Begin (did.Retired slot line)) off = lacks-begun (due_after shape h) (newest h) (queue shape h) row none
-      queue-lacks (Begin did.Exhausted) off = lacks-begun (due_after shape h) (newest h) (queue shape h) row none
-      queue-lacks (Iterate (did.Stored at place)) off = lacks-drop (queue shape h) row none
-      queue-lacks (Iterate did.More) off = none
-      queue-lacks (Iterate (did.Moved step)) off = none
-      queue-lacks (Iterate (did.Retired slot line)) off = none
-      queue-lacks (Iterate did.Exhausted) off = none
-      queue-lacks (Cut tearing) off = none
-
-    module _ (waits_not : has_wait (waits shape h) row ≡ false) where
-      waits-lack : (event : Event n) → is_arrival_of (Core event) row ≡ false → has_wait (waits shape (event ∷ h)) row ≡ false
-      waits-lack (Write at line bytes given answer) off = waits_not
-      waits-lack (Read at line came.Waiting) off = no_wait-push (waits shape h) _ row waits_not off
-      waits-lack (Read at line came.Busy) off = waits_not
-      waits-lack (Read at line (came.Forwarded bytes)) off = waits_not
-      waits-lack (Serve answer) off = no_wait-drop (waits shape h) row waits_not
-      waits-lack (Begin answer) off = waits_not
-      waits-lack (Iterate answer) off = waits_not
-      waits-lack (Cut tearing) off = refl
+use Rattle.clock_laws.proofs.Deciding.{or_left, or_right}
+use Rattle.clock_laws.proofs.Absent.{queue-lacks, waits-lack}
+use Rattle.clock_laws.proofs.Others.{same_wait}
 
 module _ {n m : ℕ} (shape : BankShape) (row : ℕ) where
   -- a row that neither stands in the queue nor waits after these events
