@@ -4,8 +4,8 @@ use Rattle.bank_model.specs.declared.clock.Doing.TheVariants.{Iterating}
 use Rattle.bank_model.specs.Timing.{Timed, is_doing}
 use Rattle.clock_laws.specs.Cutting.{cut}
 use Rattle.module_laws.specs.Asking.{Asked}
+use Rattle.bank_timing.proofs.Sizes.{timed_fits, row_fits}
 use Rattle.pcm_module.proofs.Arriving.{step_on}
-use Rattle.pcm_module.proofs.Sizes.{timed_fits, row_fits}
 use Rattle.pcm_module.proofs.bank.cut_at.Goals as goal
 
 pub power_cut-requires : goal.power_cut-requires

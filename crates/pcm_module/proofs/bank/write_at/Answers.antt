@@ -8,8 +8,8 @@ use Rattle.bank_core.specs.Steps.{write_from}
 use Rattle.power_recovery.specs.Slots.{bank_lines}
 use Rattle.clock_laws.specs.Arriving.{arrival}
 use Rattle.module_laws.specs.Asking.{Asked}
+use Rattle.bank_timing.proofs.Sizes.{timed_fits, row_fits, bytes_fits}
 use Rattle.pcm_module.proofs.Arriving.{open_on, step_on}
-use Rattle.pcm_module.proofs.Sizes.{timed_fits, row_fits, bytes_fit}
 use Rattle.pcm_module.proofs.bank.write_at.Goals as goal
 
 pub arrive_write-requires : goal.arrive_write-requires
@@ -21,9 +21,9 @@ arrive_write-requires g c =
     let still = open_on c.requires.led.0 run.0 c.args.timed.now c.advance.new.self c.advance.new.self before after after c.args.results.now c.advance.new.results c.advance.new.results c.requires.led.1 run.2 run.1 c.args.row c.requires.rises c.requires.fresh in (
       timed_fits g.row.B g.row.M g.row.E c.requires.layout,
       (
-        bytes_fit g.row.B g.row.M g.row.E c.requires.layout,
+        bytes_fits g.row.B g.row.M g.row.E c.requires.layout,
         (
-          bytes_fit g.row.B g.row.M g.row.E c.requires.layout,
+          bytes_fits g.row.B g.row.M g.row.E c.requires.layout,
           (
             row_fits,
             (

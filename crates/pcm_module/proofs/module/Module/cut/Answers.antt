@@ -1,10 +1,10 @@
 use Rattle.std.proofs.Common.{◌≡◌, ◌+◌, ◌++◌, ◌<◌, ◌≤◌, length, Some, refl, sym, ap, subst}
 use Rattle.std.specs.Prelude.{slice_get}
 use Rattle.row_laws.specs.declared.Asks.TheVariants.{Cuts}
+use Rattle.bank_timing.proofs.Sizes.{timed_fits, row_fits, outcome_fits}
 use Rattle.pcm_module.specs.State.{ModuleState}
 use Rattle.pcm_module.specs.Taking.{Takes}
 use Rattle.pcm_module.proofs.Serving.{get_is, module_kept, module_at, at_above}
-use Rattle.pcm_module.proofs.Sizes.{timed_fits, row_fits, outcome_fits}
 use Rattle.pcm_module.proofs.Cuts.{cut_none, cut_replays, cut_one, cut_every, all_reached, in_reach, in_list}
 use Rattle.pcm_module.proofs.module.Module.cut.Goals as goal
 

@@ -5,7 +5,7 @@ use Rattle.pcm_module.specs.State.{ModuleState, bank_at}
 use Rattle.pcm_module.specs.Draining.{AreDrained}
 use Rattle.pcm_module.proofs.Views.{state_of}
 use Rattle.pcm_module.proofs.Draining.{may_finish, drain_every, drained_ends, module_drained}
-use Rattle.pcm_module.proofs.Sizes.{timed_fits, row_fits}
+use Rattle.bank_timing.proofs.Sizes.{timed_fits, row_fits}
 use Rattle.pcm_module.proofs.module.Module.finish.Given.{Over}
 use Rattle.pcm_module.proofs.module.Module.finish.Goals.{After-drain_all}
 use Rattle.pcm_module.proofs.module.Module.finish.Goals as goal

@@ -1,6 +1,6 @@
 use Rattle.pcm_module.proofs.Views.{state_of}
 use Rattle.pcm_module.proofs.Serving.{ComesTo, comes, bank_replays, bank_forward, bank_has, bank_rises, taken_kept, read_taken}
-use Rattle.pcm_module.proofs.Sizes.{timed_fits, row_fits}
+use Rattle.bank_timing.proofs.Sizes.{timed_fits, row_fits}
 use Rattle.pcm_module.proofs.module.Module.read.Given.{Over}
 use Rattle.pcm_module.proofs.module.Module.read.Goals.{After-index_mut-timed}
 use Rattle.pcm_module.proofs.module.Module.read.Goals as goal
