@@ -1,9 +1,10 @@
 -- Which array lines an event senses and pulses, and what the cells that it sensed are read as.
-use Rattle.std.specs.Prelude.{◌≡◌, ℕ, ◌+◌, ◌*◌, ◌==◌, Bool, true, false, if◌then◌else◌, List, [], ◌∷◌, ◌++◌, Option, Some, None, IsSomeAnd}
+use Rattle.std.specs.Prelude.{◌≡◌, ℕ, ◌==◌, Bool, true, false, if◌then◌else◌, List, [], ◌∷◌, ◌++◌, Option, Some, None, IsSomeAnd}
 use Rattle.pcm_cells.specs.declared.array.Sense.{Sense}
 use Rattle.pcm_cells.specs.declared.row.Cells.{Cells}
 use Rattle.pcm_cells.specs.Device.{counted}
 use Rattle.ecp_line.specs.Reading.{decode}
+pub use Rattle.ecp_line.specs.Steps.{most_steps}
 use Rattle.masked_bytes.specs.Masked.{laid}
 use Rattle.bank_shape.specs.declared.BankShape.{BankShape}
 use Rattle.bank_model.specs.declared.answer.Step.TheVariants as did
@@ -16,10 +17,6 @@ use Rattle.bank_model.specs.Timing.{Happens, Core, Timed, core}
 abbrev pub is_at : Option ℕ → ℕ → Bool
 is_at None line = false
 is_at (Some at) line = at == line
-
--- how many iterations a line write with e entries takes at most
-abbrev pub most_steps : ℕ → ℕ
-most_steps e = 8 * (3 * e + 2)
 
 -- how often a line was pulsed or torn, up to the greatest u64
 abbrev pub pulses_of : {n m : ℕ} → List (Timed n m) → ℕ → ℕ

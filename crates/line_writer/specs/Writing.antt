@@ -6,6 +6,7 @@ use Rattle.program_verify.specs.declared.prog.Prog.{Prog}
 use Rattle.program_verify.specs.Programming.{Programs, IsGoing, is_wrong}
 use Rattle.ecp_line.specs.Layout.{active, source_below, Prefix, IsLowest}
 use Rattle.ecp_line.specs.Reading.{decode}
+pub use Rattle.ecp_line.specs.Steps.{most_steps}
 use Rattle.line_writer.specs.Phases.{IsCleared, IsClearing, IsFilling, IsPointing, IsSwitching, IsSwitched, IsReady, IsReadAs, IsStuckActivity}
 use Rattle.line_writer.specs.declared.writer.LineWriter.{LineWriter}
 use Rattle.line_writer.specs.declared.writer.Phase.{Phase}
@@ -107,10 +108,6 @@ phases_left E Switch w = 3 * (E - w) - 2
 -- the greatest number of steps that a write has left
 abbrev pub steps_left : {B M E : ℕ} → LineWriter B M E → ℕ
 steps_left {E = E} writer = (8 - writer.prog.rounds) + 8 * phases_left E writer.phase writer.entries
-
--- the greatest number of steps of a write
-abbrev pub most_steps : ℕ → ℕ
-most_steps E = 8 * (3 * E + 2)
 
 -- a write that has just begun has a step left, or is done
 abbrev pub HasBegun : Progress → Type 0
