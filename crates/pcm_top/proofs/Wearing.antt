@@ -66,7 +66,7 @@ module _ {n m : ℕ} (raw : RawShape) (seed : ℕ) (ends : ℕ → BankEnd) (arr
   worn-whole i rows all had = record { one_each = had.size ∙ all; each = λ line below. had.each line (omega arith) }
 
   -- the bank of an array line
-  bank-exists : IsShape raw → (line : ℕ) → line < raw.banks * array_lines_of (module_of raw) → bank_with raw seed line < raw.banks
+  bank-exists : IsShape raw → (line : ℕ) → line < raw.banks * array_lines_of (module_of raw) → bank_with raw line < raw.banks
   bank-exists shape line below =
       let slots : 1 ≤ raw.regions * (raw.lines + 1) = one-le-mul shape.some_regions (omega arith) in
       (div-lt_iff_lt-mul {k = array_lines_of (module_of raw)} {x = line} {y = raw.banks} (omega arith)).1 below
@@ -75,7 +75,7 @@ module _ {n m : ℕ} (raw : RawShape) (seed : ℕ) (ends : ℕ → BankEnd) (arr
   a-row : IsShape raw → HaveRoles raw seed ends → (line : ℕ) → line < raw.banks * array_lines_of (module_of raw)
       → (row : ℕ × ℕ × Role) × IsWearRow raw seed ends array line row
   a-row shape roles line below =
-      let bank = bank_with raw seed line in
+      let bank = bank_with raw line in
       let exists = bank-exists shape line below in
       let one = roles bank line exists in
       ((bank, (array.line line).pulses, one.role), record { bank = refl; pulses = refl; role = one.is })
@@ -120,8 +120,8 @@ module _ {n m e : ℕ} (pcm : ModuleState n m e) (array : ArrayState n m) where
   }
 
   pub reported-more : (i : ℕ) (old new : Reserved) (before was now : Option (List ℕ)) (bank pulses : ℕ) (role : Role)
-      → IsReported pcm array i old before was → bank ≡ bank_with pcm.shape pcm.seed i → pulses ≡ (array.line i).pulses
-      → ((ends : ℕ → BankEnd) → AreEndsOf pcm ends → IsRole (bank_shape (module_of pcm.shape) (bank_with pcm.shape pcm.seed i)) (line_named pcm.shape pcm.seed (bank_with pcm.shape pcm.seed i)) (ends (bank_with pcm.shape pcm.seed i)) i role)
+      → IsReported pcm array i old before was → bank ≡ bank_with pcm.shape i → pulses ≡ (array.line i).pulses
+      → ((ends : ℕ → BankEnd) → AreEndsOf pcm ends → IsRole (bank_shape (module_of pcm.shape) (bank_with pcm.shape i)) (line_named pcm.shape pcm.seed (bank_with pcm.shape i)) (ends (bank_with pcm.shape i)) i role)
       → ((before : Option (List ℕ)) (rows : List (ℕ × ℕ × Role)) → length rows ≡ i → Printed before was old (wear_text rows) → Printed before now new (wear_text (rows ++ (bank, pulses, role) ∷ [])))
       → IsReported pcm array (i + 1) new before now
   reported-more i old new before was now bank pulses role had of counted has prints = record {

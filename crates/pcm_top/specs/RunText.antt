@@ -18,12 +18,12 @@ use Rattle.pcm_module.specs.Roles.{spares_used}
 use Rattle.command_line.specs.declared.job.Print.{Print}
 use Rattle.command_line.specs.declared.job.Print.TheVariants.{Results, Summary, Wear}
 
+-- the bank of an array line of a module of these sizes
+abbrev pub bank_with : RawShape → ℕ → ℕ
+bank_with raw line = line / array_lines_of (module_of raw)
+
 -- over a module of these sizes, whose randomiser has this seed
 module _ (raw : RawShape) (seed : ℕ) where
-  -- the bank of an array line
-  abbrev pub bank_with : ℕ → ℕ
-  bank_with line = line / array_lines_of (module_of raw)
-
   -- by these ends each array line has one role
   abbrev pub HaveRoles : (ℕ → BankEnd) → Type 0
   HaveRoles ends = (bank at : ℕ) → bank < raw.banks → HasOneRole (bank_shape (module_of raw) bank) (line_named raw seed bank) (ends bank) at
@@ -31,9 +31,9 @@ module _ (raw : RawShape) (seed : ℕ) where
 module _ {n m : ℕ} (raw : RawShape) (seed : ℕ) where
   -- what the wear report says of an array line: its bank, its pulses, and the role that the end of its bank gives it
   pub record IsWearRow (ends : ℕ → BankEnd) (array : ArrayState n m) (line : ℕ) (row : ℕ × ℕ × Role) : Type 0 where
-    pub bank : row.0 ≡ bank_with raw seed line
+    pub bank : row.0 ≡ bank_with raw line
     pub pulses : row.1 ≡ (array.line line).pulses
-    pub role : IsRole (bank_shape (module_of raw) (bank_with raw seed line)) (line_named raw seed (bank_with raw seed line)) (ends (bank_with raw seed line)) line row.2
+    pub role : IsRole (bank_shape (module_of raw) (bank_with raw line)) (line_named raw seed (bank_with raw line)) (ends (bank_with raw line)) line row.2
 
   -- it has one row for each
   pub record IsWearReport (ends : ℕ → BankEnd) (array : ArrayState n m) (rows : List (ℕ × ℕ × Role)) : Type 0 where

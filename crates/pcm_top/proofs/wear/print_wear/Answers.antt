@@ -27,7 +27,7 @@ loop-line-preserved g c =
     let pcm = c.args.pcm.now in
     let lines : c.array_lines.result / c.banks.result ≡ array_lines_of (module_of pcm.shape) =
     lines-of-bank c.banks.result (array_lines_of (module_of pcm.shape)) c.array_lines.result (omega (arith, c.banks.ensures.number, c.shape-shape.ensures.in_range.some_banks)) cc in
-    let bank : c.loop-line.line / (c.array_lines.result / c.banks.result) ≡ bank_with pcm.shape pcm.seed c.loop-line.line = ap (λ l. c.loop-line.line / l) lines in (
+    let bank : c.loop-line.line / (c.array_lines.result / c.banks.result) ≡ bank_with pcm.shape c.loop-line.line = ap (λ l. c.loop-line.line / l) lines in (
       reported-more pcm (g.A.CellArray.state c.args.array.now) c.loop-line.line c.loop-line.text c.print_wear_row.new.text (g.K.Sink.written c.args.out.now) (g.K.Sink.written c.loop-line.out)
           (g.K.Sink.written c.print_wear_row.new.out) (c.loop-line.line / (c.array_lines.result / c.banks.result)) c.pulses.result c.role-role.result c.loop-line.invariant.0 bank c.pulses.ensures c.role-role.ensures
           c.in_ok-print_wear_row.ensures.ok,
