@@ -4,12 +4,12 @@ use Rattle.std.specs.Int.{is_power_of_two}
 use Rattle.std.specs.Str.{bytes_eq}
 use Rattle.clap.specs.Words.{App, Kinds, Row, Text, fault_of, first_of, subcommand_of}
 use Rattle.pcm_cells.specs.Device.{IsWear}
+use Rattle.trace_gen.specs.Generated.{IsMix}
 use Rattle.module_shape.specs.Limits.{IsShape}
 use Rattle.command_line.specs.Table.{pcm_app}
 use Rattle.command_line.specs.Options.{with_some, number_option, line_of, shape_of, seed_of, wear_of, mix_of, print_of, input_of, from_of}
 use Rattle.command_line.specs.declared.job.Job.{Job}
 use Rattle.command_line.specs.declared.job.Job.TheVariants.{Run, Gen, Map, Moves}
-use Rattle.command_line.specs.declared.job.Mix.{Mix}
 use Rattle.command_line.specs.declared.job.RunJob.{RunJob}
 use Rattle.command_line.specs.declared.job.GenJob.{GenJob}
 use Rattle.command_line.specs.declared.job.MapJob.{MapJob}
@@ -90,16 +90,7 @@ job_at app words = answer_of (faults_at app words) (job_met (command_at app word
 unfoldable pub job_of : List Text → Result Job Refusal
 job_of words = job_at pcm_app (codes "pcm" ∷ words)
 
--- the numbers of a generated trace are in range
-pub record IsMix (mix : Mix) : Type 0 where
-  pub some_rows : 1 ≤ mix.rows
-  pub few_rows : mix.rows ≤ 400000
-  pub percent : mix.write_percent ≤ 100
-  pub few_cuts : mix.cuts ≤ mix.rows
-  pub small_step : mix.step ≤ 65535
-  pub few_hot : mix.hot ≤ 65536
-
--- those of the rows that a run draws are
+-- the numbers of the rows that a run draws are in range
 abbrev pub IsInput : Input → Type 0
 IsInput Source = Unit {0}
 IsInput (Drawn mix) = IsMix mix

@@ -3,6 +3,7 @@ use Rattle.std.specs.Prelude.{ℕ, nat_le, if◌then◌else◌, List, codes, Opt
 use Rattle.std.specs.Str.{bytes_eq}
 use Rattle.clap.specs.Words.{Row, Text, first_of}
 use Rattle.trace_reader.specs.Number.{number_of}
+use Rattle.trace_gen.specs.declared.mix.Mix.{Mix}
 use Rattle.pcm_cells.specs.declared.array.Wear.{Wear}
 use Rattle.pace.specs.declared.Policy.{Policy}
 use Rattle.pace.specs.declared.Policy.TheVariants as policy
@@ -15,7 +16,6 @@ use Rattle.command_line.specs.declared.job.Print.{Print}
 use Rattle.command_line.specs.declared.job.Print.TheVariants as print
 use Rattle.command_line.specs.declared.job.Input.{Input}
 use Rattle.command_line.specs.declared.job.Input.TheVariants.{Source, Drawn}
-use Rattle.command_line.specs.declared.job.Mix.{Mix}
 
 -- the next step with a value, or none where there is none
 abbrev pub with_some : {T U : Type 0} → Option T → (T → Option U) → Option U

@@ -1,6 +1,7 @@
 // What the words ask for.
 use module_shape::Shape;
 use pcm_cells::Wear;
+use trace_gen::Mix;
 
 /// What the program is to do.
 #[derive(Clone, Copy, Drop)]
@@ -90,21 +91,6 @@ pub enum Input {
     Source,
     /// The rows that `gen` writes for the same options.
     Drawn(Mix),
-}
-
-/// What the rows of a generated trace are.
-#[derive(Clone, Copy, Debug, Drop, PartialEq, Eq)]
-pub struct Mix {
-    /// How many rows, 1 to 400,000.
-    pub rows: u32,
-    /// How many of a hundred reads and writes are writes.
-    pub write_percent: u32,
-    /// How many rows are power cuts, up to all.
-    pub cuts: u32,
-    /// By how much the tick rises at most from row to row, 0 to 65,535.
-    pub step: u32,
-    /// How many of the first lines are hot, 0 to 65,536: nine in ten reads and writes go to them. 0: none are.
-    pub hot: u32,
 }
 
 /// Why words give no job.

@@ -6,7 +6,7 @@ mod options;
 mod read;
 mod table;
 
-pub use job::{GenJob, Input, Job, LineSize, MapJob, Mix, MovesJob, Print, Refusal, RunJob};
+pub use job::{GenJob, Input, Job, LineSize, MapJob, MovesJob, Print, Refusal, RunJob};
 pub use read::read_job;
 
 #[cfg(test)]

@@ -3,13 +3,15 @@ ghost use Rattle.std.specs.Prelude.{◌≡◌, ◌≤◌, IfSome, IfOk, codes, o
 ghost use Rattle.clap.specs.Words.{found_of, first_of, rows_of};
 ghost use Rattle.module_shape.specs.Limits.{IsShape};
 ghost use Rattle.pcm_cells.specs.Device.{IsWear};
+ghost use Rattle.trace_gen.specs.Generated.{IsMix};
 ghost use Rattle.command_line.specs.Options.{number_or, number_option, size_option, policy_of, line_of, print_of, input_of, raw_of, shape_of, seed_of, wear_of, mix_of, from_of};
-ghost use Rattle.command_line.specs.Jobs.{IsMix, IsInput};
+ghost use Rattle.command_line.specs.Jobs.{IsInput};
 
-use crate::job::{Input, LineSize, Mix, Print};
+use crate::job::{Input, LineSize, Print};
 use clap::ArgMatches;
 use module_shape::{Policy, RawShape, Shape};
 use pcm_cells::Wear;
+use trace_gen::Mix;
 use trace_reader::number;
 
 // The value of an option, as text.

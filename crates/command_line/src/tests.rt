@@ -1,7 +1,8 @@
-use crate::{Input, Job, LineSize, Mix, Print, Refusal, read_job};
+use crate::{Input, Job, LineSize, Print, Refusal, read_job};
 use module_shape::Policy;
 use std::alloc::{AllocError, Global};
 use std::test::Fail;
+use trace_gen::Mix;
 
 // The job of a line of words; a want of memory is an error of the test.
 fn read(alloc: Global, line: &str) -> Result<Result<Job, Refusal>, AllocError> {

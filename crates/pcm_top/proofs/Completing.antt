@@ -26,7 +26,7 @@ use Rattle.pcm_top.specs.Rows.{rows_of}
 use Rattle.pcm_top.specs.Running.{done_by}
 use Rattle.pcm_top.specs.Laws.{CompletenessLaw}
 use Rattle.pcm_top.specs.declared.run.Done.TheVariants.{Whole}
-use Rattle.pcm_top.proofs.DrawnRuns.{drawn-mix, some-lines}
+use Rattle.pcm_top.proofs.DrawnRuns.{some-lines}
 use Rattle.pcm_top.proofs.Printable.{lines-exist, row-of-event}
 
 -- a test that no element passes
@@ -66,7 +66,7 @@ lawful-input n job Source s events generates shape is come =
     (trace_of-lawful n (total_of job.shape) come.bytes events (some-lines job shape) come.trace).0
 lawful-input n job (Drawn mix) s events generates shape is come =
     let From : List (Event n) → Type 0 = λ es. AreEventsFor (total_of job.shape) 0 es in
-    subst From (sym come.1) ((generates n job.seed (total_of job.shape) _ (some-lines job shape) shape.few_in_all (drawn-mix mix is)).lawful)
+    subst From (sym come.1) ((generates n job.seed (total_of job.shape) _ (some-lines job shape) shape.few_in_all is).lawful)
 
 pub completeness : GeneratedLaw → NoneLostLaw → RoomIsTakenLaw → NoneShortLaw → CompletenessLaw
 completeness generates lost room short n m e job s array run is =

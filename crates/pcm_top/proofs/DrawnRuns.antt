@@ -4,34 +4,24 @@ use Rattle.std.specs.Io.KnownBytes.{IsAtEnd}
 use Rattle.pcm_cells.specs.Device.{ArrayState}
 use Rattle.trace_reader.specs.declared.event.Event.{Event}
 use Rattle.trace_gen.specs.EventText.{trace_text}
-use Rattle.trace_gen.specs.Generated.{IsMix as IsDrawn, generated}
+use Rattle.trace_gen.specs.Generated.{IsMix, generated}
 use Rattle.trace_gen.specs.Laws.{GeneratedSizeLaw, GeneratedTextLaw}
+use Rattle.trace_gen.specs.declared.mix.Mix.{Mix}
 use Rattle.module_shape.specs.Limits.{IsShape, total_of}
-use Rattle.command_line.specs.Jobs.{IsInput, IsMix, IsRun}
+use Rattle.command_line.specs.Jobs.{IsInput, IsRun}
 use Rattle.command_line.specs.declared.job.RunJob.{RunJob}
-use Rattle.command_line.specs.declared.job.Mix.{Mix}
 use Rattle.command_line.specs.declared.job.Input.{Input}
 use Rattle.command_line.specs.declared.job.Input.TheVariants.{Drawn}
 use Rattle.command_line.specs.declared.job.LineSize.{LineSize}
 use Rattle.command_line.specs.declared.job.LineSize.TheVariants.{Bytes64, Bytes128}
-use Rattle.pcm_top.specs.Jobs.{bytes_in, drawn_mix}
+use Rattle.pcm_top.specs.Jobs.{bytes_in}
 use Rattle.pcm_top.specs.Reading.{ReadsTrace, SourceChange, TakesBytes, trace_room}
 use Rattle.pcm_top.specs.Inputs.{ComeFrom}
 use Rattle.pcm_top.specs.Running.{RunIsWritten, RunIsWrittenInPart, Runs, WritesRun, WritesRunInPart}
 use Rattle.pcm_top.specs.Laws.{DrawnLaw, run_of_source}
 use Rattle.pcm_top.specs.declared.run.Done.{Done}
 
--- a mix is in range as the generator takes it
-pub drawn-mix : (mix : Mix) → IsMix mix → IsDrawn (drawn_mix mix)
-drawn-mix mix is = record {
-  some_rows = is.some_rows;
-  few_rows = is.few_rows;
-  percent = is.percent;
-  few_cuts = is.few_cuts;
-  small_step = is.small_step;
-  few_hot = is.few_hot;
-}
-
+-- the mix of a run that draws its events is in range
 input-mix : (input : Input) (mix : Mix) → input ≡ Drawn mix → IsInput input → IsMix mix
 input-mix input mix is has = subst IsInput is has
 
@@ -44,10 +34,10 @@ some-lines job shape = some_product job.shape.banks job.shape.regions job.shape.
 module _ (texts : GeneratedTextLaw) (sizes : GeneratedSizeLaw) (job : RunJob) (mix : Mix) (run : IsRun job) (draws : job.input ≡ Drawn mix) (read : SourceChange) (ended : IsAtEnd read.left_now) where
   -- the text of the drawn events over lines of n bytes
   abbrev text_of : ℕ → List ℕ
-  text_of n = trace_text (generated n job.seed (total_of job.shape) (drawn_mix mix))
+  text_of n = trace_text (generated n job.seed (total_of job.shape) mix)
 
-  mixed : IsDrawn (drawn_mix mix)
-  mixed = drawn-mix mix (input-mix job.input mix draws run.input)
+  mixed : IsMix mix
+  mixed = input-mix job.input mix draws run.input
 
   -- it fits where lines are long enough
   reads : (n : ℕ) (drawn : SourceChange) (events : List (Event n)) → TakesBytes read (text_of n) → length (text_of n) ≤ trace_room n
@@ -58,18 +48,18 @@ module _ (texts : GeneratedTextLaw) (sizes : GeneratedSizeLaw) (job : RunJob) (m
       record {
         bytes = text_of n;
         whole = record { takes = takes; ended = ended; within = fits };
-        trace = rw is (texts n job.seed (total_of job.shape) (drawn_mix mix) (some-lines job run.shape) run.shape.few_in_all mixed);
+        trace = rw is (texts n job.seed (total_of job.shape) mix (some-lines job run.shape) run.shape.few_in_all mixed);
       }
 
   short-64 : length (text_of 64) ≤ trace_room 64
   short-64 =
-      let size = sizes 64 job.seed (total_of job.shape) (drawn_mix mix) (some-lines job run.shape) run.shape.few_in_all mixed in
+      let size = sizes 64 job.seed (total_of job.shape) mix (some-lines job run.shape) run.shape.few_in_all mixed in
       let few = mixed.few_rows in
       omega arith
 
   short-128 : length (text_of 128) ≤ trace_room 128
   short-128 =
-      let size = sizes 128 job.seed (total_of job.shape) (drawn_mix mix) (some-lines job run.shape) run.shape.few_in_all mixed in
+      let size = sizes 128 job.seed (total_of job.shape) mix (some-lines job run.shape) run.shape.few_in_all mixed in
       let few = mixed.few_rows in
       omega arith
 

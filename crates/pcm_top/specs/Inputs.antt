@@ -6,7 +6,6 @@ use Rattle.module_shape.specs.Limits.{total_of}
 use Rattle.command_line.specs.declared.job.Input.{Input}
 use Rattle.command_line.specs.declared.job.Input.TheVariants.{Source, Drawn}
 use Rattle.command_line.specs.declared.job.RunJob.{RunJob}
-use Rattle.pcm_top.specs.Jobs.{drawn_mix}
 use Rattle.pcm_top.specs.Reading.{IsReadFault, ReadsTrace, SourceChange, TakesNothing}
 use Rattle.pcm_top.specs.declared.fault.Fault.{Fault}
 use Rattle.pcm_top.specs.declared.fault.Fault.TheVariants.{NoMemory}
@@ -20,7 +19,7 @@ module _ (n : ℕ) (job : RunJob) where
   -- the events are those of the trace that the source gives, read to its end; or those that the seed draws, and nothing is read
   abbrev pub ComeFrom : Input → SourceChange → List (Event n) → Type 0
   ComeFrom Source s events = ReadsTrace n (total_of job.shape) s events
-  ComeFrom (Drawn mix) s events = TakesNothing s × (events ≡ generated n job.seed (total_of job.shape) (drawn_mix mix))
+  ComeFrom (Drawn mix) s events = TakesNothing s × (events ≡ generated n job.seed (total_of job.shape) mix)
 
   -- why there are no events: the source gave no trace, or memory ran out; where they are drawn, only memory runs out
   abbrev pub IsFaultOf : Input → Fault → SourceChange → Type 0

@@ -5,10 +5,8 @@ use Rattle.command_line.specs.declared.job.GenJob.{GenJob}
 use Rattle.command_line.specs.declared.job.LineSize.{LineSize}
 use Rattle.command_line.specs.declared.job.LineSize.TheVariants.{Bytes64, Bytes128}
 use Rattle.command_line.specs.declared.job.MapJob.{MapJob}
-use Rattle.command_line.specs.declared.job.Mix as asking
 use Rattle.trace_gen.specs.EventText.{trace_text}
 use Rattle.trace_gen.specs.Generated.{generated}
-use Rattle.trace_gen.specs.declared.mix.Mix as drawing
 use Rattle.rotation_reports.specs.declared.line_rows.MapOptions.{MapOptions}
 
 -- the sizes, the seed and the moves of a map
@@ -22,10 +20,6 @@ map_options job = record {
   moves = job.from;
 }
 
--- what the rows of a generated trace are, as its generator takes it
-abbrev pub drawn_mix : asking.Mix → drawing.Mix
-drawn_mix mix = record { rows = mix.rows; write_percent = mix.write_percent; cuts = mix.cuts; step = mix.step; hot = mix.hot }
-
 -- the bytes of a line of this size
 abbrev pub bytes_in : LineSize → ℕ
 bytes_in Bytes64 = 64
@@ -33,4 +27,4 @@ bytes_in Bytes128 = 128
 
 -- the text that `gen` writes: the trace that its seed draws for the lines of its module
 abbrev pub gen_text : GenJob → List ℕ
-gen_text job = trace_text (generated (bytes_in job.line) job.seed (total_of job.shape) (drawn_mix job.mix))
+gen_text job = trace_text (generated (bytes_in job.line) job.seed (total_of job.shape) job.mix)

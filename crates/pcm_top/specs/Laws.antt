@@ -4,6 +4,7 @@ use Rattle.std.specs.Io.KnownBytes.{IsAtEnd}
 use Rattle.pcm_cells.specs.Device.{ArrayState}
 use Rattle.trace_reader.specs.Events.{AreEventsFor}
 use Rattle.trace_reader.specs.declared.event.Event.{Event}
+use Rattle.trace_gen.specs.declared.mix.Mix.{Mix}
 use Rattle.result_rows.specs.declared.Outcome.{Outcome}
 use Rattle.row_laws.specs.declared.Asks.TheVariants.{Writes}
 use Rattle.row_laws.specs.declared.Row.{Row}
@@ -18,7 +19,6 @@ use Rattle.command_line.specs.Jobs.{IsRun}
 use Rattle.command_line.specs.declared.job.Job.TheVariants.{Run}
 use Rattle.command_line.specs.declared.job.RunJob.{RunJob}
 use Rattle.command_line.specs.declared.job.GenJob.{GenJob}
-use Rattle.command_line.specs.declared.job.Mix.{Mix}
 use Rattle.command_line.specs.declared.job.Input.TheVariants.{Source, Drawn}
 use Rattle.pcm_top.specs.Jobs.{gen_text}
 use Rattle.pcm_top.specs.Reading.{SourceChange, TakesBytes}

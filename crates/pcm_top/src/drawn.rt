@@ -6,8 +6,7 @@ ghost use Rattle.pcm_io.specs.Giving.{AppendsPrefix};
 ghost use Rattle.pcm_io.specs.Reserved.{reserved};
 ghost use Rattle.trace_gen.specs.EventText.{trace_text};
 ghost use Rattle.trace_gen.specs.Generated.{IsMix, generated};
-ghost use Rattle.command_line.specs.Jobs.{IsMix as IsMixAsked};
-ghost use Rattle.pcm_top.specs.Jobs.{drawn_mix, gen_text};
+ghost use Rattle.pcm_top.specs.Jobs.{gen_text};
 
 use crate::fault::Fault;
 use command_line::{GenJob, LineSize};
@@ -15,21 +14,6 @@ use pcm_io::{Sink, Text, WriteFault, write_all};
 use run_text::{TEXT_ROOM, make_room};
 use std::alloc::Global;
 use trace_gen::{Generator, Mix, header, print_event};
-
-/// What the rows of a trace are, as the generator takes it.
-pub fn mix_of(asked: &command_line::Mix) -> Mix
-    requires { IsMixAsked asked.now }
-    ensures same { result ≡ drawn_mix asked.now }
-    ensures in_range { IsMix result }
-{
-    Mix {
-        rows: asked.rows,
-        write_percent: asked.write_percent,
-        cuts: asked.cuts,
-        step: asked.step,
-        hot: asked.hot,
-    }
-}
 
 // Writes the trace of a seed for so many lines of `B` bytes.
 fn print_drawn<const B: usize, K: Sink>(
@@ -62,23 +46,22 @@ fn print_drawn<const B: usize, K: Sink>(
 // The same for the lines of a job.
 fn print_job<K: Sink>(job: &GenJob, text: &mut Text, out: &mut K) -> Result<(), WriteFault>
     requires room { text.old ≡ reserved TEXT_ROOM }
-    requires mix { IsMixAsked job.now.mix }
+    requires mix { IsMix job.now.mix }
     ensures ok { OnOk result (Appends (K.written out.old) (K.written out.new) (gen_text job.now)) }
     ensures prefix { OnErr result (AppendsPrefix (K.written out.old) (K.written out.new) (gen_text job.now)) }
     ensures fault { OnErr result (Rose (K.faults out.old) (K.faults out.new)) }
     ensures never_falls { K.faults out.old ≤ K.faults out.new }
 {
     let lines = job.shape.total();
-    let mix = mix_of(&job.mix);
     match job.line {
-        LineSize::Bytes64 => print_drawn::<64, K>(job.seed, lines, mix, text, out),
-        LineSize::Bytes128 => print_drawn::<128, K>(job.seed, lines, mix, text, out),
+        LineSize::Bytes64 => print_drawn::<64, K>(job.seed, lines, job.mix, text, out),
+        LineSize::Bytes128 => print_drawn::<128, K>(job.seed, lines, job.mix, text, out),
     }
 }
 
 /// Writes a generated trace.
 pub fn write_drawn<K: Sink>(alloc: Global, job: GenJob, out: &mut K) -> Result<(), Fault>
-    requires { IsMixAsked job.mix }
+    requires { IsMix job.mix }
     ensures done { OnOk result (Appends (K.written out.old) (K.written out.new) (gen_text job)) }
 
     // Only a fault of writing comes after the first byte was written.

@@ -1,19 +1,17 @@
 // The events of a run: those of the trace that the source gives, or those that a seed draws.
 ghost use Rattle.std.specs.Prelude.{◌≡◌, ◌+◌, ◌-◌, ◌^◌, ◌<◌, ◌≤◌, false, vec_len, Err, IfOk, IfErr};
-ghost use Rattle.trace_gen.specs.Generated.{generated};
+ghost use Rattle.trace_gen.specs.Generated.{IsMix, generated};
 ghost use Rattle.trace_reader.specs.Events.{AreEventsFor};
 ghost use Rattle.module_shape.specs.Limits.{IsShape, total_of};
-ghost use Rattle.command_line.specs.Jobs.{IsMix, IsRun};
-ghost use Rattle.pcm_top.specs.Jobs.{drawn_mix};
+ghost use Rattle.command_line.specs.Jobs.{IsRun};
 ghost use Rattle.pcm_top.specs.Reading.{IsReadFault, ReadsTrace, source_change, trace_room};
 ghost use Rattle.pcm_top.specs.Inputs.{ComeFrom, IsFaultOf, is_source};
 
-use crate::drawn::mix_of;
 use crate::fault::Fault;
 use command_line::{Input, RunJob};
 use pcm_io::{ReadAllFault, Source, read_all};
 use std::alloc::Global;
-use trace_gen::generate;
+use trace_gen::{Mix, generate};
 use trace_reader::{Event, MOST_ROWS, ParseFault, parse};
 
 /// Bytes that a trace may have, for each byte of a line: 67,108,864 over lines of 64 bytes, 134,217,728 over lines of 128.
@@ -52,18 +50,18 @@ fn draw_trace<const B: usize>(
     alloc: Global,
     seed: u64,
     lines: u32,
-    mix: &command_line::Mix,
+    mix: Mix,
 ) -> Result<Vec<Event<B>>, Fault>
     requires small { B ≤ 128 }
     requires some_lines { 1 ≤ lines }
     requires few_lines { lines ≤ 65536 }
-    requires mix { IsMix mix.now }
-    ensures drawn { IfOk result (λ events. events.items ≡ generated B seed lines (drawn_mix mix.now)) }
+    requires mix { IsMix mix }
+    ensures drawn { IfOk result (λ events. events.items ≡ generated B seed lines mix) }
     ensures events { IfOk result (λ events. AreEventsFor lines 0 events.items) }
     ensures rows { IfOk result (λ events. vec_len events ≤ MOST_ROWS) }
     ensures fault { IfErr result (λ fault. fault ≡ Fault.NoMemory) }
 {
-    match generate(alloc, seed, lines, mix_of(mix)) {
+    match generate(alloc, seed, lines, mix) {
         Ok(events) => Ok(events),
         Err(_) => Err(Fault::NoMemory),
     }
@@ -87,6 +85,6 @@ pub fn events_of<const B: usize, S: Source>(
     let lines = job.shape.total();
     match job.input {
         Input::Source => read_trace(alloc, lines, source),
-        Input::Drawn(mix) => draw_trace(alloc, job.seed, lines, &mix),
+        Input::Drawn(mix) => draw_trace(alloc, job.seed, lines, mix),
     }
 }

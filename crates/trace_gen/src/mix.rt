@@ -2,15 +2,19 @@
 ghost use Rattle.std.specs.Prelude.{◌≡◌, ◌+◌, ◌≤◌, ◌<◌};
 ghost use Rattle.trace_gen.specs.Generated.{IsMix, cut_distance, is_cut_row, line_drawn, draws_write};
 
-/// The number of rows and what they are: how many of a hundred reads and writes are writes, how many rows are cuts of the
-/// power, by how much the tick may rise from row to row, and how many of the first lines are hot (0: none). Nine words in
-/// ten draw a line among the hot ones, where there are any, and the others draw one among all.
+/// The number of rows and what they are. Nine words in ten draw a line among the hot ones, where there are any, and the
+/// others draw one among all.
 #[derive(Clone, Copy, Debug, PartialEq, Eq)]
 pub struct Mix {
+    /// How many rows, 1 to 400,000.
     pub rows: u32,
+    /// How many of a hundred reads and writes are writes.
     pub write_percent: u32,
+    /// How many rows are power cuts, up to all.
     pub cuts: u32,
+    /// By how much the tick rises at most from row to row, 0 to 65,535.
     pub step: u32,
+    /// How many of the first lines are hot, 0 to 65,536. 0: none are.
     pub hot: u32,
 }
 
