@@ -1,4 +1,4 @@
-use Rattle.pcm_module.proofs.Sizes.{bank_fits}
+use Rattle.bank_timing.proofs.Sizes.{bank_fits}
 use Rattle.pcm_top.proofs.bank_timing++timed++Timed+Destruct.drop.Goals as goal
 
 pub drop-requires : goal.drop-requires

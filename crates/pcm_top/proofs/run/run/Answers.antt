@@ -1,5 +1,5 @@
 use Rattle.std.proofs.Common.{◌≡◌, ◌≤◌, length, ap, ◌∙◌, arith}
-use Rattle.pcm_module.proofs.Sizes.{timed_fits}
+use Rattle.bank_timing.proofs.Sizes.{timed_fits}
 use Rattle.pcm_top.proofs.Making.{can-print, run-part, run-written}
 use Rattle.pcm_top.proofs.Sizes.{event_fits}
 use Rattle.pcm_top.proofs.run.run.Goals as goal
