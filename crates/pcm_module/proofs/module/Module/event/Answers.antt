@@ -2,7 +2,7 @@ use Rattle.std.proofs.Common.{◌<◌, arith}
 use Rattle.trace_reader.specs.declared.event.EventOp.TheVariants.{Read, Write, Mask, Cut}
 use Rattle.masked_bytes.proofs.Layering.{IsMasked-all_given}
 use Rattle.module_shape.specs.Limits.{total_of}
-use Rattle.bank_timing.proofs.Sizes.{row_fits, bytes_fits as bytes_fit}
+use Rattle.bank_timing.proofs.Sizes.{row_fits, bytes_fits}
 use Rattle.pcm_module.proofs.Sizes.{module_fits}
 use Rattle.pcm_module.proofs.Events.{replays_event, op_for}
 use Rattle.pcm_module.proofs.module.Module.event.Goals as goal
@@ -14,9 +14,9 @@ write-requires g c =
     let some : 0 < g.row.B = omega (arith, layout.shape.0) in (
       module_fits,
       (
-        bytes_fit g.row.B g.row.M g.row.E layout,
+        bytes_fits g.row.B g.row.M g.row.E layout,
         (
-          bytes_fit g.row.B g.row.M g.row.E layout,
+          bytes_fits g.row.B g.row.M g.row.E layout,
           (
             row_fits,
             (
