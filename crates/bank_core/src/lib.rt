@@ -6,6 +6,7 @@ mod arriving;
 pub mod bank;
 mod beginning;
 mod cutting;
+mod restoring;
 mod sensing;
 mod serving;
 mod stepping;

@@ -9,7 +9,7 @@ ghost use Rattle.bank_invariant.specs.Tied.{IsTied};
 
 use crate::bank::Bank;
 use bank_model::answer::{ReadAnswer, Step, WriteAnswer};
-use bank_shape::BankShape;
+use bank_shape::{BankShape, Home};
 use pcm_cells::{Act, CellArray, Script, ScriptArray, Wear};
 use std::alloc::{AllocError, Global};
 use std::test::Fail;
@@ -101,6 +101,7 @@ fn powered<A: CellArray<64, 8>>(
         writes: 4,
         reads: 4,
         psi,
+        home: Home::Guarded,
     };
     let bank = Bank::new(alloc, shape)?;
     Ok(bank)

@@ -11,7 +11,7 @@ use Rattle.bank_model.specs.declared.answer.WriteAnswer.{WriteAnswer}
 use Rattle.bank_model.specs.declared.answer.WriteAnswer.TheVariants as wrote
 use Rattle.bank_model.specs.Events.{Write}
 use Rattle.bank_model.specs.History.{queue}
-use Rattle.bank_model.specs.Timing.{Pacing, Happens, Core, Timed, core}
+use Rattle.bank_model.specs.Timing.{Pacing, Happens, Core, Regs, Timed, core}
 use Rattle.bank_model.specs.Lawful.{Lawful, MayCome}
 use Rattle.bank_laws.specs.Outcomes.{on_row, outcome_with, outcome_of, ended}
 use Rattle.bank_laws.specs.Settling.{AreOpen}

@@ -14,7 +14,7 @@ use Rattle.bank_model.specs.declared.answer.Step.TheVariants as did
 use Rattle.bank_model.specs.Events.{Write, Read, Serve, Begin, Iterate, Cut, newest}
 use Rattle.bank_model.specs.History.{Awaited, queue, waits, due_after}
 use Rattle.bank_model.specs.Answers.{IsServed}
-use Rattle.bank_model.specs.Timing.{Pacing, Happens, Core, Timed, core, core_of}
+use Rattle.bank_model.specs.Timing.{Pacing, Happens, Core, Regs, Timed, core, core_of}
 use Rattle.bank_model.specs.Lawful.{Lawful, MayCome}
 use Rattle.bank_laws.specs.Outcomes.{on_row, outcome_with, outcome_of}
 use Rattle.bank_laws.specs.Standing.{has_wait}
@@ -177,6 +177,7 @@ module _ {n m : ℕ} (shape : BankShape) (pace : Pacing) (e : ℕ) where
   standing_fate zs x (Core (Write at line bytes given wrote.Exhausted)) row may h = inl h
   standing_fate zs x (Core (Read at line answer)) row may h = inl h
   standing_fate zs x (Core (Serve answer)) row may h = inl h
+  standing_fate zs x (Regs event) row may h = inl h
   standing_fate zs x (Core (Begin (did.Stored at place))) row may h = stored_fate zs x.tick at place row (queue shape (core zs)) (stored-head shape (core zs) at place may.may.1) h
   standing_fate zs x (Core (Begin did.More)) row may h = inl (row-begun (due_after shape (core zs)) (newest (core zs)) (queue shape (core zs)) row ∙ h)
   standing_fate zs x (Core (Begin (did.Moved step))) row may h = inl (row-begun (due_after shape (core zs)) (newest (core zs)) (queue shape (core zs)) row ∙ h)
@@ -208,6 +209,7 @@ module _ {n m : ℕ} (shape : BankShape) (pace : Pacing) (e : ℕ) where
   waiting_fate zs x (Core (Read at line came.Waiting)) row owed may a = inl (awaits-push (waits shape (core zs)) _ row owed a)
   waiting_fate zs x (Core (Read at line came.Busy)) row owed may a = inl a
   waiting_fate zs x (Core (Read at line (came.Forwarded bytes))) row owed may a = inl a
+  waiting_fate zs x (Regs event) row owed may a = inl a
   waiting_fate zs x (Core (Serve answer)) row owed may a = served_fate zs x.tick row owed (waits shape (core zs)) answer may.may a
   waiting_fate zs x (Core (Begin answer)) row owed may a = inl a
   waiting_fate zs x (Core (Iterate answer)) row owed may a = inl a

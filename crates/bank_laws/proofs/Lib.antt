@@ -16,3 +16,4 @@ pub mod Merging
 pub mod Counting
 pub mod Waiting
 pub mod Pending
+pub mod Changing

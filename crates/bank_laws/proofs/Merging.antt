@@ -19,7 +19,7 @@ use Rattle.bank_model.specs.declared.answer.WriteAnswer.TheVariants as wrote
 use Rattle.bank_model.specs.declared.answer.Step.TheVariants as did
 use Rattle.bank_model.specs.Events.{Write, Read, Serve, Begin, Iterate, Cut, newest}
 use Rattle.bank_model.specs.History.{begun, queue, due_after}
-use Rattle.bank_model.specs.Timing.{Pacing, Happens, Core, Timed, core, core_of}
+use Rattle.bank_model.specs.Timing.{Pacing, Happens, Core, Regs, Timed, core, core_of}
 use Rattle.bank_model.specs.Lawful.{Lawful, MayCome}
 use Rattle.bank_laws.specs.Outcomes.{on_row, outcome_with, outcome_of, ended, row_with, rows_from}
 use Rattle.bank_laws.specs.Settling.{AreOpen}
@@ -147,6 +147,7 @@ module _ {n m : ℕ} (shape : BankShape) (pace : Pacing) (e : ℕ) where
   stays_there P row k zs x (Core (Write at line bytes given wrote.Exhausted)) may spares p = inl p
   stays_there P row k zs x (Core (Read at line answer)) may spares p = inl p
   stays_there P row k zs x (Core (Serve answer)) may spares p = inl p
+  stays_there P row k zs x (Regs event) may spares p = inl p
   stays_there P row k zs x (Core (Begin (did.Stored at place))) may spares p = drops P row k (queue shape (core zs)) at x.tick place (outcome_of shape zs row) (stored-head shape (core zs) at place may.may.1) p
   stays_there P row k zs x (Core (Begin did.More)) may spares p = inl (k.begin (due_after shape (core zs)) (newest (core zs)) (queue shape (core zs)) p)
   stays_there P row k zs x (Core (Begin (did.Moved step))) may spares p = inl (k.begin (due_after shape (core zs)) (newest (core zs)) (queue shape (core zs)) p)
@@ -177,6 +178,7 @@ module _ {n m : ℕ} (shape : BankShape) (pace : Pacing) (e : ℕ) where
   spares_covered zs x (Core (Write at l bytes given wrote.Exhausted)) row line may apart c = tt
   spares_covered zs x (Core (Read at l answer)) row line may apart c = tt
   spares_covered zs x (Core (Serve answer)) row line may apart c = tt
+  spares_covered zs x (Regs event) row line may apart c = tt
   spares_covered zs x (Core (Begin answer)) row line may apart c = tt
   spares_covered zs x (Core (Iterate answer)) row line may apart c = tt
   spares_covered zs x (Core (Cut tearing)) row line may apart c = tt
@@ -252,6 +254,7 @@ module _ {n m : ℕ} (shape : BankShape) (pace : Pacing) (e : ℕ) where
             alone_on zs x (Core (Write at l bytes given (wrote.Merged old))) between (own ∷ []) row line may (spares_other zs x at l row line old bytes given may apart s is) s none
             (or_none (l == line && accepts own.outcome) false (and_not_first (l == line) _ is) refl)
     alone_step zs x (Core (Read at l answer)) cancels between row line apart may acc s none = alone_on zs x (Core (Read at l answer)) between _ row line may tt s none refl
+    alone_step zs x (Regs event) cancels between row line apart may acc s none = alone_on zs x (Regs event) between _ row line may tt s none refl
     alone_step zs x (Core (Serve answer)) cancels between row line apart may acc s none = alone_on zs x (Core (Serve answer)) between _ row line may tt s none refl
     alone_step zs x (Core (Begin answer)) cancels between row line apart may acc s none = alone_on zs x (Core (Begin answer)) between _ row line may tt s none refl
     alone_step zs x (Core (Iterate answer)) cancels between row line apart may acc s none = alone_on zs x (Core (Iterate answer)) between _ row line may tt s none refl
@@ -283,6 +286,7 @@ module _ {n m : ℕ} (shape : BankShape) (pace : Pacing) (e : ℕ) where
         by (Core (Write at line bytes given answer)) may on = outcome-accepts x.tick answer (ended x.tick (outcome_of shape all at)) (write_outcome shape pace e all ys x at line bytes given answer o may on)
         by (Core (Read at line answer)) may on = tt
         by (Core (Serve answer)) may on = tt
+        by (Regs event) may on = tt
         by (Core (Begin answer)) may on = tt
         by (Core (Iterate answer)) may on = tt
         by (Core (Cut tearing)) may on = tt
@@ -343,6 +347,7 @@ module _ {n m : ℕ} (shape : BankShape) (pace : Pacing) (e : ℕ) where
             kind false ref = refused_fits x.tick line answer (ended x.tick (outcome_of shape all at)) (rows_after shape all later) ref (write_outcome shape pace e all ys x at line bytes given answer o may on)
         by (Core (Read at line answer)) cancels before may on fits = refl
         by (Core (Serve answer)) cancels before may on fits = tt
+        by (Regs event) cancels before may on fits = tt
         by (Core (Begin answer)) cancels before may on fits = tt
         by (Core (Iterate answer)) cancels before may on fits = tt
         by (Core (Cut tearing)) true before may on fits = tt

@@ -18,7 +18,7 @@ use Rattle.bank_model.specs.Events.{Event, Write, Read, Serve, Begin, Iterate, C
 use Rattle.bank_model.specs.History.{queue, due_after, has_exhausted}
 use Rattle.bank_model.specs.Answers.{head_busy_after, accept_answer, write_answer}
 use Rattle.bank_model.specs.Sensing.{most_steps}
-use Rattle.bank_model.specs.Timing.{Pacing, Happens, Core, Timed, core, core_of, last_tick}
+use Rattle.bank_model.specs.Timing.{Pacing, Happens, Core, Regs, Timed, core, core_of, last_tick}
 use Rattle.bank_model.specs.Lawful.{Lawful, MayCome}
 use Rattle.bank_laws.specs.Outcomes.{outcome_with, outcome_of, ended, row_with, rows_from}
 use Rattle.bank_laws.specs.Ticks.{ends_action}
@@ -115,6 +115,7 @@ writes-fall {n} {m} (z ∷ zs) bound b = by z.happens (λ bound b. writes-fall z
     by (Core (Write at line bytes given answer)) go b = (b.0, go at b.1)
     by (Core (Read at line answer)) go b = falling-more (writes_in zs) at bound (omega (arith, b.0)) (go at b.1)
     by (Core (Serve answer)) go b = go bound b
+    by (Regs event) go b = go bound b
     by (Core (Begin answer)) go b = go bound b
     by (Core (Iterate answer)) go b = go bound b
     by (Core (Cut tearing)) go b = go bound b
@@ -141,6 +142,7 @@ queue-asked {n} {m} shape (z ∷ zs) r there = by z.happens (λ t. queue-asked s
     by (Core (Write at line bytes given wrote.Exhausted)) go there = or_on_right (at == r) _ (go there)
     by (Core (Read at line answer)) go there = go there
     by (Core (Serve answer)) go there = go there
+    by (Regs event) go there = go there
     by (Core (Begin (did.Stored at place))) go there = dropped go there
     by (Core (Begin did.More)) go there = go (sym (row-begun (due_after shape (core zs)) (newest (core zs)) (queue shape (core zs)) r) ∙ there)
     by (Core (Begin (did.Moved step))) go there = go (sym (row-begun (due_after shape (core zs)) (newest (core zs)) (queue shape (core zs)) r) ∙ there)
@@ -322,6 +324,7 @@ module _ {n m : ℕ} (shape : BankShape) (pace : Pacing) (e : ℕ) (all : List (
             kind false ref = refused_same at z.tick (list_any (accepted_of line) (rows_after shape all mid)) (agrees ∙ ref) (g at (refused_set shape ys z.tick at line bytes given answer ref))
         by (Core (Read at line answer)) cancels may on f g ih = ih
         by (Core (Serve answer)) cancels may on f g ih = ih
+        by (Regs event) cancels may on f g ih = ih
         by (Core (Begin answer)) cancels may on f g ih = ih
         by (Core (Iterate answer)) cancels may on f g ih = ih
         by (Core (Cut tearing)) true may on f g ih = ih
@@ -361,6 +364,7 @@ module _ {n m : ℕ} (shape : BankShape) (pace : Pacing) (e : ℕ) (all : List (
           ap (λ k. k == shape.writes) (count refl) ∙ full-room shape (core ys) line (sym was ∙ may.may.2)))
       by (Core (Read row line answer)) cancels may on count = and_both _ _ (few (count refl)) refl
       by (Core (Serve answer)) cancels may on count = tt
+      by (Regs event) cancels may on count = tt
       by (Core (Begin answer)) cancels may on count = tt
       by (Core (Iterate answer)) cancels may on count = tt
       by (Core (Cut tearing)) true may on count = tt

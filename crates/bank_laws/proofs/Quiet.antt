@@ -17,7 +17,7 @@ use Rattle.bank_model.specs.declared.answer.WriteAnswer.TheVariants as wrote
 use Rattle.bank_model.specs.Events.{Event, Write, Read, Serve, Begin, Iterate, Cut}
 use Rattle.bank_model.specs.History.{first_or, stores, stored_in, moved_in, due_after, queue, waits, has_exhausted, in_progress}
 use Rattle.bank_model.specs.After.{is_ready, due_work, may_begin_after}
-use Rattle.bank_model.specs.Timing.{Pacing, Happens, Core, Timed, core, core_of}
+use Rattle.bank_model.specs.Timing.{Pacing, Happens, Core, Regs, Timed, core, core_of}
 use Rattle.bank_model.specs.Lawful.{Lawful, MayCome}
 use Rattle.bank_laws.specs.Outcomes.{outcome_of, ended, row_with, rows_from}
 use Rattle.bank_laws.specs.Settling.{AreOpen}
@@ -84,6 +84,7 @@ module _ {n m : ℕ} (shape : BankShape) (pace : Pacing) (e : ℕ) (all : List (
           refused at line bytes given answer (sym acc ∙ or_left (accepts (ended x.tick (outcome_of shape all at))) _ none) (rest (or_right (accepts (ended x.tick (outcome_of shape all at))) _ none))
       by (Core (Read at line answer)) cancels may on rest none = let q = rest none in record { queue = q.queue; stored = q.stored; exhausted = q.exhausted; idle = q.idle }
       by (Core (Serve answer)) cancels may on rest none = let q = rest none in record { queue = q.queue; stored = q.stored; exhausted = q.exhausted; idle = q.idle }
+      by (Regs event) cancels may on rest none = let q = rest none in record { queue = q.queue; stored = q.stored; exhausted = q.exhausted; idle = q.idle }
       by (Core (Begin answer)) cancels may on rest none = absurd (quiet-begins_none shape (core ys) some (rest none) may.may.0)
       by (Core (Iterate answer)) cancels may on rest none = let is : in_progress (core ys) ≡ false = (rest none).idle in absurd (cc (may.may.0))
       by (Core (Cut tearing)) true may on rest none = let q = rest none in record { queue = q.queue; stored = q.stored; exhausted = q.exhausted; idle = refl }
@@ -151,6 +152,7 @@ module _ {n m : ℕ} (shape : BankShape) (pace : Pacing) (e : ℕ) (all : List (
           )))
       by (Core (Read at line answer)) cancels may on worn = refl
       by (Core (Serve answer)) cancels may on worn = tt
+      by (Regs event) cancels may on worn = tt
       by (Core (Begin answer)) cancels may on worn = tt
       by (Core (Iterate answer)) cancels may on worn = tt
       by (Core (Cut tearing)) true may on worn = tt
@@ -172,6 +174,7 @@ module _ {n m : ℕ} (shape : BankShape) (pace : Pacing) (e : ℕ) (all : List (
           either (list_any accepted (rows_from shape all ys)) (λ is. is) (λ none. let fine : has_exhausted (core ys) ≡ false = (calm none).exhausted in absurd (cc)))
       by (Core (Read at line answer)) cancels may on calm = refl
       by (Core (Serve answer)) cancels may on calm = tt
+      by (Regs event) cancels may on calm = tt
       by (Core (Begin answer)) cancels may on calm = tt
       by (Core (Iterate answer)) cancels may on calm = tt
       by (Core (Cut tearing)) true may on calm = tt

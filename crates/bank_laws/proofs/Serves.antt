@@ -18,7 +18,7 @@ use Rattle.bank_model.specs.declared.clock.Doing.TheVariants as doing
 use Rattle.bank_model.specs.Events.{Event, Write, Read, Serve, Begin, Iterate, Cut, newest}
 use Rattle.bank_model.specs.History.{Awaited, awaited, queue, waits}
 use Rattle.bank_model.specs.Answers.{read_answer}
-use Rattle.bank_model.specs.Timing.{Pacing, Happens, Core, Timed, core, core_of, is_empty}
+use Rattle.bank_model.specs.Timing.{Pacing, Happens, Core, Regs, Timed, core, core_of, is_empty}
 use Rattle.bank_model.specs.Running.{Choice, chosen_by, gives_way, choice_after}
 use Rattle.bank_model.specs.Lawful.{Lawful, IsIdle, MayCome}
 use Rattle.bank_laws.specs.Outcomes.{outcome_of, ended, row_with, rows_from}
@@ -104,6 +104,7 @@ module _ {n m : ℕ} (shape : BankShape) (pace : Pacing) (e : ℕ) (all : List (
           (outcome-accepts x.tick answer (ended x.tick (outcome_of shape all row)) (write_outcome shape pace e all ys x row at bytes given answer o may on)) ih
       by (Core (Read row at answer)) cancels may on ih = ih
       by (Core (Serve answer)) cancels may on ih = ih
+      by (Regs event) cancels may on ih = ih
       by (Core (Begin answer)) cancels may on ih = ih
       by (Core (Iterate answer)) cancels may on ih = ih
       by (Core (Cut tearing)) true may on ih = ih
@@ -146,6 +147,7 @@ module _ {n m : ℕ} (shape : BankShape) (pace : Pacing) (e : ℕ) (all : List (
           waited_may x.tick line row (rows.newest (rows_from shape all ys) line) (newest (core ys) line) none (sym (new line))
           (on.reads row (newest (core ys) line) (inl (awaits-new (waits shape (core ys)) (awaited row line (newest (core ys) line) (layer_of (queue shape (core ys)) line)))))
       by (Core (Serve answer)) cancels may on new = tt
+      by (Regs event) cancels may on new = tt
       by (Core (Begin answer)) cancels may on new = tt
       by (Core (Iterate answer)) cancels may on new = tt
       by (Core (Cut tearing)) true may on new = tt

@@ -14,7 +14,7 @@ use Rattle.bank_model.specs.declared.answer.ReadAnswer.TheVariants as came
 use Rattle.bank_model.specs.declared.answer.Step.TheVariants as did
 use Rattle.bank_model.specs.Events.{Event, Write, Read, Serve, Begin, Iterate, Cut, RowsBelow, newest}
 use Rattle.bank_model.specs.History.{awaited, begun, queue, waits, due_after}
-use Rattle.bank_model.specs.Timing.{Pacing, Happens, Core, Timed, core, core_of}
+use Rattle.bank_model.specs.Timing.{Pacing, Happens, Core, Regs, Timed, core, core_of}
 use Rattle.bank_model.specs.Lawful.{Lawful, MayCome}
 use Rattle.bank_laws.specs.Outcomes.{on_row, outcome_with, outcome_of}
 use Rattle.bank_laws.specs.Standing.{has_wait}
@@ -173,6 +173,7 @@ module _ {n m : ℕ} (shape : BankShape) (pace : Pacing) (e : ℕ) where
       by (Core (Write row line bytes given answer)) b may = (row + 1, (omega arith, may.asked))
       by (Core (Read row line answer)) b may = (row + 1, (omega arith, may.asked))
       by (Core (Serve answer)) b may = b
+      by (Regs event) b may = b
       by (Core (Begin answer)) b may = b
       by (Core (Iterate answer)) b may = b
       by (Core (Cut tearing)) b may = b
@@ -202,6 +203,7 @@ module _ {n m : ℕ} (shape : BankShape) (pace : Pacing) (e : ℕ) where
     waiting = λ r h. refused shape xs x.tick o row r _ may.asked (inr h);
     coming = λ r below. refused_later shape xs x.tick o row r _ below.0 may.asked;
   }
+  step_open xs x (Regs event) l o may = record { queued = o.queued; waiting = o.waiting; coming = o.coming }
   step_open xs x (Core (Serve answer)) l o may =
       let b = above_all xs l in open_served shape xs x.tick o answer b.0 b.1 (served-first shape (core xs) (waits shape (core xs)) answer may.may)
   step_open xs x (Core (Begin (did.Stored row place))) l o may =
@@ -247,6 +249,7 @@ module _ {n m : ℕ} (shape : BankShape) (pace : Pacing) (e : ℕ) where
   step_stays xs x (Core (Read at line came.Waiting)) row l o may set = refl
   step_stays xs x (Core (Read at line came.Busy)) row l o may set = settled (outcome_of shape xs) at row _ (o.coming at may.asked) set
   step_stays xs x (Core (Read at line (came.Forwarded bytes))) row l o may set = settled (outcome_of shape xs) at row _ (o.coming at may.asked) set
+  step_stays xs x (Regs event) row l o may set = refl
   step_stays xs x (Core (Serve answer)) row l o may set =
       settled (outcome_of shape xs) answer.row row _ (o.waiting answer.row (first-there (waits shape (core xs)) answer.row (served-first shape (core xs) (waits shape (core xs)) answer may.may))) set
   step_stays xs x (Core (Begin (did.Stored at place))) row l o may set =

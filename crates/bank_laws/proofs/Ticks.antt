@@ -9,8 +9,9 @@ use Rattle.bank_model.specs.declared.clock.Doing.TheVariants.{Serving, Beginning
 use Rattle.bank_model.specs.declared.clock.Action.{Action}
 use Rattle.bank_model.specs.Events.{Write, Read, Serve, Begin, Iterate, Cut}
 use Rattle.bank_model.specs.After.{work_after, is_store_of}
-use Rattle.bank_model.specs.Timing.{Pacing, Happens, Core, Timed, lasts, ends, is_doing, core, last_tick}
-use Rattle.bank_model.specs.Running.{started, left_by, running, running_at, chosen_after}
+use Rattle.bank_model.specs.Timing.{Pacing, Happens, Core, Regs, KeepBegin, KeepIterate, KeepCut, Timed, lasts, ends, is_doing, core, last_tick}
+use Rattle.bank_model.specs.Running.{drops_begin, started, left_by, running, running_at, chosen_after}
+use Rattle.bank_model.specs.Changes.{change_after}
 use Rattle.bank_model.specs.Lawful.{Lawful, MayCome}
 use Rattle.bank_laws.specs.Ticks.{ends_action, TickLaw}
 
@@ -44,12 +45,13 @@ module _ {n m : ℕ} (shape : BankShape) (pace : Pacing) (e : ℕ) where
       left true action h = tt
       left false action h = h
 
-      by : (h : Happens n) → MayCome shape pace e xs x h → IfSome (left_by shape (core xs) h (running_at shape pace xs x.tick)) (λ a. x.tick < ends pace a)
+      by : (h : Happens n) → MayCome shape pace e xs x h → IfSome (left_by shape (core xs) (change_after shape xs) h (running_at shape pace xs x.tick)) (λ a. x.tick < ends pace a)
       by (Core (Write row line bytes given answer)) may = may.on_time.0.2
-      by (Core (Read row line came.Waiting)) may = left (is_doing Beginning (running_at shape pace xs x.tick) && is_store_of line (work_after shape (core xs))) _ may.on_time.0.2
+      by (Core (Read row line came.Waiting)) may = left (drops_begin shape (core xs) (change_after shape xs) line (running_at shape pace xs x.tick)) _ may.on_time.0.2
       by (Core (Read row line came.Busy)) may = may.on_time.0.2
       by (Core (Read row line (came.Forwarded bytes))) may = may.on_time.0.2
       by (Core (Serve answer)) may = tt
+      by (Regs event) may = tt
       by (Core (Begin answer)) may = tt
       by (Core (Iterate answer)) may = tt
       by (Core (Cut tearing)) may = tt
@@ -70,6 +72,9 @@ module _ {n m : ℕ} (shape : BankShape) (pace : Pacing) (e : ℕ) where
       by : (h : Happens n) → MayCome shape pace e xs x h → IsTrue (ends_action h) → last_tick xs < x.tick
       by (Core (Write row line bytes given answer)) may is = absurd (cc)
       by (Core (Read row line answer)) may is = absurd (cc)
+      by (Regs (KeepBegin answer)) may is = ends-after xs x Beginning r i l.1 may.on_time.0.0 may.on_time.0.1
+      by (Regs (KeepIterate answer)) may is = ends-after xs x Iterating r i l.1 may.on_time.0.0 may.on_time.0.1
+      by (Regs (KeepCut tearing)) may is = absurd (cc)
       by (Core (Serve answer)) may is = ends-after xs x Serving r i l.1 may.on_time.0.0 may.on_time.0.1
       by (Core (Begin answer)) may is = ends-after xs x Beginning r i l.1 may.on_time.0.0 may.on_time.0.1
       by (Core (Iterate answer)) may is = ends-after xs x Iterating r i l.1 may.on_time.0.0 may.on_time.0.1
@@ -81,6 +86,9 @@ module _ {n m : ℕ} (shape : BankShape) (pace : Pacing) (e : ℕ) where
       by : (h : Happens n) → MayCome shape pace e xs x h → last_tick xs ≤ x.tick
       by (Core (Write row line bytes given answer)) may = may.on_time.0.1
       by (Core (Read row line answer)) may = may.on_time.0.1
+      by (Regs (KeepBegin answer)) may = let lt : last_tick xs < x.tick = ends-after xs x Beginning r i l.1 may.on_time.0.0 may.on_time.0.1 in omega arith
+      by (Regs (KeepIterate answer)) may = let lt : last_tick xs < x.tick = ends-after xs x Iterating r i l.1 may.on_time.0.0 may.on_time.0.1 in omega arith
+      by (Regs (KeepCut tearing)) may = may.on_time.0.1
       by (Core (Serve answer)) may = let lt : last_tick xs < x.tick = ends-after xs x Serving r i l.1 may.on_time.0.0 may.on_time.0.1 in omega arith
       by (Core (Begin answer)) may = let lt : last_tick xs < x.tick = ends-after xs x Beginning r i l.1 may.on_time.0.0 may.on_time.0.1 in omega arith
       by (Core (Iterate answer)) may = let lt : last_tick xs < x.tick = ends-after xs x Iterating r i l.1 may.on_time.0.0 may.on_time.0.1 in omega arith

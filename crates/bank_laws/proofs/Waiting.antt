@@ -16,7 +16,7 @@ use Rattle.bank_model.specs.declared.answer.ReadAnswer.{ReadAnswer}
 use Rattle.bank_model.specs.declared.answer.ReadAnswer.TheVariants as came
 use Rattle.bank_model.specs.Events.{Event, Write, Read, Serve, Begin, Iterate, Cut, RowsBelow, newest}
 use Rattle.bank_model.specs.History.{Awaited, awaited, queue, waits}
-use Rattle.bank_model.specs.Timing.{Pacing, Happens, Core, Timed, core, core_of, last_tick, is_empty, is_writing}
+use Rattle.bank_model.specs.Timing.{Pacing, Happens, Core, Regs, Timed, core, core_of, last_tick, is_empty, is_writing}
 use Rattle.bank_model.specs.Running.{running_at, cancels_after}
 use Rattle.bank_model.specs.Lawful.{Lawful, MayCome, would_cancel}
 use Rattle.bank_laws.specs.Outcomes.{on_row, outcome_with, outcome_of, row_with, rows_from}
@@ -88,6 +88,7 @@ module _ {n m : ℕ} (shape : BankShape) (pace : Pacing) (e : ℕ) (all : List (
   wait_step zs x (Core (Read at line came.Waiting)) row may there = inl (wait-push (waits shape (core zs)) _ row there, refl)
   wait_step zs x (Core (Read at line came.Busy)) row may there = inl (there, refl)
   wait_step zs x (Core (Read at line (came.Forwarded bytes))) row may there = inl (there, refl)
+  wait_step zs x (Regs event) row may there = inl (there, refl)
   wait_step zs x (Core (Serve answer)) row may there = by (waits shape (core zs)) (served-first shape (core zs) (waits shape (core zs)) answer may.may) there
     where
       by : (ws : List Awaited) → IsFirst ws answer.row → has_wait ws row ≡ true
@@ -255,6 +256,7 @@ reads-fall {n} {m} (z ∷ zs) bound b = by z.happens (λ bound b. reads-fall zs 
     by (Core (Write at line bytes given answer)) go b = falling-more (reads_in zs) at bound (omega (arith, b.0)) (go at b.1)
     by (Core (Read at line answer)) go b = (b.0, go at b.1)
     by (Core (Serve answer)) go b = go bound b
+    by (Regs event) go b = go bound b
     by (Core (Begin answer)) go b = go bound b
     by (Core (Iterate answer)) go b = go bound b
     by (Core (Cut tearing)) go b = go bound b
@@ -272,6 +274,7 @@ waits-asked {n} {m} shape (z ∷ zs) r there = by z.happens (λ t. waits-asked s
     by (Core (Read at line came.Busy)) go there = or_right_of (at == r) _ (go there)
     by (Core (Read at line (came.Forwarded bytes))) go there = or_right_of (at == r) _ (go there)
     by (Core (Serve answer)) go there = either (has_wait (waits shape (core zs)) r) go (λ f. absurd (cc (no_wait-drop (waits shape (core zs)) r f, there)))
+    by (Regs event) go there = go there
     by (Core (Begin answer)) go there = go there
     by (Core (Iterate answer)) go there = go there
     by (Core (Cut tearing)) go there = absurd (cc)
@@ -282,6 +285,7 @@ may_all {n} {m} shape pace e (z ∷ zs) l = by z.happens l.0 (may_all shape pace
   where
     by : (h : Happens n) → MayCome shape pace e zs z h → MayAll shape (most_steps e) (core zs) → MayAll shape (most_steps e) (core_of h (core zs))
     by (Core event) may rest = (may.may, rest)
+    by (Regs event) may rest = rest
 
 pub cond_length : {X : Type 0} (a b : Bool) (q : X) (xs : List X) (k : ℕ) → a ≡ b → length xs ≡ k → length (cond a (q ∷ xs) xs) ≡ cond b (suc k) k
 cond_length true true q xs k is same = ap suc same
@@ -322,6 +326,7 @@ module _ {n m : ℕ} (shape : BankShape) (pace : Pacing) (e : ℕ) (all : List (
       by (Core (Write at line bytes given answer)) cancels f ih = ih
       by (Core (Read at line answer)) cancels f ih = cond_length _ _ _ _ _ (f at (state_new ys z.tick at line answer)) ih
       by (Core (Serve answer)) cancels f ih = ih
+      by (Regs event) cancels f ih = ih
       by (Core (Begin answer)) cancels f ih = ih
       by (Core (Iterate answer)) cancels f ih = ih
       by (Core (Cut tearing)) true f ih = ih
@@ -398,6 +403,7 @@ module _ {n m : ℕ} (shape : BankShape) (pace : Pacing) (e : ℕ) (all : List (
           (on.reads row (newest (core ys) line) (inl (awaits-new (waits shape (core ys)) (awaited row line (newest (core ys) line) (layer_of (queue shape (core ys)) line))))))
           (ap (λ k. k == shape.reads) (count refl) ∙ (read_room (core ys) line came.Waiting may.may.1).1 refl))
       by (Core (Serve answer)) cancels may on count = tt
+      by (Regs event) cancels may on count = tt
       by (Core (Begin answer)) cancels may on count = tt
       by (Core (Iterate answer)) cancels may on count = tt
       by (Core (Cut tearing)) true may on count = tt

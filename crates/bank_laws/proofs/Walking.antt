@@ -5,7 +5,7 @@ use Rattle.row_laws.specs.declared.Row.{Row}
 use Rattle.row_laws.specs.Rows.{RowTest, each_row}
 use Rattle.bank_shape.specs.declared.BankShape.{BankShape}
 use Rattle.bank_model.specs.Events.{Write, Read, Serve, Begin, Iterate, Cut}
-use Rattle.bank_model.specs.Timing.{Happens, Core, Timed}
+use Rattle.bank_model.specs.Timing.{Happens, Core, Regs, Timed}
 use Rattle.bank_laws.specs.Outcomes.{row_with, rows_from}
 
 pub and_both : (a b : Bool) → a ≡ true → b ≡ true → (a && b) ≡ true
@@ -34,6 +34,7 @@ module _ {n m : ℕ} (shape : BankShape) (all : List (Timed n m)) where
   one_row test (Core (Write row line bytes given answer)) tick cancels before after p rest = and_both _ _ p rest
   one_row test (Core (Read row line answer)) tick cancels before after p rest = and_both _ _ p rest
   one_row test (Core (Serve answer)) tick cancels before after p rest = rest
+  one_row test (Regs event) tick cancels before after p rest = rest
   one_row test (Core (Begin answer)) tick cancels before after p rest = rest
   one_row test (Core (Iterate answer)) tick cancels before after p rest = rest
   one_row test (Core (Cut tearing)) tick true before after p rest = rest

@@ -20,7 +20,7 @@ use Rattle.bank_model.specs.Events.{Event, Write, Read, Serve, Begin, Iterate, C
 use Rattle.bank_model.specs.History.{queue, waits, has_exhausted, due_after}
 use Rattle.bank_model.specs.After.{due_work, work_after}
 use Rattle.bank_model.specs.Answers.{head_busy_after, accept_answer, write_answer, IsDone}
-use Rattle.bank_model.specs.Timing.{Pacing, Happens, Core, Timed, core, core_of, last_tick}
+use Rattle.bank_model.specs.Timing.{Pacing, Happens, Core, Regs, Timed, core, core_of, last_tick}
 use Rattle.bank_model.specs.Lawful.{Lawful, MayCome}
 use Rattle.bank_laws.specs.Outcomes.{on_row, outcome_with, outcome_of, ended, row_with, rows_from}
 use Rattle.bank_laws.specs.Standing.{has_wait}
@@ -138,6 +138,7 @@ module _ {n m : ℕ} (shape : BankShape) (pace : Pacing) (e : ℕ) where
   stored_by zs x (Core (Read at line came.Waiting)) row u p s = inr s
   stored_by zs x (Core (Read at line came.Busy)) row u p s = inr (not_stored at row _ _ u p (λ is. absurd (cc)) s)
   stored_by zs x (Core (Read at line (came.Forwarded bytes))) row u p s = inr (not_stored at row _ _ u p (λ is. absurd (cc)) s)
+  stored_by zs x (Regs event) row u p s = inr s
   stored_by zs x (Core (Serve answer)) row u p s = inr (not_stored answer.row row _ _ u p (λ is. absurd (cc)) s)
   stored_by zs x (Core (Begin (did.Stored at place))) row u p s = stored_tick at row x.tick place _ u p s
   stored_by zs x (Core (Begin did.More)) row u p s = inr s
@@ -170,6 +171,7 @@ module _ {n m : ℕ} (shape : BankShape) (pace : Pacing) (e : ℕ) where
   kept_by zs x (Core (Read at line came.Waiting)) row u p may ex s = s
   kept_by zs x (Core (Read at line came.Busy)) row u p may ex s = not_stored at row _ _ u p (λ is. absurd (cc)) s
   kept_by zs x (Core (Read at line (came.Forwarded bytes))) row u p may ex s = not_stored at row _ _ u p (λ is. absurd (cc)) s
+  kept_by zs x (Regs event) row u p may ex s = s
   kept_by zs x (Core (Serve answer)) row u p may ex s = not_stored answer.row row _ _ u p (λ is. absurd (cc)) s
   kept_by zs x (Core (Begin (did.Stored at place))) row u p may ex s = absurd (exhausted-stores_none shape (core zs) at place ex may.may.1)
   kept_by zs x (Core (Begin did.More)) row u p may ex s = s
@@ -185,6 +187,7 @@ module _ {n m : ℕ} (shape : BankShape) (pace : Pacing) (e : ℕ) where
 
   exhausted_on : (h : Happens n) (zs : List (Timed n m)) → has_exhausted (core zs) ≡ true → has_exhausted (core_of h (core zs)) ≡ true
   exhausted_on (Core event) zs ex = exhausted-more event (core zs) ex
+  exhausted_on (Regs event) zs ex = ex
 
   pub exhausted_later : (later zs : List (Timed n m)) → has_exhausted (core zs) ≡ true → has_exhausted (core (later ++ zs)) ≡ true
   exhausted_later [] zs ex = ex
@@ -203,6 +206,7 @@ module _ {n m : ℕ} (shape : BankShape) (pace : Pacing) (e : ℕ) where
   exhausted_by zs (Core (Write row line bytes given answer)) ex = inr ex
   exhausted_by zs (Core (Read row line answer)) ex = inr ex
   exhausted_by zs (Core (Serve answer)) ex = inr ex
+  exhausted_by zs (Regs event) ex = inr ex
   exhausted_by zs (Core (Begin did.More)) ex = inr ex
   exhausted_by zs (Core (Begin (did.Stored row place))) ex = inr ex
   exhausted_by zs (Core (Begin (did.Moved step))) ex = inr ex
@@ -266,6 +270,7 @@ module _ {n m : ℕ} (shape : BankShape) (pace : Pacing) (e : ℕ) (all : List (
           (λ fine. or_none (is_worn (ended x.tick (outcome_of shape all at)) && nat_le x.tick u) false (and_first (is_worn (ended x.tick (outcome_of shape all at))) _ fine) refl)
       by (Core (Read at line answer)) cancels may on above = refl
       by (Core (Serve answer)) cancels may on above = refl
+      by (Regs event) cancels may on above = refl
       by (Core (Begin answer)) cancels may on above = refl
       by (Core (Iterate answer)) cancels may on above = refl
       by (Core (Cut tearing)) true may on above = refl
@@ -304,6 +309,7 @@ module _ {n m : ℕ} (shape : BankShape) (pace : Pacing) (e : ℕ) (all : List (
           (λ fine. rest (or_rest (is_worn (ended x.tick (outcome_of shape all at))) _ fine w))
       by (Core (Read at line answer)) cancels may on rest w = rest w
       by (Core (Serve answer)) cancels may on rest w = rest w
+      by (Regs event) cancels may on rest w = rest w
       by (Core (Begin answer)) cancels may on rest w = rest w
       by (Core (Iterate answer)) cancels may on rest w = rest w
       by (Core (Cut tearing)) true may on rest w = rest w

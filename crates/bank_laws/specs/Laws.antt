@@ -1,5 +1,5 @@
 -- The laws of a bank, over a lawful history at whose end the bank has no work.
-use Rattle.std.specs.Prelude.{◌≡◌, ◌≢◌, ◌&&◌, nat_le, nat_lt, length, ℕ, ◌+◌, ◌<◌, ◌≤◌, Bool, IsTrue, List, [], filter, ◌++◌, All}
+use Rattle.std.specs.Prelude.{◌≡◌, ◌≢◌, ◌&&◌, nat_le, nat_lt, length, ℕ, ◌+◌, ◌<◌, ◌≤◌, Bool, IsTrue, List, [], filter, ◌++◌, All, IfSome}
 use Rattle.pcm_cells.specs.Device.{ArrayState}
 use Rattle.pcm_cells.specs.declared.array.Sense.{Sense}
 use Rattle.ecp_line.specs.Reading.{decode, is_worn_line}
@@ -9,7 +9,7 @@ use Rattle.row_laws.specs.Rules.{Rules}
 use Rattle.row_laws.specs.Table.{KeepsRows}
 use Rattle.bank_shape.specs.declared.BankShape.{BankShape}
 use Rattle.spare_pool.specs.Table.{line_from}
-use Rattle.bank_shape.specs.Shape.{slots_of, controls_of, lines_in}
+use Rattle.bank_shape.specs.Shape.{slots_of, controls_of, control_line, lines_in}
 use Rattle.bank_model.specs.After.{array_line_after, slot_of_work, due_work}
 use Rattle.bank_model.specs.History.{retired, has_exhausted, due_after, queue}
 use Rattle.bank_model.specs.Timing.{Pacing, Timed, core}
@@ -18,7 +18,8 @@ use Rattle.bank_model.specs.Adding.{senses_of}
 use Rattle.bank_model.specs.Lawful.{Lawful, IsIdle}
 use Rattle.bank_laws.specs.Outcomes.{table_of}
 use Rattle.bank_laws.specs.Places.{is_placed, is_wear_true, is_taken, most_pulses, pulses_among}
-use Rattle.bank_laws.specs.Logs.{has_sense, is_line_fair}
+use Rattle.bank_laws.specs.Logs.{has_sense, has_controls, is_line_fair}
+use Rattle.bank_model.specs.Changes.{change_after, halted_after}
 
 -- the rules of a bank. A line write takes at most `8 * (3 * e + 2)` steps
 abbrev pub rules_of : ℕ → BankShape → Pacing → Rules
@@ -42,13 +43,16 @@ module _ {n m : ℕ} (e : ℕ) (shape : BankShape) (array : ArrayState n m) wher
     pub sensed : IsTrue (each_row (has_sense (decode e) log) rows [])
     pub lines : (line : ℕ) → shape.base ≤ line → line < shape.base + lines_in shape
         → IsTrue (is_line_fair rules rows log (nat_lt line (shape.base + slots_of shape + shape.spares)) line (array.line line).pulses)
+    pub controls : IsTrue (each_row (has_controls shape log) rows [])
 
--- what holds of the array in the end: each line has the pulses of the history, and the lines that were retired, and the target that found no spare, are worn
+-- what holds of the array in the end: each line has the pulses of the history; the lines that were retired, the target that found no
+-- spare, and the control line at which the writing of a change has halted, are worn
 pub record LeavesArray {n m : ℕ} (e : ℕ) (shape : BankShape) (xs : List (Timed n m)) (array : ArrayState n m) : Type 0 where
   pub pulses : (line : ℕ) → line < lines_in shape → (array.line (shape.base + line)).pulses ≡ pulses_of xs (shape.base + line)
   pub retired : (line : ℕ) → line < slots_of shape + length (retired (core xs))
       → ((slot : ℕ) → slot < slots_of shape → line_from (slots_of shape) slot (retired (core xs)) slot ≢ line)
       → IsTrue (is_worn_at e array (shape.base + line))
+  pub halted : IsTrue (halted_after xs) → IfSome (change_after shape xs) (λ item. IsTrue (is_worn_at e array (control_line shape item)))
   pub exhausted : IsTrue (has_exhausted (core xs))
       → IsTrue (is_worn_at e array (array_line_after shape (core xs) (slot_of_work shape (core xs) (due_work shape (core xs) (due_after shape (core xs)) (queue shape (core xs))))))
 

@@ -1,10 +1,12 @@
 -- What the senses of a log show of a bank's rows and of its lines.
 use Rattle.std.specs.Prelude.{ℕ, ◌+◌, ◌==◌, ◌&&◌, ◌||◌, not, nat_lt, nat_le, Bool, true, List, [], ◌∷◌, filter}
-use Rattle.std.specs.List.{list_any}
+use Rattle.std.specs.List.{list_any, list_all}
 use Rattle.pcm_cells.specs.declared.row.Cells.{Cells}
 use Rattle.pcm_cells.specs.declared.array.Sense.{Sense}
 use Rattle.masked_bytes.specs.Masked.{laid}
 use Rattle.bank_shape.specs.Pausing.{is_cancelling}
+use Rattle.bank_shape.specs.declared.BankShape.{BankShape}
+use Rattle.bank_model.specs.Changes.{all_controls}
 use Rattle.result_rows.specs.declared.Outcome.{Outcome}
 use Rattle.result_rows.specs.declared.Outcome.TheVariants as out
 use Rattle.row_laws.specs.declared.Row.{Row}
@@ -29,6 +31,11 @@ module _ {n m : ℕ} (read_as : Cells n m → List ℕ) (log : List (Sense n m))
   -- a row that was read or stored has a sense in the log
   abbrev pub has_sense : RowTest n
   has_sense before r after = outcome_sensed before r after r.outcome
+
+-- a cut has a sense of every control line at its tick
+abbrev pub has_controls : {n m : ℕ} → BankShape → List (Sense n m) → RowTest n
+has_controls shape log before r after =
+    not (is_cut r) || list_all (λ line. list_any (λ s. s.line == line && s.tick == r.tick) log) (all_controls shape)
 
 -- a cut, or under Cancel a read, from the first tick to the second
 abbrev pub is_broken : {n : ℕ} → Rules → List (Row n) → ℕ → ℕ → Bool

@@ -12,7 +12,7 @@ use Rattle.bank_model.specs.declared.answer.Step.{Step}
 use Rattle.bank_model.specs.declared.answer.Step.TheVariants as did
 use Rattle.bank_model.specs.Events.{Event, Write, Read, Serve, Begin, Iterate, Cut}
 use Rattle.bank_model.specs.History.{Awaited, waits}
-use Rattle.bank_model.specs.Timing.{Happens, Core, Timed, core}
+use Rattle.bank_model.specs.Timing.{Happens, Core, Regs, Timed, core}
 
 -- this outcome, for this row
 abbrev pub on_row : {n : ℕ} → ℕ → ℕ → Outcome n → Option (Outcome n)
@@ -40,6 +40,7 @@ outcome_by ws (Cut tearing) tick row = if list_any (λ w. w.row == row) ws then 
 -- what happens makes of a row, after these events
 abbrev pub outcome_with : {n m : ℕ} → BankShape → List (Timed n m) → Happens n → ℕ → ℕ → Option (Outcome n)
 outcome_with shape xs (Core event) tick row = outcome_by (waits shape (core xs)) event tick row
+outcome_with shape xs (Regs event) tick row = None
 
 module _ {n m : ℕ} (shape : BankShape) where
   -- the outcome of a row so far
@@ -63,6 +64,7 @@ row_by shape all _ tick cancels = []
 -- the row of what happens: an arrival or a cut has one, and a cancel has none
 abbrev pub row_with : {n m : ℕ} → BankShape → List (Timed n m) → Happens n → ℕ → Bool → List (Row n)
 row_with shape all (Core event) tick cancels = row_by shape all event tick cancels
+row_with shape all (Regs event) tick cancels = []
 
 module _ {n m : ℕ} (shape : BankShape) where
   -- the rows of these events, where `all` is the whole history

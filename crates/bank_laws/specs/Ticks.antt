@@ -2,7 +2,7 @@
 use Rattle.std.specs.Prelude.{ℕ, ◌<◌, ◌≤◌, Bool, true, false, IsTrue, List, ◌∷◌, All}
 use Rattle.bank_shape.specs.declared.BankShape.{BankShape}
 use Rattle.bank_model.specs.Events.{Write, Read, Serve, Begin, Iterate, Cut}
-use Rattle.bank_model.specs.Timing.{Pacing, Happens, Core, Timed}
+use Rattle.bank_model.specs.Timing.{Pacing, Happens, Core, Regs, KeepBegin, KeepIterate, KeepCut, Timed}
 use Rattle.bank_model.specs.Lawful.{Lawful}
 
 -- the end of an action: a serve, a begin or an iteration
@@ -13,6 +13,9 @@ ends_action (Core (Serve answer)) = true
 ends_action (Core (Begin answer)) = true
 ends_action (Core (Iterate answer)) = true
 ends_action (Core (Cut tearing)) = false
+ends_action (Regs (KeepBegin answer)) = true
+ends_action (Regs (KeepIterate answer)) = true
+ends_action (Regs (KeepCut tearing)) = false
 
 -- an event comes at no tick below an earlier one's, and an action ends above every earlier event
 pub record ComesAfter {n m : ℕ} (x : Timed n m) (xs : List (Timed n m)) : Type 0 where

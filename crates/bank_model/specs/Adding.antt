@@ -1,11 +1,11 @@
 -- What the events of a call do to an array, besides its cells.
-use Rattle.std.specs.Prelude.{◌≡◌, ◌⊎◌, ℕ, ◌+◌, ◌<◌, ◌≤◌, true, if◌then◌else◌, List, [], ◌∷◌, ◌++◌, Some}
+use Rattle.std.specs.Prelude.{◌≡◌, ◌⊎◌, ℕ, ◌+◌, ◌<◌, ◌≤◌, true, if◌then◌else◌, List, [], ◌∷◌, ◌++◌, Option, Some}
 use Rattle.pcm_cells.specs.declared.array.Sense.{Sense}
 use Rattle.pcm_cells.specs.Device.{ArrayState, counted}
 use Rattle.bank_shape.specs.declared.BankShape.{BankShape}
 use Rattle.bank_model.specs.Events.{Cut}
 use Rattle.bank_shape.specs.Shape.{lines_in}
-use Rattle.bank_model.specs.Timing.{Happens, Core, Timed}
+use Rattle.bank_model.specs.Timing.{Happens, Core, Regs, KeepCut, Timed}
 use Rattle.bank_model.specs.Sensing.{is_at}
 
 -- the senses, the oldest first
@@ -18,13 +18,15 @@ abbrev pub pulses_on : {n m : ℕ} → List (Timed n m) → ℕ → ℕ → ℕ
 pulses_on [] line count = count
 pulses_on (x ∷ xs) line count = if is_at x.pulsed line then counted (pulses_on xs line count) else pulses_on xs line count
 
-abbrev pub torn_by : {n : ℕ} → Happens n → ℕ → ℕ
-torn_by (Core (Cut true)) count = counted count
-torn_by happens count = count
+-- an event tears where it is a cut that pulsed a line, which is then torn
+abbrev pub torn_by : {n : ℕ} → Happens n → Option ℕ → ℕ → ℕ
+torn_by (Core (Cut tearing)) (Some line) count = counted count
+torn_by (Regs (KeepCut tearing)) (Some line) count = counted count
+torn_by happens pulsed count = count
 
 abbrev pub tears_on : {n m : ℕ} → List (Timed n m) → ℕ → ℕ
 tears_on [] count = count
-tears_on (x ∷ xs) count = torn_by x.happens (tears_on xs count)
+tears_on (x ∷ xs) count = torn_by x.happens x.pulsed (tears_on xs count)
 
 -- the events of a call, the newest first, over the array before and after it
 pub record Adds {n m : ℕ} (shape : BankShape) (added : List (Timed n m)) (old new : ArrayState n m) : Type 0 where

@@ -1,11 +1,13 @@
 -- Histories of the small bank that no bank has, the newest event first: what is wrong is the newest event.
-use Rattle.std.specs.Prelude.{List, [], ◌∷◌, true, false, Some}
+use Rattle.std.specs.Prelude.{List, [], ◌∷◌, true, false, Some, None}
 use Rattle.bank_model.specs.declared.answer.WriteAnswer.TheVariants.{Accepted, Merged, Full}
 use Rattle.bank_model.specs.declared.answer.ReadAnswer.TheVariants.{Waiting, Forwarded}
 use Rattle.bank_model.specs.declared.answer.Step.TheVariants.{More, Stored, Exhausted}
 use Rattle.bank_model.specs.Events.{Write, Read, Begin, Iterate, Cut}
 use Rattle.bank_model.specs.Timing.{Timed, Core}
-use Rattle.bank_model.specs.Worked.{at, sensed, pulsed, holds, cancel, whole, both, begun, in_flight, zeros, stored}
+use Rattle.bank_model.specs.declared.answer.Keep.TheVariants as keep
+use Rattle.bank_model.specs.Timing.{KeepBegin, KeepIterate}
+use Rattle.bank_model.specs.Worked.{kept, kept_on, kept_begun, cut_of_control, read_controls, at, sensed, pulsed, holds, cancel, whole, both, begun, in_flight, zeros, stored}
 
 -- Times.
 
@@ -81,3 +83,25 @@ pulses_twice = pulsed 5 15 (Iterate (Stored 1 3)) 3 (holds 15 3 (whole 0x11) 2 �
 
 abbrev pub pulses_another_line : List (Timed 2 1)
 pulses_another_line = pulsed 5 15 (Iterate (Stored 1 3)) 2 (holds 15 3 (whole 0x11) 0 ∷ []) ∷ begun 0x11
+
+-- Registers in the array
+
+-- a write is begun while a change stands
+abbrev pub begins_with_a_change : List (Timed 2 1)
+begins_with_a_change = sensed 20 25 (Begin More) (holds 25 1 (whole 0) 0 ∷ []) ∷ at 20 (Write 2 1 (whole 0x22) both Accepted) ∷ kept_begun
+
+-- a cut that reads no control line, and one that tears the change without saying so
+abbrev pub cuts_unread : List (Timed 2 1)
+cuts_unread = at 17 (Cut false) ∷ stored
+
+abbrev pub cuts_unpulsed : List (Timed 2 1)
+cuts_unpulsed = record { happens = Core (Cut false); tick = 25; first = 25; senses = read_controls 25 0; pulsed = None; cancels = false } ∷ kept_begun
+
+-- the writing goes on after it has halted
+abbrev pub keeps_on_halted : List (Timed 2 1)
+keeps_on_halted =
+    kept 30 35 (KeepBegin keep.More) (holds 35 7 (whole 0) 1 ∷ []) ∷ kept_on 20 30 (KeepIterate keep.Halted) 7 (holds 30 7 (whole 0) 1 ∷ []) ∷ kept_begun
+
+-- another item's line is written
+abbrev pub keeps_another : List (Timed 2 1)
+keeps_another = kept_on 20 30 (KeepIterate keep.Done) 8 (holds 30 8 (whole 0) 1 ∷ []) ∷ kept_begun

@@ -1,5 +1,5 @@
 -- Which timed histories a bank may have.
-use Rattle.std.specs.Prelude.{◌≡◌, ℕ, ◌<◌, ◌≤◌, ◌&&◌, nat_lt, Bool, IsTrue, IsFalse, List, [], ◌∷◌, map, Option, Some, None, IfSome, All}
+use Rattle.std.specs.Prelude.{◌≡◌, ◌≢◌, ℕ, ◌+◌, ◌<◌, ◌≤◌, ◌&&◌, nat_lt, Bool, IsTrue, IsFalse, List, [], ◌∷◌, map, Option, Some, None, IfSome, is_some, All}
 use Rattle.bank_shape.specs.Pausing.{Pausing, is_cancelling, most_cancels}
 use Rattle.bank_shape.specs.declared.BankShape.{BankShape}
 use Rattle.bank_model.specs.declared.answer.ReadAnswer.{ReadAnswer}
@@ -10,9 +10,11 @@ use Rattle.bank_model.specs.declared.clock.Action.{Action}
 use Rattle.bank_model.specs.Events.{Event, Write, Read, Serve, Begin, Iterate, Cut, RowsBelow}
 use Rattle.bank_model.specs.History.{waits}
 use Rattle.bank_model.specs.Answers.{MayHappen}
-use Rattle.bank_model.specs.Timing.{Pacing, Happens, Core, Timed, ends, is_doing, is_writing, is_empty, core, last_tick}
-use Rattle.bank_model.specs.Running.{chosen_after, running, running_at, cancels_after}
-use Rattle.bank_model.specs.Sensing.{most_steps, pulses_of, sensed_by, pulsed_by, IsReadRight}
+use Rattle.bank_model.specs.declared.answer.Keep.TheVariants as keep
+use Rattle.bank_model.specs.Timing.{Pacing, Happens, Core, Regs, Keeping, KeepBegin, KeepIterate, KeepCut, Timed, ends, is_doing, is_writing, is_empty, core, last_tick}
+use Rattle.bank_model.specs.Changes.{change_after, keeping_after, rounds_after, halted_after, line_of_change}
+use Rattle.bank_model.specs.Running.{tears_bank, chosen_after, running, running_at, cancels_after}
+use Rattle.bank_model.specs.Sensing.{most_steps, pulses_of, sensed_by, pulsed_by, read_again, torn_control, kept_sensed, kept_pulsed, IsReadRight}
 
 -- a read was answered at once, from the queue
 abbrev pub IsForwarded : {n : ℕ} → ReadAnswer n → Type 0
@@ -54,11 +56,13 @@ module _ {n m : ℕ} (shape : BankShape) (pace : Pacing) where
       IsArrival pace action (last_tick xs) x × IsFalse x.cancels
       × ((IsForwarded answer → ⊥) → IsFalse (would_cancel shape (core xs) pace.policy action (cancels_after xs)))
   IsOnTime action xs x (Serve answer) = IsEnd pace Serving action x × IsFalse x.cancels
-  IsOnTime action xs x (Begin answer) = IsEnd pace Beginning action x × IsFalse x.cancels
-  IsOnTime action xs x (Iterate answer) = IsEnd pace Iterating action x × IsFalse x.cancels
+  IsOnTime action xs x (Begin answer) = IsEnd pace Beginning action x × IsFalse x.cancels × (change_after shape xs ≡ None)
+  IsOnTime action xs x (Iterate answer) = IsEnd pace Iterating action x × IsFalse x.cancels × (change_after shape xs ≡ None)
   IsOnTime action xs x (Cut tearing) =
-      IsArrival pace action (last_tick xs) x × (tearing ≡ is_doing Iterating action)
+      IsArrival pace action (last_tick xs) x × (tearing ≡ tears_bank (change_after shape xs) action)
       × (IsTrue x.cancels → IsTrue (would_cancel shape (core xs) pace.policy action (cancels_after xs)))
+      × (IsTrue x.cancels → change_after shape xs ≡ None)
+      × (IsTrue (is_some (torn_control shape (change_after shape xs) action)) → IsTrue (keeping_after xs))
 
   -- behind a cancel comes the read that made it, at the cancel's tick
   abbrev pub FollowsCancel : List (Timed n m) → ℕ → Event n → Type 0
@@ -71,13 +75,44 @@ module _ {n m : ℕ} (shape : BankShape) (pace : Pacing) where
     pub may : MayHappen shape (core xs) (most_steps e) event
     pub on_time : IsOnTime (running_at shape pace xs x.tick) xs x event
     pub behind : FollowsCancel xs x.tick event
-    pub lines : map (λ s. s.line) x.senses ≡ sensed_by shape (core xs) event
+    pub lines : map (λ s. s.line) x.senses ≡ sensed_by shape (core xs) (read_again shape x.cancels) event
     pub senses : All (λ s. (s.tick ≡ x.tick) × (s.pulses ≡ pulses_of (x ∷ xs) s.line)) x.senses
-    pub pulsed : x.pulsed ≡ pulsed_by shape (core xs) event
+    pub pulsed : x.pulsed ≡ pulsed_by shape (core xs) (torn_control shape (change_after shape xs) (running_at shape pace xs x.tick)) event
     pub right : IsReadRight e shape xs event x.senses
+
+  -- a step of the writing of the change that stands meets its condition, and may be answered so. It takes at most so many iterations
+  abbrev pub MayKeep : ℕ → List (Timed n m) → Keeping → Type 0
+  MayKeep most xs (KeepBegin answer) = IsFalse (keeping_after xs) × IsFalse (halted_after xs) × (answer ≢ keep.Halted)
+  MayKeep most xs (KeepIterate answer) =
+      IsTrue (keeping_after xs) × (rounds_after xs < most) × (answer ≡ keep.More → rounds_after xs + 1 < most)
+  MayKeep most xs (KeepCut tearing) = IsTrue tearing → IsTrue (keeping_after xs)
+
+  -- it comes when it may, while this action runs; its cut is a cancel
+  abbrev pub IsKeptOnTime : Option Action → List (Timed n m) → Timed n m → Keeping → Type 0
+  IsKeptOnTime action xs x (KeepBegin answer) = IsEnd pace Beginning action x × IsFalse x.cancels
+  IsKeptOnTime action xs x (KeepIterate answer) = IsEnd pace Iterating action x × IsFalse x.cancels
+  IsKeptOnTime action xs x (KeepCut tearing) =
+      IsArrival pace action (last_tick xs) x × (tearing ≡ is_doing Iterating action) × IsTrue x.cancels
+      × IsTrue (would_cancel shape (core xs) pace.policy action (cancels_after xs))
+
+  -- no cancel stands without its read
+  abbrev pub IsUncancelled : List (Timed n m) → Type 0
+  IsUncancelled [] = Unit {0}
+  IsUncancelled (y ∷ ys) = IsFalse y.cancels
+
+  -- a step of the writing of the change that stands may come next
+  pub record IsNextKept (e : ℕ) (xs : List (Timed n m)) (x : Timed n m) (event : Keeping) : Type 0 where
+    pub stands : IsTrue (is_some (change_after shape xs))
+    pub may : MayKeep (most_steps e) xs event
+    pub on_time : IsKeptOnTime (running_at shape pace xs x.tick) xs x event
+    pub behind : IsUncancelled xs
+    pub lines : map (λ s. s.line) x.senses ≡ kept_sensed (line_of_change shape (change_after shape xs)) event
+    pub senses : All (λ s. (s.tick ≡ x.tick) × (s.pulses ≡ pulses_of (x ∷ xs) s.line)) x.senses
+    pub pulsed : x.pulsed ≡ kept_pulsed (line_of_change shape (change_after shape xs)) event
 
   abbrev pub MayCome : ℕ → List (Timed n m) → Timed n m → Happens n → Type 0
   MayCome e xs x (Core event) = IsNext e xs x event
+  MayCome e xs x (Regs event) = IsNextKept e xs x event
 
   -- each event may come after those before it
   abbrev pub Lawful : ℕ → List (Timed n m) → Type 0

@@ -5,6 +5,7 @@ pub mod Answers
 pub mod Events
 pub mod History
 pub mod Lawful
+pub mod Changes
 pub mod Running
 pub mod Sensing
 pub mod Timing

@@ -11,7 +11,10 @@ use Rattle.bank_model.specs.declared.answer.Step.TheVariants as did
 use Rattle.bank_model.specs.Events.{Event, Serve, Begin, Iterate, Cut, newest, up_to, line_of_row}
 use Rattle.bank_model.specs.History.{Awaited, waits}
 use Rattle.bank_model.specs.After.{work_after, target_after, sources_of, stands_at_after}
-use Rattle.bank_model.specs.Timing.{Happens, Core, Timed, core}
+use Rattle.bank_model.specs.Timing.{Happens, Core, Keeping, KeepBegin, KeepIterate, KeepCut, Timed, core, is_doing}
+use Rattle.bank_model.specs.declared.clock.Doing.TheVariants.{Iterating}
+use Rattle.bank_model.specs.declared.clock.Action.{Action}
+use Rattle.bank_model.specs.Changes.{line_of_change, all_controls}
 
 -- a line, if there is one, is this one
 abbrev pub is_at : Option ℕ → ℕ → Bool
@@ -29,18 +32,42 @@ module _ {n : ℕ} (shape : BankShape) (h : List (Event n)) where
   stand_of [] = []
   stand_of (w ∷ ws) = stands_at_after shape h w.line ∷ []
 
-  -- the array lines that an event senses, in this order: a copy's begin its source and then its target
-  abbrev pub sensed_by : Event n → List ℕ
-  sensed_by (Serve answer) = stand_of (waits shape h)
-  sensed_by (Begin answer) = sources_of shape h (work_after shape h) ++ target_after shape h ∷ []
-  sensed_by (Iterate answer) = target_after shape h ∷ []
-  sensed_by _ = []
+  -- the array lines that an event senses, in this order: a copy's begin its source and then its target. A cut is one with the reading
+  -- of these control lines
+  abbrev pub sensed_by : List ℕ → Event n → List ℕ
+  sensed_by controls (Serve answer) = stand_of (waits shape h)
+  sensed_by controls (Begin answer) = sources_of shape h (work_after shape h) ++ target_after shape h ∷ []
+  sensed_by controls (Iterate answer) = target_after shape h ∷ []
+  sensed_by controls (Cut tearing) = controls
+  sensed_by controls _ = []
 
-  -- the one that it pulses or tears
-  abbrev pub pulsed_by : Event n → Option ℕ
-  pulsed_by (Iterate answer) = Some (target_after shape h)
-  pulsed_by (Cut true) = Some (target_after shape h)
-  pulsed_by _ = None
+  -- the one that it pulses or tears. A cut that doesn't tear the bank's line write may tear that of this control line
+  abbrev pub pulsed_by : Option ℕ → Event n → Option ℕ
+  pulsed_by torn (Iterate answer) = Some (target_after shape h)
+  pulsed_by torn (Cut true) = Some (target_after shape h)
+  pulsed_by torn (Cut false) = torn
+  pulsed_by torn _ = None
+
+-- a power cut reads every control line again, and a cancel none
+abbrev pub read_again : BankShape → Bool → List ℕ
+read_again shape true = []
+read_again shape false = all_controls shape
+
+-- the control line whose iteration a cut tears, if such a one runs
+abbrev pub torn_control : BankShape → Option ℕ → Option Action → Option ℕ
+torn_control shape change action = if is_doing Iterating action then line_of_change shape change else None
+
+-- what a step of the writing of a change senses and pulses, by its control line
+abbrev pub kept_sensed : Option ℕ → Keeping → List ℕ
+kept_sensed None event = []
+kept_sensed (Some line) (KeepBegin answer) = line ∷ []
+kept_sensed (Some line) (KeepIterate answer) = line ∷ []
+kept_sensed (Some line) (KeepCut tearing) = []
+
+abbrev pub kept_pulsed : Option ℕ → Keeping → Option ℕ
+kept_pulsed line (KeepBegin answer) = None
+kept_pulsed line (KeepIterate answer) = line
+kept_pulsed line (KeepCut tearing) = if tearing then line else None
 
 -- the bytes are those kept with the first read, over what these cells are read as
 abbrev pub IsLaid : {n m : ℕ} → ℕ → List Awaited → List ℕ → Cells n m → Type 0

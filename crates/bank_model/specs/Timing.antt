@@ -5,6 +5,7 @@ use Rattle.bank_shape.specs.Pausing.{Pausing}
 use Rattle.bank_model.specs.declared.clock.Doing.{Doing}
 use Rattle.bank_model.specs.declared.clock.Doing.TheVariants.{Serving, Beginning, Iterating}
 use Rattle.bank_model.specs.declared.clock.Action.{Action}
+use Rattle.bank_model.specs.declared.answer.Keep.{Keep}
 use Rattle.bank_model.specs.Events.{Event}
 use Rattle.bank_model.specs.History.{Awaited}
 
@@ -14,9 +15,17 @@ pub record Pacing : Type 0 where
   pub iter : ℕ
   pub policy : Pausing
 
--- what happens at a bank
+-- what happens at the control lines of a bank: the writing of the change that stands begins, goes on by an iteration, or is broken off
+-- by a read. A power cut of it is one with that of the bank
+pub data Keeping : Type 0 where
+  KeepBegin : (answer : Keep) → Keeping
+  KeepIterate : (answer : Keep) → Keeping
+  KeepCut : (tearing : Bool) → Keeping
+
+-- what happens at a bank, or at its control lines
 pub data Happens (n : ℕ) : Type 0 where
   Core : (event : Event n) → Happens n
+  Regs : (event : Keeping) → Happens n
 
 -- an event with its tick, the first tick of its action, the array lines that it sensed, the one that it pulsed or tore, and whether it is a cut that a read made
 pub record Timed (n m : ℕ) : Type 0 where
@@ -58,9 +67,10 @@ abbrev pub is_empty : List Awaited → Bool
 is_empty [] = true
 is_empty (w ∷ ws) = false
 
--- the core events, with this one
+-- the core events, with this one, if it is one
 abbrev pub core_of : {n : ℕ} → Happens n → List (Event n) → List (Event n)
 core_of (Core event) h = event ∷ h
+core_of (Regs event) h = h
 
 module _ {n m : ℕ} where
   -- the core events

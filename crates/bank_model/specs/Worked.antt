@@ -3,16 +3,22 @@
 use Rattle.std.specs.Prelude.{ℕ, List, [], ◌∷◌, Bool, true, false, Some, None}
 use Rattle.pcm_cells.specs.declared.array.Sense.{Sense}
 use Rattle.bank_shape.specs.declared.BankShape.{BankShape}
+use Rattle.bank_shape.specs.declared.Home.{Home}
+use Rattle.bank_shape.specs.declared.Home.TheVariants as home
 use Rattle.bank_shape.specs.Pausing.{Pausing}
 use Rattle.bank_model.specs.declared.answer.WriteAnswer.TheVariants.{Accepted, Merged}
 use Rattle.bank_model.specs.declared.answer.ReadAnswer.TheVariants.{Waiting, Forwarded}
 use Rattle.bank_model.specs.declared.answer.Step.TheVariants.{More, Stored, Moved}
 use Rattle.bank_model.specs.Events.{Event, Write, Read, Serve, Begin, Iterate, Cut}
-use Rattle.bank_model.specs.Timing.{Pacing, Timed, Core}
+use Rattle.bank_model.specs.declared.answer.Keep.TheVariants as keep
+use Rattle.bank_model.specs.Timing.{Pacing, Timed, Core, Regs, Keeping, KeepBegin, KeepIterate, KeepCut}
 
--- four lines, two spares, and a gap move after so many stores
+-- four lines, two spares, registers kept so, and a gap move after so many stores
+abbrev pub keeping : Home → ℕ → BankShape
+keeping where_ psi = record { base = 0; regions = 1; lines = 4; spares = 2; writes = 4; reads = 4; psi = psi; home = where_ }
+
 abbrev pub moving : ℕ → BankShape
-moving psi = record { base = 0; regions = 1; lines = 4; spares = 2; writes = 4; reads = 4; psi = psi }
+moving psi = keeping home.Guarded psi
 
 abbrev pub small : BankShape
 small = moving 100
@@ -104,3 +110,62 @@ abbrev pub copied_as : List ℕ → List (Timed 2 1)
 copied_as bytes =
     pulsed 20 30 (Iterate (Moved (record { line = 3; from = 3; to = 4 }))) 4 (holds 30 4 bytes 1 ∷ [])
     ∷ sensed 15 20 (Begin More) (holds 20 3 (whole 0x11) 1 ∷ holds 20 4 (whole 0) 0 ∷ []) ∷ stored
+
+-- Registers in the array: control lines 7 to 10 of the region, the two spares and the mark
+
+abbrev pub in_array : BankShape
+in_array = keeping home.Array 100
+
+-- the end of a sense, and of an iteration, of a change's control line; and a cancel of its iteration
+abbrev pub kept : ℕ → ℕ → Keeping → List (Sense 2 1) → Timed 2 1
+kept from tick event senses = record { happens = Regs event; tick = tick; first = from; senses = senses; pulsed = None; cancels = false }
+
+abbrev pub kept_on : ℕ → ℕ → Keeping → ℕ → List (Sense 2 1) → Timed 2 1
+kept_on from tick event line senses = record { happens = Regs event; tick = tick; first = from; senses = senses; pulsed = Some line; cancels = false }
+
+abbrev pub kept_cancel : ℕ → ℕ → Timed 2 1
+kept_cancel tick line = record { happens = Regs (KeepCut true); tick = tick; first = tick; senses = []; pulsed = Some line; cancels = true }
+
+-- a power cut reads every control line; one that tears a control line is no tear of the bank's
+abbrev pub read_controls : ℕ → ℕ → List (Sense 2 1)
+read_controls tick pulses = holds tick 7 (whole 0) pulses ∷ holds tick 8 (whole 0) 0 ∷ holds tick 9 (whole 0) 0 ∷ holds tick 10 (whole 0) 0 ∷ []
+
+abbrev pub cut_of_control : ℕ → Timed 2 1
+cut_of_control tick = record { happens = Core (Cut false); tick = tick; first = tick; senses = read_controls tick 1; pulsed = Some 7; cancels = false }
+
+abbrev pub cut_of_bank : ℕ → Timed 2 1
+cut_of_bank tick = record { happens = Core (Cut true); tick = tick; first = tick; senses = read_controls tick 0; pulsed = Some 3; cancels = false }
+
+-- the region's item is written after the store; a read that comes meanwhile is served between
+abbrev pub kept_begun : List (Timed 2 1)
+kept_begun = kept 15 20 (KeepBegin keep.More) (holds 20 7 (whole 0) 0 ∷ []) ∷ stored
+
+abbrev pub kept_done : List (Timed 2 1)
+kept_done =
+    kept_on 35 45 (KeepIterate keep.Done) 7 (holds 45 7 (0 ∷ 1 ∷ []) 2 ∷ []) ∷ sensed 30 35 (zeros 2 1) (holds 35 1 (whole 0) 0 ∷ [])
+    ∷ kept_on 20 30 (KeepIterate keep.More) 7 (holds 30 7 (whole 0) 1 ∷ []) ∷ at 25 (Read 2 1 Waiting) ∷ kept_begun
+
+-- two writes; the writing of the first one's item is torn, and done again, before the second is begun
+abbrev pub kept_torn : List (Timed 2 1)
+kept_torn =
+    pulsed 45 55 (Iterate (Stored 2 1)) 1 (holds 55 1 (whole 0x22) 1 ∷ []) ∷ sensed 40 45 (Begin More) (holds 45 1 (whole 0) 0 ∷ [])
+    ∷ kept_on 30 40 (KeepIterate keep.Done) 7 (holds 40 7 (0 ∷ 1 ∷ []) 2 ∷ []) ∷ kept 25 30 (KeepBegin keep.More) (holds 30 7 (whole 0) 1 ∷ [])
+    ∷ cut_of_control 25 ∷ kept_begun_two
+  where
+    kept_begun_two : List (Timed 2 1)
+    kept_begun_two =
+        kept 15 20 (KeepBegin keep.More) (holds 20 7 (whole 0) 0 ∷ []) ∷ pulsed 5 15 (Iterate (Stored 1 3)) 3 (holds 15 3 (whole 0x11) 1 ∷ [])
+        ∷ sensed 0 5 (Begin More) (holds 5 3 (whole 0) 0 ∷ []) ∷ at 0 (Write 2 1 (whole 0x22) both Accepted) ∷ at 0 (Write 1 3 (whole 0x11) both Accepted) ∷ []
+
+-- the second write is of the line that is being written back; the control line is worn, and the second write stays
+abbrev pub kept_halted : List (Timed 2 1)
+kept_halted = at 40 (Write 2 1 (whole 0x22) both Accepted) ∷ kept_on 20 30 (KeepIterate keep.Halted) 7 (holds 30 7 (whole 0) 1 ∷ []) ∷ kept_begun
+
+-- a cut tears the bank's line write, and reads every control line
+abbrev pub bank_torn : List (Timed 2 1)
+bank_torn = cut_of_bank 7 ∷ begun 0x11
+
+-- under Cancel a read breaks off the writing of the item
+abbrev pub kept_cancelled : List (Timed 2 1)
+kept_cancelled =
+    kept 27 32 (KeepBegin keep.Done) (holds 32 7 (0 ∷ 1 ∷ []) 1 ∷ []) ∷ sensed 22 27 (zeros 2 1) (holds 27 1 (whole 0) 0 ∷ []) ∷ at 22 (Read 2 1 Waiting) ∷ kept_cancel 22 7 ∷ kept_begun

@@ -55,6 +55,17 @@ pub enum Step {
     Exhausted,
 }
 
+/// How far the writing of a change to its control line has come.
+#[derive(Clone, Copy, Debug, PartialEq, Eq)]
+pub enum Keep {
+    /// It goes on.
+    More,
+    /// The control line is read as the change's values, and the change is gone.
+    Done,
+    /// The control line was worn: the change stays, and the bank writes nothing any more.
+    Halted,
+}
+
 impl Step {
     /// Whether the line write goes on: only after `More` is it still in progress.
     pub fn goes_on(&self) -> bool

@@ -4,7 +4,7 @@
 ghost use Rattle.std.specs.Prelude.{◌≡◌, [], ◌∷◌, map, reverse};
 ghost use Rattle.bank_shape.specs.Pausing.{Pause, Plain, Cancel};
 ghost use Rattle.bank_model.specs.Lawful.{Lawful, IsIdle};
-ghost use Rattle.bank_model.specs.Worked.{small, moving, pace, whole, paused, not_paused, cancelled, two_entries, dropped_begin, copied_as};
+ghost use Rattle.bank_model.specs.Worked.{small, moving, pace, whole, paused, not_paused, cancelled, two_entries, dropped_begin, copied_as, in_array, kept_done, kept_torn, kept_halted, bank_torn, kept_cancelled};
 ghost use Rattle.bank_model.specs.Altered as altered;
 
 fn worked_histories_are_lawful()
@@ -14,6 +14,28 @@ fn worked_histories_are_lawful()
     ensures two_entries { Lawful small (pace Pause) 1 two_entries }
     ensures dropped_begin { Lawful small (pace Plain) 1 dropped_begin }
     ensures copied { Lawful (moving 1) (pace Pause) 1 (copied_as (whole 0x11)) }
+{}
+
+fn histories_with_registers_in_the_array_are_lawful()
+    ensures done { Lawful in_array (pace Pause) 1 kept_done }
+    ensures torn { Lawful in_array (pace Pause) 1 kept_torn }
+    ensures halted { Lawful in_array (pace Plain) 1 kept_halted }
+    ensures bank_torn { Lawful in_array (pace Pause) 1 bank_torn }
+    ensures cancelled { Lawful in_array (pace Cancel) 1 kept_cancelled }
+{}
+
+fn histories_with_registers_in_the_array_leave_no_work()
+    ensures done { IsIdle in_array (pace Pause) kept_done }
+    ensures halted { IsIdle in_array (pace Plain) kept_halted }
+    ensures cancelled { IsIdle in_array (pace Cancel) kept_cancelled }
+{}
+
+fn other_histories_of_control_lines_are_not_lawful()
+    ensures begins { Lawful in_array (pace Pause) 1 altered.begins_with_a_change → ⊥ }
+    ensures unread { Lawful in_array (pace Pause) 1 altered.cuts_unread → ⊥ }
+    ensures unpulsed { Lawful in_array (pace Pause) 1 altered.cuts_unpulsed → ⊥ }
+    ensures on_halted { Lawful in_array (pace Pause) 1 altered.keeps_on_halted → ⊥ }
+    ensures another { Lawful in_array (pace Pause) 1 altered.keeps_another → ⊥ }
 {}
 
 fn worked_histories_leave_no_work()
@@ -63,6 +85,9 @@ fn other_senses_are_not_lawful()
 fn lawful_histories_are_told_from_others() {
     worked_histories_are_lawful();
     worked_histories_leave_no_work();
+    histories_with_registers_in_the_array_are_lawful();
+    histories_with_registers_in_the_array_leave_no_work();
+    other_histories_of_control_lines_are_not_lawful();
     other_times_are_not_lawful();
     other_cuts_are_not_lawful();
     other_answers_are_not_lawful();

@@ -5,9 +5,18 @@
 #![tactic(auto)]
 
 ghost use Rattle.std.specs.Prelude.{◌≡◌, ◌<◌, ◌≤◌, ◌^◌};
-ghost use Rattle.bank_shape.specs.Shape.{IsBankShape, slots_of, lines_in, slot_at};
+ghost use Rattle.bank_shape.specs.Shape.{IsBankShape, slots_of, controls_of, controls_from, lines_in, slot_at};
 
 use start_gap::Move;
+
+/// Where a bank keeps its registers, its remap table and the mark of a bank that found no spare.
+#[derive(Clone, Copy, Debug, PartialEq, Eq)]
+pub enum Home {
+    /// In memory that survives a power cut.
+    Guarded,
+    /// In control lines of its array, behind the spares; only the queue and one change survive a cut by themselves.
+    Array,
+}
 
 /// The sizes of a bank.
 #[derive(Clone, Copy, Debug, PartialEq, Eq)]
@@ -26,6 +35,8 @@ pub struct BankShape {
     pub reads: u32,
     /// How many stores of a region make one gap move due, 1 to 65,535.
     pub psi: u32,
+    /// Where the registers are kept.
+    pub home: Home,
 }
 
 /// What a bank writes next.
@@ -48,12 +59,31 @@ impl BankShape {
         self.regions * (self.lines + 1)
     }
 
-    /// How many array lines the bank owns, from `base` on: those of its slots, and then its spares.
+    /// How many control lines the bank has.
+    pub fn controls(&self) -> u32
+        requires { IsBankShape self.now }
+        ensures { result ≡ controls_of self.now }
+    {
+        match self.home {
+            Home::Guarded => 0,
+            Home::Array => self.regions + self.spares + 1,
+        }
+    }
+
+    /// The first of its control lines, which stand behind its spares.
+    pub fn first_control(&self) -> u32
+        requires { IsBankShape self.now }
+        ensures { result ≡ controls_from self.now }
+    {
+        self.base + self.slots() + self.spares
+    }
+
+    /// How many array lines the bank owns, from `base` on: those of its slots, its spares, and its control lines.
     pub fn array_lines(&self) -> u32
         requires { IsBankShape self.now }
         ensures { result ≡ lines_in self.now }
     {
-        self.slots() + self.spares
+        self.slots() + self.spares + self.controls()
     }
 
     /// The slot of a place of a region.
@@ -83,9 +113,16 @@ mod tests {
             writes: 4,
             reads: 4,
             psi: 100,
+            home: Home::Guarded,
         };
         assert_eq!(rt; shape.slots(), 10);
         assert_eq!(rt; shape.array_lines(), 11);
+        let array = BankShape {
+            home: Home::Array,
+            ..shape
+        };
+        assert_eq!(rt; array.array_lines(), 15);
+        assert_eq!(rt; array.first_control(), 22);
         assert_eq!(rt; shape.slot(0, 4), 4);
         assert_eq!(rt; shape.slot(1, 0), 5);
         assert_eq!(rt; shape.slot(1, 4), 9);

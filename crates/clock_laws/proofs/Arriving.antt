@@ -1,35 +1,42 @@
--- A write or a read that arrives, and a power cut.
+-- A write or a read that arrives.
 use Rattle.std.proofs.Common.{◌≡◌, ℕ, ◌<◌, ◌==◌, ◌&&◌, nat_lt, Bool, true, false, cond, if◌then◌else◌, List, [], ◌∷◌, ◌++◌, zero, suc, map, slice_get, slice_set, Option, Some, None, refl, sym, ap, subst, ◌∙◌, arith, eq-eqb, append-nil}
-use Rattle.std.specs.Prelude.{IfSome, IsSomeAnd}
+use Rattle.std.specs.Prelude.{IfSome, IsSomeAnd, not, length}
 use Rattle.std.proofs.lemmas.List.{map_push}
 use Rattle.masked_bytes.specs.declared.entry.Entry.{Entry}
-use Rattle.masked_bytes.specs.Entries.{has_row, merged, laid_on}
+use Rattle.masked_bytes.specs.Masked.{gives_all}
+use Rattle.masked_bytes.specs.Entries.{has_row, merged, laid_on, layer_of}
 use Rattle.pcm_cells.specs.Device.{ArrayState}
 use Rattle.bank_shape.specs.declared.BankShape.{BankShape}
-use Rattle.bank_shape.specs.Pausing.{most_cancels}
-use Rattle.power_recovery.specs.Kept.{KeptState, next_work}
+use Rattle.bank_shape.specs.Pausing.{is_cancelling, most_cancels}
+use Rattle.power_recovery.specs.Kept.{KeptState}
 use Rattle.bank_model.specs.declared.answer.WriteAnswer.{WriteAnswer}
 use Rattle.bank_model.specs.declared.answer.WriteAnswer.TheVariants as wrote
 use Rattle.bank_model.specs.declared.answer.ReadAnswer.{ReadAnswer}
 use Rattle.bank_model.specs.declared.answer.ReadAnswer.TheVariants as came
-use Rattle.bank_model.specs.declared.clock.Doing.TheVariants.{Beginning, Iterating}
+use Rattle.bank_model.specs.declared.clock.Doing.TheVariants.{Beginning}
 use Rattle.bank_model.specs.declared.clock.Action.{Action}
-use Rattle.bank_model.specs.Events.{Write, Read, Cut, RowsBelow}
+use Rattle.bank_model.specs.Events.{Event, Write, Read, RowsBelow}
+use Rattle.bank_model.specs.Changes.{change_after}
 use Rattle.bank_model.specs.History.{queue, waits}
-use Rattle.bank_model.specs.After.{work_after, is_store_of}
-use Rattle.bank_model.specs.Timing.{Timed, ends, is_doing, is_writing, is_empty, core, last_tick}
-use Rattle.bank_model.specs.Running.{left, running_at, cancels_after}
-use Rattle.bank_model.specs.Lawful.{IsArrival}
+use Rattle.bank_model.specs.After.{is_store_of}
+use Rattle.bank_model.specs.Timing.{Timed, Core, ends, is_doing, is_writing, is_empty, core, last_tick}
+use Rattle.bank_model.specs.Running.{drops_begin, left, running_at, cancels_after}
+use Rattle.bank_model.specs.Lawful.{IsArrival, IsForwarded, would_cancel}
 use Rattle.bank_model.specs.Told.{tick_of_row}
 use Rattle.bank_model.specs.Touching.{Touches}
 use Rattle.bank_laws.proofs.Standing.{stand_apart}
-use Rattle.bank_invariant.specs.State.{Operation}
+use Rattle.bank_invariant.specs.State.{BankState, Operation}
+use Rattle.bank_invariant.specs.Serving.{read_from}
+use Rattle.reg_lines.specs.declared.Change.{Change}
+use Rattle.register_laws.specs.Control.{Control}
+use Rattle.register_laws.specs.Telling.{item_of}
 use Rattle.clock_laws.specs.State.{ClockState}
 use Rattle.clock_laws.specs.Leads.{Leads, CopiesWhatItSensed}
-use Rattle.clock_laws.specs.Arriving.{WriteLaw, ReadLaw, arrivals_after, IsPlaceOf, action_after_read}
-use Rattle.clock_laws.specs.Cutting.{PowerCutLaw}
-use Rattle.clock_laws.proofs.Ties.{agrees}
-use Rattle.clock_laws.proofs.Stepping.{stepped, stepped-leads}
+use Rattle.clock_laws.specs.Arriving.{WriteLaw, ReadLaw, KeepsWork, arrivals_after, IsPlaceOf, drops, action_after_read, cancels_for}
+use Rattle.clock_laws.proofs.Ties.{agrees, same_reads}
+use Rattle.clock_laws.proofs.Controls.{control-kept}
+use Rattle.clock_laws.proofs.Stepping.{follows, stepped, leads-reaches, bank-leads}
+use Rattle.clock_laws.proofs.Putting.{told-on}
 use Rattle.clock_laws.proofs.Deciding.{or_left, or_right, turned}
 
 -- Arrival ticks
@@ -107,7 +114,7 @@ untouched tick array = record {
 }
 
 module _ {n m e : ℕ} (xs : List (Timed n m)) (clock : ClockState n m e) (array : ArrayState n m) (leads : Leads xs clock array) where
-  arrives : (x : Timed n m) → x.first ≡ clock.tick → x.tick ≡ clock.tick → IsArrival clock.pace (running_at clock.bank.kept.shape clock.pace xs clock.tick) (last_tick xs) x
+  pub arrives : (x : Timed n m) → x.first ≡ clock.tick → x.tick ≡ clock.tick → IsArrival clock.pace (running_at clock.bank.kept.shape clock.pace xs clock.tick) (last_tick xs) x
   arrives x first is = (
     first ∙ sym is,
     omega (arith, leads.told.now, is),
@@ -118,20 +125,24 @@ module _ {n m e : ℕ} (xs : List (Timed n m)) (clock : ClockState n m e) (array
   none-stands : (row : ℕ) → RowsBelow (core xs) row → has_row (queue clock.bank.kept.shape (core xs)) row ≡ false
   none-stands row below = (stand_apart clock.bank.kept.shape (core xs) row below).queued_below row (omega arith)
 
-  copies-on : (running : Option (Operation n m e)) (x : Timed n m) → running ≡ clock.bank.running
-      → ((op : Operation n m e) → CopiesWhatItSensed xs op → CopiesWhatItSensed (x ∷ xs) op) → IfSome running (CopiesWhatItSensed (x ∷ xs))
-  copies-on running x is still = by running (subst (λ (r : Option (Operation n m e)). IfSome r (CopiesWhatItSensed xs)) (sym is) leads.copying)
-    where
-      by : (r : Option (Operation n m e)) → IfSome r (CopiesWhatItSensed xs) → IfSome r (CopiesWhatItSensed (x ∷ xs))
-      by None own = tt
-      by (Some op) own = still op own
+  -- what the bank then keeps of each item is the same
+  pub arrived-control : (bank : BankState n m e) → KeepsWork clock.bank bank → Control bank.kept clock.regs array
+  arrived-control bank keeps = control-kept clock.bank.kept bank.kept clock.regs array keeps.shape keeps.items leads.control
+
+pub copies-on : {n m e : ℕ} (xs : List (Timed n m)) (old running : Option (Operation n m e)) (x : Timed n m) → running ≡ old → IfSome old (CopiesWhatItSensed xs)
+    → ((op : Operation n m e) → CopiesWhatItSensed xs op → CopiesWhatItSensed (x ∷ xs) op) → IfSome running (CopiesWhatItSensed (x ∷ xs))
+copies-on {n} {m} {e} xs old running x is copying still = by running (subst (λ (r : Option (Operation n m e)). IfSome r (CopiesWhatItSensed xs)) (sym is) copying)
+  where
+    by : (r : Option (Operation n m e)) → IfSome r (CopiesWhatItSensed xs) → IfSome r (CopiesWhatItSensed (x ∷ xs))
+    by None own = tt
+    by (Some op) own = still op own
 
 -- the arrival ticks of the queue after a write
 write-arrived : {n m : ℕ} (shape : BankShape) (xs : List (Timed n m)) (kept : KeptState n) (array : ArrayState n m) (row line place tick : ℕ) (bytes : List ℕ) (given : List Bool) (answer : WriteAnswer) (arrivals : List ℕ)
     → kept.entries ≡ queue shape (Write row line bytes given answer ∷ core xs) → IsPlaceOf kept row place answer → has_row (queue shape (core xs)) row ≡ false
     → arrivals ≡ map (λ entry. tick_of_row entry.row xs) (queue shape (core xs))
     → arrivals_after tick place answer arrivals
-    ≡ map (λ entry. tick_of_row entry.row (stepped shape xs (Write row line bytes given answer) tick tick array ∷ xs)) (queue shape (Write row line bytes given answer ∷ core xs))
+    ≡ map (λ entry. tick_of_row entry.row (stepped (Core (Write row line bytes given answer)) tick tick [] None array ∷ xs)) (queue shape (Write row line bytes given answer ∷ core xs))
 write-arrived shape xs kept array row line place tick bytes given wrote.Accepted arrivals entries is_place none before =
     ap (λ ticks. ticks ++ tick ∷ []) before
     ∙ ticks-accepted row tick (λ at. tick_of_row at xs) (queue shape (core xs)) (record { row = row; line = line; bytes = bytes; given = given }) refl none
@@ -145,77 +156,146 @@ write-arrived shape xs kept array row line place tick bytes given wrote.Exhauste
     before ∙ ticks-others row tick (λ at. tick_of_row at xs) (queue shape (core xs)) none
 
 -- the action that runs behind a read
+drops-same : {n m e : ℕ} (xs : List (Timed n m)) (clock : ClockState n m e) (array : ArrayState n m) (line : ℕ) (action : Option Action) → Leads xs clock array
+    → drops clock.bank.kept clock.regs.change line action ≡ drops_begin clock.bank.kept.shape (core xs) (change_after clock.bank.kept.shape xs) line action
+drops-same xs clock array line action leads = by clock.regs.change (change_after clock.bank.kept.shape xs) leads.regs.change
+  where
+    by : (change : Option Change) (item : Option ℕ) → item_of change ≡ item → drops clock.bank.kept change line action ≡ drops_begin clock.bank.kept.shape (core xs) item line action
+    by None None is = ap (λ work. is_doing Beginning action && is_store_of line work) (agrees xs clock array leads).work
+    by None (Some item) is = absurd (cc)
+    by (Some change) None is = absurd (cc)
+    by (Some change) (Some item) is = refl
+
 read-left : {n m e : ℕ} (xs : List (Timed n m)) (clock : ClockState n m e) (array : ArrayState n m) (row line : ℕ) (answer : ReadAnswer n) → Leads xs clock array
-    → action_after_read clock.bank.kept line answer clock.action
-    ≡ left clock.bank.kept.shape (core xs) (Read row line answer) (running_at clock.bank.kept.shape clock.pace xs clock.tick)
+    → action_after_read clock.bank.kept clock.regs.change line answer clock.action
+    ≡ left clock.bank.kept.shape (core xs) (change_after clock.bank.kept.shape xs) (Read row line answer) (running_at clock.bank.kept.shape clock.pace xs clock.tick)
 read-left xs clock array row line came.Waiting leads =
-    ap (λ work. cond (is_doing Beginning clock.action && is_store_of line work) None clock.action) (agrees xs clock array leads).work
-    ∙ ap (λ runs. cond (is_doing Beginning runs && is_store_of line (work_after clock.bank.kept.shape (core xs))) None runs) leads.told.runs
+    ap (λ b. cond b None clock.action) (drops-same xs clock array line clock.action leads)
+    ∙ ap (λ runs. cond (drops_begin clock.bank.kept.shape (core xs) (change_after clock.bank.kept.shape xs) line runs) None runs) leads.told.runs
 read-left xs clock array row line came.Busy leads = leads.told.runs
 read-left xs clock array row line (came.Forwarded bytes) leads = leads.told.runs
 
-read-to_come : {n : ℕ} (kept : KeptState n) (line : ℕ) (answer : ReadAnswer n) (action : Option Action) (P : Action → Type 0) → IfSome action P → IfSome (action_after_read kept line answer action) P
-read-to_come kept line came.Waiting action P own = by (is_doing Beginning action && is_store_of line (next_work kept))
+pub read-to_come : {n : ℕ} (kept : KeptState n) (change : Option Change) (line : ℕ) (answer : ReadAnswer n) (action : Option Action) (P : Action → Type 0) → IfSome action P
+    → IfSome (action_after_read kept change line answer action) P
+read-to_come kept change line came.Waiting action P own = by (drops kept change line action)
   where
     by : (b : Bool) → IfSome (cond b None action) P
     by true = tt
     by false = own
-read-to_come kept line came.Busy action P own = own
-read-to_come kept line (came.Forwarded bytes) action P own = own
+read-to_come kept change line came.Busy action P own = own
+read-to_come kept change line (came.Forwarded bytes) action P own = own
+
+-- Whether a read would cancel
+
+off_without : (a b c d g : Bool) → (a && (b && (c && (d && not g)))) ≡ false → g ≡ false → (a && (b && (c && d))) ≡ false
+off_without true true true true false h k = absurd (cc)
+off_without true true true true true h k = absurd (cc)
+off_without true true true false g h k = refl
+off_without true true false d g h k = refl
+off_without true false c d g h k = refl
+off_without false b c d g h k = refl
+
+on_with : (a b c d g : Bool) → (a && (b && (c && (d && g)))) ≡ true → (a && (b && (c && d))) ≡ true
+on_with true true true true g h = refl
+on_with true true true false g h = absurd (cc)
+on_with true true false d g h = absurd (cc)
+on_with true false c d g h = absurd (cc)
+on_with false b c d g h = absurd (cc)
+
+pub off_idle : (a c : Bool) → (a && (false && c)) ≡ false
+off_idle true c = refl
+off_idle false c = refl
+
+twice_not : (a : Bool) → not (not a) ≡ a
+twice_not true = refl
+twice_not false = refl
+
+module _ {n m e : ℕ} (xs : List (Timed n m)) (clock : ClockState n m e) (array : ArrayState n m) (leads : Leads xs clock array) where
+  -- what the bank and its clock say of it is what the history says
+  would-same : (is_cancelling clock.pace.policy && (is_writing clock.action && (not (nat_lt 0 (length clock.bank.waiting)) && nat_lt clock.cancels most_cancels)))
+      ≡ would_cancel clock.bank.kept.shape (core xs) clock.pace.policy (running_at clock.bank.kept.shape clock.pace xs clock.tick) (cancels_after xs)
+  would-same =
+      ap (λ runs. is_cancelling clock.pace.policy && (is_writing runs && (not (nat_lt 0 (length clock.bank.waiting)) && nat_lt clock.cancels most_cancels))) leads.told.runs
+      ∙ ap (λ b. is_cancelling clock.pace.policy && (is_writing (running_at clock.bank.kept.shape clock.pace xs clock.tick) && (b && nat_lt clock.cancels most_cancels)))
+      (ap not (ap (λ ws. nat_lt 0 (length ws)) leads.holds.waiting ∙ same_reads n (waits clock.bank.kept.shape (core xs))) ∙ twice_not (is_empty (waits clock.bank.kept.shape (core xs))))
+      ∙ ap (λ count. is_cancelling clock.pace.policy && (is_writing (running_at clock.bank.kept.shape clock.pace xs clock.tick) && (is_empty (waits clock.bank.kept.shape (core xs)) && nat_lt count most_cancels))) leads.told.cancels
+
+  stays_off : (line : ℕ) → gives_all (layer_of clock.bank.kept.entries line).given ≡ false → cancels_for clock line ≡ false
+      → would_cancel clock.bank.kept.shape (core xs) clock.pace.policy (running_at clock.bank.kept.shape clock.pace xs clock.tick) (cancels_after xs) ≡ false
+  stays_off line gives none =
+      sym would-same
+      ∙ off_without (is_cancelling clock.pace.policy) (is_writing clock.action) (not (nat_lt 0 (length clock.bank.waiting))) (nat_lt clock.cancels most_cancels) (gives_all (layer_of clock.bank.kept.entries line).given) none gives
+
+  pub goes_on_with : (line : ℕ) → cancels_for clock line ≡ true
+      → would_cancel clock.bank.kept.shape (core xs) clock.pace.policy (running_at clock.bank.kept.shape clock.pace xs clock.tick) (cancels_after xs) ≡ true
+  goes_on_with line is =
+      sym would-same
+      ∙ on_with (is_cancelling clock.pace.policy) (is_writing clock.action) (not (nat_lt 0 (length clock.bank.waiting))) (nat_lt clock.cancels most_cancels) (not (gives_all (layer_of clock.bank.kept.entries line).given)) is
+
+-- a read that isn't forwarded finds bytes of its line that the queue doesn't give
+answered_not : {n m e : ℕ} (bank : BankState n m e) (line : ℕ) (answer : ReadAnswer n) → answer ≡ read_from bank line → (IsForwarded answer → ⊥) → gives_all (layer_of bank.kept.entries line).given ≡ false
+answered_not {n = n} bank line answer is off = by (gives_all (layer_of bank.kept.entries line).given) refl
+  where
+    by : (b : Bool) → gives_all (layer_of bank.kept.entries line).given ≡ b → b ≡ false
+    by false same = refl
+    by true same =
+        let forwarded : answer ≡ came.Forwarded (layer_of bank.kept.entries line).bytes =
+        is ∙ ap (λ b. cond b (came.Forwarded (layer_of bank.kept.entries line).bytes) (if length bank.waiting == bank.kept.shape.reads then came.Busy else came.Waiting)) same in
+        absurd (off (subst (λ (a : ReadAnswer n). IsForwarded a) (sym forwarded) tt))
 
 pub write_law : WriteLaw
 write_law n m e row line place bytes given answer xs clock bank array leads below keeps holds is_place =
-    let x : Timed n m = stepped clock.bank.kept.shape xs (Write row line bytes given answer) clock.tick clock.tick array in
-    stepped-leads xs clock bank (Write row line bytes given answer) clock.tick clock.tick clock.action (arrivals_after clock.tick place answer clock.arrivals) false array array leads (record {
+    let event : Event n = Write row line bytes given answer in
+    let x : Timed n m = stepped (Core event) clock.tick clock.tick [] None array in
+    bank-leads xs clock bank clock.regs event clock.tick clock.tick clock.action (arrivals_after clock.tick place answer clock.arrivals) clock.cancels false [] None array array (leads-reaches xs clock array leads)
+    (record {
+      asked = below;
+      on_time = (arrives xs clock array leads x refl refl, refl);
+      behind = follows clock.bank.kept.shape clock.pace xs clock.tick event leads.told.whole;
+      senses = refl;
+      pulses = refl;
+      right = tt;
+      touches = untouched clock.tick array;
+    })
+    (record {
       holds = holds;
       shape = keeps.shape;
       taken = keeps.lost ∙ leads.taken;
-      touches = untouched clock.tick array;
-      asked = below;
-      on_time = (arrives xs clock array leads x refl refl, refl);
-      right = tt;
       runs = leads.told.runs;
       to_come = leads.told.to_come;
       arrived = write-arrived clock.bank.kept.shape xs bank.kept array row line place clock.tick bytes given answer clock.arrivals
-          (holds.entries ∙ ap (λ (shape : BankShape). queue shape (Write row line bytes given answer ∷ core xs)) keeps.shape) is_place
+          (holds.entries ∙ ap (λ (shape : BankShape). queue shape (event ∷ core xs)) keeps.shape) is_place
           (none-stands xs clock array leads row below) leads.told.arrived;
-      cancels = λ count none. none;
-      copying = copies-on xs clock array leads bank.running x keeps.running (λ op own. own);
+      cancels = refl;
+      copying = copies-on xs clock.bank.running bank.running x keeps.running leads.copying (λ op own. own);
+      told = told-on clock.bank.kept.shape xs x clock.regs (Core event) refl refl refl refl refl leads.regs;
+      control = arrived-control xs clock array leads bank keeps;
     })
 
 pub read_law : ReadLaw
-read_law n m e row line answer xs clock bank array leads going below keeps holds =
-    let x : Timed n m = stepped clock.bank.kept.shape xs (Read row line answer) clock.tick clock.tick array in
-    let runs : Option Action = running_at clock.bank.kept.shape clock.pace xs clock.tick in
-    stepped-leads xs clock bank (Read row line answer) clock.tick clock.tick (action_after_read clock.bank.kept line answer clock.action) clock.arrivals false array array leads (record {
+read_law n m e row line answer xs clock bank array leads going answered below keeps holds =
+    let event : Event n = Read row line answer in
+    let x : Timed n m = stepped (Core event) clock.tick clock.tick [] None array in
+    bank-leads xs clock bank clock.regs event clock.tick clock.tick (action_after_read clock.bank.kept clock.regs.change line answer clock.action) clock.arrivals clock.cancels false [] None array array
+    (leads-reaches xs clock array leads)
+    (record {
+      asked = below;
+      on_time = (arrives xs clock array leads x refl refl, refl, λ not_forwarded. stays_off xs clock array leads line (answered_not clock.bank line answer answered not_forwarded) going);
+      behind = follows clock.bank.kept.shape clock.pace xs clock.tick event leads.told.whole;
+      senses = refl;
+      pulses = refl;
+      right = tt;
+      touches = untouched clock.tick array;
+    })
+    (record {
       holds = holds;
       shape = keeps.shape;
       taken = keeps.lost ∙ leads.taken;
-      touches = untouched clock.tick array;
-      asked = below;
-      on_time = (arrives xs clock array leads x refl refl, refl, λ not_forwarded. ap (λ b. b && (is_writing runs && (is_empty (waits clock.bank.kept.shape (core xs)) && nat_lt (cancels_after xs) most_cancels))) going);
-      right = tt;
       runs = read-left xs clock array row line answer leads;
-      to_come = read-to_come clock.bank.kept line answer clock.action (λ a. clock.tick < ends clock.pace a) leads.told.to_come;
+      to_come = read-to_come clock.bank.kept clock.regs.change line answer clock.action (λ a. clock.tick < ends clock.pace a) leads.told.to_come;
       arrived = leads.told.arrived;
-      cancels = λ count none. none;
-      copying = copies-on xs clock array leads bank.running x keeps.running (λ op own. own);
-    })
-
-pub power_cut_law : PowerCutLaw
-power_cut_law n m e tearing xs clock bank old new leads tears holds shape stopped taken touches =
-    let x : Timed n m = stepped clock.bank.kept.shape xs (Cut tearing) clock.tick clock.tick new in
-    stepped-leads xs clock bank (Cut tearing) clock.tick clock.tick None clock.arrivals tearing old new leads (record {
-      holds = holds;
-      shape = shape;
-      taken = taken;
-      touches = touches;
-      asked = tt;
-      on_time = (arrives xs clock old leads x refl refl, tears ∙ ap (λ runs. is_doing Iterating runs) leads.told.runs, λ is. absurd (cc));
-      right = tt;
-      runs = refl;
-      to_come = tt;
-      arrived = leads.told.arrived;
-      cancels = λ count none. refl;
-      copying = subst (λ (r : Option (Operation n m e)). IfSome r (CopiesWhatItSensed (x ∷ xs))) (sym stopped) tt;
+      cancels = refl;
+      copying = copies-on xs clock.bank.running bank.running x keeps.running leads.copying (λ op own. own);
+      told = told-on clock.bank.kept.shape xs x clock.regs (Core event) refl refl refl refl refl leads.regs;
+      control = arrived-control xs clock array leads bank keeps;
     })

@@ -1,24 +1,39 @@
 -- An action that ends.
-use Rattle.std.proofs.Common.{◌≡◌, ℕ, false, List, [], ◌∷◌, map, drop, Option, Some, None, refl, sym, ap, ◌∙◌}
+use Rattle.std.proofs.Common.{◌≡◌, ℕ, ◌<◌, Bool, true, false, List, [], ◌∷◌, map, drop, Option, Some, None, refl, sym, ap, subst, ◌∙◌, arith}
+use Rattle.std.specs.Prelude.{IfSome, IsSomeAnd}
+use Rattle.std.proofs.lemmas.Bool.{ne_eqb}
 use Rattle.std.proofs.lemmas.List.{drop-map}
 use Rattle.masked_bytes.specs.declared.entry.Entry.{Entry}
 use Rattle.pcm_cells.specs.declared.array.Sense.{Sense}
+use Rattle.pcm_cells.specs.Device.{ArrayState}
+use Rattle.ecp_line.specs.Reading.{decode}
 use Rattle.bank_shape.specs.declared.BankShape.{BankShape}
+use Rattle.bank_shape.specs.Shape.{controls_of, control_line}
 use Rattle.bank_model.specs.declared.answer.Step.TheVariants as did
 use Rattle.bank_model.specs.declared.clock.Doing.{Doing}
 use Rattle.bank_model.specs.declared.clock.Doing.TheVariants.{Serving, Beginning, Iterating}
 use Rattle.bank_model.specs.declared.clock.Action.{Action}
 use Rattle.bank_model.specs.Events.{Event, Write, Read, Serve, Begin, Iterate, Cut, newest}
 use Rattle.bank_model.specs.History.{queue, begun, due_after}
-use Rattle.bank_model.specs.Timing.{Pacing, Timed, ends, core}
-use Rattle.bank_model.specs.Running.{left, cancels_by, running_at}
-use Rattle.bank_model.specs.Lawful.{IsAsked, IsOnTime}
-use Rattle.bank_model.specs.Sensing.{sensed_by, pulsed_by}
+use Rattle.bank_model.specs.Changes.{change_after, line_of_change}
+use Rattle.bank_model.specs.Timing.{Pacing, Timed, Happens, Core, Regs, Keeping, KeepBegin, KeepIterate, KeepCut, ends, core}
+use Rattle.bank_model.specs.Running.{left, cancels_by, cancels_with, running_at}
+use Rattle.bank_model.specs.Lawful.{IsAsked, IsOnTime, IsKeptOnTime}
+use Rattle.bank_model.specs.Sensing.{is_at, sensed_by, pulsed_by, read_again, kept_sensed, kept_pulsed, copied, begun_with}
 use Rattle.bank_model.specs.Told.{tick_of_row}
-use Rattle.bank_model.specs.Touching.{shown}
-use Rattle.clock_laws.specs.Completing.{CompletionLaw, EndsDoing, arrivals_with, completion}
+use Rattle.bank_model.specs.Touching.{Touches, shown}
+use Rattle.reg_lines.specs.declared.Change.{Change}
+use Rattle.register_laws.specs.Telling.{item_of}
+use Rattle.bank_invariant.specs.State.{Operation}
+use Rattle.bank_invariant.specs.Holds.{Holds}
+use Rattle.clock_laws.specs.State.{ClockState}
+use Rattle.clock_laws.specs.Leads.{Reaches, CopiesWhatItSensed}
+use Rattle.clock_laws.specs.Completing.{CompletionLaw, KeepingLaw, EndsDoing, EndsKeeping, IsAlone, arrivals_with, completion, line_kept, keep_completed, after_keep}
 use Rattle.clock_laws.proofs.Ties.{next-runs}
-use Rattle.clock_laws.proofs.Stepping.{stepped-leads}
+use Rattle.clock_laws.proofs.Ranges.{IsSlotOrSpare}
+use Rattle.clock_laws.proofs.Controls.{change-known}
+use Rattle.clock_laws.proofs.Elsewhere.{holds-same}
+use Rattle.clock_laws.proofs.Stepping.{follows, uncancelled, leads-reaches, reaches-leads, bank-leads, kept-reaches}
 
 -- no event that ends an action has a row of its own
 ends-asked : {n : ℕ} (h : List (Event n)) (event : Event n) (doing : Doing) → EndsDoing event doing → IsAsked h event
@@ -30,46 +45,47 @@ ends-asked h (Iterate answer) doing is = tt
 ends-asked h (Cut tearing) doing is = absurd is
 
 -- it comes as the action ends
+doing_is : (pace : Pacing) (action : Action) (doing : Doing) (runs : Option Action) → action.doing ≡ doing → runs ≡ Some action
+    → (runs ≡ Some (record { doing = doing; first = action.first })) × (ends pace action ≡ ends pace (record { doing = doing; first = action.first }))
+doing_is pace action doing runs is run =
+    let same : action ≡ record { doing = doing; first = action.first } = ap (λ (doing : Doing). record action { doing = doing }) is in
+    (run ∙ ap (λ a. Some a) same, ap (λ a. ends pace a) same)
+
 ends-on_time : {n m : ℕ} (shape : BankShape) (pace : Pacing) (xs : List (Timed n m)) (event : Event n) (action : Action) (runs : Option Action) (senses : List (Sense n m)) (pulsed : Option ℕ)
-    → EndsDoing event action.doing → runs ≡ Some action → IsOnTime shape pace runs xs (completion action.first (ends pace action) event senses pulsed) event
-ends-on_time shape pace xs (Write row line bytes given answer) action runs senses pulsed is run = absurd is
-ends-on_time shape pace xs (Read row line answer) action runs senses pulsed is run = absurd is
-ends-on_time shape pace xs (Serve answer) action runs senses pulsed is run =
-    let same : action ≡ record { doing = Serving; first = action.first } = ap (λ (doing : Doing). record action { doing = doing }) is in
-    ((run ∙ ap (λ a. Some a) same, ap (λ a. ends pace a) same), refl)
-ends-on_time shape pace xs (Begin answer) action runs senses pulsed is run =
-    let same : action ≡ record { doing = Beginning; first = action.first } = ap (λ (doing : Doing). record action { doing = doing }) is in
-    ((run ∙ ap (λ a. Some a) same, ap (λ a. ends pace a) same), refl)
-ends-on_time shape pace xs (Iterate answer) action runs senses pulsed is run =
-    let same : action ≡ record { doing = Iterating; first = action.first } = ap (λ (doing : Doing). record action { doing = doing }) is in
-    ((run ∙ ap (λ a. Some a) same, ap (λ a. ends pace a) same), refl)
-ends-on_time shape pace xs (Cut tearing) action runs senses pulsed is run = absurd is
+    → EndsDoing event action.doing → (change : Option Change) → IsAlone event change → item_of change ≡ change_after shape xs → runs ≡ Some action
+    → IsOnTime shape pace runs xs (completion action.first (ends pace action) (Core event) senses pulsed) event
+ends-on_time shape pace xs (Write row line bytes given answer) action runs senses pulsed is change alone told run = absurd is
+ends-on_time shape pace xs (Read row line answer) action runs senses pulsed is change alone told run = absurd is
+ends-on_time shape pace xs (Serve answer) action runs senses pulsed is change alone told run = (doing_is pace action Serving runs is run, refl)
+ends-on_time shape pace xs (Begin answer) action runs senses pulsed is change alone told run = (doing_is pace action Beginning runs is run, refl, sym told ∙ ap item_of alone)
+ends-on_time shape pace xs (Iterate answer) action runs senses pulsed is change alone told run = (doing_is pace action Iterating runs is run, refl, sym told ∙ ap item_of alone)
+ends-on_time shape pace xs (Cut tearing) action runs senses pulsed is change alone told run = absurd is
+
+-- it looks at no control line
+pub ends-senses : {n : ℕ} (shape : BankShape) (h : List (Event n)) (controls : List ℕ) (event : Event n) (doing : Doing) → EndsDoing event doing → sensed_by shape h [] event ≡ sensed_by shape h controls event
+ends-senses shape h controls (Write row line bytes given answer) doing is = absurd is
+ends-senses shape h controls (Read row line answer) doing is = absurd is
+ends-senses shape h controls (Serve answer) doing is = refl
+ends-senses shape h controls (Begin answer) doing is = refl
+ends-senses shape h controls (Iterate answer) doing is = refl
+ends-senses shape h controls (Cut tearing) doing is = absurd is
+
+pub ends-pulses : {n : ℕ} (shape : BankShape) (h : List (Event n)) (torn : Option ℕ) (event : Event n) (doing : Doing) → EndsDoing event doing → pulsed_by shape h None event ≡ pulsed_by shape h torn event
+ends-pulses shape h torn (Write row line bytes given answer) doing is = absurd is
+ends-pulses shape h torn (Read row line answer) doing is = absurd is
+ends-pulses shape h torn (Serve answer) doing is = refl
+ends-pulses shape h torn (Begin answer) doing is = refl
+ends-pulses shape h torn (Iterate answer) doing is = refl
+ends-pulses shape h torn (Cut tearing) doing is = absurd is
 
 -- no action runs behind it
-ends-left : {n : ℕ} (shape : BankShape) (h : List (Event n)) (event : Event n) (doing : Doing) (runs : Option Action) → EndsDoing event doing → None ≡ left shape h event runs
-ends-left shape h (Write row line bytes given answer) doing runs is = absurd is
-ends-left shape h (Read row line answer) doing runs is = absurd is
-ends-left shape h (Serve answer) doing runs is = refl
-ends-left shape h (Begin answer) doing runs is = refl
-ends-left shape h (Iterate answer) doing runs is = refl
-ends-left shape h (Cut tearing) doing runs is = absurd is
-
--- nothing was cancelled before it, so nothing is
-ends-cancels : {n : ℕ} (event : Event n) (doing : Doing) (count : ℕ) → EndsDoing event doing → 0 ≡ count → 0 ≡ cancels_by event false count
-ends-cancels (Write row line bytes given answer) doing count is none = absurd is
-ends-cancels (Read row line answer) doing count is none = absurd is
-ends-cancels (Serve answer) doing count is none = none
-ends-cancels (Begin did.More) doing count is none = none
-ends-cancels (Begin (did.Stored row place)) doing count is none = refl
-ends-cancels (Begin (did.Moved step)) doing count is none = refl
-ends-cancels (Begin (did.Retired slot line)) doing count is none = refl
-ends-cancels (Begin did.Exhausted) doing count is none = refl
-ends-cancels (Iterate did.More) doing count is none = none
-ends-cancels (Iterate (did.Stored row place)) doing count is none = refl
-ends-cancels (Iterate (did.Moved step)) doing count is none = refl
-ends-cancels (Iterate (did.Retired slot line)) doing count is none = refl
-ends-cancels (Iterate did.Exhausted) doing count is none = refl
-ends-cancels (Cut tearing) doing count is none = absurd is
+ends-left : {n : ℕ} (shape : BankShape) (h : List (Event n)) (change : Option ℕ) (event : Event n) (doing : Doing) (runs : Option Action) → EndsDoing event doing → None ≡ left shape h change event runs
+ends-left shape h change (Write row line bytes given answer) doing runs is = absurd is
+ends-left shape h change (Read row line answer) doing runs is = absurd is
+ends-left shape h change (Serve answer) doing runs is = refl
+ends-left shape h change (Begin answer) doing runs is = refl
+ends-left shape h change (Iterate answer) doing runs is = refl
+ends-left shape h change (Cut tearing) doing runs is = absurd is
 
 -- Arrival ticks
 
@@ -85,7 +101,7 @@ module _ {n m : ℕ} (shape : BankShape) (xs : List (Timed n m)) where
 
   ends-arrived : (event : Event n) (doing : Doing) (first tick : ℕ) (senses : List (Sense n m)) (pulsed : Option ℕ) (arrivals : List ℕ) → EndsDoing event doing
       → arrivals ≡ map tick_at (queue shape (core xs))
-      → arrivals_with event arrivals ≡ map (λ entry. tick_of_row entry.row (completion first tick event senses pulsed ∷ xs)) (queue shape (event ∷ core xs))
+      → arrivals_with event arrivals ≡ map (λ entry. tick_of_row entry.row (completion first tick (Core event) senses pulsed ∷ xs)) (queue shape (event ∷ core xs))
   ends-arrived (Write row line bytes given answer) doing first tick senses pulsed arrivals is before = absurd is
   ends-arrived (Read row line answer) doing first tick senses pulsed arrivals is before = absurd is
   ends-arrived (Serve answer) doing first tick senses pulsed arrivals is before = before
@@ -102,22 +118,92 @@ module _ {n m : ℕ} (shape : BankShape) (xs : List (Timed n m)) where
   ends-arrived (Cut tearing) doing first tick senses pulsed arrivals is before = absurd is
 
 pub completion_law : CompletionLaw
-completion_law n m e event action xs clock bank old new leads next is later holds shape taken touches right copies =
+completion_law n m e event action xs clock bank regs old new leads next is later alone holds shape taken touches right copies told control =
     let tick : ℕ = ends clock.pace action in
-    let senses : List (Sense n m) = shown tick (sensed_by clock.bank.kept.shape (core xs) event) new in
-    let pulsed : Option ℕ = pulsed_by clock.bank.kept.shape (core xs) event in
+    let sensed : List ℕ = sensed_by clock.bank.kept.shape (core xs) [] event in
+    let pulsed : Option ℕ = pulsed_by clock.bank.kept.shape (core xs) None event in
     let runs : running_at clock.bank.kept.shape clock.pace xs tick ≡ Some action = sym (next-runs xs clock old leads tick later) ∙ next in
-    stepped-leads xs clock bank event action.first tick None (arrivals_with event clock.arrivals) false old new leads (record {
+    bank-leads xs clock bank regs event action.first tick None (arrivals_with event clock.arrivals) (cancels_by event false clock.cancels) false sensed pulsed old new (leads-reaches xs clock old leads)
+    (record {
+      asked = ends-asked (core xs) event action.doing is;
+      on_time = ends-on_time clock.bank.kept.shape clock.pace xs event action (running_at clock.bank.kept.shape clock.pace xs tick) (shown tick sensed new) pulsed is clock.regs.change alone leads.regs.change runs;
+      behind = follows clock.bank.kept.shape clock.pace xs tick event leads.told.whole;
+      senses = ends-senses clock.bank.kept.shape (core xs) (read_again clock.bank.kept.shape false) event action.doing is;
+      pulses = ends-pulses clock.bank.kept.shape (core xs) _ event action.doing is;
+      right = right;
+      touches = touches;
+    })
+    (record {
       holds = holds;
       shape = shape;
       taken = taken;
-      touches = touches;
-      asked = ends-asked (core xs) event action.doing is;
-      on_time = ends-on_time clock.bank.kept.shape clock.pace xs event action (running_at clock.bank.kept.shape clock.pace xs tick) senses pulsed is runs;
-      right = right;
-      runs = ends-left clock.bank.kept.shape (core xs) event action.doing (running_at clock.bank.kept.shape clock.pace xs tick) is;
+      runs = ends-left clock.bank.kept.shape (core xs) (change_after clock.bank.kept.shape xs) event action.doing (running_at clock.bank.kept.shape clock.pace xs tick) is;
       to_come = tt;
-      arrived = ends-arrived clock.bank.kept.shape xs event action.doing action.first tick senses pulsed clock.arrivals is leads.told.arrived;
-      cancels = λ count none. ends-cancels event action.doing count is none;
+      arrived = ends-arrived clock.bank.kept.shape xs event action.doing action.first tick (shown tick sensed new) pulsed clock.arrivals is leads.told.arrived;
+      cancels = refl;
       copying = copies;
+      told = told;
+      control = control;
     })
+
+-- Steps of the writing of a change
+
+-- it comes as the action ends
+keeps-on_time : {n m : ℕ} (shape : BankShape) (pace : Pacing) (xs : List (Timed n m)) (event : Keeping) (action : Action) (runs : Option Action) (senses : List (Sense n m)) (pulsed : Option ℕ)
+    → EndsKeeping event action.doing → runs ≡ Some action → IsKeptOnTime shape pace runs xs (completion action.first (ends pace action) (Regs event) senses pulsed) event
+keeps-on_time shape pace xs (KeepBegin answer) action runs senses pulsed is run = (doing_is pace action Beginning runs is run, refl)
+keeps-on_time shape pace xs (KeepIterate answer) action runs senses pulsed is run = (doing_is pace action Iterating runs is run, refl)
+keeps-on_time shape pace xs (KeepCut tearing) action runs senses pulsed is run = absurd is
+
+-- a copy's source was sensed before
+pub copies-kept : {n m e : ℕ} (xs : List (Timed n m)) (x : Timed n m) (event : Keeping) (running : Option (Operation n m e)) → x.happens ≡ Regs event → IfSome running (CopiesWhatItSensed xs) → IfSome running (CopiesWhatItSensed (x ∷ xs))
+copies-kept xs x event None is own = tt
+copies-kept {n} {m} {e} xs x event (Some op) is own = λ copies. subst (λ (h : Happens n). IsSomeAnd (begun_with h x.senses (copied xs)) (λ source. op.writer.bytes ≡ decode e source)) (sym is) (own copies)
+
+-- an event of a change touches no line of a slot or a spare
+pub kept-apart : (shape : BankShape) (change : Option ℕ) (event : Keeping) (line : ℕ) → IfSome change (λ item. item < controls_of shape) → IsSlotOrSpare shape line
+    → is_at (kept_pulsed (line_of_change shape change) event) line ≡ false
+kept-apart shape change (KeepBegin answer) line known own = refl
+kept-apart shape None (KeepIterate answer) line known own = refl
+kept-apart shape (Some item) (KeepIterate answer) line known own = ne_eqb (control_line shape item) line (λ same. omega (arith, own.1, same))
+kept-apart shape change (KeepCut false) line known own = refl
+kept-apart shape None (KeepCut true) line known own = refl
+kept-apart shape (Some item) (KeepCut true) line known own = ne_eqb (control_line shape item) line (λ same. omega (arith, own.1, same))
+
+-- so the bank holds over the array that it leaves
+pub kept-holds : {n m e : ℕ} (xs : List (Timed n m)) (clock : ClockState n m e) (event : Keeping) (tick : ℕ) (sensed : List ℕ) (tearing : Bool) (old new : ArrayState n m) → Reaches xs clock old
+    → Touches tick sensed (kept_pulsed (line_kept clock) event) tearing old new → Holds (core xs) clock.bank new
+kept-holds xs clock event tick sensed tearing old new r touches =
+    holds-same (core xs) clock.bank old new r.holds touches.lines
+    (λ line own. touches.others line (kept-apart clock.bank.kept.shape (item_of clock.regs.change) event line (change-known clock.bank.kept clock.regs r.control) own))
+
+pub keeping_law : KeepingLaw
+keeping_law n m e event action xs clock regs old new leads next is later stands may touches told control =
+    let tick : ℕ = ends clock.pace action in
+    let r : Reaches xs clock old = leads-reaches xs clock old leads in
+    let x : Timed n m = keep_completed clock action event new in
+    let runs : running_at clock.bank.kept.shape clock.pace xs tick ≡ Some action = sym (next-runs xs clock old leads tick later) ∙ next in
+    reaches-leads (x ∷ xs) (after_keep clock regs action event) new
+    (kept-reaches xs clock clock.bank regs event action.first tick None clock.arrivals (cancels_with {n = n} (Regs event) false clock.cancels) false false (kept_sensed (line_kept clock) event) (kept_pulsed (line_kept clock) event) old new r
+    (record {
+      stands = stands;
+      may = may;
+      on_time = keeps-on_time clock.bank.kept.shape clock.pace xs event action (running_at clock.bank.kept.shape clock.pace xs tick)
+          (shown tick (kept_sensed (line_kept clock) event) new) (kept_pulsed (line_kept clock) event) is runs;
+      behind = uncancelled clock.bank.kept.shape clock.pace xs leads.told.whole;
+      senses = refl;
+      pulses = refl;
+      touches = touches;
+    })
+    (record {
+      holds = kept-holds xs clock event tick (kept_sensed (line_kept clock) event) false old new r touches;
+      shape = refl;
+      taken = leads.taken;
+      runs = refl;
+      to_come = tt;
+      arrived = leads.told.arrived;
+      cancels = refl;
+      copying = copies-kept xs x event clock.bank.running refl leads.copying;
+      told = told;
+      control = control;
+    })) refl

@@ -7,7 +7,7 @@ use Rattle.pcm_cells.specs.Device.{ArrayState, LineState}
 use Rattle.ecp_line.specs.Reading.{decode}
 use Rattle.bank_shape.specs.declared.Work.{Work}
 use Rattle.bank_shape.specs.declared.Work.TheVariants.{Nothing, Store, Copy}
-use Rattle.bank_shape.specs.Shape.{slots_of, slot_at}
+use Rattle.bank_shape.specs.Shape.{slots_of, slot_at, control_line}
 use Rattle.power_recovery.specs.Slots.{bank_lines}
 use Rattle.power_recovery.specs.Kept.{KeptState, IsKept, array_line, stands_at, due_region, due_work}
 use Rattle.bank_model.specs.Events.{Event}
@@ -19,11 +19,12 @@ use Rattle.bank_invariant.specs.Tied.{decoded, IsSoundLine, IsWornLine, IsUnderW
 use Rattle.bank_invariant.specs.Holds.{Holds}
 use Rattle.bank_invariant.proofs.Awaiting.{waits-known}
 use Rattle.clock_laws.specs.Extending.{ElsewhereLaw}
-use Rattle.clock_laws.proofs.Ranges.{IsIn, array_line-in, stands_at-in, target-in, due-in, source-within, HasSource}
+use Rattle.clock_laws.proofs.Controls.{change-known, control-elsewhere}
+use Rattle.clock_laws.proofs.Ranges.{control-in, IsSlotOrSpare, array_line-in, stands_at-in, target-in, due-in, source-within, HasSource}
 
 module _ {n m : ℕ} (e : ℕ) (kept : KeptState n) (range : IsKept kept) (old new : ArrayState n m) (many : new.lines ≡ old.lines)
-    (same : (line : ℕ) → IsIn kept.shape line → new.line line ≡ old.line line) where
-  pub decoded-same : (line : ℕ) → IsIn kept.shape line → decoded e new line ≡ decoded e old line
+    (same : (line : ℕ) → IsSlotOrSpare kept.shape line → new.line line ≡ old.line line) where
+  pub decoded-same : (line : ℕ) → IsSlotOrSpare kept.shape line → decoded e new line ≡ decoded e old line
   decoded-same line is = ap (λ (l : LineState n m). decode e l.held) (same line is)
 
   of-same : (waiting : List (Waiting n)) (bytes : List ℕ) (work : Work) → HasSource kept range work → IsOf e kept old waiting bytes work → IsOf e kept new waiting bytes work
@@ -35,8 +36,8 @@ module _ {n m : ℕ} (e : ℕ) (kept : KeptState n) (range : IsKept kept) (old n
   running-same : (running : Option (Operation n m e)) (waiting : List (Waiting n)) → IfSome running (IsRunning kept old waiting) → IfSome running (IsRunning kept new waiting)
   running-same None waiting own = tt
   running-same (Some op) waiting own =
-      let at : IsIn kept.shape op.target =
-      subst (λ (line : ℕ). IsIn kept.shape line) (sym (own.target ∙ ap (λ work. target_of kept work) own.next)) (target-in kept range) in
+      let at : IsSlotOrSpare kept.shape op.target =
+      subst (λ (line : ℕ). IsSlotOrSpare kept.shape line) (sym (own.target ∙ ap (λ work. target_of kept work) own.next)) (target-in kept range) in
       record {
         next = own.next;
         target = own.target;
@@ -71,8 +72,8 @@ module _ {n m : ℕ} (e : ℕ) (kept : KeptState n) (range : IsKept kept) (old n
         };
   }
 
-holds-same : {n m e : ℕ} (h : List (Event n)) (bank : BankState n m e) (old new : ArrayState n m) → Holds h bank old → new.lines ≡ old.lines
-    → ((line : ℕ) → IsIn bank.kept.shape line → new.line line ≡ old.line line) → Holds h bank new
+pub holds-same : {n m e : ℕ} (h : List (Event n)) (bank : BankState n m e) (old new : ArrayState n m) → Holds h bank old → new.lines ≡ old.lines
+    → ((line : ℕ) → IsSlotOrSpare bank.kept.shape line → new.line line ≡ old.line line) → Holds h bank new
 holds-same {n = n} {m = m} {e = e} h bank old new holds many same = record {
   past = holds.past;
   newest = λ line below.
@@ -101,8 +102,11 @@ holds-same {n = n} {m = m} {e = e} h bank old new holds many same = record {
 pub elsewhere_law : ElsewhereLaw
 elsewhere_law n m e xs clock old new leads many same = record {
   lawful = leads.lawful;
-  holds = holds-same (core xs) clock.bank old new leads.holds many (λ line is. same line is.0 is.1);
+  holds = holds-same (core xs) clock.bank old new leads.holds many (λ line is. same line is.0 (omega (arith, is.1)));
   told = leads.told;
+  regs = leads.regs;
+  control = control-elsewhere clock.bank.kept clock.regs old new many leads.control (change-known clock.bank.kept clock.regs leads.control)
+      (λ item below. let is = control-in clock.bank.kept.shape item below in same (control_line clock.bank.kept.shape item) is.0 is.1);
   pulses = λ line below.
       ap (λ (l : LineState n m). l.pulses) (same (clock.bank.kept.shape.base + line) (omega arith) (omega (arith, below))) ∙ leads.pulses line below;
   copying = leads.copying;

@@ -1,5 +1,5 @@
--- Each action that ends, told by what the bank keeps.
-use Rattle.std.proofs.Common.{◌≡◌, ℕ, ◌<◌, ◌||◌, not, is_some, Bool, true, false, List, [], ◌∷◌, ◌++◌, map, length, slice_get, Option, Some, None, refl, sym, ap, subst, ◌∙◌, arith}
+-- Each action of the bank that ends, told by what the bank keeps.
+use Rattle.std.proofs.Common.{◌≡◌, ℕ, ◌<◌, false, List, [], ◌∷◌, ◌++◌, map, length, slice_get, Option, Some, None, refl, sym, ap, subst, ◌∙◌, arith}
 use Rattle.std.specs.Prelude.{IfSome, IsSomeAnd, IsTrue, All}
 use Rattle.masked_bytes.specs.Masked.{laid}
 use Rattle.masked_bytes.specs.Entries.{layer_of, head_row, head_line}
@@ -20,7 +20,7 @@ use Rattle.bank_model.specs.declared.answer.Step.TheVariants as did
 use Rattle.bank_model.specs.declared.clock.Doing.{Doing}
 use Rattle.bank_model.specs.declared.clock.Action.{Action}
 use Rattle.bank_model.specs.Events.{Event, Write, Read, Serve, Begin, Iterate, Cut, newest, up_to, line_of_row}
-use Rattle.bank_model.specs.History.{Awaited, queue, waits, in_progress}
+use Rattle.bank_model.specs.History.{Awaited, queue, waits}
 use Rattle.bank_model.specs.After.{work_after, sources_of, stands_at_after, target_after}
 use Rattle.bank_model.specs.Answers.{IsDone, IsIterated, MayAll, MayHappen}
 use Rattle.bank_model.specs.Timing.{Core, Timed, core, ends}
@@ -28,6 +28,8 @@ use Rattle.bank_model.specs.Sensing.{is_at, most_steps, stand_of, sensed_by, pul
 use Rattle.bank_model.specs.Touching.{Touches, shown}
 use Rattle.bank_laws.specs.Pairs.{ArePaired}
 use Rattle.bank_laws.proofs.Pairs.{pair_law}
+use Rattle.reg_lines.specs.Regs.{RegsState}
+use Rattle.register_laws.specs.Telling.{AreTold}
 use Rattle.bank_invariant.specs.declared.Waiting.{Waiting}
 use Rattle.bank_invariant.specs.State.{BankState, Operation, target_of}
 use Rattle.bank_invariant.specs.Tied.{decoded, IsOf}
@@ -42,12 +44,11 @@ use Rattle.clock_laws.specs.State.{ClockState}
 use Rattle.clock_laws.specs.Leads.{Leads, CopiesWhatItSensed}
 use Rattle.clock_laws.specs.Completing.{completed, EndsDoing}
 use Rattle.clock_laws.specs.Extending.{is_tear}
-use Rattle.clock_laws.specs.Cutting.{cut}
-use Rattle.clock_laws.specs.Actions.{IsCompletion, GoesOn, ServeEndsLaw, WritesCopy, ReadsAsHead, BeginEndsLaw, IterateEndsLaw, torn_line, CutEndsLaw}
+use Rattle.clock_laws.specs.Actions.{IsCompletion, GoesOn, ServeEndsLaw, WritesCopy, ReadsAsHead, BeginEndsLaw, IterateEndsLaw}
 use Rattle.clock_laws.proofs.Ties.{agrees}
 use Rattle.clock_laws.proofs.Ranges.{pulsed-in}
+use Rattle.clock_laws.proofs.Putting.{put_law}
 use Rattle.clock_laws.proofs.Completing.{completion_law}
-use Rattle.clock_laws.proofs.Arriving.{power_cut_law}
 use Rattle.clock_laws.proofs.Extending.{one_added_law}
 use Rattle.clock_laws.proofs.Freshness.{AreFresh, newest_at, queue-fresh, head-bytes, head-under}
 
@@ -59,14 +60,14 @@ module _ {n m e : ℕ} (xs : List (Timed n m)) (clock : ClockState n m e) (array
   same_sources (Store line slot) = refl
   same_sources (Copy region step) = ap (λ line. line ∷ []) (sym ((agrees xs clock array leads).lines (slot_at clock.bank.kept.shape region step.from)))
 
-  begin-senses : (answer : Step) (work : Work) → next_work clock.bank.kept ≡ work → lines_sensed clock.bank.kept work ≡ sensed_by clock.bank.kept.shape (core xs) (Begin answer)
+  begin-senses : (answer : Step) (work : Work) → next_work clock.bank.kept ≡ work → lines_sensed clock.bank.kept work ≡ sensed_by clock.bank.kept.shape (core xs) [] (Begin answer)
   begin-senses answer work is =
       ap (λ work. lines_sensed clock.bank.kept work) (sym is)
       ∙ ap (λ target. sources clock.bank.kept (next_work clock.bank.kept) ++ target ∷ []) (agrees xs clock array leads).target
       ∙ ap (λ lines. lines ++ target_after clock.bank.kept.shape (core xs) ∷ []) (sym (same_sources (next_work clock.bank.kept)))
       ∙ ap (λ work. sources_of clock.bank.kept.shape (core xs) work ++ target_after clock.bank.kept.shape (core xs) ∷ []) (agrees xs clock array leads).work
 
-  op-target : (op : Operation n m e) → clock.bank.running ≡ Some op → op.target ≡ target_after clock.bank.kept.shape (core xs)
+  pub op-target : (op : Operation n m e) → clock.bank.running ≡ Some op → op.target ≡ target_after clock.bank.kept.shape (core xs)
   op-target op is =
       let run = running_of (core xs) clock.bank array op leads.holds is in
       run.target ∙ ap (λ work. target_of clock.bank.kept work) run.next ∙ (agrees xs clock array leads).target
@@ -93,16 +94,16 @@ module _ {n m e : ℕ} (xs : List (Timed n m)) (clock : ClockState n m e) (array
 
 -- One event
 
-no_tear : {n : ℕ} (event : Event n) (doing : Doing) → EndsDoing event doing → false ≡ is_tear event
-no_tear (Write row line bytes given answer) doing is = absurd is
-no_tear (Read row line answer) doing is = absurd is
-no_tear (Serve answer) doing is = refl
-no_tear (Begin answer) doing is = refl
-no_tear (Iterate answer) doing is = refl
-no_tear (Cut tearing) doing is = absurd is
+no_tear : {n : ℕ} (event : Event n) (pulsed : Option ℕ) (doing : Doing) → EndsDoing event doing → false ≡ is_tear (Core event) pulsed
+no_tear (Write row line bytes given answer) pulsed doing is = absurd is
+no_tear (Read row line answer) pulsed doing is = absurd is
+no_tear (Serve answer) pulsed doing is = refl
+no_tear (Begin answer) pulsed doing is = refl
+no_tear (Iterate answer) pulsed doing is = refl
+no_tear (Cut tearing) pulsed doing is = absurd is
 
-module _ {n m e : ℕ} (xs : List (Timed n m)) (clock : ClockState n m e) (bank : BankState n m e) (event : Event n) (action : Action) (sensed : List ℕ) (pulsed : Option ℕ) (old new : ArrayState n m)
-    (leads : Leads xs clock old) (end : IsCompletion xs clock bank event action sensed pulsed old new) where
+module _ {n m e : ℕ} (xs : List (Timed n m)) (clock : ClockState n m e) (bank : BankState n m e) (regs : RegsState n m e) (event : Event n) (action : Action) (sensed : List ℕ) (pulsed : Option ℕ) (old new : ArrayState n m)
+    (leads : Leads xs clock old) (end : IsCompletion xs clock bank regs event action sensed pulsed old new) where
   -- it may happen
   may-end : MayHappen clock.bank.kept.shape (core xs) (most_steps e) event
   may-end =
@@ -110,20 +111,24 @@ module _ {n m e : ℕ} (xs : List (Timed n m)) (clock : ClockState n m e) (bank 
       past.0
 
   -- where it senses and pulses what the history says, and reads it right
-  finish : sensed ≡ sensed_by clock.bank.kept.shape (core xs) event → pulsed ≡ pulsed_by clock.bank.kept.shape (core xs) event
+  finish : sensed ≡ sensed_by clock.bank.kept.shape (core xs) [] event → pulsed ≡ pulsed_by clock.bank.kept.shape (core xs) None event
       → IsReadRight e clock.bank.kept.shape xs event (shown (ends clock.pace action) sensed new)
-      → IfSome bank.running (CopiesWhatItSensed (completed xs clock action event new ∷ xs)) → GoesOn xs clock bank event action old new
+      → IfSome bank.running (CopiesWhatItSensed (completed xs clock action event new ∷ xs)) → GoesOn xs clock bank regs event action old new
   finish senses pulses right copies =
-      let touches : Touches (ends clock.pace action) (sensed_by clock.bank.kept.shape (core xs) event) (pulsed_by clock.bank.kept.shape (core xs) event) false old new =
-      subst (λ (sensed : List ℕ). Touches (ends clock.pace action) sensed (pulsed_by clock.bank.kept.shape (core xs) event) false old new) senses
+      let x : Timed n m = completed xs clock action event new in
+      let touches : Touches (ends clock.pace action) (sensed_by clock.bank.kept.shape (core xs) [] event) (pulsed_by clock.bank.kept.shape (core xs) None event) false old new =
+      subst (λ (sensed : List ℕ). Touches (ends clock.pace action) sensed (pulsed_by clock.bank.kept.shape (core xs) None event) false old new) senses
       (subst (λ (pulsed : Option ℕ). Touches (ends clock.pace action) sensed pulsed false old new) pulses end.touches) in
+      let told : AreTold clock.bank.kept.shape (x ∷ xs) regs =
+      subst (λ (regs : RegsState n m e). AreTold clock.bank.kept.shape (x ∷ xs) regs) (sym end.put)
+      (put_law n m e event action.doing x xs clock bank.kept old leads may-end end.doing end.alone refl) in
       record {
         leads =
-            completion_law n m e event action xs clock bank old new leads end.next end.doing end.later end.holds end.shape end.taken touches
-            (subst (λ (sensed : List ℕ). IsReadRight e clock.bank.kept.shape xs event (shown (ends clock.pace action) sensed new)) senses right) copies;
+            completion_law n m e event action xs clock bank regs old new leads end.next end.doing end.later end.alone end.holds end.shape end.taken touches
+            (subst (λ (sensed : List ℕ). IsReadRight e clock.bank.kept.shape xs event (shown (ends clock.pace action) sensed new)) senses right) copies told end.control;
         adds =
-            one_added_law n m clock.bank.kept.shape (completed xs clock action event new) event (sensed_by clock.bank.kept.shape (core xs) event) false old new refl refl
-            (pulsed-in (core xs) clock.bank old leads.holds event) (no_tear event action.doing end.doing) touches;
+            one_added_law n m clock.bank.kept.shape x (sensed_by clock.bank.kept.shape (core xs) [] event) false old new refl
+            (pulsed-in (core xs) clock.bank old leads.holds None event tt) (no_tear event (pulsed_by clock.bank.kept.shape (core xs) None event) action.doing end.doing) touches;
       }
 
   -- no line write is left
@@ -137,16 +142,16 @@ module _ {n m e : ℕ} (xs : List (Timed n m)) (clock : ClockState n m e) (bank 
 -- Serves
 
 pub serve_ends_law : ServeEndsLaw
-serve_ends_law n m e answer action w ws xs clock bank old new leads first end running bytes =
+serve_ends_law n m e answer action w ws xs clock bank regs old new leads first end running bytes =
     let place : ℕ = stands_at clock.bank.kept w.line in
     let at = first-senses xs clock old leads w ws first in
     let v : Awaited = at.0 in
     let waiting : waits clock.bank.kept.shape (core xs) ≡ v ∷ at.1 = at.2 in
     let own : w ≡ waiting_of v = at.3 in
-    let read : decoded e new place ≡ decoded e old place = same-read xs clock bank (Serve answer) action (place ∷ []) None old new leads end place refl in
+    let read : decoded e new place ≡ decoded e old place = same-read xs clock bank regs (Serve answer) action (place ∷ []) None old new leads end place refl in
     let laid_so : answer.bytes ≡ laid v.kept v.given (decode e (new.line place).held) =
     bytes ∙ ap (λ (w : Waiting n). laid w.kept w.given (decoded e old place)) own ∙ ap (λ under. laid v.kept v.given under) (sym read) in
-    finish xs clock bank (Serve answer) action (place ∷ []) None old new leads end
+    finish xs clock bank regs (Serve answer) action (place ∷ []) None old new leads end
     (at.4 ∙ ap (λ vs. stand_of clock.bank.kept.shape (core xs) vs) (sym waiting)) refl
     (subst (λ (vs : List Awaited). IsLaid e vs answer.bytes (new.line place).held) (sym waiting) laid_so)
     (still bank.running (subst (λ (r : Option (Operation n m e)). IfSome r (CopiesWhatItSensed xs)) (sym running) leads.copying))
@@ -212,7 +217,7 @@ module _ {n m e : ℕ} (xs : List (Timed n m)) (clock : ClockState n m e) (old :
 
 -- Begins
 
-module _ {n m e : ℕ} (action : Action) (xs : List (Timed n m)) (clock : ClockState n m e) (bank : BankState n m e) (old new : ArrayState n m) (leads : Leads xs clock old) where
+module _ {n m e : ℕ} (action : Action) (xs : List (Timed n m)) (clock : ClockState n m e) (bank : BankState n m e) (regs : RegsState n m e) (old new : ArrayState n m) (leads : Leads xs clock old) where
   -- a gap move that goes on writes what its begin sensed
   copies-begun : (work : Work) (bytes : List ℕ) (sensed : List ℕ) (tick : ℕ) → lines_sensed clock.bank.kept work ≡ sensed → ((line : ℕ) → decoded e new line ≡ decoded e old line)
       → WritesCopy e clock.bank.kept old bytes work → IsTrue (is_copy work)
@@ -224,47 +229,47 @@ module _ {n m e : ℕ} (action : Action) (xs : List (Timed n m)) (clock : ClockS
       subst (λ (sensed : List ℕ). IsSomeAnd (begun_with (Core (Begin did.More)) (shown tick sensed new) (copied xs)) (λ source. bytes ≡ decode e source)) lines (writes ∙ sym (same source))
 
   begun-more : (work : Work) → next_work clock.bank.kept ≡ work
-      → IsCompletion xs clock bank (Begin did.More) action (lines_sensed clock.bank.kept work) None old new
-      → IsSomeAnd bank.running (λ op. (op.work ≡ work) × WritesCopy e clock.bank.kept old op.writer.bytes work) → GoesOn xs clock bank (Begin did.More) action old new
+      → IsCompletion xs clock bank regs (Begin did.More) action (lines_sensed clock.bank.kept work) None old new
+      → IsSomeAnd bank.running (λ op. (op.work ≡ work) × WritesCopy e clock.bank.kept old op.writer.bytes work) → GoesOn xs clock bank regs (Begin did.More) action old new
   begun-more work next end leaves =
-      finish xs clock bank (Begin did.More) action (lines_sensed clock.bank.kept work) None old new leads end lines refl tt (by bank.running leaves)
+      finish xs clock bank regs (Begin did.More) action (lines_sensed clock.bank.kept work) None old new leads end lines refl tt (by bank.running leaves)
     where
-      lines : lines_sensed clock.bank.kept work ≡ sensed_by clock.bank.kept.shape (core xs) (Begin did.More)
+      lines : lines_sensed clock.bank.kept work ≡ sensed_by clock.bank.kept.shape (core xs) [] (Begin did.More)
       lines = begin-senses xs clock old leads did.More work next
 
       by : (r : Option (Operation n m e)) → IsSomeAnd r (λ op. (op.work ≡ work) × WritesCopy e clock.bank.kept old op.writer.bytes work)
           → IfSome r (CopiesWhatItSensed (completed xs clock action (Begin did.More) new ∷ xs))
       by None own = tt
       by (Some op) own = λ copies.
-          copies-begun work op.writer.bytes (sensed_by clock.bank.kept.shape (core xs) (Begin did.More)) (ends clock.pace action) lines
-          (λ line. same-read xs clock bank (Begin did.More) action (lines_sensed clock.bank.kept work) None old new leads end line refl) own.1
+          copies-begun work op.writer.bytes (sensed_by clock.bank.kept.shape (core xs) [] (Begin did.More)) (ends clock.pace action) lines
+          (λ line. same-read xs clock bank regs (Begin did.More) action (lines_sensed clock.bank.kept work) None old new leads end line refl) own.1
           (ap (λ work. is_copy work) (sym own.0) ∙ copies)
 
-  begun-done : (answer : Step) (work : Work) (sensed : List ℕ) → next_work clock.bank.kept ≡ work → IsCompletion xs clock bank (Begin answer) action sensed None old new
+  begun-done : (answer : Step) (work : Work) (sensed : List ℕ) → next_work clock.bank.kept ≡ work → IsCompletion xs clock bank regs (Begin answer) action sensed None old new
       → IsDone clock.bank.kept.shape (core xs) work answer
   begun-done answer work sensed next end =
       subst (λ (work : Work). IsDone clock.bank.kept.shape (core xs) work answer) (sym (agrees xs clock old leads).work ∙ next)
-      (may-end xs clock bank (Begin answer) action sensed None old new leads end).1
+      (may-end xs clock bank regs (Begin answer) action sensed None old new leads end).1
 
   begun-stored : (row place : ℕ) (work : Work) → next_work clock.bank.kept ≡ work
-      → IsCompletion xs clock bank (Begin (did.Stored row place)) action (lines_sensed clock.bank.kept work) None old new
-      → bank.running ≡ None → ReadsAsHead e clock.bank.kept old work → GoesOn xs clock bank (Begin (did.Stored row place)) action old new
+      → IsCompletion xs clock bank regs (Begin (did.Stored row place)) action (lines_sensed clock.bank.kept work) None old new
+      → bank.running ≡ None → ReadsAsHead e clock.bank.kept old work → GoesOn xs clock bank regs (Begin (did.Stored row place)) action old new
   begun-stored row place Nothing next end none reads =
       let done : ⊥ = begun-done (did.Stored row place) Nothing (lines_sensed clock.bank.kept Nothing) next end in absurd done
   begun-stored row place (Store line slot) next end none reads =
       let done = begun-done (did.Stored row place) (Store line slot) (lines_sensed clock.bank.kept (Store line slot)) next end in
       let target : ℕ = array_line clock.bank.kept slot in
-      finish xs clock bank (Begin (did.Stored row place)) action (target ∷ []) None old new leads end
+      finish xs clock bank regs (Begin (did.Stored row place)) action (target ∷ []) None old new leads end
       (begin-senses xs clock old leads (did.Stored row place) (Store line slot) next) refl
-      (same-read xs clock bank (Begin (did.Stored row place)) action (target ∷ []) None old new leads end target refl
+      (same-read xs clock bank regs (Begin (did.Stored row place)) action (target ∷ []) None old new leads end target refl
       ∙ under-bytes xs clock old leads line slot row next done.0 reads)
-      (none-copies xs clock bank (Begin (did.Stored row place)) action (target ∷ []) None old new leads end (completed xs clock action (Begin (did.Stored row place)) new) none)
+      (none-copies xs clock bank regs (Begin (did.Stored row place)) action (target ∷ []) None old new leads end (completed xs clock action (Begin (did.Stored row place)) new) none)
   begun-stored row place (Copy region step) next end none reads =
       let done : ⊥ = begun-done (did.Stored row place) (Copy region step) (lines_sensed clock.bank.kept (Copy region step)) next end in absurd done
 
   begun-moved : (moved : Move) (work : Work) → next_work clock.bank.kept ≡ work
-      → IsCompletion xs clock bank (Begin (did.Moved moved)) action (lines_sensed clock.bank.kept work) None old new
-      → bank.running ≡ None → WritesCopy e clock.bank.kept old (decoded e old (target_of clock.bank.kept work)) work → GoesOn xs clock bank (Begin (did.Moved moved)) action old new
+      → IsCompletion xs clock bank regs (Begin (did.Moved moved)) action (lines_sensed clock.bank.kept work) None old new
+      → bank.running ≡ None → WritesCopy e clock.bank.kept old (decoded e old (target_of clock.bank.kept work)) work → GoesOn xs clock bank regs (Begin (did.Moved moved)) action old new
   begun-moved moved Nothing next end none writes =
       let done : ⊥ = begun-done (did.Moved moved) Nothing (lines_sensed clock.bank.kept Nothing) next end in absurd done
   begun-moved moved (Store line slot) next end none writes =
@@ -272,24 +277,24 @@ module _ {n m e : ℕ} (action : Action) (xs : List (Timed n m)) (clock : ClockS
   begun-moved moved (Copy region step) next end none writes =
       let source : ℕ = array_line clock.bank.kept (slot_at clock.bank.kept.shape region step.from) in
       let target : ℕ = target_of clock.bank.kept (Copy region step) in
-      finish xs clock bank (Begin (did.Moved moved)) action (source ∷ target ∷ []) None old new leads end
+      finish xs clock bank regs (Begin (did.Moved moved)) action (source ∷ target ∷ []) None old new leads end
       (begin-senses xs clock old leads (did.Moved moved) (Copy region step) next) refl
-      (same-read xs clock bank (Begin (did.Moved moved)) action (source ∷ target ∷ []) None old new leads end target refl ∙ writes
-      ∙ sym (same-read xs clock bank (Begin (did.Moved moved)) action (source ∷ target ∷ []) None old new leads end source refl))
-      (none-copies xs clock bank (Begin (did.Moved moved)) action (source ∷ target ∷ []) None old new leads end (completed xs clock action (Begin (did.Moved moved)) new) none)
+      (same-read xs clock bank regs (Begin (did.Moved moved)) action (source ∷ target ∷ []) None old new leads end target refl ∙ writes
+      ∙ sym (same-read xs clock bank regs (Begin (did.Moved moved)) action (source ∷ target ∷ []) None old new leads end source refl))
+      (none-copies xs clock bank regs (Begin (did.Moved moved)) action (source ∷ target ∷ []) None old new leads end (completed xs clock action (Begin (did.Moved moved)) new) none)
 
 pub begin_ends_law : BeginEndsLaw
-begin_ends_law n m e did.More action work xs clock bank old new leads next end leaves = begun-more action xs clock bank old new leads work next end leaves
-begin_ends_law n m e (did.Stored row place) action work xs clock bank old new leads next end leaves =
-    begun-stored action xs clock bank old new leads row place work next end leaves.0 leaves.1
-begin_ends_law n m e (did.Moved moved) action work xs clock bank old new leads next end leaves =
-    begun-moved action xs clock bank old new leads moved work next end leaves.0 leaves.1
-begin_ends_law n m e (did.Retired slot line) action work xs clock bank old new leads next end leaves = absurd leaves
-begin_ends_law n m e did.Exhausted action work xs clock bank old new leads next end leaves = absurd leaves
+begin_ends_law n m e did.More action work xs clock bank regs old new leads next end leaves = begun-more action xs clock bank regs old new leads work next end leaves
+begin_ends_law n m e (did.Stored row place) action work xs clock bank regs old new leads next end leaves =
+    begun-stored action xs clock bank regs old new leads row place work next end leaves.0 leaves.1
+begin_ends_law n m e (did.Moved moved) action work xs clock bank regs old new leads next end leaves =
+    begun-moved action xs clock bank regs old new leads moved work next end leaves.0 leaves.1
+begin_ends_law n m e (did.Retired slot line) action work xs clock bank regs old new leads next end leaves = absurd leaves
+begin_ends_law n m e did.Exhausted action work xs clock bank regs old new leads next end leaves = absurd leaves
 
 -- Iterations
 
-module _ {n m e : ℕ} (action : Action) (op : Operation n m e) (xs : List (Timed n m)) (clock : ClockState n m e) (bank : BankState n m e) (old new : ArrayState n m) (leads : Leads xs clock old)
+module _ {n m e : ℕ} (action : Action) (op : Operation n m e) (xs : List (Timed n m)) (clock : ClockState n m e) (bank : BankState n m e) (regs : RegsState n m e) (old new : ArrayState n m) (leads : Leads xs clock old)
     (is : clock.bank.running ≡ Some op) where
   own-copies : CopiesWhatItSensed xs op
   own-copies = subst (λ (r : Option (Operation n m e)). IfSome r (CopiesWhatItSensed xs)) is leads.copying
@@ -300,23 +305,23 @@ module _ {n m e : ℕ} (action : Action) (op : Operation n m e) (xs : List (Time
   iterated-pulses : Some op.target ≡ Some (target_after clock.bank.kept.shape (core xs))
   iterated-pulses = ap (λ line. Some line) (op-target xs clock old leads op is)
 
-  iterated-may : (answer : Step) → IsCompletion xs clock bank (Iterate answer) action (op.target ∷ []) (Some op.target) old new
+  iterated-may : (answer : Step) → IsCompletion xs clock bank regs (Iterate answer) action (op.target ∷ []) (Some op.target) old new
       → IsIterated clock.bank.kept.shape (core xs) op.work answer
   iterated-may answer end =
-      let may = may-end xs clock bank (Iterate answer) action (op.target ∷ []) (Some op.target) old new leads end in
+      let may = may-end xs clock bank regs (Iterate answer) action (op.target ∷ []) (Some op.target) old new leads end in
       subst (λ (work : Work). IsIterated clock.bank.kept.shape (core xs) work answer) (sym (op-work xs clock old leads op is)) may.1
 
   -- an iteration that leaves no line write
-  iterated-none : (answer : Step) → IsCompletion xs clock bank (Iterate answer) action (op.target ∷ []) (Some op.target) old new → bank.running ≡ None
-      → IsReadRight e clock.bank.kept.shape xs (Iterate answer) (shown (ends clock.pace action) (op.target ∷ []) new) → GoesOn xs clock bank (Iterate answer) action old new
+  iterated-none : (answer : Step) → IsCompletion xs clock bank regs (Iterate answer) action (op.target ∷ []) (Some op.target) old new → bank.running ≡ None
+      → IsReadRight e clock.bank.kept.shape xs (Iterate answer) (shown (ends clock.pace action) (op.target ∷ []) new) → GoesOn xs clock bank regs (Iterate answer) action old new
   iterated-none answer end none right =
-      finish xs clock bank (Iterate answer) action (op.target ∷ []) (Some op.target) old new leads end iterated-senses iterated-pulses right
-      (none-copies xs clock bank (Iterate answer) action (op.target ∷ []) (Some op.target) old new leads end (completed xs clock action (Iterate answer) new) none)
+      finish xs clock bank regs (Iterate answer) action (op.target ∷ []) (Some op.target) old new leads end iterated-senses iterated-pulses right
+      (none-copies xs clock bank regs (Iterate answer) action (op.target ∷ []) (Some op.target) old new leads end (completed xs clock action (Iterate answer) new) none)
 
-  iterated-more : IsCompletion xs clock bank (Iterate did.More) action (op.target ∷ []) (Some op.target) old new
-      → IsSomeAnd bank.running (λ later. (later.work ≡ op.work) × (later.writer.bytes ≡ op.writer.bytes)) → GoesOn xs clock bank (Iterate did.More) action old new
+  iterated-more : IsCompletion xs clock bank regs (Iterate did.More) action (op.target ∷ []) (Some op.target) old new
+      → IsSomeAnd bank.running (λ later. (later.work ≡ op.work) × (later.writer.bytes ≡ op.writer.bytes)) → GoesOn xs clock bank regs (Iterate did.More) action old new
   iterated-more end leaves =
-      finish xs clock bank (Iterate did.More) action (op.target ∷ []) (Some op.target) old new leads end iterated-senses iterated-pulses tt (by bank.running leaves)
+      finish xs clock bank regs (Iterate did.More) action (op.target ∷ []) (Some op.target) old new leads end iterated-senses iterated-pulses tt (by bank.running leaves)
     where
       by : (r : Option (Operation n m e)) → IsSomeAnd r (λ later. (later.work ≡ op.work) × (later.writer.bytes ≡ op.writer.bytes))
           → IfSome r (CopiesWhatItSensed (completed xs clock action (Iterate did.More) new ∷ xs))
@@ -331,39 +336,17 @@ module _ {n m e : ℕ} (action : Action) (op : Operation n m e) (xs : List (Time
   moves-copy (Copy region step) moved done = refl
 
 pub iterate_ends_law : IterateEndsLaw
-iterate_ends_law n m e did.More action op xs clock bank old new leads is end leaves = iterated-more action op xs clock bank old new leads is end leaves
-iterate_ends_law n m e (did.Stored row place) action op xs clock bank old new leads is end leaves =
-    iterated-none action op xs clock bank old new leads is (did.Stored row place) end leaves.0
+iterate_ends_law n m e did.More action op xs clock bank regs old new leads is end leaves = iterated-more action op xs clock bank regs old new leads is end leaves
+iterate_ends_law n m e (did.Stored row place) action op xs clock bank regs old new leads is end leaves =
+    iterated-none action op xs clock bank regs old new leads is (did.Stored row place) end leaves.0
     (leaves.1 ∙ written-bytes xs clock old leads op.work row place op.writer.bytes
-    (iterated-may action op xs clock bank old new leads is (did.Stored row place) end) (running_of (core xs) clock.bank old op leads.holds is).of)
-iterate_ends_law n m e (did.Moved moved) action op xs clock bank old new leads is end leaves =
-    iterated-none action op xs clock bank old new leads is (did.Moved moved) end leaves.0
+    (iterated-may action op xs clock bank regs old new leads is (did.Stored row place) end) (running_of (core xs) clock.bank old op leads.holds is).of)
+iterate_ends_law n m e (did.Moved moved) action op xs clock bank regs old new leads is end leaves =
+    iterated-none action op xs clock bank regs old new leads is (did.Moved moved) end leaves.0
     (subst (λ (bytes : List ℕ). IsSomeAnd (copied xs) (λ source. bytes ≡ decode e source)) (sym leaves.1)
-    (own-copies action op xs clock bank old new leads is
-    (moves-copy action op xs clock bank old new leads is op.work moved (iterated-may action op xs clock bank old new leads is (did.Moved moved) end))))
-iterate_ends_law n m e (did.Retired slot line) action op xs clock bank old new leads is end leaves =
-    iterated-none action op xs clock bank old new leads is (did.Retired slot line) end leaves tt
-iterate_ends_law n m e did.Exhausted action op xs clock bank old new leads is end leaves =
-    iterated-none action op xs clock bank old new leads is did.Exhausted end leaves tt
-
--- Cuts
-
-pub cut_ends_law : CutEndsLaw
-cut_ends_law n m e tearing xs clock bank old new leads tears holds shape stopped taken touches =
-    let past : MayAll clock.bank.kept.shape (most_steps e) (Cut tearing ∷ core xs) = subst (λ (shape : BankShape). MayAll shape (most_steps e) (Cut tearing ∷ core xs)) shape holds.past in
-    let pulsed : Option ℕ = pulsed_by clock.bank.kept.shape (core xs) (Cut tearing) in
-    let touched : Touches clock.tick [] pulsed tearing old new =
-    subst (λ (pulsed : Option ℕ). Touches clock.tick [] pulsed tearing old new) (torn tearing clock.bank.running refl past.0) touches in
-    record {
-      leads = power_cut_law n m e tearing xs clock bank old new leads tears holds shape stopped taken touched;
-      adds =
-          one_added_law n m clock.bank.kept.shape (cut xs clock tearing) (Cut tearing) [] tearing old new refl refl
-          (pulsed-in (core xs) clock.bank old leads.holds (Cut tearing)) refl touched;
-    }
-  where
-    torn : (tearing : Bool) (r : Option (Operation n m e)) → clock.bank.running ≡ r → IsTrue (not tearing || in_progress (core xs))
-        → torn_line tearing r ≡ pulsed_by clock.bank.kept.shape (core xs) (Cut tearing)
-    torn true (Some op) is may = ap (λ line. Some line) (op-target xs clock old leads op is)
-    torn true None is may = let no : in_progress (core xs) ≡ false = sym leads.holds.running ∙ ap (λ (r : Option (Operation n m e)). is_some r) is in absurd (cc)
-    torn false (Some op) is may = refl
-    torn false None is may = refl
+    (own-copies action op xs clock bank regs old new leads is
+    (moves-copy action op xs clock bank regs old new leads is op.work moved (iterated-may action op xs clock bank regs old new leads is (did.Moved moved) end))))
+iterate_ends_law n m e (did.Retired slot line) action op xs clock bank regs old new leads is end leaves =
+    iterated-none action op xs clock bank regs old new leads is (did.Retired slot line) end leaves tt
+iterate_ends_law n m e did.Exhausted action op xs clock bank regs old new leads is end leaves =
+    iterated-none action op xs clock bank regs old new leads is did.Exhausted end leaves tt

@@ -6,7 +6,7 @@ use Rattle.pcm_cells.specs.Device.{counted}
 use Rattle.bank_shape.specs.declared.BankShape.{BankShape}
 use Rattle.bank_shape.specs.Shape.{lines_in}
 use Rattle.bank_model.specs.Events.{Event, Write, Read, Serve, Begin, Iterate, Cut}
-use Rattle.bank_model.specs.Timing.{Happens, Core, Timed}
+use Rattle.bank_model.specs.Timing.{Happens, Core, Regs, KeepBegin, KeepIterate, KeepCut, Timed}
 use Rattle.bank_model.specs.Sensing.{is_at}
 use Rattle.bank_model.specs.Adding.{senses_of, pulses_on, torn_by, tears_on}
 use Rattle.clock_laws.specs.Extending.{NothingAddedLaw, OneAddedLaw, ArrivalAddedLaw, BothAddedLaw, is_tear}
@@ -34,23 +34,26 @@ off-pulsed shape (Some at) line within off = by (at == line) (eqb-true at line) 
     by true is (inl before) = absurd (omega (arith, is refl, before, within.0, within.1))
     by true is (inr behind) = absurd (omega (arith, is refl, behind, within.0, within.1))
 
-tears-one : {n : ℕ} (event : Event n) (tears : ℕ) → cond (is_tear event) (counted tears) tears ≡ torn_by (Core event) tears
-tears-one (Write row line bytes given answer) tears = refl
-tears-one (Read row line answer) tears = refl
-tears-one (Serve answer) tears = refl
-tears-one (Begin answer) tears = refl
-tears-one (Iterate answer) tears = refl
-tears-one (Cut true) tears = refl
-tears-one (Cut false) tears = refl
+tears-one : {n : ℕ} (happens : Happens n) (pulsed : Option ℕ) (tears : ℕ) → cond (is_tear happens pulsed) (counted tears) tears ≡ torn_by happens pulsed tears
+tears-one (Core (Write row line bytes given answer)) pulsed tears = refl
+tears-one (Core (Read row line answer)) pulsed tears = refl
+tears-one (Core (Serve answer)) pulsed tears = refl
+tears-one (Core (Begin answer)) pulsed tears = refl
+tears-one (Core (Iterate answer)) pulsed tears = refl
+tears-one (Core (Cut tearing)) (Some line) tears = refl
+tears-one (Core (Cut tearing)) None tears = refl
+tears-one (Regs (KeepBegin answer)) pulsed tears = refl
+tears-one (Regs (KeepIterate answer)) pulsed tears = refl
+tears-one (Regs (KeepCut tearing)) (Some line) tears = refl
+tears-one (Regs (KeepCut tearing)) None tears = refl
 
 pub one_added_law : OneAddedLaw
-one_added_law n m shape x event sensed tearing old new happens senses within is touches = record {
+one_added_law n m shape x sensed tearing old new senses within is touches = record {
   lines = touches.lines;
   others = λ line off. touches.others line (off-pulsed shape x.pulsed line within off);
   pulses = λ line. pulsed_so line (is_at x.pulsed line) refl;
   tears =
-      touches.tears ∙ ap (λ b. cond b (counted old.tears) old.tears) is ∙ tears-one event old.tears
-      ∙ ap (λ (happens : Happens n). torn_by happens old.tears) (sym happens);
+      touches.tears ∙ ap (λ b. cond b (counted old.tears) old.tears) is ∙ tears-one x.happens x.pulsed old.tears;
   log = λ after told.
       let before = touches.log after told in
       (before.0, before.1, before.2 ∙ ap (λ (added : List (Sense n m)). before.0 ++ added) (sym senses));
@@ -60,9 +63,18 @@ one_added_law n m shape x event sensed tearing old new happens senses within is 
     pulsed_so line true at = touches.pulses line at ∙ ap (λ b. cond b (counted (old.line line).pulses) (old.line line).pulses) (sym at)
     pulsed_so line false at = ap (λ l. l.pulses) (touches.others line at) ∙ ap (λ b. cond b (counted (old.line line).pulses) (old.line line).pulses) (sym at)
 
+-- nothing is torn where nothing is pulsed
+none-torn : {n : ℕ} (event : Event n) → false ≡ is_tear (Core event) None
+none-torn (Write row line bytes given answer) = refl
+none-torn (Read row line answer) = refl
+none-torn (Serve answer) = refl
+none-torn (Begin answer) = refl
+none-torn (Iterate answer) = refl
+none-torn (Cut tearing) = refl
+
 pub arrival_added_law : ArrivalAddedLaw
-arrival_added_law n m tick shape event array no_tear =
-    one_added_law n m shape (arrival tick event) event [] false array array refl refl tt (sym no_tear) (untouched tick array)
+arrival_added_law n m tick shape event array =
+    one_added_law n m shape (arrival tick event) [] false array array refl tt (none-torn event) (untouched tick array)
 
 -- Several events
 
@@ -77,7 +89,7 @@ module _ {n m : ℕ} where
 
   tears-both : (newer older : List (Timed n m)) (count : ℕ) → tears_on (newer ++ older) count ≡ tears_on newer (tears_on older count)
   tears-both [] older count = refl
-  tears-both (x ∷ newer) older count = ap (λ tears. torn_by x.happens tears) (tears-both newer older count)
+  tears-both (x ∷ newer) older count = ap (λ tears. torn_by x.happens x.pulsed tears) (tears-both newer older count)
 
 pub both_added_law : BothAddedLaw
 both_added_law n m shape newer older first between last before after = record {

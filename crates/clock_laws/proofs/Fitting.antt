@@ -1,5 +1,5 @@
 -- What an action needs of its bank.
-use Rattle.std.proofs.Common.{◌≡◌, ℕ, ◌<◌, ◌==◌, ◌||◌, ◌&&◌, not, nat_lt, if◌then◌else◌, Bool, true, false, List, [], ◌∷◌, ◌++◌, length, Option, Some, None, is_some, refl, sym, ap, ◌∙◌, arith, ltb-true, lt-ltb}
+use Rattle.std.proofs.Common.{◌≡◌, inl, inr, ℕ, ◌<◌, ◌==◌, ◌||◌, ◌&&◌, not, nat_lt, if◌then◌else◌, Bool, true, false, List, [], ◌∷◌, ◌++◌, length, Option, Some, None, is_some, refl, sym, ap, subst, ◌∙◌, arith, ltb-true, lt-ltb}
 use Rattle.std.specs.Prelude.{IfSome}
 use Rattle.std.specs.List.{list_any}
 use Rattle.std.proofs.lemmas.List.{length-append}
@@ -16,14 +16,17 @@ use Rattle.bank_model.specs.declared.clock.Doing.{Doing}
 use Rattle.bank_model.specs.declared.clock.Doing.TheVariants.{Serving, Beginning, Iterating}
 use Rattle.bank_model.specs.declared.clock.Action.{Action}
 use Rattle.bank_model.specs.After.{is_store_of}
-use Rattle.bank_model.specs.Timing.{same_doing}
-use Rattle.bank_model.specs.Running.{gives_way, choice, chosen_by}
+use Rattle.bank_model.specs.Running.{gives_way, choice, chosen_by, busy_by, ready_by}
+use Rattle.reg_lines.specs.declared.Change.{Change}
+use Rattle.reg_lines.specs.Regs.{RegsState}
+use Rattle.register_laws.specs.Telling.{item_of}
 use Rattle.bank_invariant.specs.declared.Waiting.{Waiting}
 use Rattle.bank_invariant.specs.State.{BankState, is_free, may_begin}
 use Rattle.bank_invariant.specs.Serving.{kept_with, waits_too}
 use Rattle.bank_invariant.specs.Writes.{taken}
-use Rattle.clock_laws.specs.State.{or_else, started_at, chosen}
-use Rattle.clock_laws.specs.Fitting.{Fits, IsFit, ChosenLaw, RestLaw, FitWriteLaw, FitReadLaw}
+use Rattle.clock_laws.specs.State.{is_busy, may_start, or_else, started_at, chosen}
+use Rattle.clock_laws.specs.Arriving.{drops}
+use Rattle.clock_laws.specs.Fitting.{Fits, IsFit, HasEnded, NeedsLaw, ChosenLaw, RestLaw, FitWriteLaw, FitReadLaw}
 use Rattle.clock_laws.proofs.Deciding.{both, both_left, both_right, not_false, turned}
 
 -- Choices
@@ -31,11 +34,11 @@ use Rattle.clock_laws.proofs.Deciding.{both, both_left, both_right, not_false, t
 pub chosen_law : ChosenLaw
 chosen_law n m e clock fit =
     by clock.action fit
-    (which (gives_way clock.pace.policy) (nat_lt 0 (length clock.bank.waiting)) (is_some clock.bank.running) (may_begin clock.bank)
+    (which (gives_way clock.pace.policy) (nat_lt 0 (length clock.bank.waiting)) (is_busy clock.bank clock.regs) (may_start clock.bank clock.regs)
     (ltb-true 0 (length clock.bank.waiting)) (λ is. is) (λ is. is))
   where
-    which : (gives reads busy ready : Bool) → (reads ≡ true → 0 < length clock.bank.waiting) → (busy ≡ true → is_some clock.bank.running ≡ true) → (ready ≡ true → may_begin clock.bank ≡ true)
-        → IfSome (chosen_by gives reads (choice busy ready)) (λ doing. Fits clock.bank doing)
+    which : (gives reads busy ready : Bool) → (reads ≡ true → 0 < length clock.bank.waiting) → (busy ≡ true → is_busy clock.bank clock.regs ≡ true) → (ready ≡ true → may_start clock.bank clock.regs ≡ true)
+        → IfSome (chosen_by gives reads (choice busy ready)) (λ doing. Fits clock.bank clock.regs doing)
     which true true busy ready waits runs may = waits refl
     which true false true ready waits runs may = runs refl
     which true false false true waits runs may = may refl
@@ -45,13 +48,51 @@ chosen_law n m e clock fit =
     which false false false true waits runs may = may refl
     which false false false false waits runs may = tt
 
-    later : (d : Option Doing) → IfSome d (λ doing. Fits clock.bank doing) → IsFit clock.bank (started_at clock.tick d)
+    later : (d : Option Doing) → IfSome d (λ doing. Fits clock.bank clock.regs doing) → IsFit clock.bank clock.regs (started_at clock.tick d)
     later None own = tt
     later (Some doing) own = own
 
-    by : (r : Option Action) → IsFit clock.bank r → IfSome (chosen clock) (λ doing. Fits clock.bank doing) → IsFit clock.bank (or_else r (started_at clock.tick (chosen clock)))
+    by : (r : Option Action) → IsFit clock.bank clock.regs r → IfSome (chosen clock) (λ doing. Fits clock.bank clock.regs doing) → IsFit clock.bank clock.regs (or_else r (started_at clock.tick (chosen clock)))
     by (Some action) own next = own
     by None own next = later (chosen clock) next
+
+-- Needs
+
+-- neither is where one isn't
+none_of_both : (a b : Bool) → not (a || b) ≡ true → (a ≡ false) × (b ≡ false)
+none_of_both true b is = absurd (cc)
+none_of_both false true is = absurd (cc)
+none_of_both false false is = (refl, refl)
+
+no_one : {A : Type 0} (o : Option A) → is_some o ≡ false → o ≡ None
+no_one None none = refl
+no_one (Some x) none = absurd (cc)
+
+pub needs_law : NeedsLaw
+needs_law n m e bank regs = record {
+  begins = λ none own. by regs.change (is_some regs.writer || regs.halted) (may_begin bank) none own;
+  iterates = λ none own. of_bank regs.change (is_some regs.writer) (is_some bank.running) none own;
+  begins_change = λ some own.
+      let none = none_of_both (is_some regs.writer) regs.halted (of_change regs.change (is_some regs.writer || regs.halted) (may_begin bank) some own) in
+      (no_one regs.writer none.0, none.1);
+  iterates_change = λ some own. writes regs.change (is_some regs.writer) (is_some bank.running) some own;
+}
+  where
+    by : (change : Option Change) (stopped ready : Bool) → change ≡ None → ready_by (item_of change) stopped ready ≡ true → ready ≡ true
+    by None stopped ready none own = own
+    by (Some change) stopped ready none own = absurd (cc)
+
+    of_bank : (change : Option Change) (keeping busy : Bool) → change ≡ None → busy_by (item_of change) keeping busy ≡ true → busy ≡ true
+    of_bank None keeping busy none own = own
+    of_bank (Some change) keeping busy none own = absurd (cc)
+
+    of_change : (change : Option Change) (stopped ready : Bool) → is_some change ≡ true → ready_by (item_of change) stopped ready ≡ true → not stopped ≡ true
+    of_change None stopped ready some own = absurd (cc)
+    of_change (Some change) stopped ready some own = own
+
+    writes : (change : Option Change) (keeping busy : Bool) → is_some change ≡ true → busy_by (item_of change) keeping busy ≡ true → keeping ≡ true
+    writes None keeping busy some own = absurd (cc)
+    writes (Some change) keeping busy some own = own
 
 -- Rest
 
@@ -87,12 +128,25 @@ none-runs (Some x) none = cc
 pub rest_law : RestLaw
 rest_law n m e clock none =
     let idle = none-else clock.action (chosen clock) clock.tick none in
-    let no = none-by (gives_way clock.pace.policy) (nat_lt 0 (length clock.bank.waiting)) (is_some clock.bank.running) (may_begin clock.bank) idle.1 in
+    let no = none-by (gives_way clock.pace.policy) (nat_lt 0 (length clock.bank.waiting)) (is_busy clock.bank clock.regs) (may_start clock.bank clock.regs) idle.1 in
     let reads : clock.bank.waiting ≡ [] = none-waits clock.bank.waiting no.0 in
-    let free : is_free {n = n} [] (next_work clock.bank.kept) ≡ false =
-    ap (λ (ws : List (Waiting n)). is_free ws (next_work clock.bank.kept)) (sym reads)
-    ∙ ap (λ b. not b && is_free clock.bank.waiting (next_work clock.bank.kept)) (sym no.1) ∙ no.2 in
-    (idle.0, reads, none-runs clock.bank.running no.1, none-free n (next_work clock.bank.kept) free)
+    (idle.0, reads, ended clock.regs.change refl reads no.1 no.2)
+  where
+    halts : (writing halted : Bool) → writing ≡ false → not (writing || halted) ≡ false → halted ≡ true
+    halts true halted busy ready = absurd (cc)
+    halts false true busy ready = refl
+    halts false false busy ready = absurd (cc)
+
+    ended : (change : Option Change) → clock.regs.change ≡ change → clock.bank.waiting ≡ []
+        → busy_by (item_of change) (is_some clock.regs.writer) (is_some clock.bank.running) ≡ false
+        → ready_by (item_of change) (is_some clock.regs.writer || clock.regs.halted) (may_begin clock.bank) ≡ false → HasEnded clock.bank clock.regs
+    ended None is reads busy ready =
+        let free : is_free {n = n} [] (next_work clock.bank.kept) ≡ false =
+        ap (λ (ws : List (Waiting n)). is_free ws (next_work clock.bank.kept)) (sym reads)
+        ∙ ap (λ b. not b && is_free clock.bank.waiting (next_work clock.bank.kept)) (sym busy) ∙ ready in
+        inl (is, none-runs clock.bank.running busy, none-free n (next_work clock.bank.kept) free)
+    ended (Some change) is reads busy ready =
+        inr (ap (λ (change : Option Change). is_some change) is, halts (is_some clock.regs.writer) clock.regs.halted busy ready, none-runs clock.regs.writer busy)
 
 -- Writes
 
@@ -106,17 +160,25 @@ module _ {n : ℕ} where
       let copy = next_work-copy kept (ap is_copy is) in next_work-due kept (accepted kept.shape.writes busy entry kept.entries) copy.1.0 copy.1.1
 
 module _ {n m e : ℕ} where
-  fit-taken : (bank : BankState n m e) (busy : Bool) (entry : Entry n) (doing : Doing) → Fits bank doing → Fits (taken busy entry bank) doing
-  fit-taken bank busy entry Serving own = own
-  fit-taken bank busy entry Iterating own = own
-  fit-taken bank busy entry Beginning own =
+  begin-taken : (bank : BankState n m e) (busy : Bool) (entry : Entry n) → may_begin bank ≡ true → may_begin (taken busy entry bank) ≡ true
+  begin-taken bank busy entry own =
       let free : is_free bank.waiting (next_work bank.kept) ≡ true = both_right (not (is_some bank.running)) _ own in
       let still : next_work (accepted_kept busy entry bank.kept) ≡ next_work bank.kept = next-stays bank.kept busy entry bank.waiting (next_work bank.kept) refl free in
       ap (λ work. not (is_some bank.running) && is_free bank.waiting work) still ∙ own
 
+  fit-taken : (bank : BankState n m e) (regs : RegsState n m e) (busy : Bool) (entry : Entry n) (doing : Doing) → Fits bank regs doing → Fits (taken busy entry bank) regs doing
+  fit-taken bank regs busy entry Serving own = own
+  fit-taken bank regs busy entry Iterating own = own
+  fit-taken bank regs busy entry Beginning own = by regs.change own
+    where
+      by : (change : Option Change) → ready_by (item_of change) (is_some regs.writer || regs.halted) (may_begin bank) ≡ true
+          → ready_by (item_of change) (is_some regs.writer || regs.halted) (may_begin (taken busy entry bank)) ≡ true
+      by None own = begin-taken bank busy entry own
+      by (Some change) own = own
+
 pub fit_write_law : FitWriteLaw
-fit_write_law n m e entry None bank fit = tt
-fit_write_law n m e entry (Some action) bank fit = fit-taken bank _ entry action.doing fit
+fit_write_law n m e entry None bank regs fit = tt
+fit_write_law n m e entry (Some action) bank regs fit = fit-taken bank regs _ entry action.doing fit
 
 -- Reads
 
@@ -135,16 +197,50 @@ free-stays Nothing ws w off free = cc
 free-stays (Store line slot) ws w off free = ap (λ b. not b) (any-push line ws w (turned line w.line off) (not_false _ free))
 free-stays (Copy region step) ws w off free = free
 
-fit-waits : {n m e : ℕ} (bank : BankState n m e) (row line first : ℕ) (doing : Doing) (b : Bool) → is_store_of line (next_work bank.kept) ≡ b → Fits bank doing
-    → IsFit (waits_too bank row line) (if same_doing Beginning doing && b then None else Some (record { doing = doing; first = first }))
-fit-waits bank row line first Serving b is own =
-    omega (arith, length-append bank.waiting (kept_with row line (layer_of bank.kept.entries line) ∷ []))
-fit-waits bank row line first Iterating b is own = own
-fit-waits bank row line first Beginning true is own = tt
-fit-waits bank row line first Beginning false is own =
-    both (not (is_some bank.running)) _ (both_left (not (is_some bank.running)) _ own)
-    (free-stays (next_work bank.kept) bank.waiting (kept_with row line (layer_of bank.kept.entries line)) is (both_right (not (is_some bank.running)) _ own))
+fit-waits : {n m e : ℕ} (bank : BankState n m e) (regs : RegsState n m e) (row line first : ℕ) (doing : Doing) → Fits bank regs doing
+    → IsFit (waits_too bank row line) regs (if drops bank.kept regs.change line (Some (record { doing = doing; first = first })) then None else Some (record { doing = doing; first = first }))
+fit-waits bank regs row line first Serving own = by (drops bank.kept regs.change line (Some (record { doing = Serving; first = first })))
+  where
+    by : (b : Bool) → IsFit (waits_too bank row line) regs (if b then None else Some (record { doing = Serving; first = first }))
+    by true = tt
+    by false = omega (arith, length-append bank.waiting (kept_with row line (layer_of bank.kept.entries line) ∷ []))
+fit-waits bank regs row line first Iterating own = by (drops bank.kept regs.change line (Some (record { doing = Iterating; first = first })))
+  where
+    by : (b : Bool) → IsFit (waits_too bank row line) regs (if b then None else Some (record { doing = Iterating; first = first }))
+    by true = tt
+    by false = own
+fit-waits {n} {m} {e} bank regs row line first Beginning own = by regs.change own refl
+  where
+    first_action : Action
+    first_action = record { doing = Beginning; first = first }
+
+    stays : (b : Bool) → is_store_of line (next_work bank.kept) ≡ b → may_begin bank ≡ true → IfSome (if b then None else Some first_action) (λ a. may_begin (waits_too bank row line) ≡ true)
+    stays true is own = tt
+    stays false is own =
+        both (not (is_some bank.running)) _ (both_left (not (is_some bank.running)) _ own)
+        (free-stays (next_work bank.kept) bank.waiting (kept_with row line (layer_of bank.kept.entries line)) is (both_right (not (is_some bank.running)) _ own))
+
+    fits : (b : Bool) → (regs.change ≡ None) → IfSome (if b then None else Some first_action) (λ a. may_begin (waits_too bank row line) ≡ true)
+        → IsFit (waits_too bank row line) regs (if b then None else Some first_action)
+    fits true none own = tt
+    fits false none own =
+        ap (λ (change : Option Change). ready_by (item_of change) (is_some regs.writer || regs.halted) (may_begin (waits_too bank row line))) none ∙ own
+
+    by : (change : Option Change) → ready_by (item_of change) (is_some regs.writer || regs.halted) (may_begin bank) ≡ true → regs.change ≡ change
+        → IsFit (waits_too bank row line) regs (if drops bank.kept regs.change line (Some first_action) then None else Some first_action)
+    by None own is =
+        subst (λ (b : Bool). IsFit (waits_too bank row line) regs (if b then None else Some first_action))
+        (ap (λ (change : Option Change). drops bank.kept change line (Some first_action)) (sym is))
+        (fits (is_store_of line (next_work bank.kept)) is (stays (is_store_of line (next_work bank.kept)) refl own))
+    by (Some change) own is =
+        subst (λ (b : Bool). IsFit (waits_too bank row line) regs (if b then None else Some first_action))
+        (ap (λ (change : Option Change). drops bank.kept change line (Some first_action)) (sym is))
+        (ap (λ (change : Option Change). ready_by (item_of change) (is_some regs.writer || regs.halted) (may_begin (waits_too bank row line))) is ∙ own)
 
 pub fit_read_law : FitReadLaw
-fit_read_law n m e row line None bank fit = tt
-fit_read_law n m e row line (Some action) bank fit = fit-waits bank row line action.first action.doing (is_store_of line (next_work bank.kept)) refl fit
+fit_read_law n m e row line None bank regs fit = none (drops bank.kept regs.change line None)
+  where
+    none : (b : Bool) → IsFit (waits_too bank row line) regs (if b then None else None)
+    none true = tt
+    none false = tt
+fit_read_law n m e row line (Some action) bank regs fit = fit-waits bank regs row line action.first action.doing fit

@@ -15,7 +15,7 @@ use Rattle.bank_model.specs.Events.{Event, Write, Read, Serve, Begin, Iterate, C
 use Rattle.bank_model.specs.History.{Awaited, queue, waits, due_after, has_exhausted}
 use Rattle.bank_model.specs.After.{due_work}
 use Rattle.bank_model.specs.Answers.{MayHappen, IsServed, IsDone, head_busy_after}
-use Rattle.bank_model.specs.Timing.{Pacing, Happens, Core, Timed, core, core_of}
+use Rattle.bank_model.specs.Timing.{Pacing, Happens, Core, Regs, Timed, core, core_of}
 use Rattle.bank_model.specs.Lawful.{Lawful, MayCome}
 use Rattle.bank_model.specs.Sensing.{most_steps}
 use Rattle.bank_laws.specs.Outcomes.{outcome_by, outcome_with, on_row}
@@ -158,6 +158,7 @@ module _ {n m : ℕ} (shape : BankShape) (pace : Pacing) (e row : ℕ) (before :
         waits-lack shape (core ys) row waits_not event off,
         no-outcome shape (core ys) row none waits_not (most_steps e) x.tick event may.may off,
       )
+      by (Regs event) ys may none waits_not off = (none, waits_not, refl)
 
 pub other_rows_law : OtherRowsLaw
 other_rows_law n m e row added xs clock array before leads lawful none waits_not off =

@@ -1,9 +1,13 @@
 -- A bank that was just made, and time that passes.
-use Rattle.std.proofs.Common.{◌<◌, [], Option, None, refl, sym, ap, subst, ◌∙◌, arith}
+use Rattle.std.proofs.Common.{◌+◌, ◌<◌, ◌≤◌, [], Option, None, is_some, sym, ap, subst, ◌∙◌, arith}
 use Rattle.std.specs.Prelude.{IfSome}
 use Rattle.bank_model.specs.declared.clock.Action.{Action}
 use Rattle.bank_model.specs.Timing.{ends}
 use Rattle.bank_model.specs.Running.{chosen_after, running_at}
+use Rattle.line_writer.specs.declared.writer.LineWriter.{LineWriter}
+use Rattle.line_writer.specs.Writing.{steps_left, most_steps}
+use Rattle.reg_lines.specs.declared.Change.{Change}
+use Rattle.register_laws.specs.Telling.{item_of}
 use Rattle.bank_invariant.specs.State.{Operation}
 use Rattle.clock_laws.specs.Leads.{CopiesWhatItSensed}
 use Rattle.clock_laws.specs.Starting.{StartLaw}
@@ -22,6 +26,8 @@ passing_law n m e to xs clock array leads later above = record {
     cancels = leads.told.cancels;
     whole = leads.told.whole;
   };
+  regs = leads.regs;
+  control = leads.control;
   pulses = leads.pulses;
   copying = leads.copying;
   taken = leads.taken;
@@ -34,7 +40,7 @@ pub ending_later_law : EndingLaterLaw
 ending_later_law n m e clock some some_iter above = ends-later clock above some some_iter
 
 pub start_law : StartLaw
-start_law n m e clock array holds idle taken now none empty fresh = record {
+start_law n m e clock array holds idle taken unchanged going unwritten control now none empty uncancelled fresh = record {
   lawful = tt;
   holds = holds;
   told = record {
@@ -45,9 +51,16 @@ start_law n m e clock array holds idle taken now none empty fresh = record {
         ∙ ap (λ tick. running_at {n = n} {m = m} clock.bank.kept.shape clock.pace [] tick) (sym now);
     to_come = subst (λ (action : Option Action). IfSome action (λ a. clock.tick < ends clock.pace a)) (sym none) tt;
     arrived = empty;
-    cancels = refl;
+    cancels = uncancelled;
     whole = tt;
   };
+  regs = record {
+    change = ap (λ (change : Option Change). item_of change) unchanged;
+    writing = ap (λ (writer : Option (LineWriter n m e)). is_some writer) unwritten;
+    halted = going;
+    steps = subst (λ (writer : Option (LineWriter n m e)). IfSome writer (λ writer. 0 + steps_left writer ≤ most_steps e)) (sym unwritten) tt;
+  };
+  control = control;
   pulses = fresh;
   copying = subst (λ (r : Option (Operation n m e)). IfSome r (CopiesWhatItSensed {n = n} {m = m} [])) (sym idle) tt;
   taken = taken;

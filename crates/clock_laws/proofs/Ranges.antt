@@ -1,5 +1,5 @@
 -- The array lines that a bank senses and pulses are its own.
-use Rattle.std.proofs.Common.{◌≡◌, ℕ, ◌+◌, ◌-◌, ◌<◌, ◌≤◌, ◌==◌, inl, inr, Bool, true, false, cond, List, [], ◌∷◌, ◌++◌, map, Option, Some, None, refl, sym, ap, subst, ◌∙◌, arith}
+use Rattle.std.proofs.Common.{◌≡◌, ℕ, ◌+◌, ◌-◌, ◌<◌, ◌≤◌, ◌==◌, inl, inr, Bool, true, false, cond, zero, suc, List, [], ◌∷◌, ◌++◌, map, Option, Some, None, refl, sym, ap, subst, ◌∙◌, arith}
 use Rattle.std.specs.Prelude.{All, IfSome}
 use Rattle.std.proofs.lemmas.Bool.{cases_eq, ne_eqb}
 use Rattle.std.proofs.lemmas.List.Elements.{All-nil, All-cons}
@@ -13,7 +13,7 @@ use Rattle.spare_pool.proofs.Lines.{line_by-within}
 use Rattle.bank_shape.specs.declared.BankShape.{BankShape}
 use Rattle.bank_shape.specs.declared.Work.{Work}
 use Rattle.bank_shape.specs.declared.Work.TheVariants.{Nothing, Store, Copy}
-use Rattle.bank_shape.specs.Shape.{slots_of, slot_at, lines_in}
+use Rattle.bank_shape.specs.Shape.{slots_of, slot_at, lines_in, controls_of, controls_from, control_line}
 use Rattle.power_recovery.specs.Slots.{bank_lines}
 use Rattle.power_recovery.specs.Kept.{KeptState, IsKept, AllBelow, region_at, slot_of, array_line, stands_at, due_region, due_work, next_work, target_slot}
 use Rattle.power_recovery.proofs.Placing.{slot_of-within, slot_at-within}
@@ -21,8 +21,11 @@ use Rattle.power_recovery.proofs.Bundle.{due_region-Some}
 use Rattle.bank_model.specs.Events.{Event, Write, Read, Serve, Begin, Iterate, Cut}
 use Rattle.bank_model.specs.History.{Awaited, waits}
 use Rattle.bank_model.specs.After.{work_after, target_after, sources_of}
-use Rattle.bank_model.specs.Timing.{Timed}
-use Rattle.bank_model.specs.Sensing.{is_at, pulses_of, stand_of, sensed_by, pulsed_by}
+use Rattle.bank_model.specs.declared.clock.Doing.TheVariants.{Iterating}
+use Rattle.bank_model.specs.declared.clock.Action.{Action}
+use Rattle.bank_model.specs.Changes.{line_of_change, numbers_from}
+use Rattle.bank_model.specs.Timing.{Timed, Keeping, KeepBegin, KeepIterate, KeepCut, is_doing}
+use Rattle.bank_model.specs.Sensing.{is_at, pulses_of, stand_of, sensed_by, pulsed_by, read_again, torn_control, kept_sensed, kept_pulsed}
 use Rattle.bank_model.specs.Touching.{Touches, shown}
 use Rattle.bank_invariant.specs.State.{BankState, target_of}
 use Rattle.bank_invariant.specs.Holds.{Holds}
@@ -33,6 +36,17 @@ use Rattle.bank_invariant.proofs.Agreeing.{agree_law}
 -- a line of a bank's own
 abbrev pub IsIn : BankShape → ℕ → Type 0
 IsIn shape line = (shape.base ≤ line) × (line < shape.base + lines_in shape)
+
+-- one that is no control line
+abbrev pub IsSlotOrSpare : BankShape → ℕ → Type 0
+IsSlotOrSpare shape line = (shape.base ≤ line) × (line < controls_from shape)
+
+slot-in : (shape : BankShape) (line : ℕ) → IsSlotOrSpare shape line → IsIn shape line
+slot-in shape line is = (is.0, omega (arith, is.1))
+
+-- a control line
+pub control-in : (shape : BankShape) (item : ℕ) → item < controls_of shape → IsIn shape (control_line shape item)
+control-in shape item below = (omega arith, omega (arith, below))
 
 -- lines of a bank's own
 abbrev pub AreIn : BankShape → List ℕ → Type 0
@@ -55,12 +69,12 @@ below_gap-within n gap few =
 
 module _ {n : ℕ} (kept : KeptState n) (range : IsKept kept) where
   -- each slot's array line is one of the bank
-  pub array_line-in : (slot : ℕ) → slot < slots_of kept.shape → IsIn kept.shape (array_line kept slot)
+  pub array_line-in : (slot : ℕ) → slot < slots_of kept.shape → IsSlotOrSpare kept.shape (array_line kept slot)
   array_line-in slot below =
       let within : line_by kept.table slot < kept.table.slots + used_by kept.table = line_by-within kept.table slot (omega (arith, below, range.slots)) in
       (omega arith, omega (arith, within, range.slots, range.spares, range.table.within))
 
-  pub stands_at-in : (line : ℕ) → line < bank_lines kept.shape → IsIn kept.shape (stands_at kept line)
+  pub stands_at-in : (line : ℕ) → line < bank_lines kept.shape → IsSlotOrSpare kept.shape (stands_at kept line)
   stands_at-in line below = array_line-in (slot_of kept line) (slot_of-within kept range line below)
 
   some_slots : 0 < slots_of kept.shape
@@ -93,11 +107,11 @@ module _ {n : ℕ} (kept : KeptState n) (range : IsKept kept) where
         slot_at-within kept.shape region (below_gap rotation.lines rotation.gap) due.0 (omega (arith, own.rotates, less)),
       )
 
-  pub target-in : IsIn kept.shape (target_of kept (next_work kept))
+  pub target-in : IsSlotOrSpare kept.shape (target_of kept (next_work kept))
   target-in = array_line-in (target_slot kept (next_work kept)) (next_by kept.exhausted (due_region kept) kept.entries refl range.known).0
 
   -- and what is due in a bank that may be exhausted
-  pub due-in : IsIn kept.shape (target_of kept (due_work (due_region kept) kept kept.entries))
+  pub due-in : IsSlotOrSpare kept.shape (target_of kept (due_work (due_region kept) kept kept.entries))
   due-in = array_line-in (target_slot kept (due_work (due_region kept) kept kept.entries)) (next_by false (due_region kept) kept.entries refl range.known).0
 
   pub source-within : HasSource (next_work kept)
@@ -111,38 +125,73 @@ module _ {n m e : ℕ} (h : List (Event n)) (bank : BankState n m e) (array : Ar
   first-in [] known = tt
   first-in (w ∷ ws) known =
       let own : w.line < bank_lines bank.kept.shape = known 0 w (omega arith) in
-      (subst (λ (at : ℕ). IsIn bank.kept.shape at) (agreeing.stands w.line own) (stands_at-in bank.kept holds.kept w.line own), tt)
+      (subst (λ (at : ℕ). IsIn bank.kept.shape at) (agreeing.stands w.line own) (slot-in bank.kept.shape _ (stands_at-in bank.kept holds.kept w.line own)), tt)
 
   sources-in : (work : Work) → HasSource bank.kept holds.kept work → AreIn bank.kept.shape (sources_of bank.kept.shape h work)
   sources-in Nothing has = tt
   sources-in (Store line slot) has = tt
   sources-in (Copy region step) has =
-      (subst (λ (at : ℕ). IsIn bank.kept.shape at) (agreeing.lines (slot_at bank.kept.shape region step.from)) (array_line-in bank.kept holds.kept _ has), tt)
+      (subst (λ (at : ℕ). IsIn bank.kept.shape at) (agreeing.lines (slot_at bank.kept.shape region step.from)) (slot-in bank.kept.shape _ (array_line-in bank.kept holds.kept _ has)), tt)
 
   pub target_after-in : IsIn bank.kept.shape (target_after bank.kept.shape h)
-  target_after-in = subst (λ (at : ℕ). IsIn bank.kept.shape at) agreeing.target (target-in bank.kept holds.kept)
+  target_after-in = subst (λ (at : ℕ). IsIn bank.kept.shape at) agreeing.target (slot-in bank.kept.shape _ (target-in bank.kept holds.kept))
 
   -- each event senses lines of its bank
-  pub sensed-in : (event : Event n) → AreIn bank.kept.shape (sensed_by bank.kept.shape h event)
-  sensed-in (Write row line bytes given answer) = tt
-  sensed-in (Read row line answer) = tt
-  sensed-in (Serve answer) = first-in (waits bank.kept.shape h) (waits-known bank.kept.shape _ h holds.past)
-  sensed-in (Begin answer) =
+  pub sensed-in : (controls : List ℕ) (event : Event n) → AreIn bank.kept.shape controls → AreIn bank.kept.shape (sensed_by bank.kept.shape h controls event)
+  sensed-in controls (Write row line bytes given answer) own = tt
+  sensed-in controls (Read row line answer) own = tt
+  sensed-in controls (Serve answer) own = first-in (waits bank.kept.shape h) (waits-known bank.kept.shape _ h holds.past)
+  sensed-in controls (Begin answer) own =
       AreIn-append bank.kept.shape (sources_of bank.kept.shape h (work_after bank.kept.shape h)) (target_after bank.kept.shape h ∷ [])
       (subst (λ (work : Work). AreIn bank.kept.shape (sources_of bank.kept.shape h work)) agreeing.work (sources-in (next_work bank.kept) (source-within bank.kept holds.kept)))
       (target_after-in, tt)
-  sensed-in (Iterate answer) = (target_after-in, tt)
-  sensed-in (Cut tearing) = tt
+  sensed-in controls (Iterate answer) own = (target_after-in, tt)
+  sensed-in controls (Cut tearing) own = own
 
   -- and pulses one of them or none
-  pub pulsed-in : (event : Event n) → IfSome (pulsed_by bank.kept.shape h event) (IsIn bank.kept.shape)
-  pulsed-in (Write row line bytes given answer) = tt
-  pulsed-in (Read row line answer) = tt
-  pulsed-in (Serve answer) = tt
-  pulsed-in (Begin answer) = tt
-  pulsed-in (Iterate answer) = target_after-in
-  pulsed-in (Cut true) = target_after-in
-  pulsed-in (Cut false) = tt
+  pub pulsed-in : (torn : Option ℕ) (event : Event n) → IfSome torn (IsIn bank.kept.shape) → IfSome (pulsed_by bank.kept.shape h torn event) (IsIn bank.kept.shape)
+  pulsed-in torn (Write row line bytes given answer) own = tt
+  pulsed-in torn (Read row line answer) own = tt
+  pulsed-in torn (Serve answer) own = tt
+  pulsed-in torn (Begin answer) own = tt
+  pulsed-in torn (Iterate answer) own = target_after-in
+  pulsed-in torn (Cut true) own = target_after-in
+  pulsed-in torn (Cut false) own = own
+
+-- Control lines
+
+numbers-in : (shape : BankShape) (from count : ℕ) → shape.base ≤ from → from + count ≤ shape.base + lines_in shape → AreIn shape (numbers_from from count)
+numbers-in shape from zero low high = tt
+numbers-in shape from (suc count) low high = ((low, omega (arith, high)), numbers-in shape (from + 1) count (omega (arith, low)) (omega (arith, high)))
+
+pub controls-in : (shape : BankShape) (cancels : Bool) → AreIn shape (read_again shape cancels)
+controls-in shape true = tt
+controls-in shape false = numbers-in shape (controls_from shape) (controls_of shape) (omega arith) (omega arith)
+
+-- the line of a change
+pub change-in : (shape : BankShape) (change : Option ℕ) → IfSome change (λ item. item < controls_of shape) → IfSome (line_of_change shape change) (IsIn shape)
+change-in shape None below = tt
+change-in shape (Some item) below = control-in shape item below
+
+pub torn-in : (shape : BankShape) (change : Option ℕ) (action : Option Action) → IfSome change (λ item. item < controls_of shape) → IfSome (torn_control shape change action) (IsIn shape)
+torn-in shape change action below = by (is_doing Iterating action)
+  where
+    by : (b : Bool) → IfSome (cond b (line_of_change shape change) None) (IsIn shape)
+    by true = change-in shape change below
+    by false = tt
+
+-- what a step of its writing senses and pulses
+pub kept-sensed-in : (shape : BankShape) (line : Option ℕ) (event : Keeping) → IfSome line (IsIn shape) → AreIn shape (kept_sensed line event)
+kept-sensed-in shape None event own = tt
+kept-sensed-in shape (Some line) (KeepBegin answer) own = (own, tt)
+kept-sensed-in shape (Some line) (KeepIterate answer) own = (own, tt)
+kept-sensed-in shape (Some line) (KeepCut tearing) own = tt
+
+pub kept-pulsed-in : (shape : BankShape) (line : Option ℕ) (event : Keeping) → IfSome line (IsIn shape) → IfSome (kept_pulsed line event) (IsIn shape)
+kept-pulsed-in shape line (KeepBegin answer) own = tt
+kept-pulsed-in shape line (KeepIterate answer) own = own
+kept-pulsed-in shape line (KeepCut true) own = own
+kept-pulsed-in shape line (KeepCut false) own = tt
 
 -- Pulses
 

@@ -1,9 +1,10 @@
 -- Each action leaves fewer to be taken.
-use Rattle.std.proofs.Common.{◌≡◌, ◌≢◌, inl, inr, ℕ, ◌+◌, ◌*◌, ◌<◌, ◌≤◌, true, false, List, [], ◌∷◌, suc, length, drop, Option, Some, None, refl, sym, ap, subst, ◌∙◌, arith, get_or-set_other}
+use Rattle.std.proofs.Common.{◌≡◌, ◌≢◌, inl, inr, ℕ, ◌+◌, ◌*◌, ◌<◌, ◌≤◌, Bool, true, false, List, [], ◌∷◌, length, drop, Option, Some, None, is_some, refl, sym, ap, subst, ◌∙◌, arith, get_or-set_other}
 use Rattle.std.proofs.lemmas.Bool.{cases_eq}
 use Rattle.std.proofs.lemmas.Grind.{get_or-set_at}
 use Rattle.std.proofs.lemmas.List.{length-append}
-use Rattle.std.proofs.Math.Nat.{mul-le-mul_left, mul-suc}
+use Rattle.std.specs.Prelude.{IsTrue}
+use Rattle.std.proofs.Math.Nat.{mul-le-mul_left, mul-add}
 use Rattle.masked_bytes.specs.Entries.{completed}
 use Rattle.masked_bytes.specs.declared.entry.Entry.{Entry}
 use Rattle.region_regs.specs.Region.{RegionState, after_move}
@@ -17,7 +18,14 @@ use Rattle.bank_invariant.specs.State.{BankState, Operation}
 use Rattle.bank_invariant.specs.Retiring.{ended}
 use Rattle.bank_invariant.specs.Beginning.{begun_with}
 use Rattle.bank_invariant.specs.declared.Waiting.{Waiting}
-use Rattle.clock_laws.specs.Remaining.{due_moves, last_attempts, attempts_left, attempt_left, actions_left, FallingLaw}
+use Rattle.line_writer.specs.declared.writer.LineWriter.{LineWriter}
+use Rattle.bank_model.specs.declared.answer.Keep.TheVariants as keep
+use Rattle.bank_laws.proofs.Changing.{changed-idle}
+use Rattle.reg_lines.specs.declared.Change.{Change}
+use Rattle.reg_lines.specs.Regs.{RegsState}
+use Rattle.reg_lines.specs.Keeping.{kept_on}
+use Rattle.register_laws.specs.Telling.{item_of}
+use Rattle.clock_laws.specs.Remaining.{due_moves, last_attempts, attempts_left, attempt_left, keeping_left, present_left, actions_left, FallingLaw, OneWriteLaw}
 
 few_moves : (due : Option ℕ) → due_moves due ≤ 1
 few_moves None = omega arith
@@ -30,13 +38,6 @@ length-rest (e ∷ es) some = omega arith
 length-completed : {n : ℕ} (under : List ℕ) (es : List (Entry n)) → length (completed under es) ≡ length es
 length-completed under [] = refl
 length-completed under (e ∷ es) = refl
-
--- a line write that ends leaves fewer, whatever was left of it
-ends-fewer : (waiting each rest left before after : ℕ) → after < before → rest < each → waiting + each * after + rest < waiting + each * before + left
-ends-fewer waiting each rest left before after less small =
-    let more : suc after ≤ before = omega (arith, less) in
-    let all : each * suc after ≤ each * before = mul-le-mul_left each more in
-    omega (arith, all, mul-suc each after, small)
 
 module _ {n : ℕ} (kept : KeptState n) where
   stored-fewer : is_store (next_work kept) ≡ true → attempts_left (stored_kept kept) < attempts_left kept
@@ -83,47 +84,121 @@ module _ {n : ℕ} (kept : KeptState n) where
   completed-same : (under : List ℕ) → attempts_left (completed_kept under kept) ≡ attempts_left kept
   completed-same under = omega (arith, length-completed under kept.entries)
 
-module _ {n m e : ℕ} (bank : BankState n m e) where
+-- a line write of the bank that ends leaves fewer, though it may put a change
+both-fewer : (waiting most after before left now : ℕ) → after < before → now ≤ most + 2 + (most + 1) → waiting + (most + 2) * (2 * after) + now < waiting + (most + 2) * (2 * before) + left
+both-fewer waiting most after before left now less few =
+    let more : 2 * after + 2 ≤ 2 * before = omega (arith, less) in
+    let all : (most + 2) * (2 * after + 2) ≤ (most + 2) * (2 * before) = mul-le-mul_left (most + 2) more in
+    let one : (most + 2) * (2 * after + 2) ≡ (most + 2) * (2 * after) + (most + 2) * 2 = mul-add (most + 2) (2 * after) 2 in
+    let two : (most + 2) * 2 ≡ (most + 2) + (most + 2) = omega arith in
+    omega (arith, all, one, two, few)
+
+module _ {n m e : ℕ} (bank : BankState n m e) (regs : RegsState n m e) where
   fewer-waiting : (ws : List (Waiting n)) → 0 < length ws → length (drop 1 ws) < length ws
   fewer-waiting [] some = grind arith
   fewer-waiting (w ∷ ws) some = omega arith
 
-  fewer-ended : (kept : KeptState n) → attempts_left kept < attempts_left bank.kept → actions_left (ended bank kept) < actions_left bank
-  fewer-ended kept less =
-      ends-fewer (length bank.waiting) (most_steps e + 2) (most_steps e + 1) (attempt_left bank.running) (attempts_left bank.kept) (attempts_left kept) less (omega arith)
+  -- what is left where nothing is in progress
+  idle-left : (item : Option ℕ) (halted : Bool) (writer : Option (LineWriter n m e)) (running : Option (Operation n m e)) → writer ≡ None → running ≡ None
+      → present_left item halted writer running ≤ most_steps e + 2 + (most_steps e + 1)
+  idle-left None halted writer running none idle = let left : attempt_left running ≡ most_steps e + 1 = ap (λ (r : Option (Operation n m e)). attempt_left r) idle in omega (arith, left)
+  idle-left (Some item) true writer running none idle = omega arith
+  idle-left (Some item) false None running none idle = omega arith
+  idle-left (Some item) false (Some writer) running none idle = absurd (cc)
 
-  fewer-begun : (kept : KeptState n) (op : Operation n m e) → attempts_left kept ≡ attempts_left bank.kept → bank.running ≡ None → steps_left op.writer ≤ most_steps e
-      → actions_left (begun_with kept op bank) < actions_left bank
-  fewer-begun kept op same none few =
-      let before : attempt_left bank.running ≡ most_steps e + 1 = ap (λ (r : Option (Operation n m e)). attempt_left r) none in
-      let times : (most_steps e + 2) * attempts_left kept ≡ (most_steps e + 2) * attempts_left bank.kept = ap (λ count. (most_steps e + 2) * count) same in
-      plain (length bank.waiting) ((most_steps e + 2) * attempts_left kept) ((most_steps e + 2) * attempts_left bank.kept) (steps_left op.writer) (attempt_left bank.running) (most_steps e) times before few
+  fewer-ended : (kept : KeptState n) (later : RegsState n m e) → later.writer ≡ None → attempts_left kept < attempts_left bank.kept → actions_left (ended bank kept) later < actions_left bank regs
+  fewer-ended kept later none less =
+      let after : BankState n m e = ended bank kept in
+      both-fewer (length bank.waiting) (most_steps e) (attempts_left kept) (attempts_left bank.kept) (present_left (item_of regs.change) regs.halted regs.writer bank.running)
+      (present_left (item_of later.change) later.halted later.writer after.running) less (idle-left (item_of later.change) later.halted later.writer after.running none refl)
+
+  -- the present line write is the bank's where no change stands
+  of-bank : (running : Option (Operation n m e)) → regs.change ≡ None → present_left (item_of regs.change) regs.halted regs.writer running ≡ attempt_left running
+  of-bank running none = ap (λ (change : Option Change). present_left (item_of change) regs.halted regs.writer running) none
+
+  fewer-begun : (kept : KeptState n) (op : Operation n m e) → attempts_left kept ≡ attempts_left bank.kept → regs.change ≡ None → bank.running ≡ None → steps_left op.writer ≤ most_steps e
+      → actions_left (begun_with kept op bank) regs < actions_left bank regs
+  fewer-begun kept op same unchanged none few =
+      let before : present_left (item_of regs.change) regs.halted regs.writer bank.running ≡ most_steps e + 1 = of-bank bank.running unchanged ∙ ap (λ (r : Option (Operation n m e)). attempt_left r) none in
+      let times : (most_steps e + 2) * (2 * attempts_left kept) ≡ (most_steps e + 2) * (2 * attempts_left bank.kept) = ap (λ count. (most_steps e + 2) * (2 * count)) same in
+      plain (length bank.waiting) ((most_steps e + 2) * (2 * attempts_left kept)) ((most_steps e + 2) * (2 * attempts_left bank.kept))
+      (present_left (item_of regs.change) regs.halted regs.writer (Some op)) (steps_left op.writer) (present_left (item_of regs.change) regs.halted regs.writer bank.running) (most_steps e) times (of-bank (Some op) unchanged) before few
     where
-      plain : (waiting after all left was most : ℕ) → after ≡ all → was ≡ most + 1 → left ≤ most → waiting + after + left < waiting + all + was
-      plain waiting after all left was most same is few = omega (arith, same, is, few)
+      plain : (waiting after all now left was most : ℕ) → after ≡ all → now ≡ left → was ≡ most + 1 → left ≤ most → waiting + after + now < waiting + all + was
+      plain waiting after all now left was most same present is few = omega (arith, same, present, is, few)
+
+  -- the change's, where one stands
+  present-fewer : (now was : ℕ) → now < was → (later : RegsState n m e) → present_left (item_of later.change) later.halted later.writer bank.running ≡ now
+      → present_left (item_of regs.change) regs.halted regs.writer bank.running ≡ was → actions_left bank later < actions_left bank regs
+  present-fewer now was less later after before =
+      plain (length bank.waiting) ((most_steps e + 2) * (2 * attempts_left bank.kept)) (present_left (item_of later.change) later.halted later.writer bank.running)
+      (present_left (item_of regs.change) regs.halted regs.writer bank.running) now was less after before
+    where
+      plain : (waiting all after before now was : ℕ) → now < was → after ≡ now → before ≡ was → waiting + all + after < waiting + all + before
+      plain waiting all after before now was less is isnt = omega (arith, less, is, isnt)
+
+  kept-left : (change : Option Change) (halted : Bool) (writer : Option (LineWriter n m e)) → IsTrue (is_some change) → halted ≡ false
+      → present_left (item_of change) halted writer bank.running ≡ most_steps e + 2 + keeping_left writer
+  kept-left None halted writer some going = absurd (cc)
+  kept-left (Some change) true writer some going = absurd (cc)
+  kept-left (Some change) false writer some going = refl
+
+  halted-left : (change : Option Change) (writer : Option (LineWriter n m e)) → IsTrue (is_some change) → present_left (item_of change) true writer bank.running ≡ 0
+  halted-left None writer some = absurd (cc)
+  halted-left (Some change) writer some = refl
 
 pub falling_law : FallingLaw
-falling_law n m e bank = record {
+falling_law n m e bank regs = record {
   after_serve = λ some.
-      plain (length (drop 1 bank.waiting)) (length bank.waiting) ((most_steps e + 2) * attempts_left bank.kept) (attempt_left bank.running) (fewer-waiting bank bank.waiting some);
-  after_begin_of_store = λ under op none few. fewer-begun bank (completed_kept under bank.kept) op (completed-same bank.kept under) none few;
-  after_begin_of_copy = λ op none few. fewer-begun bank bank.kept op refl none few;
-  after_iteration = λ op later is less.
-      let before : attempt_left bank.running ≡ steps_left op.writer = ap (λ (r : Option (Operation n m e)). attempt_left r) is in
-      fewer (length bank.waiting) ((most_steps e + 2) * attempts_left bank.kept) (steps_left later.writer) (attempt_left bank.running) (steps_left op.writer) before less;
-  after_store = λ stores. fewer-ended bank (stored_kept bank.kept) (stored-fewer bank.kept stores);
-  after_store_at_once = λ under stores.
+      plain (length (drop 1 bank.waiting)) (length bank.waiting) ((most_steps e + 2) * (2 * attempts_left bank.kept)) (present_left (item_of regs.change) regs.halted regs.writer bank.running)
+      (fewer-waiting bank regs bank.waiting some);
+  after_begin_of_store = λ under op unchanged none few. fewer-begun bank regs (completed_kept under bank.kept) op (completed-same bank.kept under) unchanged none few;
+  after_begin_of_copy = λ op unchanged none few. fewer-begun bank regs bank.kept op refl unchanged none few;
+  after_iteration = λ op later unchanged is less.
+      fewer (length bank.waiting) ((most_steps e + 2) * (2 * attempts_left bank.kept)) (present_left (item_of regs.change) regs.halted regs.writer (Some later)) (steps_left later.writer)
+      (present_left (item_of regs.change) regs.halted regs.writer bank.running) (steps_left op.writer)
+      (of-bank bank regs (Some later) unchanged)
+      (of-bank bank regs bank.running unchanged ∙ ap (λ (r : Option (Operation n m e)). attempt_left r) is) less;
+  after_store = λ later idle stores. fewer-ended bank regs (stored_kept bank.kept) later idle (stored-fewer bank.kept stores);
+  after_store_at_once = λ later under idle stores.
       let less : attempts_left (stored_kept (completed_kept under bank.kept)) < attempts_left (completed_kept under bank.kept) =
       stored-fewer (completed_kept under bank.kept) (ap is_store (next_work-completed bank.kept under) ∙ stores) in
-      fewer-ended bank (stored_kept (completed_kept under bank.kept))
+      fewer-ended bank regs (stored_kept (completed_kept under bank.kept)) later idle
       (subst (λ (count : ℕ). attempts_left (stored_kept (completed_kept under bank.kept)) < count) (completed-same bank.kept under) less);
-  after_copy = λ range copies. fewer-ended bank (moved_kept bank.kept) (moved-fewer bank.kept range copies);
-  after_retirement = λ slot left. fewer-ended bank (retired_kept slot bank.kept) (retired-fewer bank.kept slot left);
-  after_exhaustion = λ going. fewer-ended bank (exhausted_kept bank.kept) (exhausted-fewer bank.kept going);
+  after_copy = λ later idle range copies. fewer-ended bank regs (moved_kept bank.kept) later idle (moved-fewer bank.kept range copies);
+  after_retirement = λ later slot idle left. fewer-ended bank regs (retired_kept slot bank.kept) later idle (retired-fewer bank.kept slot left);
+  after_exhaustion = λ later idle going. fewer-ended bank regs (exhausted_kept bank.kept) later idle (exhausted-fewer bank.kept going);
+  after_keep_begin = λ writer some going idle few.
+      present-fewer bank regs (most_steps e + 2 + steps_left writer) (most_steps e + 2 + (most_steps e + 1)) (omega (arith, few)) (kept_on keep.More writer regs)
+      (kept-left bank regs regs.change regs.halted (Some writer) some going)
+      (kept-left bank regs regs.change regs.halted regs.writer some going ∙ ap (λ (w : Option (LineWriter n m e)). most_steps e + 2 + keeping_left w) idle);
+  after_keep_iteration = λ writer later some going is less.
+      present-fewer bank regs (most_steps e + 2 + steps_left later) (most_steps e + 2 + steps_left writer) (omega (arith, less)) (kept_on keep.More later regs)
+      (kept-left bank regs regs.change regs.halted (Some later) some going)
+      (kept-left bank regs regs.change regs.halted regs.writer some going ∙ ap (λ (w : Option (LineWriter n m e)). most_steps e + 2 + keeping_left w) is);
+  after_done = λ writer some going none.
+      present-fewer bank regs (most_steps e + 1) (most_steps e + 2 + keeping_left regs.writer) (omega arith) (kept_on keep.Done writer regs)
+      (ap (λ (r : Option (Operation n m e)). attempt_left r) none) (kept-left bank regs regs.change regs.halted regs.writer some going);
+  after_halted = λ writer some going.
+      present-fewer bank regs 0 (most_steps e + 2 + keeping_left regs.writer) (omega arith) (kept_on keep.Halted writer regs)
+      (halted-left bank regs regs.change None some) (kept-left bank regs regs.change regs.halted regs.writer some going);
 }
   where
     plain : (after before all left : ℕ) → after < before → after + all + left < before + all + left
     plain after before all left less = omega (arith, less)
 
-    fewer : (waiting all after was before : ℕ) → was ≡ before → after < before → waiting + all + after < waiting + all + was
-    fewer waiting all after was before same less = omega (arith, same, less)
+    fewer : (waiting all now after was before : ℕ) → now ≡ after → was ≡ before → after < before → waiting + all + now < waiting + all + was
+    fewer waiting all now after was before is same less = omega (arith, is, same, less)
+
+pub one_write_law : OneWriteLaw
+one_write_law n m e xs clock array leads stands =
+    none_running clock.bank.running
+    (leads.holds.running ∙ changed-idle clock.bank.kept.shape clock.pace e xs leads.lawful (ap (λ change. is_some change) (sym leads.regs.change) ∙ some clock.regs.change stands))
+  where
+    none_running : (r : Option (Operation n m e)) → is_some r ≡ false → r ≡ None
+    none_running None is = refl
+    none_running (Some op) is = absurd (cc)
+
+    some : (change : Option Change) → is_some change ≡ true → is_some (item_of change) ≡ true
+    some None is = absurd (cc)
+    some (Some change) is = refl

@@ -18,7 +18,7 @@ use Rattle.bank_model.specs.Events.{Event, Write, Read, Serve, Begin, Iterate, C
 use Rattle.bank_model.specs.History.{Awaited, queue, waits, begun, due_after, has_exhausted}
 use Rattle.bank_model.specs.After.{work_after}
 use Rattle.bank_model.specs.Answers.{MayHappen, IsServed, IsDone, head_busy_after}
-use Rattle.bank_model.specs.Timing.{Pacing, Happens, Core, Timed, core, core_of}
+use Rattle.bank_model.specs.Timing.{Pacing, Happens, Core, Regs, Timed, core, core_of}
 use Rattle.bank_model.specs.Lawful.{Lawful, MayCome}
 use Rattle.bank_model.specs.Sensing.{most_steps}
 use Rattle.bank_model.specs.Told.{tick_by, tick_of_row}
@@ -198,6 +198,8 @@ module _ {n m : ℕ} (shape : BankShape) (pace : Pacing) (e row : ℕ) where
           → Stands shape (core xs) row 0 (outcome_of shape xs row) (queue shape (core_of h (core xs))) (waits shape (core_of h (core xs)))
           (unwrap_or (outcome_with shape xs h x.tick row) (outcome_of shape xs row))
       by (Core event) may h = step shape (core xs) row x.tick (outcome_of shape xs row) (most_steps e) event may.may h
+      by (Regs event) may (inl came) = absurd (cc)
+      by (Regs event) may (inr stands) = stands
 
 pub settled_law : SettledLaw
 settled_law n m e row xs clock array leads came none waits_not =
@@ -241,6 +243,7 @@ module _ {n m : ℕ} where
       by (Core (Begin reply)) below rest = rest bound below
       by (Core (Iterate reply)) below rest = rest bound below
       by (Core (Cut tearing)) below rest = rest bound below
+      by (Regs event) below rest = rest bound below
 
 pub arrival_tick_law : ArrivalTickLaw
 arrival_tick_law n m row line bound bytes given answer later xs x below is = (came-below row line bytes given answer later xs x bound below is).1

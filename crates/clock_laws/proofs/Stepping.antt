@@ -1,106 +1,247 @@
 -- One more event.
-use Rattle.std.proofs.Common.{◌≡◌, ℕ, ◌<◌, Bool, false, List, [], ◌∷◌, map, Option, refl, sym, subst, ◌∙◌, arith}
-use Rattle.std.specs.Prelude.{IfSome}
+use Rattle.std.proofs.Common.{◌≡◌, ℕ, ◌<◌, Bool, true, false, List, [], ◌∷◌, map, Option, Some, None, is_some, refl, sym, ap, subst, ◌∙◌, arith}
+use Rattle.std.specs.Prelude.{All, IfSome, IsTrue}
 use Rattle.pcm_cells.specs.Device.{ArrayState}
 use Rattle.bank_shape.specs.declared.BankShape.{BankShape}
+use Rattle.bank_shape.specs.Shape.{controls_of}
 use Rattle.bank_model.specs.declared.clock.Action.{Action}
 use Rattle.bank_model.specs.Events.{Event}
 use Rattle.bank_model.specs.History.{queue}
 use Rattle.bank_model.specs.Answers.{MayAll}
-use Rattle.bank_model.specs.Timing.{Pacing, Timed, ends, core}
-use Rattle.bank_model.specs.Running.{left, running_at, running, chosen_after, cancels_by, cancels_after}
-use Rattle.bank_model.specs.Lawful.{IsAsked, IsOnTime, IsNext, Lawful, FollowsCancel}
-use Rattle.bank_model.specs.Sensing.{most_steps, pulses_of, sensed_by, pulsed_by, IsReadRight}
-use Rattle.bank_model.specs.Told.{IsTold, IsWhole, tick_of_row}
+use Rattle.bank_model.specs.Changes.{change_after, line_of_change}
+use Rattle.bank_model.specs.Timing.{Pacing, Timed, Happens, Core, Regs, Keeping, ends, core}
+use Rattle.bank_model.specs.Running.{left_by, running_at, running, chosen_after, cancels_with}
+use Rattle.bank_model.specs.Lawful.{IsAsked, IsOnTime, IsKeptOnTime, IsUncancelled, MayKeep, MayCome, Lawful, FollowsCancel}
+use Rattle.bank_model.specs.Sensing.{most_steps, pulses_of, sensed_by, pulsed_by, read_again, torn_control, kept_sensed, kept_pulsed, IsReadRight}
+use Rattle.bank_model.specs.Told.{IsWhole, tick_of_row}
 use Rattle.bank_model.specs.Touching.{Touches, shown}
+use Rattle.reg_lines.specs.declared.Change.{Change}
+use Rattle.reg_lines.specs.Regs.{RegsState}
+use Rattle.register_laws.specs.Control.{Control}
+use Rattle.register_laws.specs.Telling.{AreTold, item_of}
 use Rattle.bank_invariant.specs.State.{BankState}
 use Rattle.bank_invariant.specs.Holds.{Holds}
 use Rattle.clock_laws.specs.State.{ClockState}
-use Rattle.clock_laws.specs.Leads.{Leads, CopiesWhatItSensed}
-use Rattle.clock_laws.specs.Completing.{completion}
+use Rattle.clock_laws.specs.Leads.{Leads, Reaches, CopiesWhatItSensed}
 use Rattle.clock_laws.proofs.Ties.{started-same}
-use Rattle.clock_laws.proofs.Ranges.{ArePulses, sensed-in, pulses-at, pulses-next, shown-all, shown-lines}
+use Rattle.clock_laws.proofs.Controls.{change-known}
+use Rattle.clock_laws.proofs.Ranges.{AreIn, ArePulses, controls-in, sensed-in, kept-sensed-in, change-in, pulses-at, pulses-next, shown-all, shown-lines}
 
 -- the last event is no cancel, so nothing has to follow it
-follows : {n m : ℕ} (shape : BankShape) (pace : Pacing) (xs : List (Timed n m)) (tick : ℕ) (event : Event n) → IsWhole xs → FollowsCancel shape pace xs tick event
+pub follows : {n m : ℕ} (shape : BankShape) (pace : Pacing) (xs : List (Timed n m)) (tick : ℕ) (event : Event n) → IsWhole xs → FollowsCancel shape pace xs tick event
 follows shape pace [] tick event whole = tt
 follows shape pace (x ∷ xs) tick event whole = λ is. absurd (cc)
 
--- an event of a bank as its history tells it
-abbrev pub stepped : {n m : ℕ} → BankShape → List (Timed n m) → Event n → ℕ → ℕ → ArrayState n m → Timed n m
-stepped shape xs event first tick array =
-    completion first tick event (shown tick (sensed_by shape (core xs) event) array) (pulsed_by shape (core xs) event)
+pub uncancelled : {n m : ℕ} (shape : BankShape) (pace : Pacing) (xs : List (Timed n m)) → IsWhole xs → IsUncancelled shape pace xs
+uncancelled shape pace [] whole = tt
+uncancelled shape pace (x ∷ xs) whole = whole
+
+-- what happens, with the lines that it sensed and pulsed
+abbrev pub stepped_as : {n m : ℕ} → Bool → Happens n → ℕ → ℕ → List ℕ → Option ℕ → ArrayState n m → Timed n m
+stepped_as cancels happens first tick sensed pulsed array =
+    record { happens = happens; tick = tick; first = first; senses = shown tick sensed array; pulsed = pulsed; cancels = cancels }
+
+-- that is no cancel
+abbrev pub stepped : {n m : ℕ} → Happens n → ℕ → ℕ → List ℕ → Option ℕ → ArrayState n m → Timed n m
+stepped happens first tick sensed pulsed array = stepped_as false happens first tick sensed pulsed array
+
+-- what is sensed shows the pulses that the history then counts
+senses-all : {n m : ℕ} (shape : BankShape) (xs : List (Timed n m)) (x : Timed n m) (sensed : List ℕ) (array : ArrayState n m) → AreIn shape sensed → ArePulses shape (x ∷ xs) array
+    → All (λ s. (s.tick ≡ x.tick) × (s.pulses ≡ pulses_of (x ∷ xs) s.line)) (shown x.tick sensed array)
+senses-all shape xs x sensed array own pulses =
+    shown-all shape x.tick sensed array (λ sense. (sense.tick ≡ x.tick) × (sense.pulses ≡ pulses_of (x ∷ xs) sense.line)) own
+    (λ line is. (refl, pulses-at shape (x ∷ xs) array line pulses is))
 
 module _ {n m e : ℕ} where
-  -- the clock after it, with this bank
-  abbrev pub clock_at : ClockState n m e → BankState n m e → ℕ → Option Action → List ℕ → ClockState n m e
-  clock_at clock bank tick action arrivals =
-      record { bank = bank; pace = clock.pace; tick = tick; action = action; arrivals = arrivals; drained = clock.drained }
+  -- the clock after it, with this bank and these control lines
+  abbrev pub clock_at : ClockState n m e → BankState n m e → RegsState n m e → ℕ → Option Action → List ℕ → ℕ → ClockState n m e
+  clock_at clock bank regs tick action arrivals count =
+      record { bank = bank; regs = regs; pace = clock.pace; tick = tick; action = action; arrivals = arrivals; cancels = count; drained = clock.drained }
 
-  -- what has to be known of it
-  pub record Steps (xs : List (Timed n m)) (clock : ClockState n m e) (bank : BankState n m e) (event : Event n) (first tick : ℕ) (action : Option Action)
-      (arrivals : List ℕ) (tearing : Bool) (old new : ArrayState n m) : Type 0 where
-    pub holds : Holds (event ∷ core xs) bank new
+  -- what has to be known of any event
+  pub record Steps (xs : List (Timed n m)) (clock : ClockState n m e) (bank : BankState n m e) (regs : RegsState n m e) (x : Timed n m) (action : Option Action)
+      (arrivals : List ℕ) (count : ℕ) (new : ArrayState n m) : Type 0 where
+    pub holds : Holds (core (x ∷ xs)) bank new
     pub shape : bank.kept.shape ≡ clock.bank.kept.shape
     pub taken : bank.lost ≡ []
-    pub touches : Touches tick (sensed_by clock.bank.kept.shape (core xs) event) (pulsed_by clock.bank.kept.shape (core xs) event) tearing old new
+    pub runs : action ≡ left_by clock.bank.kept.shape (core xs) (change_after clock.bank.kept.shape xs) x.happens (running_at clock.bank.kept.shape clock.pace xs x.tick)
+    pub to_come : IfSome action (λ a. x.tick < ends clock.pace a)
+    pub arrived : arrivals ≡ map (λ entry. tick_of_row entry.row (x ∷ xs)) (queue clock.bank.kept.shape (core (x ∷ xs)))
+    pub cancels : count ≡ cancels_with x.happens x.cancels clock.cancels
+    pub copying : IfSome bank.running (CopiesWhatItSensed (x ∷ xs))
+    pub told : AreTold clock.bank.kept.shape (x ∷ xs) regs
+    pub control : Control bank.kept regs new
+
+  -- of an event of the bank
+  pub record StepsBank (xs : List (Timed n m)) (clock : ClockState n m e) (event : Event n) (first tick : ℕ) (flag tearing : Bool) (sensed : List ℕ) (pulsed : Option ℕ)
+      (old new : ArrayState n m) : Type 0 where
     pub asked : IsAsked (core xs) event
-    pub on_time : IsOnTime clock.bank.kept.shape clock.pace (running_at clock.bank.kept.shape clock.pace xs tick) xs (stepped clock.bank.kept.shape xs event first tick new) event
-    pub right : IsReadRight e clock.bank.kept.shape xs event (shown tick (sensed_by clock.bank.kept.shape (core xs) event) new)
-    pub runs : action ≡ left clock.bank.kept.shape (core xs) event (running_at clock.bank.kept.shape clock.pace xs tick)
-    pub to_come : IfSome action (λ a. tick < ends clock.pace a)
-    pub arrived : arrivals ≡ map (λ entry. tick_of_row entry.row (stepped clock.bank.kept.shape xs event first tick new ∷ xs)) (queue clock.bank.kept.shape (event ∷ core xs))
-    pub cancels : (count : ℕ) → 0 ≡ count → 0 ≡ cancels_by event false count
-    pub copying : IfSome bank.running (CopiesWhatItSensed (stepped clock.bank.kept.shape xs event first tick new ∷ xs))
+    pub on_time : IsOnTime clock.bank.kept.shape clock.pace (running_at clock.bank.kept.shape clock.pace xs tick) xs (stepped_as flag (Core event) first tick sensed pulsed new) event
+    pub behind : FollowsCancel clock.bank.kept.shape clock.pace xs tick event
+    pub senses : sensed ≡ sensed_by clock.bank.kept.shape (core xs) (read_again clock.bank.kept.shape flag) event
+    pub pulses : pulsed
+        ≡ pulsed_by clock.bank.kept.shape (core xs)
+        (torn_control clock.bank.kept.shape (change_after clock.bank.kept.shape xs) (running_at clock.bank.kept.shape clock.pace xs tick)) event
+    pub right : IsReadRight e clock.bank.kept.shape xs event (shown tick sensed new)
+    pub touches : Touches tick sensed pulsed tearing old new
 
-  module _ (xs : List (Timed n m)) (clock : ClockState n m e) (bank : BankState n m e) (event : Event n) (first tick : ℕ) (action : Option Action)
-      (arrivals : List ℕ) (tearing : Bool) (old new : ArrayState n m) (leads : Leads xs clock old) (s : Steps xs clock bank event first tick action arrivals tearing old new) where
-    pulses_after : ArePulses clock.bank.kept.shape (stepped clock.bank.kept.shape xs event first tick new ∷ xs) new
-    pulses_after =
-        pulses-next clock.bank.kept.shape xs (stepped clock.bank.kept.shape xs event first tick new) (sensed_by clock.bank.kept.shape (core xs) event) tearing old new leads.pulses s.touches
+  -- of an event of the change that stands
+  pub record StepsKept (xs : List (Timed n m)) (clock : ClockState n m e) (event : Keeping) (first tick : ℕ) (flag tearing : Bool) (sensed : List ℕ) (pulsed : Option ℕ)
+      (old new : ArrayState n m) : Type 0 where
+    pub stands : IsTrue (is_some clock.regs.change)
+    pub may : MayKeep clock.bank.kept.shape clock.pace (most_steps e) xs event
+    pub on_time : IsKeptOnTime clock.bank.kept.shape clock.pace (running_at clock.bank.kept.shape clock.pace xs tick) xs (stepped_as flag (Regs event) first tick sensed pulsed new) event
+    pub behind : IsUncancelled clock.bank.kept.shape clock.pace xs
+    pub senses : sensed ≡ kept_sensed (line_of_change clock.bank.kept.shape (item_of clock.regs.change)) event
+    pub pulses : pulsed ≡ kept_pulsed (line_of_change clock.bank.kept.shape (item_of clock.regs.change)) event
+    pub touches : Touches tick sensed pulsed tearing old new
 
-    next_event : IsNext clock.bank.kept.shape clock.pace e xs (stepped clock.bank.kept.shape xs event first tick new) event
-    next_event = record {
-      asked = s.asked;
-      may = let past : MayAll clock.bank.kept.shape (most_steps e) (event ∷ core xs) =
-          subst (λ (shape : BankShape). MayAll shape (most_steps e) (event ∷ core xs)) s.shape s.holds.past in
-          past.0;
-      on_time = s.on_time;
-      behind = follows clock.bank.kept.shape clock.pace xs tick event leads.told.whole;
-      lines = shown-lines tick (sensed_by clock.bank.kept.shape (core xs) event) new;
-      senses = shown-all clock.bank.kept.shape tick (sensed_by clock.bank.kept.shape (core xs) event) new
-          (λ sense. (sense.tick ≡ tick) × (sense.pulses ≡ pulses_of (stepped clock.bank.kept.shape xs event first tick new ∷ xs) sense.line))
-          (sensed-in (core xs) clock.bank old leads.holds event)
-          (λ line is. (refl, pulses-at clock.bank.kept.shape (stepped clock.bank.kept.shape xs event first tick new ∷ xs) new line pulses_after is));
-      pulsed = refl;
-      right = s.right;
-    }
+  module _ (xs : List (Timed n m)) (clock : ClockState n m e) (old new : ArrayState n m) (reached : Reaches xs clock old) where
+    change_known : IfSome (item_of clock.regs.change) (λ item. item < controls_of clock.bank.kept.shape)
+    change_known = change-known clock.bank.kept clock.regs reached.control
 
+    -- an event of the bank may come
+    pub bank-comes : (bank : BankState n m e) (event : Event n) (first tick : ℕ) (flag tearing : Bool) (sensed : List ℕ) (pulsed : Option ℕ)
+        → Holds (event ∷ core xs) bank new → bank.kept.shape ≡ clock.bank.kept.shape → StepsBank xs clock event first tick flag tearing sensed pulsed old new
+        → MayCome clock.bank.kept.shape clock.pace e xs (stepped_as flag (Core event) first tick sensed pulsed new) (Core event)
+    bank-comes bank event first tick flag tearing sensed pulsed holds same s =
+        let x : Timed n m = stepped_as flag (Core event) first tick sensed pulsed new in
+        let past : MayAll clock.bank.kept.shape (most_steps e) (event ∷ core xs) = subst (λ (shape : BankShape). MayAll shape (most_steps e) (event ∷ core xs)) same holds.past in
+        let own : AreIn clock.bank.kept.shape sensed =
+        subst (λ (lines : List ℕ). AreIn clock.bank.kept.shape lines) (sym s.senses)
+        (sensed-in (core xs) clock.bank old reached.holds (read_again clock.bank.kept.shape flag) event (controls-in clock.bank.kept.shape flag)) in
+        record {
+          asked = s.asked;
+          may = past.0;
+          on_time = s.on_time;
+          behind = s.behind;
+          lines = shown-lines tick sensed new ∙ s.senses;
+          senses = senses-all clock.bank.kept.shape xs x sensed new own (pulses-next clock.bank.kept.shape xs x sensed tearing old new reached.pulses s.touches);
+          pulsed = s.pulses;
+          right = s.right;
+        }
+
+    -- an event of the change that stands may come
+    pub kept-comes : (event : Keeping) (first tick : ℕ) (flag tearing : Bool) (sensed : List ℕ) (pulsed : Option ℕ) → StepsKept xs clock event first tick flag tearing sensed pulsed old new
+        → MayCome clock.bank.kept.shape clock.pace e xs (stepped_as flag (Regs event) first tick sensed pulsed new) (Regs event)
+    kept-comes event first tick flag tearing sensed pulsed s =
+        let x : Timed n m = stepped_as flag (Regs event) first tick sensed pulsed new in
+        let own : AreIn clock.bank.kept.shape sensed =
+        subst (λ (lines : List ℕ). AreIn clock.bank.kept.shape lines) (sym s.senses)
+        (kept-sensed-in clock.bank.kept.shape (line_of_change clock.bank.kept.shape (item_of clock.regs.change)) event
+        (change-in clock.bank.kept.shape (item_of clock.regs.change) change_known)) in
+        record {
+          stands = ap (λ change. is_some change) (sym reached.regs.change) ∙ some clock.regs.change s.stands;
+          may = s.may;
+          on_time = s.on_time;
+          behind = s.behind;
+          lines = shown-lines tick sensed new ∙ s.senses ∙ ap (λ change. kept_sensed (line_of_change clock.bank.kept.shape change) event) reached.regs.change;
+          senses = senses-all clock.bank.kept.shape xs x sensed new own (pulses-next clock.bank.kept.shape xs x sensed tearing old new reached.pulses s.touches);
+          pulsed = s.pulses ∙ ap (λ change. kept_pulsed (line_of_change clock.bank.kept.shape change) event) reached.regs.change;
+        }
+      where
+        some : (change : Option Change) → is_some change ≡ true → is_some (item_of change) ≡ true
+        some None is = absurd (cc)
+        some (Some change) is = refl
+
+  module _ (xs : List (Timed n m)) (clock : ClockState n m e) (bank : BankState n m e) (regs : RegsState n m e) (x : Timed n m) (action : Option Action) (arrivals : List ℕ) (count : ℕ)
+      (old new : ArrayState n m) (reached : Reaches xs clock old) (comes : MayCome clock.bank.kept.shape clock.pace e xs x x.happens) (pulses : ArePulses clock.bank.kept.shape (x ∷ xs) new)
+      (s : Steps xs clock bank regs x action arrivals count new) where
     -- what depends on the shape
     record After (shape : BankShape) : Type 0 where
-      lawful : Lawful shape clock.pace e (stepped clock.bank.kept.shape xs event first tick new ∷ xs)
-      told : IsTold shape clock.pace (stepped clock.bank.kept.shape xs event first tick new ∷ xs) tick action arrivals 0
-      pulses : ArePulses shape (stepped clock.bank.kept.shape xs event first tick new ∷ xs) new
+      lawful : Lawful shape clock.pace e (x ∷ xs)
+      runs : action ≡ running_at shape clock.pace (x ∷ xs) x.tick
+      arrived : arrivals ≡ map (λ entry. tick_of_row entry.row (x ∷ xs)) (queue shape (core (x ∷ xs)))
+      counted : ArePulses shape (x ∷ xs) new
+      told : AreTold shape (x ∷ xs) regs
 
     after : After clock.bank.kept.shape
     after = record {
-      lawful = (next_event, leads.lawful);
-      told = record {
-        now = omega arith;
-        runs =
-            s.runs
-            ∙ sym (started-same (running clock.bank.kept.shape clock.pace (stepped clock.bank.kept.shape xs event first tick new ∷ xs))
-            (chosen_after clock.bank.kept.shape clock.pace (stepped clock.bank.kept.shape xs event first tick new ∷ xs)) tick);
-        to_come = s.to_come;
-        arrived = s.arrived;
-        cancels = s.cancels (cancels_after xs) leads.told.cancels;
-        whole = refl;
-      };
-      pulses = pulses_after;
+      lawful = (comes, reached.lawful);
+      runs =
+          s.runs
+          ∙ sym (started-same (running clock.bank.kept.shape clock.pace (x ∷ xs)) (chosen_after clock.bank.kept.shape clock.pace (x ∷ xs)) x.tick);
+      arrived = s.arrived;
+      counted = pulses;
+      told = s.told;
     }
 
     -- the history goes on with the event
-    pub stepped-leads : Leads (stepped clock.bank.kept.shape xs event first tick new ∷ xs) (clock_at clock bank tick action arrivals) new
-    stepped-leads =
+    pub stepped-reaches : Reaches (x ∷ xs) (clock_at clock bank regs x.tick action arrivals count) new
+    stepped-reaches =
         let all : After bank.kept.shape = subst (λ (shape : BankShape). After shape) (sym s.shape) after in
-        record { lawful = all.lawful; holds = s.holds; told = all.told; pulses = all.pulses; copying = s.copying; taken = s.taken }
+        record {
+          lawful = all.lawful;
+          holds = s.holds;
+          now = omega arith;
+          runs = all.runs;
+          to_come = s.to_come;
+          arrived = all.arrived;
+          cancels = s.cancels ∙ ap (cancels_with x.happens x.cancels) reached.cancels;
+          regs = all.told;
+          control = s.control;
+          pulses = all.counted;
+          copying = s.copying;
+          taken = s.taken;
+        }
+
+  -- what leads somewhere reaches it
+  pub leads-reaches : (xs : List (Timed n m)) (clock : ClockState n m e) (array : ArrayState n m) → Leads xs clock array → Reaches xs clock array
+  leads-reaches xs clock array leads = record {
+    lawful = leads.lawful;
+    holds = leads.holds;
+    now = leads.told.now;
+    runs = leads.told.runs;
+    to_come = leads.told.to_come;
+    arrived = leads.told.arrived;
+    cancels = leads.told.cancels;
+    regs = leads.regs;
+    control = leads.control;
+    pulses = leads.pulses;
+    copying = leads.copying;
+    taken = leads.taken;
+  }
+
+  -- and what reaches it whole leads there
+  pub reaches-leads : (xs : List (Timed n m)) (clock : ClockState n m e) (array : ArrayState n m) → Reaches xs clock array → IsWhole xs → Leads xs clock array
+  reaches-leads xs clock array r whole = record {
+    lawful = r.lawful;
+    holds = r.holds;
+    told = record { now = r.now; runs = r.runs; to_come = r.to_come; arrived = r.arrived; cancels = r.cancels; whole = whole };
+    regs = r.regs;
+    control = r.control;
+    pulses = r.pulses;
+    copying = r.copying;
+    taken = r.taken;
+  }
+
+  -- an event of the bank
+  pub bank-reaches : (xs : List (Timed n m)) (clock : ClockState n m e) (bank : BankState n m e) (regs : RegsState n m e) (event : Event n) (first tick : ℕ) (action : Option Action)
+      (arrivals : List ℕ) (count : ℕ) (flag tearing : Bool) (sensed : List ℕ) (pulsed : Option ℕ) (old new : ArrayState n m) → Reaches xs clock old
+      → StepsBank xs clock event first tick flag tearing sensed pulsed old new
+      → Steps xs clock bank regs (stepped_as flag (Core event) first tick sensed pulsed new) action arrivals count new
+      → Reaches (stepped_as flag (Core event) first tick sensed pulsed new ∷ xs) (clock_at clock bank regs tick action arrivals count) new
+  bank-reaches xs clock bank regs event first tick action arrivals count flag tearing sensed pulsed old new reached b s =
+      stepped-reaches xs clock bank regs (stepped_as flag (Core event) first tick sensed pulsed new) action arrivals count old new reached
+      (bank-comes xs clock old new reached bank event first tick flag tearing sensed pulsed s.holds s.shape b)
+      (pulses-next clock.bank.kept.shape xs (stepped_as flag (Core event) first tick sensed pulsed new) sensed tearing old new reached.pulses b.touches) s
+
+  pub bank-leads : (xs : List (Timed n m)) (clock : ClockState n m e) (bank : BankState n m e) (regs : RegsState n m e) (event : Event n) (first tick : ℕ) (action : Option Action)
+      (arrivals : List ℕ) (count : ℕ) (tearing : Bool) (sensed : List ℕ) (pulsed : Option ℕ) (old new : ArrayState n m) → Reaches xs clock old
+      → StepsBank xs clock event first tick false tearing sensed pulsed old new
+      → Steps xs clock bank regs (stepped (Core event) first tick sensed pulsed new) action arrivals count new
+      → Leads (stepped (Core event) first tick sensed pulsed new ∷ xs) (clock_at clock bank regs tick action arrivals count) new
+  bank-leads xs clock bank regs event first tick action arrivals count tearing sensed pulsed old new reached b s =
+      reaches-leads (stepped (Core event) first tick sensed pulsed new ∷ xs) (clock_at clock bank regs tick action arrivals count) new
+      (bank-reaches xs clock bank regs event first tick action arrivals count false tearing sensed pulsed old new reached b s) refl
+
+  -- an event of the change that stands
+  pub kept-reaches : (xs : List (Timed n m)) (clock : ClockState n m e) (bank : BankState n m e) (regs : RegsState n m e) (event : Keeping) (first tick : ℕ) (action : Option Action)
+      (arrivals : List ℕ) (count : ℕ) (flag tearing : Bool) (sensed : List ℕ) (pulsed : Option ℕ) (old new : ArrayState n m) → Reaches xs clock old
+      → StepsKept xs clock event first tick flag tearing sensed pulsed old new
+      → Steps xs clock bank regs (stepped_as flag (Regs event) first tick sensed pulsed new) action arrivals count new
+      → Reaches (stepped_as flag (Regs event) first tick sensed pulsed new ∷ xs) (clock_at clock bank regs tick action arrivals count) new
+  kept-reaches xs clock bank regs event first tick action arrivals count flag tearing sensed pulsed old new reached k s =
+      stepped-reaches xs clock bank regs (stepped_as flag (Regs event) first tick sensed pulsed new) action arrivals count old new reached
+      (kept-comes xs clock old new reached event first tick flag tearing sensed pulsed k)
+      (pulses-next clock.bank.kept.shape xs (stepped_as flag (Regs event) first tick sensed pulsed new) sensed tearing old new reached.pulses k.touches) s

@@ -1,19 +1,20 @@
 -- What a bank with its clock and its history say of each other.
-use Rattle.std.proofs.Common.{◌≡◌, ℕ, ◌<◌, ◌≤◌, not, nat_lt, Bool, true, false, cond, List, [], ◌∷◌, length, map, Option, Some, None, is_some, refl, sym, ap, ◌∙◌, arith, lt-ltb, ltb-false}
+use Rattle.std.proofs.Common.{◌≡◌, ℕ, ◌<◌, ◌≤◌, ◌||◌, not, nat_lt, Bool, true, false, cond, List, [], ◌∷◌, length, map, Option, Some, None, is_some, refl, sym, ap, ◌∙◌, arith, lt-ltb, ltb-false}
 use Rattle.std.specs.Prelude.{IfSome}
 use Rattle.std.proofs.lemmas.Bool.{le-ltb}
 use Rattle.pcm_cells.specs.Device.{ArrayState}
 use Rattle.bank_model.specs.declared.clock.Doing.{Doing}
 use Rattle.bank_model.specs.declared.clock.Doing.TheVariants.{Serving, Beginning, Iterating}
 use Rattle.bank_model.specs.declared.clock.Action.{Action}
-use Rattle.bank_model.specs.History.{Awaited, waits, in_progress}
+use Rattle.bank_model.specs.History.{Awaited, waits}
+use Rattle.bank_model.specs.Changes.{change_after, keeping_after, halted_after}
 use Rattle.bank_model.specs.Timing.{Timed, lasts, ends, core, is_empty, last_tick}
-use Rattle.bank_model.specs.Running.{gives_way, choice, chosen_by, started, chosen_after, running, running_at}
+use Rattle.bank_model.specs.Running.{gives_way, choice, chosen_by, busy_by, ready_by, busy_after, ready_after, started, chosen_after, running, running_at}
 use Rattle.bank_invariant.specs.State.{may_begin}
 use Rattle.bank_invariant.specs.Holds.{waiting_of}
 use Rattle.bank_invariant.specs.Bridge.{AgreesWith}
 use Rattle.bank_invariant.proofs.Agreeing.{agree_law}
-use Rattle.clock_laws.specs.State.{ClockState, started_at, or_else, chosen, next_action}
+use Rattle.clock_laws.specs.State.{ClockState, is_busy, may_start, started_at, or_else, chosen, next_action}
 use Rattle.clock_laws.specs.Leads.{Leads}
 
 -- Ticks
@@ -50,7 +51,7 @@ none-started None (Some doing) last now none = absurd (by (nat_lt last now) none
 
 -- What is chosen
 
-same_reads : (n : ℕ) (ws : List Awaited) → nat_lt 0 (length (map (waiting_of {n = n}) ws)) ≡ not (is_empty ws)
+pub same_reads : (n : ℕ) (ws : List Awaited) → nat_lt 0 (length (map (waiting_of {n = n}) ws)) ≡ not (is_empty ws)
 same_reads n [] = refl
 same_reads n (w ∷ ws) = lt-ltb 0 (length (map (waiting_of {n = n}) (w ∷ ws))) (omega arith)
 
@@ -59,14 +60,28 @@ module _ {n m e : ℕ} (xs : List (Timed n m)) (clock : ClockState n m e) (array
   pub agrees : AgreesWith (core xs) clock.bank
   agrees = agree_law n m e (core xs) clock.bank array leads.holds
 
+  -- whether a line write is in progress, or may be begun, is what the history says
+  pub busy-same : is_busy clock.bank clock.regs ≡ busy_after clock.bank.kept.shape xs
+  busy-same =
+      ap (λ change. busy_by change (is_some clock.regs.writer) (is_some clock.bank.running)) leads.regs.change
+      ∙ ap (λ keeping. busy_by (change_after clock.bank.kept.shape xs) keeping (is_some clock.bank.running)) leads.regs.writing
+      ∙ ap (λ busy. busy_by (change_after clock.bank.kept.shape xs) (keeping_after xs) busy) leads.holds.running
+
+  pub ready-same : may_start clock.bank clock.regs ≡ ready_after clock.bank.kept.shape xs
+  ready-same =
+      ap (λ change. ready_by change (is_some clock.regs.writer || clock.regs.halted) (may_begin clock.bank)) leads.regs.change
+      ∙ ap (λ keeping. ready_by (change_after clock.bank.kept.shape xs) (keeping || clock.regs.halted) (may_begin clock.bank)) leads.regs.writing
+      ∙ ap (λ halted. ready_by (change_after clock.bank.kept.shape xs) (keeping_after xs || halted) (may_begin clock.bank)) leads.regs.halted
+      ∙ ap (λ ready. ready_by (change_after clock.bank.kept.shape xs) (keeping_after xs || halted_after xs) ready) agrees.ready
+
   pub chosen-after : chosen clock ≡ chosen_after clock.bank.kept.shape clock.pace xs
   chosen-after =
       let gives : Bool = gives_way clock.pace.policy in
       let reads : Bool = not (is_empty (waits clock.bank.kept.shape (core xs))) in
-      ap (λ reads. chosen_by gives reads (choice (is_some clock.bank.running) (may_begin clock.bank)))
+      ap (λ reads. chosen_by gives reads (choice (is_busy clock.bank clock.regs) (may_start clock.bank clock.regs)))
       (ap (λ ws. nat_lt 0 (length ws)) leads.holds.waiting ∙ same_reads n (waits clock.bank.kept.shape (core xs)))
-      ∙ ap (λ busy. chosen_by gives reads (choice busy (may_begin clock.bank))) leads.holds.running
-      ∙ ap (λ ready. chosen_by gives reads (choice (in_progress (core xs)) ready)) agrees.ready
+      ∙ ap (λ busy. chosen_by gives reads (choice busy (may_start clock.bank clock.regs))) busy-same
+      ∙ ap (λ ready. chosen_by gives reads (choice (busy_after clock.bank.kept.shape xs) ready)) ready-same
 
   same_action : next_action clock
       ≡ or_else (started (running clock.bank.kept.shape clock.pace xs) (chosen_after clock.bank.kept.shape clock.pace xs) (last_tick xs) clock.tick)

@@ -1,5 +1,5 @@
 -- The laws of each action that ends, and of a cut, in terms of what the bank keeps.
-use Rattle.std.specs.Prelude.{◌≡◌, ℕ, ◌<◌, Bool, true, false, List, [], ◌∷◌, Option, Some, None, IsSomeAnd, slice_get}
+use Rattle.std.specs.Prelude.{◌≡◌, ◌≢◌, ℕ, ◌+◌, ◌<◌, ◌≤◌, ◌&&◌, not, Bool, true, false, IsTrue, List, [], ◌∷◌, Option, Some, None, IsSomeAnd, slice_get, is_some}
 use Rattle.masked_bytes.specs.Masked.{laid}
 use Rattle.pcm_cells.specs.Device.{ArrayState}
 use Rattle.bank_shape.specs.declared.BankShape.{BankShape}
@@ -10,21 +10,35 @@ use Rattle.power_recovery.specs.Kept.{KeptState, array_line, stands_at, next_wor
 use Rattle.bank_model.specs.declared.answer.Served.{Served}
 use Rattle.bank_model.specs.declared.answer.Step.{Step}
 use Rattle.bank_model.specs.declared.answer.Step.TheVariants as did
-use Rattle.bank_model.specs.declared.clock.Doing.TheVariants.{Iterating}
+use Rattle.bank_model.specs.declared.answer.Keep.{Keep}
+use Rattle.bank_model.specs.declared.answer.Keep.TheVariants as keep
+use Rattle.bank_model.specs.declared.clock.Doing.{Doing}
+use Rattle.bank_model.specs.declared.clock.Doing.TheVariants.{Beginning, Iterating}
 use Rattle.bank_model.specs.declared.clock.Action.{Action}
 use Rattle.bank_model.specs.Events.{Event, Serve, Begin, Iterate, Cut}
-use Rattle.bank_model.specs.Timing.{Timed, core, ends, is_doing}
+use Rattle.bank_model.specs.Changes.{all_controls}
+use Rattle.bank_model.specs.Timing.{Timed, KeepBegin, KeepIterate, core, ends, is_doing}
 use Rattle.bank_model.specs.Touching.{Touches}
 use Rattle.bank_model.specs.Adding.{Adds}
+use Rattle.line_writer.specs.declared.writer.LineWriter.{LineWriter}
+use Rattle.line_writer.specs.Writing.{steps_left, most_steps}
+use Rattle.reg_lines.specs.declared.Change.{Change}
+use Rattle.reg_lines.specs.Regs.{RegsState}
+use Rattle.reg_lines.specs.Keeping.{kept_on, broken_off}
+use Rattle.reg_lines.specs.Keeping as writing
+use Rattle.register_laws.specs.Control.{Control}
 use Rattle.bank_invariant.specs.declared.Waiting.{Waiting}
 use Rattle.bank_invariant.specs.State.{BankState, Operation, target_of}
 use Rattle.bank_invariant.specs.Tied.{decoded}
 use Rattle.bank_invariant.specs.Holds.{Holds}
 use Rattle.bank_invariant.specs.Beginning.{lines_sensed}
 use Rattle.clock_laws.specs.State.{ClockState, next_action}
-use Rattle.clock_laws.specs.Leads.{Leads}
-use Rattle.clock_laws.specs.Completing.{EndsDoing, completed, after_action}
-use Rattle.clock_laws.specs.Cutting.{cut, after_cut}
+use Rattle.clock_laws.specs.Leads.{Leads, Reaches}
+use Rattle.clock_laws.specs.Arriving.{cancels_for}
+use Rattle.clock_laws.specs.Completing.{EndsDoing, IsAlone, completed, after_action, keep_completed, after_keep}
+use Rattle.clock_laws.specs.Putting.{put_if, item_with}
+use Rattle.clock_laws.specs.Fitting.{IsFit}
+use Rattle.clock_laws.specs.Cutting.{tears_now, cut, after_cut, cancel, keep_cancel, after_cancel}
 
 -- a history leads on to this clock and this array by one more event, which adds what it touched
 pub record LeadsOn {n m e : ℕ} (shape : BankShape) (xs : List (Timed n m)) (x : Timed n m) (clock : ClockState n m e) (old new : ArrayState n m) : Type 0 where
@@ -32,21 +46,25 @@ pub record LeadsOn {n m e : ℕ} (shape : BankShape) (xs : List (Timed n m)) (x 
   pub adds : Adds shape (x ∷ []) old new
 
 module _ {n m e : ℕ} where
-  -- the action that runs from now on ends by an event, which leaves this bank and this array: it pulsed this line, and then sensed these
-  pub record IsCompletion (xs : List (Timed n m)) (clock : ClockState n m e) (bank : BankState n m e) (event : Event n) (action : Action)
+  -- the action that runs from now on ends by an event, which leaves this bank, these control lines and this array: it pulsed this
+  -- line, and then sensed these. The change that it brings is put, and the control lines hold what the bank now keeps
+  pub record IsCompletion (xs : List (Timed n m)) (clock : ClockState n m e) (bank : BankState n m e) (regs : RegsState n m e) (event : Event n) (action : Action)
       (sensed : List ℕ) (pulsed : Option ℕ) (old new : ArrayState n m) : Type 0 where
     pub next : next_action clock ≡ Some action
     pub doing : EndsDoing event action.doing
     pub later : clock.tick < ends clock.pace action
+    pub alone : IsAlone event clock.regs.change
     pub holds : Holds (event ∷ core xs) bank new
     pub shape : bank.kept.shape ≡ clock.bank.kept.shape
     pub taken : bank.lost ≡ []
     pub touches : Touches (ends clock.pace action) sensed pulsed false old new
+    pub put : regs ≡ put_if (item_with clock.bank.kept event) bank.kept clock.regs
+    pub control : Control bank.kept regs new
 
   -- the history goes on by that event
-  abbrev pub GoesOn : List (Timed n m) → ClockState n m e → BankState n m e → Event n → Action → ArrayState n m → ArrayState n m → Type 0
-  GoesOn xs clock bank event action old new =
-      LeadsOn clock.bank.kept.shape xs (completed xs clock action event new) (after_action clock bank action event) old new
+  abbrev pub GoesOn : List (Timed n m) → ClockState n m e → BankState n m e → RegsState n m e → Event n → Action → ArrayState n m → ArrayState n m → Type 0
+  GoesOn xs clock bank regs event action old new =
+      LeadsOn clock.bank.kept.shape xs (completed xs clock action event new) (after_action clock bank regs action event) old new
 
 -- Serves
 
@@ -54,11 +72,11 @@ module _ {n m e : ℕ} where
 abbrev pub ServeEndsLaw : Type 0
 ServeEndsLaw =
     (n m e : ℕ) (answer : Served n) (action : Action) (w : Waiting n) (ws : List (Waiting n)) (xs : List (Timed n m))
-    (clock : ClockState n m e) (bank : BankState n m e) (old new : ArrayState n m)
+    (clock : ClockState n m e) (bank : BankState n m e) (regs : RegsState n m e) (old new : ArrayState n m)
     → Leads xs clock old → clock.bank.waiting ≡ w ∷ ws
-    → IsCompletion xs clock bank (Serve answer) action (stands_at clock.bank.kept w.line ∷ []) None old new
+    → IsCompletion xs clock bank regs (Serve answer) action (stands_at clock.bank.kept w.line ∷ []) None old new
     → bank.running ≡ clock.bank.running → answer.bytes ≡ laid w.kept w.given (decoded e old (stands_at clock.bank.kept w.line))
-    → GoesOn xs clock bank (Serve answer) action old new
+    → GoesOn xs clock bank regs (Serve answer) action old new
 
 -- Begins
 
@@ -85,11 +103,11 @@ module _ {n m : ℕ} where
 abbrev pub BeginEndsLaw : Type 0
 BeginEndsLaw =
     (n m e : ℕ) (answer : Step) (action : Action) (work : Work) (xs : List (Timed n m))
-    (clock : ClockState n m e) (bank : BankState n m e) (old new : ArrayState n m)
+    (clock : ClockState n m e) (bank : BankState n m e) (regs : RegsState n m e) (old new : ArrayState n m)
     → Leads xs clock old → next_work clock.bank.kept ≡ work
-    → IsCompletion xs clock bank (Begin answer) action (lines_sensed clock.bank.kept work) None old new
+    → IsCompletion xs clock bank regs (Begin answer) action (lines_sensed clock.bank.kept work) None old new
     → LeavesBegun clock.bank.kept work old bank.running answer
-    → GoesOn xs clock bank (Begin answer) action old new
+    → GoesOn xs clock bank regs (Begin answer) action old new
 
 -- Iterations
 
@@ -107,25 +125,95 @@ module _ {n m e : ℕ} where
 abbrev pub IterateEndsLaw : Type 0
 IterateEndsLaw =
     (n m e : ℕ) (answer : Step) (action : Action) (op : Operation n m e) (xs : List (Timed n m))
-    (clock : ClockState n m e) (bank : BankState n m e) (old new : ArrayState n m)
+    (clock : ClockState n m e) (bank : BankState n m e) (regs : RegsState n m e) (old new : ArrayState n m)
     → Leads xs clock old → clock.bank.running ≡ Some op
-    → IsCompletion xs clock bank (Iterate answer) action (op.target ∷ []) (Some op.target) old new
+    → IsCompletion xs clock bank regs (Iterate answer) action (op.target ∷ []) (Some op.target) old new
     → LeavesIterated op new bank.running answer
-    → GoesOn xs clock bank (Iterate answer) action old new
+    → GoesOn xs clock bank regs (Iterate answer) action old new
+
+-- Steps of the writing of a change
+
+module _ {n m e : ℕ} where
+  -- the action that runs from now on ends by a step of the writing of the change that stands, with this answer, and leaves this line
+  -- write, these control lines and this array
+  pub record IsKeepStep (clock : ClockState n m e) (regs : RegsState n m e) (kind : Doing) (action : Action) (answer : Keep) (writer : LineWriter n m e)
+      (sensed : List ℕ) (pulsed : Option ℕ) (old new : ArrayState n m) : Type 0 where
+    pub next : next_action clock ≡ Some action
+    pub doing : action.doing ≡ kind
+    pub later : clock.tick < ends clock.pace action
+    pub stands : IsTrue (is_some clock.regs.change)
+    pub touches : Touches (ends clock.pace action) sensed pulsed false old new
+    pub leaves : regs ≡ kept_on answer writer clock.regs
+    pub control : Control clock.bank.kept regs new
+
+-- a begin of it, which never halts
+abbrev pub KeepBeginEndsLaw : Type 0
+KeepBeginEndsLaw =
+    (n m e : ℕ) (answer : Keep) (action : Action) (writer : LineWriter n m e) (xs : List (Timed n m))
+    (clock : ClockState n m e) (regs : RegsState n m e) (old new : ArrayState n m)
+    → Leads xs clock old → clock.regs.writer ≡ None → clock.regs.halted ≡ false
+    → IsKeepStep clock regs Beginning action answer writer (writing.line_of clock.regs clock.regs.change) None old new
+    → answer ≢ keep.Halted → steps_left writer ≤ most_steps e
+    → LeadsOn clock.bank.kept.shape xs (keep_completed clock action (KeepBegin answer) new) (after_keep clock regs action (KeepBegin answer)) old new
+
+-- an iteration of it, after which fewer steps are left
+abbrev pub KeepIterateEndsLaw : Type 0
+KeepIterateEndsLaw =
+    (n m e : ℕ) (answer : Keep) (action : Action) (before writer : LineWriter n m e) (xs : List (Timed n m))
+    (clock : ClockState n m e) (regs : RegsState n m e) (old new : ArrayState n m)
+    → Leads xs clock old → clock.regs.writer ≡ Some before
+    → IsKeepStep clock regs Iterating action answer writer (writing.line_of clock.regs clock.regs.change) (writing.target_of clock.regs clock.regs.change) old new
+    → steps_left writer < steps_left before
+    → LeadsOn clock.bank.kept.shape xs (keep_completed clock action (KeepIterate answer) new) (after_keep clock regs action (KeepIterate answer)) old new
 
 -- Cuts
 
--- the array line that a cut tears
-abbrev pub torn_line : {n m e : ℕ} → Bool → Option (Operation n m e) → Option ℕ
-torn_line true (Some op) = Some op.target
-torn_line true None = None
-torn_line false running = None
+-- the array line that a cut tears where an iteration runs: that of the change that stands, or else that of the bank's line write
+abbrev pub torn_line : {n m e : ℕ} → Bool → RegsState n m e → Option Change → Option (Operation n m e) → Option ℕ
+torn_line true regs (Some change) running = Some (regs.base + change.item)
+torn_line true regs None (Some op) = Some op.target
+torn_line true regs None None = None
+torn_line false regs change running = None
 
--- a cut, which tears exactly where an iteration runs
+-- the calls of a power cut touch this together: that of the bank, which tears its line write where no change stands; that of the control
+-- lines, which tears the change's line where one does; and the senses of control lines
+abbrev pub CutTouchesLaw : Type 0
+CutTouchesLaw =
+    (n m e tick : ℕ) (tearing : Bool) (controls : List ℕ) (regs : RegsState n m e) (running : Option (Operation n m e)) (old between later new : ArrayState n m)
+    → Touches tick [] (torn_line (tearing && not (is_some regs.change)) regs None running) (tearing && not (is_some regs.change)) old between
+    → Touches tick [] (writing.torn_line (tearing && is_some regs.change) regs) (tearing && is_some regs.change) between later
+    → Touches tick controls None false later new → Touches tick controls (torn_line tearing regs regs.change running) tearing old new
+
+-- a power cut, which tears exactly where an iteration runs, and after which every control line is read again
 abbrev pub CutEndsLaw : Type 0
 CutEndsLaw =
     (n m e : ℕ) (tearing : Bool) (xs : List (Timed n m)) (clock : ClockState n m e) (bank : BankState n m e) (old new : ArrayState n m)
-    → Leads xs clock old → tearing ≡ is_doing Iterating clock.action
+    → Leads xs clock old → IsFit clock.bank clock.regs clock.action → tearing ≡ is_doing Iterating clock.action
+    → Holds (Cut (tears_now clock) ∷ core xs) bank new → bank.kept.shape ≡ clock.bank.kept.shape → bank.running ≡ None → bank.lost ≡ []
+    → Control bank.kept (broken_off clock.regs) new
+    → Touches clock.tick (all_controls clock.bank.kept.shape) (torn_line tearing clock.regs clock.regs.change clock.bank.running) tearing old new
+    → LeadsOn clock.bank.kept.shape xs (cut xs clock new) (after_cut clock bank) old new
+
+-- a history reaches this clock and this array by a cancel, which adds what it touched
+pub record ReachesBy {n m e : ℕ} (shape : BankShape) (xs : List (Timed n m)) (x : Timed n m) (clock : ClockState n m e) (old new : ArrayState n m) : Type 0 where
+  pub reaches : Reaches (x ∷ xs) clock new
+  pub adds : Adds shape (x ∷ []) old new
+
+-- a cancel of the bank's line write
+abbrev pub CancelEndsLaw : Type 0
+CancelEndsLaw =
+    (n m e line : ℕ) (tearing : Bool) (xs : List (Timed n m)) (clock : ClockState n m e) (bank : BankState n m e) (old new : ArrayState n m)
+    → Leads xs clock old → IsTrue (cancels_for clock line) → clock.regs.change ≡ None → tearing ≡ is_doing Iterating clock.action
     → Holds (Cut tearing ∷ core xs) bank new → bank.kept.shape ≡ clock.bank.kept.shape → bank.running ≡ None → bank.lost ≡ []
-    → Touches clock.tick [] (torn_line tearing clock.bank.running) tearing old new
-    → LeadsOn clock.bank.kept.shape xs (cut xs clock tearing) (after_cut clock bank) old new
+    → Control bank.kept clock.regs new
+    → Touches clock.tick [] (torn_line tearing clock.regs clock.regs.change clock.bank.running) tearing old new
+    → ReachesBy clock.bank.kept.shape xs (cancel xs clock) (after_cancel clock bank clock.regs) old new
+
+-- a cancel of the writing of the change that stands
+abbrev pub KeepCancelEndsLaw : Type 0
+KeepCancelEndsLaw =
+    (n m e line : ℕ) (tearing : Bool) (xs : List (Timed n m)) (clock : ClockState n m e) (old new : ArrayState n m)
+    → Leads xs clock old → IsTrue (cancels_for clock line) → IsTrue (is_some clock.regs.change) → IsFit clock.bank clock.regs clock.action
+    → tearing ≡ is_doing Iterating clock.action → Control clock.bank.kept (broken_off clock.regs) new
+    → Touches clock.tick [] (torn_line tearing clock.regs clock.regs.change clock.bank.running) tearing old new
+    → ReachesBy clock.bank.kept.shape xs (keep_cancel clock) (after_cancel clock clock.bank (broken_off clock.regs)) old new

@@ -1,5 +1,5 @@
--- The laws of an action that ends: a serve, a begin or an iteration.
-use Rattle.std.specs.Prelude.{◌≡◌, ℕ, ◌<◌, false, List, [], ◌∷◌, drop, Option, Some, None, IfSome}
+-- The laws of an action that ends: a serve, or a begin or an iteration of the bank's line write or of the change's.
+use Rattle.std.specs.Prelude.{◌≡◌, ℕ, ◌<◌, false, IsTrue, List, [], ◌∷◌, drop, Option, Some, None, IfSome, is_some}
 use Rattle.pcm_cells.specs.declared.array.Sense.{Sense}
 use Rattle.pcm_cells.specs.Device.{ArrayState}
 use Rattle.bank_model.specs.declared.answer.Step.{Step}
@@ -8,18 +8,25 @@ use Rattle.bank_model.specs.declared.clock.Doing.{Doing}
 use Rattle.bank_model.specs.declared.clock.Doing.TheVariants.{Serving, Beginning, Iterating}
 use Rattle.bank_model.specs.declared.clock.Action.{Action}
 use Rattle.bank_model.specs.Events.{Event, Serve, Begin, Iterate}
-use Rattle.bank_model.specs.Timing.{Timed, Core, core, ends}
-use Rattle.bank_model.specs.Sensing.{sensed_by, pulsed_by, IsReadRight}
+use Rattle.bank_model.specs.Changes.{line_of_change}
+use Rattle.bank_model.specs.Running.{cancels_by, cancels_with}
+use Rattle.bank_model.specs.Timing.{Timed, Happens, Core, Regs, Keeping, KeepBegin, KeepIterate, KeepCut, core, ends}
+use Rattle.bank_model.specs.Lawful.{MayKeep}
+use Rattle.bank_model.specs.Sensing.{most_steps, sensed_by, pulsed_by, kept_sensed, kept_pulsed, IsReadRight}
 use Rattle.bank_model.specs.Touching.{Touches, shown}
+use Rattle.reg_lines.specs.declared.Change.{Change}
+use Rattle.reg_lines.specs.Regs.{RegsState}
+use Rattle.register_laws.specs.Control.{Control}
+use Rattle.register_laws.specs.Telling.{AreTold, item_of}
 use Rattle.bank_invariant.specs.State.{BankState}
 use Rattle.bank_invariant.specs.Holds.{Holds}
 use Rattle.clock_laws.specs.State.{ClockState, next_action}
 use Rattle.clock_laws.specs.Leads.{Leads, CopiesWhatItSensed}
 
--- an event that ends an action, which started at its first tick
-abbrev pub completion : {n m : ℕ} → ℕ → ℕ → Event n → List (Sense n m) → Option ℕ → Timed n m
-completion first tick event senses pulsed =
-    record { happens = Core event; tick = tick; first = first; senses = senses; pulsed = pulsed; cancels = false }
+-- what ends an action, which started at its first tick
+abbrev pub completion : {n m : ℕ} → ℕ → ℕ → Happens n → List (Sense n m) → Option ℕ → Timed n m
+completion first tick happens senses pulsed =
+    record { happens = happens; tick = tick; first = first; senses = senses; pulsed = pulsed; cancels = false }
 
 -- an event is the end of what a bank was busy with
 abbrev pub EndsDoing : {n : ℕ} → Event n → Doing → Type 0
@@ -27,6 +34,18 @@ EndsDoing (Serve answer) doing = doing ≡ Serving
 EndsDoing (Begin answer) doing = doing ≡ Beginning
 EndsDoing (Iterate answer) doing = doing ≡ Iterating
 EndsDoing _ doing = ⊥
+
+-- a step of the writing of a change is
+abbrev pub EndsKeeping : Keeping → Doing → Type 0
+EndsKeeping (KeepBegin answer) doing = doing ≡ Beginning
+EndsKeeping (KeepIterate answer) doing = doing ≡ Iterating
+EndsKeeping (KeepCut tearing) doing = ⊥
+
+-- a line write of the bank is begun and goes on only while no change stands
+abbrev pub IsAlone : {n : ℕ} → Event n → Option Change → Type 0
+IsAlone (Begin answer) change = change ≡ None
+IsAlone (Iterate answer) change = change ≡ None
+IsAlone _ change = Unit {0}
 
 -- the arrival ticks of the queue after a step of a line write: a write that is stored has left it
 abbrev pub arrivals_by : Step → List ℕ → List ℕ
@@ -44,22 +63,50 @@ module _ {n m e : ℕ} where
   completed xs clock action event array =
       let shape = clock.bank.kept.shape in
       let tick = ends clock.pace action in
-      completion action.first tick event (shown tick (sensed_by shape (core xs) event) array) (pulsed_by shape (core xs) event)
+      completion action.first tick (Core event) (shown tick (sensed_by shape (core xs) [] event) array) (pulsed_by shape (core xs) None event)
 
-  -- the clock after an action ended so, with this bank: no action runs
-  abbrev pub after_action : ClockState n m e → BankState n m e → Action → Event n → ClockState n m e
-  after_action clock bank action event =
-      record { bank = bank; pace = clock.pace; tick = ends clock.pace action; action = None; arrivals = arrivals_with event clock.arrivals; drained = clock.drained }
+  -- the clock after an action ended so, with this bank and these control lines: no action runs
+  abbrev pub after_action : ClockState n m e → BankState n m e → RegsState n m e → Action → Event n → ClockState n m e
+  after_action clock bank regs action event =
+      record { bank = bank; regs = regs; pace = clock.pace; tick = ends clock.pace action; action = None; arrivals = arrivals_with event clock.arrivals; cancels = cancels_by event false clock.cancels; drained = clock.drained }
+
+  -- the line of the change that stands
+  abbrev pub line_kept : ClockState n m e → Option ℕ
+  line_kept clock = line_of_change clock.bank.kept.shape (item_of clock.regs.change)
+
+  -- the step of the writing of that change which ends an action
+  abbrev pub keep_completed : ClockState n m e → Action → Keeping → ArrayState n m → Timed n m
+  keep_completed clock action event array =
+      let tick = ends clock.pace action in
+      completion action.first tick (Regs event) (shown tick (kept_sensed (line_kept clock) event) array) (kept_pulsed (line_kept clock) event)
+
+  -- the clock after it, with these control lines
+  abbrev pub after_keep : ClockState n m e → RegsState n m e → Action → Keeping → ClockState n m e
+  after_keep clock regs action event =
+      record { bank = clock.bank; regs = regs; pace = clock.pace; tick = ends clock.pace action; action = None; arrivals = clock.arrivals; cancels = cancels_with {n = n} (Regs event) false clock.cancels; drained = clock.drained }
 
 -- the action that runs from now on ends by its event, which extends the history; that it ends later, that what it sensed is read
--- right, and that a gap move in progress writes what its begin sensed, are premises
+-- right, that a gap move in progress writes what its begin sensed, and that the control lines are told by the history and hold what the
+-- bank keeps, are premises
 abbrev pub CompletionLaw : Type 0
 CompletionLaw =
-    (n m e : ℕ) (event : Event n) (action : Action) (xs : List (Timed n m)) (clock : ClockState n m e) (bank : BankState n m e) (old new : ArrayState n m)
+    (n m e : ℕ) (event : Event n) (action : Action) (xs : List (Timed n m)) (clock : ClockState n m e) (bank : BankState n m e) (regs : RegsState n m e) (old new : ArrayState n m)
     → Leads xs clock old → next_action clock ≡ Some action → EndsDoing event action.doing → clock.tick < ends clock.pace action
+    → IsAlone event clock.regs.change
     → Holds (event ∷ core xs) bank new → bank.kept.shape ≡ clock.bank.kept.shape → bank.lost ≡ []
     → let tick = ends clock.pace action in
-    Touches tick (sensed_by clock.bank.kept.shape (core xs) event) (pulsed_by clock.bank.kept.shape (core xs) event) false old new
-    → IsReadRight e clock.bank.kept.shape xs event (shown tick (sensed_by clock.bank.kept.shape (core xs) event) new)
+    Touches tick (sensed_by clock.bank.kept.shape (core xs) [] event) (pulsed_by clock.bank.kept.shape (core xs) None event) false old new
+    → IsReadRight e clock.bank.kept.shape xs event (shown tick (sensed_by clock.bank.kept.shape (core xs) [] event) new)
     → IfSome bank.running (CopiesWhatItSensed (completed xs clock action event new ∷ xs))
-    → Leads (completed xs clock action event new ∷ xs) (after_action clock bank action event) new
+    → AreTold clock.bank.kept.shape (completed xs clock action event new ∷ xs) regs → Control bank.kept regs new
+    → Leads (completed xs clock action event new ∷ xs) (after_action clock bank regs action event) new
+
+-- so it does where it is a step of the writing of the change that stands, which leaves the bank as it was
+abbrev pub KeepingLaw : Type 0
+KeepingLaw =
+    (n m e : ℕ) (event : Keeping) (action : Action) (xs : List (Timed n m)) (clock : ClockState n m e) (regs : RegsState n m e) (old new : ArrayState n m)
+    → Leads xs clock old → next_action clock ≡ Some action → EndsKeeping event action.doing → clock.tick < ends clock.pace action
+    → IsTrue (is_some clock.regs.change) → MayKeep clock.bank.kept.shape clock.pace (most_steps e) xs event
+    → Touches (ends clock.pace action) (kept_sensed (line_kept clock) event) (kept_pulsed (line_kept clock) event) false old new
+    → AreTold clock.bank.kept.shape (keep_completed clock action event new ∷ xs) regs → Control clock.bank.kept regs new
+    → Leads (keep_completed clock action event new ∷ xs) (after_keep clock regs action event) new

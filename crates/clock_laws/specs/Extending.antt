@@ -1,12 +1,14 @@
 -- How the events of several calls add up, and what a bank does not touch.
-use Rattle.std.specs.Prelude.{◌≡◌, ℕ, ◌+◌, ◌<◌, ◌≤◌, Bool, List, [], ◌∷◌, ◌++◌, IfSome, false}
+use Rattle.std.specs.Prelude.{◌≡◌, ℕ, ◌+◌, ◌<◌, ◌≤◌, Bool, false, List, [], ◌∷◌, ◌++◌, Option, Some, None, IfSome, is_some}
 use Rattle.pcm_cells.specs.Device.{ArrayState}
 use Rattle.bank_shape.specs.declared.BankShape.{BankShape}
-use Rattle.bank_shape.specs.Shape.{lines_in}
+use Rattle.bank_shape.specs.Shape.{lines_in, controls_of, control_line}
 use Rattle.bank_model.specs.Events.{Event, Cut}
-use Rattle.bank_model.specs.Timing.{Timed, Core}
+use Rattle.bank_model.specs.Timing.{Timed, Happens, Core, Regs, KeepCut}
 use Rattle.bank_model.specs.Touching.{Touches, shown}
 use Rattle.bank_model.specs.Adding.{Adds}
+use Rattle.bank_invariant.specs.State.{BankState, Operation}
+use Rattle.bank_invariant.specs.Holds.{Holds}
 use Rattle.clock_laws.specs.State.{ClockState}
 use Rattle.clock_laws.specs.Leads.{Leads}
 use Rattle.clock_laws.specs.Arriving.{arrival}
@@ -15,25 +17,24 @@ use Rattle.clock_laws.specs.Arriving.{arrival}
 abbrev pub NothingAddedLaw : Type 0
 NothingAddedLaw = (n m : ℕ) (shape : BankShape) (array : ArrayState n m) → Adds {n = n} {m = m} shape [] array array
 
--- an event is a cut that tears
-abbrev pub is_tear : {n : ℕ} → Event n → Bool
-is_tear (Cut tearing) = tearing
-is_tear _ = false
+-- what happens tears where it is a cut that pulsed a line
+abbrev pub is_tear : {n : ℕ} → Happens n → Option ℕ → Bool
+is_tear (Core (Cut tearing)) pulsed = is_some pulsed
+is_tear (Regs (KeepCut tearing)) pulsed = is_some pulsed
+is_tear happens pulsed = false
 
 -- one event adds what it touches, where it pulses a line of the bank or none
 abbrev pub OneAddedLaw : Type 0
 OneAddedLaw =
-    (n m : ℕ) (shape : BankShape) (x : Timed n m) (event : Event n) (sensed : List ℕ) (tearing : Bool) (old new : ArrayState n m)
-    → x.happens ≡ Core event → x.senses ≡ shown x.tick sensed new
+    (n m : ℕ) (shape : BankShape) (x : Timed n m) (sensed : List ℕ) (tearing : Bool) (old new : ArrayState n m)
+    → x.senses ≡ shown x.tick sensed new
     → IfSome x.pulsed (λ line. (shape.base ≤ line) × (line < shape.base + lines_in shape))
-    → tearing ≡ is_tear event
+    → tearing ≡ is_tear x.happens x.pulsed
     → Touches x.tick sensed x.pulsed tearing old new → Adds shape (x ∷ []) old new
 
 -- an arrival adds nothing
 abbrev pub ArrivalAddedLaw : Type 0
-ArrivalAddedLaw =
-    (n m tick : ℕ) (shape : BankShape) (event : Event n) (array : ArrayState n m)
-    → is_tear event ≡ false → Adds shape (arrival tick event ∷ []) array array
+ArrivalAddedLaw = (n m tick : ℕ) (shape : BankShape) (event : Event n) (array : ArrayState n m) → Adds shape (arrival tick event ∷ []) array array
 
 -- the events of two calls add up
 abbrev pub BothAddedLaw : Type 0
@@ -48,3 +49,28 @@ ElsewhereLaw =
     → Leads xs clock old → new.lines ≡ old.lines
     → ((line : ℕ) → clock.bank.kept.shape.base ≤ line → line < clock.bank.kept.shape.base + lines_in clock.bank.kept.shape → new.line line ≡ old.line line)
     → Leads xs clock new
+
+-- an event that pulses no line, and senses none, before another, adds nothing to what that touches
+abbrev pub BeforeLaw : Type 0
+BeforeLaw =
+    (n m tick : ℕ) (sensed : List ℕ) (pulsed : Option ℕ) (tearing : Bool) (old between new : ArrayState n m)
+    → Touches tick [] None false old between → Touches tick sensed pulsed tearing between new → Touches tick sensed pulsed tearing old new
+
+-- one that pulses no line behind another that senses none adds what it senses
+abbrev pub BehindLaw : Type 0
+BehindLaw =
+    (n m tick : ℕ) (sensed : List ℕ) (pulsed : Option ℕ) (tearing : Bool) (old between new : ArrayState n m)
+    → Touches tick [] pulsed tearing old between → Touches tick sensed None false between new → Touches tick sensed pulsed tearing old new
+
+-- a step of the bank's line write, or its cut, leaves the control lines as they were
+abbrev pub ControlsStayLaw : Type 0
+ControlsStayLaw =
+    (n m e tick item : ℕ) (sensed : List ℕ) (tearing : Bool) (op : Operation n m e) (xs : List (Timed n m)) (clock : ClockState n m e) (old new : ArrayState n m)
+    → Leads xs clock old → clock.bank.running ≡ Some op → item < controls_of clock.bank.kept.shape → Touches tick sensed (Some op.target) tearing old new
+    → new.line (clock.regs.base + item) ≡ old.line (clock.regs.base + item)
+
+-- and a history leads to the bank over an array in which a control line was pulsed or torn
+abbrev pub BankStaysLaw : Type 0
+BankStaysLaw =
+    (n m e tick item : ℕ) (sensed : List ℕ) (tearing : Bool) (h : List (Event n)) (bank : BankState n m e) (old new : ArrayState n m)
+    → Holds h bank old → Touches tick sensed (Some (control_line bank.kept.shape item)) tearing old new → Holds h bank new

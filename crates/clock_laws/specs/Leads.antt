@@ -1,27 +1,50 @@
 -- That a timed history leads to a bank with its clock, over an array.
-use Rattle.std.specs.Prelude.{◌≡◌, ℕ, ◌+◌, ◌<◌, IsTrue, List, [], IfSome, IsSomeAnd}
+use Rattle.std.specs.Prelude.{◌≡◌, ℕ, ◌+◌, ◌<◌, ◌≤◌, IsTrue, List, [], map, IfSome, IsSomeAnd}
 use Rattle.pcm_cells.specs.Device.{ArrayState}
 use Rattle.ecp_line.specs.Reading.{decode}
 use Rattle.bank_shape.specs.Shape.{lines_in}
 use Rattle.power_recovery.specs.Events.{is_copy}
-use Rattle.bank_model.specs.Timing.{Timed, core}
+use Rattle.bank_model.specs.History.{queue}
+use Rattle.bank_model.specs.Running.{running_at, cancels_after}
+use Rattle.bank_model.specs.Timing.{Timed, ends, core, last_tick}
 use Rattle.bank_model.specs.Lawful.{Lawful}
 use Rattle.bank_model.specs.Sensing.{pulses_of, copied}
-use Rattle.bank_model.specs.Told.{IsTold}
+use Rattle.bank_model.specs.Told.{IsTold, tick_of_row}
 use Rattle.bank_invariant.specs.State.{Operation}
 use Rattle.bank_invariant.specs.Holds.{Holds}
+use Rattle.register_laws.specs.Control.{Control}
+use Rattle.register_laws.specs.Telling.{AreTold}
 use Rattle.clock_laws.specs.State.{ClockState}
 
 -- a gap move in progress writes what the line that it copies was read as when its begin sensed it
 abbrev pub CopiesWhatItSensed : {n m e : ℕ} → List (Timed n m) → Operation n m e → Type 0
 CopiesWhatItSensed {e = e} xs op = IsTrue (is_copy op.work) → IsSomeAnd (copied xs) (λ source. op.writer.bytes ≡ decode e source)
 
--- the history is one that the bank may have, what the bank and its clock keep is what the history leaves, each line of the bank
--- has the pulses that the history counts, and no row that a cut took away is left to take
+-- the history is one that the bank may have, what the bank, its control lines and its clock keep is what the history leaves, the
+-- control lines hold what the bank keeps, each line of the bank has the pulses that the history counts, and no row that a cut took
+-- away is left to take
 pub record Leads {n m e : ℕ} (xs : List (Timed n m)) (clock : ClockState n m e) (array : ArrayState n m) : Type 0 where
   pub lawful : Lawful clock.bank.kept.shape clock.pace e xs
   pub holds : Holds (core xs) clock.bank array
-  pub told : IsTold clock.bank.kept.shape clock.pace xs clock.tick clock.action clock.arrivals 0
+  pub told : IsTold clock.bank.kept.shape clock.pace xs clock.tick clock.action clock.arrivals clock.cancels
+  pub regs : AreTold clock.bank.kept.shape xs clock.regs
+  pub control : Control clock.bank.kept clock.regs array
+  pub pulses : (line : ℕ) → line < lines_in clock.bank.kept.shape
+      → (array.line (clock.bank.kept.shape.base + line)).pulses ≡ pulses_of xs (clock.bank.kept.shape.base + line)
+  pub copying : IfSome clock.bank.running (CopiesWhatItSensed xs)
+  pub taken : clock.bank.lost ≡ []
+
+-- the same but that the last event may be a cancel, whose read is still to come
+pub record Reaches {n m e : ℕ} (xs : List (Timed n m)) (clock : ClockState n m e) (array : ArrayState n m) : Type 0 where
+  pub lawful : Lawful clock.bank.kept.shape clock.pace e xs
+  pub holds : Holds (core xs) clock.bank array
+  pub now : last_tick xs ≤ clock.tick
+  pub runs : clock.action ≡ running_at clock.bank.kept.shape clock.pace xs clock.tick
+  pub to_come : IfSome clock.action (λ a. clock.tick < ends clock.pace a)
+  pub arrived : clock.arrivals ≡ map (λ entry. tick_of_row entry.row xs) (queue clock.bank.kept.shape (core xs))
+  pub cancels : clock.cancels ≡ cancels_after xs
+  pub regs : AreTold clock.bank.kept.shape xs clock.regs
+  pub control : Control clock.bank.kept clock.regs array
   pub pulses : (line : ℕ) → line < lines_in clock.bank.kept.shape
       → (array.line (clock.bank.kept.shape.base + line)).pulses ≡ pulses_of xs (clock.bank.kept.shape.base + line)
   pub copying : IfSome clock.bank.running (CopiesWhatItSensed xs)

@@ -7,6 +7,7 @@ pub mod Fitting
 pub mod Newest
 pub mod Remaining
 pub mod Completing
+pub mod Putting
 pub mod Cutting
 pub mod Actions
 pub mod Extending

@@ -10,7 +10,7 @@ use Rattle.clock_laws.specs.Leads.{Leads}
 -- the clock at another tick, with this action running
 abbrev pub at_tick : {n m e : ℕ} → ℕ → Option Action → ClockState n m e → ClockState n m e
 at_tick tick action clock =
-    record { bank = clock.bank; pace = clock.pace; tick = tick; action = action; arrivals = clock.arrivals; drained = clock.drained }
+    record { bank = clock.bank; regs = clock.regs; pace = clock.pace; tick = tick; action = action; arrivals = clock.arrivals; cancels = clock.cancels; drained = clock.drained }
 
 -- a history leads to its bank at a later tick too, where the action that runs from now on hasn't ended by then
 abbrev pub PassingLaw : Type 0

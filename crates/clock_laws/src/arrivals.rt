@@ -1,7 +1,7 @@
 //! The laws of a write or a read that arrives, and of a power cut.
 
 ghost use Rattle.clock_laws.specs.Arriving.{WriteLaw, ReadLaw};
-ghost use Rattle.clock_laws.specs.Cutting.{PowerCutLaw};
+ghost use Rattle.clock_laws.specs.Cutting.{PowerCutLaw, CancelLaw, KeepCancelLaw, CancelledReadLaw};
 ghost use Rattle.clock_laws.specs.Fitting.{FitWriteLaw, FitReadLaw};
 ghost use Rattle.clock_laws.specs.Newest.{EntryLaw};
 
@@ -10,7 +10,7 @@ pub fn writes_arrive()
     ensures { WriteLaw }
 {}
 
-/// A read that arrives extends the history by its event, under a policy that doesn't cancel.
+/// A read that arrives and doesn't cancel extends the history by its event.
 pub fn reads_arrive()
     ensures { ReadLaw }
 {}
@@ -33,4 +33,19 @@ pub fn actions_fit_after_reads()
 /// Each entry of a queue gives the newest bytes of its line as of its own write.
 pub fn entries_give_the_newest()
     ensures { EntryLaw }
+{}
+
+/// A cancel extends the history by its event; its read is still to come.
+pub fn reads_cancel()
+    ensures { CancelLaw }
+{}
+
+/// So does a cancel of the writing of the change that stands.
+pub fn reads_cancel_the_writing_of_changes()
+    ensures { KeepCancelLaw }
+{}
+
+/// The read behind its cancel makes the history whole.
+pub fn cancelled_reads_arrive()
+    ensures { CancelledReadLaw }
 {}

@@ -1,6 +1,6 @@
 //! How the events of several calls add up, what a bank does not touch, and what its history leaves.
 
-ghost use Rattle.clock_laws.specs.Extending.{NothingAddedLaw, OneAddedLaw, ArrivalAddedLaw, BothAddedLaw, ElsewhereLaw};
+ghost use Rattle.clock_laws.specs.Extending.{NothingAddedLaw, OneAddedLaw, ArrivalAddedLaw, BothAddedLaw, ElsewhereLaw, BeforeLaw, BehindLaw, ControlsStayLaw, BankStaysLaw};
 ghost use Rattle.clock_laws.specs.Ending.{LeavingLaw};
 
 /// No event leaves an array as it was.
@@ -31,4 +31,24 @@ pub fn other_lines_do_not_matter()
 /// A history leaves the array with its pulses, and with its retired lines worn.
 pub fn histories_leave_the_array()
     ensures { LeavingLaw }
+{}
+
+/// What touches nothing adds nothing to what comes behind it.
+pub fn nothing_goes_before()
+    ensures { BeforeLaw }
+{}
+
+/// What pulses no line adds what it senses to what came before it.
+pub fn senses_come_behind()
+    ensures { BehindLaw }
+{}
+
+/// The bank's line write leaves the control lines as they were.
+pub fn control_lines_stay()
+    ensures { ControlsStayLaw }
+{}
+
+/// A bank holds over an array in which a control line was pulsed or torn.
+pub fn banks_hold_over_control_lines()
+    ensures { BankStaysLaw }
 {}

@@ -1,8 +1,8 @@
 //! The laws of a bank that was just made, and of time that passes in which no event comes.
 
 ghost use Rattle.clock_laws.specs.Passing.{PassingLaw, IdleLaw, EndingLaterLaw};
-ghost use Rattle.clock_laws.specs.Fitting.{ChosenLaw, RestLaw};
-ghost use Rattle.clock_laws.specs.Remaining.{FallingLaw};
+ghost use Rattle.clock_laws.specs.Fitting.{NeedsLaw, ChosenLaw, RestLaw};
+ghost use Rattle.clock_laws.specs.Remaining.{FallingLaw, OneWriteLaw};
 ghost use Rattle.clock_laws.specs.Starting.{StartLaw};
 
 /// No event leads to a bank that was just made.
@@ -25,6 +25,11 @@ pub fn actions_end_later()
     ensures { EndingLaterLaw }
 {}
 
+/// What an action needs is the bank's where no change stands, and else the change's.
+pub fn actions_need_one_line_write()
+    ensures { NeedsLaw }
+{}
+
 /// An action that is chosen has what it needs: a read waits, a line write may be begun, or one is in progress.
 pub fn chosen_actions_fit()
     ensures { ChosenLaw }
@@ -33,6 +38,11 @@ pub fn chosen_actions_fit()
 /// Each action leaves a bank fewer to take, if nothing arrives.
 pub fn actions_grow_fewer()
     ensures { FallingLaw }
+{}
+
+/// While a change stands, no line write of the bank is in progress.
+pub fn one_line_write_is_in_progress()
+    ensures { OneWriteLaw }
 {}
 
 /// Where no action runs from now on, no read waits, and no line write is in progress or to be begun.

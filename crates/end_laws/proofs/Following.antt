@@ -16,7 +16,7 @@ use Rattle.bank_model.specs.Events.{Event, Write, Read, Serve, Begin, Iterate, C
 use Rattle.bank_model.specs.History.{retired, moved_in, stored_in}
 use Rattle.bank_model.specs.After.{slot_after, array_line_after, stands_at_after}
 use Rattle.bank_model.specs.Sensing.{most_steps}
-use Rattle.bank_model.specs.Timing.{Pacing, Happens, Core, Timed, core, core_of}
+use Rattle.bank_model.specs.Timing.{Pacing, Happens, Core, Regs, Timed, core, core_of}
 use Rattle.bank_model.specs.Lawful.{Lawful}
 use Rattle.bank_laws.specs.Laws.{IsSized, LeavesArray, is_worn_at}
 use Rattle.bank_laws.specs.Outcomes.{outcome_of, ended, row_with, rows_from}
@@ -94,6 +94,7 @@ follows-later {n} slots slot (x ∷ later) zs exists = by x.happens (follows-lat
   where
     by : (h : Happens n) → Follows slots slot (retired (core zs)) (retired (core (later ++ zs))) → Follows slots slot (retired (core zs)) (retired (core_of h (core (later ++ zs))))
     by (Core event) f = follows-event slots slot (retired (core zs)) exists event (core (later ++ zs)) f
+    by (Regs event) f = f
 
 module _ {n m : ℕ} (shape : BankShape) (pace : Pacing) (e : ℕ) (all : List (Timed n m)) (array : ArrayState n m) (sized : IsSized shape pace) (l : Lawful shape pace e all) (left : LeavesArray e shape all array)
     (table : ℕ → ℕ) (is_table : (slot : ℕ) → table slot ≡ array_line_after shape (core all) slot) where
@@ -178,12 +179,13 @@ module _ {n m : ℕ} (shape : BankShape) (pace : Pacing) (e : ℕ) (all : List (
       by (Core (Read row line answer)) cancels sums asked =
           outcome-ends (rows_from shape all ys ++ (row_with shape all (Core (Read row line answer)) x.tick cancels ++ rows_after shape all later)) row line sums (asked row line (inl (refl, refl)))
       by (Core (Serve answer)) cancels sums asked = tt
+      by (Regs event) cancels sums asked = tt
       by (Core (Begin answer)) cancels sums asked = tt
       by (Core (Iterate answer)) cancels sums asked = tt
       by (Core (Cut tearing)) true sums asked = tt
       by (Core (Cut tearing)) false sums asked = refl
 
 pub still_there_law : StillThereLaw
-still_there_law n m e pace xs bank array sized l holds =
+still_there_law n m e pace xs bank array sized l holds halted =
     walk bank.kept.shape xs (is_still_there bank.kept.shape (is_worn_at e array) (array_line bank.kept)) [] xs refl
-    (still_at bank.kept.shape pace e xs (recounted e xs bank array holds) sized l (leaves e xs bank array holds) (array_line bank.kept) (agreeing (core xs) bank array holds).lines)
+    (still_at bank.kept.shape pace e xs (recounted e xs bank array holds halted) sized l (leaves e xs bank array holds halted) (array_line bank.kept) (agreeing (core xs) bank array holds).lines)

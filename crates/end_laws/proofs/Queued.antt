@@ -12,7 +12,7 @@ use Rattle.bank_shape.specs.declared.BankShape.{BankShape}
 use Rattle.bank_model.specs.Events.{Write, Read, Serve, Begin, Iterate, Cut}
 use Rattle.bank_model.specs.History.{queue}
 use Rattle.bank_model.specs.Sensing.{most_steps}
-use Rattle.bank_model.specs.Timing.{Pacing, Happens, Core, Timed, core, core_of}
+use Rattle.bank_model.specs.Timing.{Pacing, Happens, Core, Regs, Timed, core, core_of}
 use Rattle.bank_model.specs.Lawful.{Lawful}
 use Rattle.bank_laws.specs.Outcomes.{outcome_of, ended, row_with, rows_from, table_of}
 use Rattle.bank_laws.proofs.Fates.{or_first, or_second}
@@ -39,6 +39,7 @@ module _ {n m : ℕ} (shape : BankShape) (all : List (Timed n m)) where
       by (Core (Write at of bytes given answer)) cancels (inr w) go = or_second _ _ (go w)
       by (Core (Read at of answer)) cancels w go = go w
       by (Core (Serve answer)) cancels w go = go w
+      by (Regs event) cancels w go = go w
       by (Core (Begin answer)) cancels w go = go w
       by (Core (Iterate answer)) cancels w go = go w
       by (Core (Cut tearing)) true w go = go w

@@ -3,12 +3,12 @@ use Rattle.std.proofs.Common.{◌≡◌, ◌≢◌, ℕ, zero, suc, ◌+◌, ◌
 use Rattle.std.proofs.lemmas.Bool.{cases_lt, cases_eq}
 use Rattle.std.proofs.lemmas.Nat.{mul-add-lt, mod_below, div_below, div-mul-add, mod-mul-add, div-add-mod'}
 use Rattle.wear_report.specs.declared.Role.{Role}
-use Rattle.wear_report.specs.declared.Role.TheVariants.{Line, Gap, Free, Retired}
+use Rattle.wear_report.specs.declared.Role.TheVariants.{Line, Gap, Free, Retired, Control}
 use Rattle.start_gap.specs.Rotation.{Rotation, IsRotation, StandsFor, place_by, place_after, gap_after}
 use Rattle.start_gap.proofs.Turning.{line_before, line_behind, place-stands, gap-stands}
 use Rattle.start_gap.proofs.Places.{rotation_after, rotation_after-range, rotation_after-stands, place_after-off_gap, place_after-apart}
 use Rattle.bank_shape.specs.declared.BankShape.{BankShape}
-use Rattle.bank_shape.specs.Shape.{slots_of, slot_at, slot_moved, IsBankShape}
+use Rattle.bank_shape.specs.Shape.{slots_of, slot_at, slot_moved, controls_from, IsBankShape}
 use Rattle.power_recovery.proofs.Placing.{slot_at-region, slot_at-place, same_line}
 use Rattle.place_laws.proofs.Slots.{slot_at-within, slot_moved-within, gap-within}
 use Rattle.end_laws.specs.Ends.{BankEnd}
@@ -26,6 +26,14 @@ used-reaches shape table (suc slots) slot below =
           let before : table slot < shape.base + slots_of shape + used_among shape table slots = used-reaches shape table slots slot (omega (arith, below, other)) in
           omega (arith, before)
     ]
+
+-- and no further than to the last spare, where no slot has a control line
+used-within : (shape : BankShape) (table : ℕ → ℕ) (slots : ℕ) → ((slot : ℕ) → slot < slots → table slot < controls_from shape) → used_among shape table slots ≤ shape.spares
+used-within shape table zero within = omega arith
+used-within shape table (suc slots) within =
+    let own : table slots < controls_from shape = within slots (omega arith) in
+    let before : used_among shape table slots ≤ shape.spares = used-within shape table slots (λ slot below. within slot (omega (arith, below))) in
+    omega (arith, own, before)
 
 -- one of these slots has the line, or none has
 find_slot : (table : ℕ → ℕ) (at slots : ℕ) → ((slot : ℕ) × (slot < slots) × (table slot ≡ at)) ⊎ ((slot : ℕ) → slot < slots → table slot ≢ at)
@@ -129,7 +137,8 @@ module _ (shape : BankShape) (range : IsBankShape shape) where
       (ap (λ q. place_after shape.lines (line % shape.lines) (moves q)) (sym one) ∙ place)
 
   module _ (named : ℕ → ℕ) (end : BankEnd) (at : ℕ)
-      (apart : (slot other : ℕ) → slot < slots_of shape → other < slots_of shape → end.table slot ≡ end.table other → slot ≡ other) where
+      (apart : (slot other : ℕ) → slot < slots_of shape → other < slots_of shape → end.table slot ≡ end.table other → slot ≡ other)
+      (within : (slot : ℕ) → slot < slots_of shape → end.table slot < controls_from shape) where
     -- a slot has the line
     HasSlot : Type 0
     HasSlot = (slot : ℕ) × (slot < slots_of shape) × (end.table slot ≡ at)
@@ -147,11 +156,19 @@ module _ (shape : BankShape) (range : IsBankShape shape) where
     unfolding HasSlot
     not-free s free =
         let reaches : end.table s.0 < shape.base + slots_of shape + used_spares shape end.table = used-reaches shape end.table (slots_of shape) s.0 s.1 in
-        omega (arith, reaches, s.2, free)
+        omega (arith, reaches, s.2, free.0)
 
     not-retired : HasSlot → IsRole shape named end at Retired → ⊥
     unfolding HasSlot
     not-retired s gone = gone.1 s.0 s.1 s.2
+
+    not-control : HasSlot → IsRole shape named end at Control → ⊥
+    unfolding HasSlot
+    not-control s control = omega (arith, within s.0 s.1, s.2, control)
+
+    -- the used spares end before the control lines
+    used-before : used_spares shape end.table ≤ shape.spares
+    used-before = used-within shape end.table (slots_of shape) within
 
     line-gap : (line : ℕ) → IsRole shape named end at (Line line) → IsRole shape named end at Gap → ⊥
     line-gap line is gap =
@@ -175,18 +192,27 @@ module _ (shape : BankShape) (range : IsBankShape shape) where
     one-role (Line a) Gap is other = absurd (line-gap a is other)
     one-role (Line a) Free is other = absurd (not-free (line-slot a is) other)
     one-role (Line a) Retired is other = absurd (not-retired (line-slot a is) other)
+    one-role (Line a) Control is other = absurd (not-control (line-slot a is) other)
     one-role Gap (Line b) is other = absurd (line-gap b other is)
     one-role Gap Gap is other = refl
     one-role Gap Free is other = absurd (not-free (gap-slot is) other)
     one-role Gap Retired is other = absurd (not-retired (gap-slot is) other)
+    one-role Gap Control is other = absurd (not-control (gap-slot is) other)
     one-role Free (Line b) is other = absurd (not-free (line-slot b other) is)
     one-role Free Gap is other = absurd (not-free (gap-slot other) is)
     one-role Free Free is other = refl
-    one-role Free Retired is other = absurd (omega (arith, is, other.0))
+    one-role Free Retired is other = absurd (omega (arith, is.0, other.0))
+    one-role Free Control is other = absurd (omega (arith, is.1, other))
     one-role Retired (Line b) is other = absurd (not-retired (line-slot b other) is)
     one-role Retired Gap is other = absurd (not-retired (gap-slot other) is)
-    one-role Retired Free is other = absurd (omega (arith, is.0, other))
+    one-role Retired Free is other = absurd (omega (arith, is.0, other.0))
     one-role Retired Retired is other = refl
+    one-role Retired Control is other = absurd (omega (arith, is.0, other, used-before))
+    one-role Control (Line b) is other = absurd (not-control (line-slot b other) is)
+    one-role Control Gap is other = absurd (not-control (gap-slot other) is)
+    one-role Control Free is other = absurd (omega (arith, is, other.1))
+    one-role Control Retired is other = absurd (omega (arith, is, other.0, used-before))
+    one-role Control Control is other = refl
 
     found : (role : Role) → IsRole shape named end at role → HasOneRole shape named end at
     found role is = record { role = role; is = is; only = λ other k. one-role other role k is }
@@ -205,8 +231,12 @@ module _ (shape : BankShape) (range : IsBankShape shape) where
         by (inr none) =
             elim (cases_lt at (shape.base + slots_of shape + used_spares shape end.table)) [
               | inl less ↦ found Retired (less, none)
-              | inr more ↦ found Free more
+              | inr more ↦ behind more (cases_lt at (controls_from shape))
             ]
+          where
+            behind : shape.base + slots_of shape + used_spares shape end.table ≤ at → (at < controls_from shape) ⊎ (controls_from shape ≤ at) → HasOneRole shape named end at
+            behind more (inl less) = found Free (more, less)
+            behind more (inr control) = found Control control
 
 pub role_law : RoleLaw
-role_law shape named end at range apart = has_role shape range named end at apart
+role_law shape named end at range apart within = has_role shape range named end at apart within

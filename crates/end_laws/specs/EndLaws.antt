@@ -6,10 +6,12 @@ use Rattle.masked_bytes.specs.declared.entry.Entry.{Entry}
 use Rattle.start_gap.specs.Rotation.{StandsFor}
 use Rattle.pcm_cells.specs.Device.{ArrayState}
 use Rattle.row_laws.specs.Rows.{each_row, newest}
-use Rattle.bank_shape.specs.Shape.{slots_of}
+use Rattle.bank_shape.specs.declared.BankShape.{BankShape}
+use Rattle.bank_shape.specs.Shape.{slots_of, control_line}
 use Rattle.power_recovery.specs.Kept.{KeptState, region_at, array_line}
 use Rattle.bank_model.specs.Events.{Event}
 use Rattle.bank_model.specs.History.{moved_in}
+use Rattle.bank_model.specs.Changes.{change_after, halted_after}
 use Rattle.bank_model.specs.Timing.{Pacing, Timed, core}
 use Rattle.bank_model.specs.Lawful.{Lawful, IsIdle}
 use Rattle.bank_invariant.specs.State.{BankState}
@@ -35,6 +37,10 @@ whole_head (entry ∷ entries) = if gives_all entry.given then Some entry.line e
 abbrev pub end_of : {n : ℕ} → KeptState n → List (Event n) → BankEnd
 end_of kept h = record { table = array_line kept; moves = moved_in kept.shape.lines h; excepted = whole_head kept.entries }
 
+-- where the writing of the change that stands has halted, its control line is worn
+abbrev pub IsHaltedWorn : {n m : ℕ} → ℕ → BankShape → List (Timed n m) → ArrayState n m → Type 0
+IsHaltedWorn e shape xs array = IsTrue (halted_after xs) → IfSome (change_after shape xs) (λ item. IsTrue (is_worn_at e array (control_line shape item)))
+
 -- each slot has an array line of its own: its first, or a spare where that is worn
 abbrev pub RemappedLaw : Type 0
 RemappedLaw =
@@ -46,6 +52,7 @@ abbrev pub GapsLaw : Type 0
 GapsLaw =
     (n m e : ℕ) (pace : Pacing) (xs : List (Timed n m)) (bank : BankState n m e) (array : ArrayState n m) (region : ℕ)
     → IsSized bank.kept.shape pace → Lawful bank.kept.shape pace e xs → IsIdle bank.kept.shape pace xs → Holds (core xs) bank array
+    → IsHaltedWorn e bank.kept.shape xs array
     → IsTrue (is_moved bank.kept.shape (is_worn_at e array) (table_of bank.kept.shape xs) region (moved_in bank.kept.shape.lines (core xs) region))
 
 -- the newest bytes of each line but one stand in the array line that the table gives it, or are of writes that were not stored
@@ -77,6 +84,7 @@ abbrev pub StillThereLaw : Type 0
 StillThereLaw =
     (n m e : ℕ) (pace : Pacing) (xs : List (Timed n m)) (bank : BankState n m e) (array : ArrayState n m)
     → IsSized bank.kept.shape pace → Lawful bank.kept.shape pace e xs → Holds (core xs) bank array
+    → IsHaltedWorn e bank.kept.shape xs array
     → IsTrue (each_row (is_still_there bank.kept.shape (is_worn_at e array) (array_line bank.kept)) (table_of bank.kept.shape xs) [])
 
 -- after a lawful history, at whose end nothing runs and nothing would be chosen, the bank that it leads to has each line's newest
@@ -85,5 +93,6 @@ abbrev pub EndLaw : Type 0
 EndLaw =
     (n m e : ℕ) (pace : Pacing) (xs : List (Timed n m)) (bank : BankState n m e) (array : ArrayState n m)
     → IsSized bank.kept.shape pace → Lawful bank.kept.shape pace e xs → IsIdle bank.kept.shape pace xs → Holds (core xs) bank array
+    → IsHaltedWorn e bank.kept.shape xs array
     → (end : BankEnd) × IsEndOf bank.kept end
     × EndsWith bank.kept.shape (is_worn_at e array) (decoded e array) (table_of bank.kept.shape xs) end

@@ -2,11 +2,11 @@
 use Rattle.std.specs.Prelude.{◌≡◌, ◌≢◌, ℕ, zero, suc, ◌+◌, ◌-◌, ◌*◌, ◌<◌, ◌≤◌, max, List}
 use Rattle.pcm_cells.specs.Device.{ArrayState}
 use Rattle.wear_report.specs.declared.Role.{Role}
-use Rattle.wear_report.specs.declared.Role.TheVariants.{Line, Gap, Free, Retired}
+use Rattle.wear_report.specs.declared.Role.TheVariants.{Line, Gap, Free, Retired, Control}
 use Rattle.start_gap.specs.Rotation.{gap_after}
 use Rattle.spare_pool.specs.Table.{used_by}
 use Rattle.bank_shape.specs.declared.BankShape.{BankShape}
-use Rattle.bank_shape.specs.Shape.{slots_of, slot_at, IsBankShape}
+use Rattle.bank_shape.specs.Shape.{slots_of, slot_at, controls_from, IsBankShape}
 use Rattle.power_recovery.specs.Kept.{array_line}
 use Rattle.bank_model.specs.Events.{Event}
 use Rattle.bank_invariant.specs.State.{BankState}
@@ -23,15 +23,16 @@ abbrev pub used_spares : BankShape → (ℕ → ℕ) → ℕ
 used_spares shape table = used_among shape table (slots_of shape)
 
 -- an array line of the bank holds a line, by the name that it has in the module; or it is a region's gap, a spare that isn't
--- used, or one that no slot has any more
+-- used, one that no slot has any more, or a control line
 abbrev pub IsRole : BankShape → (ℕ → ℕ) → BankEnd → ℕ → Role → Type 0
 IsRole shape named end at (Line line) =
     (own : ℕ) × (own < shape.regions * shape.lines) × (place_by_table shape end.moves end.table own ≡ at) × (line ≡ named own)
 IsRole shape named end at Gap =
     (region : ℕ) × (region < shape.regions) × (end.table (slot_at shape region (gap_after shape.lines (end.moves region))) ≡ at)
-IsRole shape named end at Free = shape.base + slots_of shape + used_spares shape end.table ≤ at
+IsRole shape named end at Free = (shape.base + slots_of shape + used_spares shape end.table ≤ at) × (at < controls_from shape)
 IsRole shape named end at Retired =
     (at < shape.base + slots_of shape + used_spares shape end.table) × ((slot : ℕ) → slot < slots_of shape → end.table slot ≢ at)
+IsRole shape named end at Control = controls_from shape ≤ at
 
 -- it has this role, and no other
 pub record HasOneRole (shape : BankShape) (named : ℕ → ℕ) (end : BankEnd) (at : ℕ) : Type 0 where
@@ -39,11 +40,12 @@ pub record HasOneRole (shape : BankShape) (named : ℕ → ℕ) (end : BankEnd) 
   pub is : IsRole shape named end at role
   pub only : (other : Role) → IsRole shape named end at other → other ≡ role
 
--- by an end in which each slot has an array line of its own, each array line has one role
+-- by an end in which each slot has an array line of its own, which is no control line, each array line has one role
 abbrev pub RoleLaw : Type 0
 RoleLaw =
     (shape : BankShape) (named : ℕ → ℕ) (end : BankEnd) (at : ℕ)
     → IsBankShape shape → ((slot other : ℕ) → slot < slots_of shape → other < slots_of shape → end.table slot ≡ end.table other → slot ≡ other)
+    → ((slot : ℕ) → slot < slots_of shape → end.table slot < controls_from shape)
     → HasOneRole shape named end at
 
 -- the spares that are used by a bank's table are as many as the bank has used

@@ -47,8 +47,8 @@ pub fn newest_bytes_are_kept()
     ensures { EndLaw }
 {}
 
-/// By the end of a bank each of its array lines is used for one thing: a line, a gap, a spare that isn't used, or one that
-/// was retired.
+/// By the end of a bank each of its array lines is used for one thing: a line, a gap, a spare that isn't used, one that was
+/// retired, or a control line.
 pub fn lines_have_one_role()
     ensures { RoleLaw }
 {}

@@ -8,7 +8,7 @@ use Rattle.bank_shape.specs.Pausing.{is_cancelling}
 use Rattle.bank_shape.specs.declared.BankShape.{BankShape}
 use Rattle.bank_model.specs.declared.answer.ReadAnswer.TheVariants as came
 use Rattle.bank_model.specs.Events.{Event, Write, Read, Serve, Begin, Iterate, Cut}
-use Rattle.bank_model.specs.Timing.{Pacing, Happens, Core, Timed}
+use Rattle.bank_model.specs.Timing.{Pacing, Happens, Core, Regs, Timed}
 use Rattle.bank_model.specs.Lawful.{Lawful, MayCome, IsRead}
 use Rattle.bank_laws.specs.Outcomes.{row_with, rows_from}
 use Rattle.bank_laws.specs.Logs.{is_broken}
@@ -61,28 +61,37 @@ module _ {n m : ℕ} (shape : BankShape) (rules : Rules) where
   read_breaks all (Iterate answer) tick from to cancels policy is le lt = absurd is
   read_breaks all (Cut tearing) tick from to cancels policy is le lt = absurd is
 
-  -- a cut, or the read behind a cancel, breaks off what runs at its tick
+  split-end : (pre : List (Timed n m)) (z x : Timed n m) (xs : List (Timed n m)) → (pre ++ z ∷ x ∷ xs) ≡ (pre ++ z ∷ []) ++ x ∷ xs
+  split-end [] z x xs = refl
+  split-end (y ∷ pre) z x xs = ap (λ zs. y ∷ zs) (split-end pre z x xs)
+
+  -- a cut breaks off what runs at its tick
+  pub cut-here : (all pre : List (Timed n m)) (x : Timed n m) (xs : List (Timed n m)) (tearing : Bool) (from to : ℕ) → all ≡ pre ++ x ∷ xs → x.happens ≡ Core (Cut tearing) → x.cancels ≡ false
+      → from ≤ x.tick → x.tick ≤ to → is_broken rules (rows_from shape all all) from to ≡ true
+  cut-here all pre x xs tearing from to same is c le lt =
+      broken-there all pre x xs from to same
+      (subst (λ (h : Happens n). is_broken rules (row_with shape all h x.tick x.cancels) from to ≡ true) (sym is)
+      (subst (λ b. is_broken rules (row_with shape all (Core (Cut tearing)) x.tick b) from to ≡ true) (sym c) (cut_breaks all x.tick from to tearing le lt)))
+
+  -- and so does the read behind a cancel
+  pub read-behind : (pace : Pacing) (e : ℕ) (all pre : List (Timed n m)) (z x : Timed n m) (xs : List (Timed n m)) (from to : ℕ)
+      → Lawful shape pace e all → all ≡ pre ++ z ∷ x ∷ xs → is_cancelling rules.policy ≡ true → x.cancels ≡ true → from ≤ x.tick → x.tick ≤ to → is_broken rules (rows_from shape all all) from to ≡ true
+  read-behind pace e all pre z x xs from to l same cancelling c le lt =
+      behind z.happens (lawful_before shape pace e pre (z ∷ x ∷ xs) (subst (λ (zs : List (Timed n m)). Lawful shape pace e zs) same l)).0 refl
+    where
+      behind : (h : Happens n) → MayCome shape pace e (x ∷ xs) z h → z.happens ≡ h → is_broken rules (rows_from shape all all) from to ≡ true
+      behind (Core event) may its =
+          let read = is_read-same event x.tick z.tick (may.behind c) in
+          broken-there all pre z (x ∷ xs) from to same
+          (subst (λ (h : Happens n). is_broken rules (row_with shape all h z.tick z.cancels) from to ≡ true) (sym its)
+          (read_breaks all event z.tick from to z.cancels cancelling read.1 (omega (arith, read.0)) (omega (arith, read.0))))
+      behind (Regs event) may its = absurd (cc (may.behind, c))
+
   pub cut-broken : (pace : Pacing) (e : ℕ) (all pre : List (Timed n m)) (z x : Timed n m) (xs : List (Timed n m)) (tearing : Bool) (from to : ℕ)
       → Lawful shape pace e all → all ≡ pre ++ z ∷ x ∷ xs → x.happens ≡ Core (Cut tearing)
       → (IsTrue x.cancels → is_cancelling rules.policy ≡ true) → from ≤ x.tick → x.tick ≤ to → is_broken rules (rows_from shape all all) from to ≡ true
   cut-broken pace e all pre z x xs tearing from to l same is cancelling le lt = by x.cancels refl
     where
-      behind : (h : Happens n) → MayCome shape pace e (x ∷ xs) z h → z.happens ≡ h → x.cancels ≡ true → is_broken rules (rows_from shape all all) from to ≡ true
-      behind (Core event) may its c =
-          let read = is_read-same event x.tick z.tick (may.behind c) in
-          broken-there all pre z (x ∷ xs) from to same
-          (subst (λ (h : Happens n). is_broken rules (row_with shape all h z.tick z.cancels) from to ≡ true) (sym its)
-          (read_breaks all event z.tick from to z.cancels (cancelling c) read.1 (omega (arith, read.0)) (omega (arith, read.0))))
-
       by : (b : Bool) → x.cancels ≡ b → is_broken rules (rows_from shape all all) from to ≡ true
-      by true c =
-          let whole : Lawful shape pace e (pre ++ z ∷ x ∷ xs) = subst (λ (zs : List (Timed n m)). Lawful shape pace e zs) same l in
-          behind z.happens (lawful_before shape pace e pre (z ∷ x ∷ xs) whole).0 refl c
-      by false c =
-          broken-there all (pre ++ z ∷ []) x xs from to (same ∙ split pre)
-          (subst (λ (h : Happens n). is_broken rules (row_with shape all h x.tick x.cancels) from to ≡ true) (sym is)
-          (subst (λ b. is_broken rules (row_with shape all (Core (Cut tearing)) x.tick b) from to ≡ true) (sym c) (cut_breaks all x.tick from to tearing le lt)))
-        where
-          split : (pre : List (Timed n m)) → (pre ++ z ∷ x ∷ xs) ≡ (pre ++ z ∷ []) ++ x ∷ xs
-          split [] = refl
-          split (y ∷ pre) = ap (λ zs. y ∷ zs) (split pre)
+      by true c = read-behind pace e all pre z x xs from to l same (cancelling c) c le lt
+      by false c = cut-here all (pre ++ z ∷ []) x xs tearing from to (same ∙ split-end pre z x xs) is c le lt

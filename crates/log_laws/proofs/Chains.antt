@@ -12,10 +12,6 @@ use Rattle.bank_laws.proofs.Fates.{eqb-same, or_first, or_second}
 use Rattle.bank_laws.proofs.Walking.{and_both}
 use Rattle.bank_laws.proofs.Pairs.{and_left, and_right}
 
-not_both : (a b : Bool) → b ≡ false → not (a && b) ≡ true
-not_both true b h = ap not h
-not_both false b h = refl
-
 -- the last sense of a list that begins with this one
 abbrev pub last_of : {n m : ℕ} → Sense n m → List (Sense n m) → Sense n m
 last_of s [] = s
@@ -35,10 +31,10 @@ module _ {n m : ℕ} (rules : Rules) (rows : List (Row n)) (wears : Bool) where
 
   -- a sense after one more pulse
   pub step_follows : (s t : Sense n m) → s.pulses + 1 ≡ t.pulses → (nat_le (s.tick + rules.iter) t.tick || is_broken rules rows s.tick t.tick) ≡ true
-      → list_any (λ r. worn_row r && nat_lt r.tick t.tick) rows ≡ false → follows rules rows wears s t ≡ true
+      → (wears && list_any (λ r. worn_row r && nat_lt r.tick t.tick) rows) ≡ false → follows rules rows wears s t ≡ true
   step_follows s t up apart fine =
       or_second (s.pulses == t.pulses) _ (and_both (s.pulses + 1 == t.pulses) _ (eq-eqb (s.pulses + 1) t.pulses up)
-      (and_both (nat_le (s.tick + rules.iter) t.tick || is_broken rules rows s.tick t.tick) _ apart (not_both wears _ fine)))
+      (and_both (nat_le (s.tick + rules.iter) t.tick || is_broken rules rows s.tick t.tick) _ apart (ap not fine)))
 
   -- each of these senses follows the one before
   abbrev pub Follow : Sense n m → List (Sense n m) → Type 0

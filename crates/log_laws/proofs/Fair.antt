@@ -1,14 +1,16 @@
 -- The senses of each of a bank's lines are fair.
-use Rattle.std.proofs.Common.{◌≡◌, ℕ, ◌+◌, ◌-◌, ◌<◌, ◌==◌, ◌&&◌, ◌⊎◌, inl, inr, Bool, true, false, List, [], ◌∷◌, ◌++◌, Some, None, refl, sym, ap, ◌∙◌, subst, arith, cond, append_assoc}
+use Rattle.std.proofs.Common.{◌≡◌, ℕ, ◌+◌, ◌-◌, ◌<◌, ◌==◌, ◌&&◌, ◌||◌, ◌⊎◌, inl, inr, Bool, true, false, List, [], ◌∷◌, ◌++◌, Option, Some, None, refl, sym, ap, ◌∙◌, subst, arith, cond, append_assoc}
 use Rattle.std.specs.Prelude.{All, nat_lt, not}
 use Rattle.std.proofs.lemmas.List.Elements.{filter-append}
 use Rattle.pcm_cells.specs.declared.array.Sense.{Sense}
 use Rattle.bank_shape.specs.declared.BankShape.{BankShape}
-use Rattle.bank_shape.specs.Shape.{slots_of, lines_in}
+use Rattle.bank_shape.specs.Shape.{slots_of, lines_in, controls_from}
 use Rattle.bank_model.specs.declared.clock.Doing.TheVariants.{Serving}
 use Rattle.bank_model.specs.History.{waits}
 use Rattle.bank_model.specs.Timing.{Pacing, Timed, core, is_empty}
-use Rattle.bank_model.specs.Running.{Choice, chosen_by, gives_way, choice_after}
+use Rattle.bank_model.specs.After.{may_begin_after}
+use Rattle.bank_model.specs.Running.{Choice, chosen_by, gives_way, choice_after, ready_by, ready_after}
+use Rattle.bank_model.specs.Changes.{change_after, keeping_after, halted_after, line_of_change}
 use Rattle.bank_model.specs.Adding.{senses_of}
 use Rattle.bank_model.specs.Sensing.{pulses_of}
 use Rattle.bank_model.specs.Lawful.{Lawful, IsIdle}
@@ -22,7 +24,7 @@ use Rattle.bank_laws.proofs.Walking.{and_both}
 use Rattle.log_laws.specs.Laws.{PulseStepsLaw}
 use Rattle.log_laws.proofs.Chains.{last_of, follow-same, begin-same}
 use Rattle.log_laws.proofs.Owning.{own, own-kept, own-log}
-use Rattle.log_laws.proofs.Pulsing.{Torn, Shown}
+use Rattle.log_laws.proofs.Pulsing.{Torn, Due, Busy, Shown}
 use Rattle.log_laws.proofs.Stepping.{step}
 use Rattle.log_laws.proofs.Targets.{work-begins}
 
@@ -37,21 +39,34 @@ none-begins way reads c is = by (way && reads) c.busy reads c.ready is
     by false false false true is = absurd (cc)
     by false false false false is = refl
 
-module _ {n m : ℕ} (e : ℕ) (shape : BankShape) (pace : Pacing) (wears : Bool) (line : ℕ) (all : List (Timed n m)) (sized : IsSized shape pace) (lawful : Lawful shape pace e all) where
+module _ {n m : ℕ} (e : ℕ) (shape : BankShape) (pace : Pacing) (wears : Bool) (line : ℕ) (wears_is : wears ≡ nat_lt line (controls_from shape)) (all : List (Timed n m)) (sized : IsSized shape pace) (lawful : Lawful shape pace e all) where
   abbrev Known : List (Timed n m) → Type 0
   Known zs = Shown shape pace (rules_of e shape pace) (rows_from shape all all) wears line all zs
 
+  idle-first : Busy shape pace (rules_of e shape pace) (rows_from shape all all) wears line all [] → ⊥
+  idle-first (inl k) = absurd (cc (k.1))
+  idle-first (inr k) = absurd (cc (k.1))
+
   known : AreOpen shape all → (pre xs : List (Timed n m)) → all ≡ pre ++ xs → Known xs
-  known o pre [] same = inl (record { none = refl; unpulsed = refl; untouched = λ p t. absurd (cc) })
+  known o pre [] same = inl (record { none = refl; unpulsed = refl; untouched = λ b. idle-first b })
   known o pre (x ∷ xs) same =
-      step e shape pace wears line all sized lawful o pre x xs same (known o (pre ++ x ∷ []) xs (same ∙ sym (append_assoc pre (x ∷ []) xs)))
+      step e shape pace wears line wears_is all sized lawful o pre x xs same (known o (pre ++ x ∷ []) xs (same ∙ sym (append_assoc pre (x ∷ []) xs)))
 
   -- where a bank has no work left, no line is torn
   mended : IsIdle shape pace all → (s : Sense n m) → Torn shape pace (rules_of e shape pace) (rows_from shape all all) wears line all all s → ⊥
-  mended idle s t =
-      let ready = work-begins shape (core all) (waits shape (core all)) refl (idle-waits shape pace all idle) t.stopped t.work in
-      let isnt = none-begins (gives_way pace.policy) (not (is_empty (waits shape (core all)))) (choice_after shape pace all) idle.chosen in
-      absurd (cc (ready, isnt))
+  mended idle s t = absurd (cc (open_now t.due, none-begins (gives_way pace.policy) (not (is_empty (waits shape (core all)))) (choice_after shape pace all) idle.chosen))
+    where
+      ready-some : (change : Option ℕ) (keeping halted ready : Bool) → line_of_change shape change ≡ Some line → keeping ≡ false → halted ≡ false → ready_by change (keeping || halted) ready ≡ true
+      ready-some None keeping halted ready is k h = absurd (cc)
+      ready-some (Some item) false false ready is k h = refl
+      ready-some (Some item) true halted ready is k h = absurd (cc)
+      ready-some (Some item) false true ready is k h = absurd (cc)
+
+      open_now : Due shape pace (rules_of e shape pace) (rows_from shape all all) wears line all all → ready_after shape all ≡ true
+      open_now (inl k) =
+          ap (λ change. ready_by change (keeping_after all || halted_after all) (may_begin_after shape (core all))) k.0
+          ∙ work-begins shape (core all) (waits shape (core all)) refl (idle-waits shape pace all idle) k.2 k.1
+      open_now (inr k) = ready-some (change_after shape all) (keeping_after all) (halted_after all) (may_begin_after shape (core all)) k.0 k.1 k.2
 
   shown_in_end : IsIdle shape pace all → (more : List (Sense n m)) → All (λ s. s.pulses ≡ pulses_of all line) more → Known all
       → begins_unpulsed (rules_of e shape pace) (rows_from shape all all) wears (pulses_of all line) (own line (senses_of all) ++ more) ≡ true
@@ -72,9 +87,9 @@ pub pulse_steps_law : PulseStepsLaw
 pulse_steps_law n m e shape pace xs array log extra sized lawful idle leaves is are line from below =
     subst (λ (ss : List (Sense n m)). begins_unpulsed (rules_of e shape pace) (table_of shape xs) wears ((array.line line).pulses) ss ≡ true) (sym in_log)
     (subst (λ p. begins_unpulsed (rules_of e shape pace) (table_of shape xs) wears p (own line (senses_of xs) ++ own line extra) ≡ true) (sym pulses)
-    (shown_in_end e shape pace wears line xs sized lawful idle (own line extra)
+    (shown_in_end e shape pace wears line refl xs sized lawful idle (own line extra)
     (subst (λ p. All (λ s. s.pulses ≡ p) (own line extra)) pulses (own-kept line (λ l. (array.line l).pulses) extra are))
-    (known e shape pace wears line xs sized lawful (opens shape pace e xs lawful) [] xs refl)))
+    (known e shape pace wears line refl xs sized lawful (opens shape pace e xs lawful) [] xs refl)))
   where
     wears : Bool
     wears = nat_lt line (shape.base + slots_of shape + shape.spares)

@@ -4,12 +4,9 @@ use Rattle.std.specs.Prelude.{IfSome, nat_lt}
 use Rattle.bank_shape.specs.declared.BankShape.{BankShape}
 use Rattle.bank_model.specs.declared.answer.ReadAnswer.TheVariants as came
 use Rattle.bank_model.specs.declared.clock.Doing.{Doing}
-use Rattle.bank_model.specs.declared.clock.Doing.TheVariants.{Beginning}
 use Rattle.bank_model.specs.declared.clock.Action.{Action}
 use Rattle.bank_model.specs.Events.{Event, Write, Read, Serve, Begin, Iterate, Cut}
-use Rattle.bank_model.specs.After.{work_after, is_store_of}
-use Rattle.bank_model.specs.Timing.{is_doing}
-use Rattle.bank_model.specs.Running.{started, left}
+use Rattle.bank_model.specs.Running.{drops_begin, started, left}
 
 -- an action, if there is one, began at this tick or later
 abbrev pub BeganFrom : ℕ → Option Action → Type 0
@@ -24,16 +21,16 @@ started-from p None (Some doing) last tick h le = by (nat_lt last tick)
     by true = le
     by false = tt
 
-pub left-from : {n : ℕ} (shape : BankShape) (h : List (Event n)) (event : Event n) (p : ℕ) (action : Option Action) → BeganFrom p action → BeganFrom p (left shape h event action)
-left-from shape h (Write row line bytes given answer) p action b = b
-left-from shape h (Read row line came.Waiting) p action b = by (is_doing Beginning action && is_store_of line (work_after shape h))
+pub left-from : {n : ℕ} (shape : BankShape) (h : List (Event n)) (change : Option ℕ) (event : Event n) (p : ℕ) (action : Option Action) → BeganFrom p action → BeganFrom p (left shape h change event action)
+left-from shape h change (Write row line bytes given answer) p action b = b
+left-from shape h change (Read row line came.Waiting) p action b = by (drops_begin shape h change line action)
   where
     by : (c : Bool) → BeganFrom p (cond c None action)
     by true = tt
     by false = b
-left-from shape h (Read row line came.Busy) p action b = b
-left-from shape h (Read row line (came.Forwarded bytes)) p action b = b
-left-from shape h (Serve answer) p action b = tt
-left-from shape h (Begin answer) p action b = tt
-left-from shape h (Iterate answer) p action b = tt
-left-from shape h (Cut tearing) p action b = tt
+left-from shape h change (Read row line came.Busy) p action b = b
+left-from shape h change (Read row line (came.Forwarded bytes)) p action b = b
+left-from shape h change (Serve answer) p action b = tt
+left-from shape h change (Begin answer) p action b = tt
+left-from shape h change (Iterate answer) p action b = tt
+left-from shape h change (Cut tearing) p action b = tt

@@ -17,5 +17,6 @@ mod Uncovering
 mod Storing
 mod Reading
 mod Sensed
+mod Controls
 pub mod Within
 mod Whole

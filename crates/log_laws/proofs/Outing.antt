@@ -12,7 +12,7 @@ use Rattle.bank_model.specs.declared.answer.Step.TheVariants as did
 use Rattle.bank_model.specs.Events.{Event, Write, Read, Serve, Begin, Iterate, Cut, RowsBelow, line_of_row, up_to}
 use Rattle.bank_model.specs.History.{waits}
 use Rattle.bank_model.specs.Sensing.{most_steps}
-use Rattle.bank_model.specs.Timing.{Pacing, Happens, Core, Timed, core, core_of}
+use Rattle.bank_model.specs.Timing.{Pacing, Happens, Core, Regs, Timed, core, core_of}
 use Rattle.bank_model.specs.Lawful.{Lawful, MayCome}
 use Rattle.bank_laws.specs.Outcomes.{on_row, outcome_with, outcome_of}
 use Rattle.bank_laws.specs.Standing.{has_wait}
@@ -32,6 +32,7 @@ core-append {n} {m} (x ∷ mid) ys = by x.happens (core-append mid ys)
   where
     by : (h : Happens n) → core (mid ++ ys) ≡ core mid ++ core ys → core_of h (core (mid ++ ys)) ≡ core_of h (core mid) ++ core ys
     by (Core event) rest = ap (λ h. event ∷ h) rest
+    by (Regs event) rest = rest
 
 module _ {n : ℕ} where
   -- what was stored stays so
@@ -98,6 +99,7 @@ module _ {n m : ℕ} (shape : BankShape) (pace : Pacing) (e : ℕ) where
     where
       more : (h : Happens n) → out_in line (core zs) row ≡ true → out_in line (core_of h (core zs)) row ≡ true
       more (Core event) k = out-more line event (core zs) row k
+      more (Regs event) k = k
 
       stay : (h : Happens n) → MayCome shape pace e zs y h → is_stored (outcome_of shape zs row) ≡ true → is_stored (unwrap_or (outcome_with shape zs h y.tick row) (outcome_of shape zs row)) ≡ out_in line (core_of h (core zs)) row
       stay h may there =
@@ -117,6 +119,7 @@ module _ {n m : ℕ} (shape : BankShape) (pace : Pacing) (e : ℕ) where
       by (Core (Serve answer)) isnt none = on_row-not answer.row row (out.Read y.tick answer.place answer.bytes) o refl isnt ∙ sym none
       by (Core (Begin (did.Stored at place))) isnt none = on_row-out line (core zs) at row y.tick place o is isnt none
       by (Core (Begin did.More)) isnt none = isnt ∙ sym none
+      by (Regs event) isnt none = isnt ∙ sym none
       by (Core (Begin (did.Moved step))) isnt none = isnt ∙ sym none
       by (Core (Begin (did.Retired slot to))) isnt none = isnt ∙ sym none
       by (Core (Begin did.Exhausted)) isnt none = isnt ∙ sym none

@@ -1,13 +1,15 @@
 -- The senses of one line among those of an event.
-use Rattle.std.proofs.Common.{◌≡◌, ℕ, ◌==◌, ◌||◌, ◌&&◌, ◌≤◌, ◌<◌, ◌+◌, Bool, true, false, List, [], ◌∷◌, refl, sym, ap, ◌∙◌, subst, cond, eqb-true}
-use Rattle.std.specs.Prelude.{All, map, filter, nat_le, nat_lt}
+use Rattle.std.proofs.Common.{◌≡◌, ℕ, ◌==◌, ◌||◌, ◌&&◌, ◌≤◌, ◌<◌, ◌+◌, Bool, true, false, List, [], ◌∷◌, refl, sym, ap, ◌∙◌, subst, arith, cond, eq-eqb, eqb-true}
+use Rattle.std.specs.Prelude.{zero, suc, All, map, filter, nat_le, nat_lt}
 use Rattle.std.specs.List.{list_any}
 use Rattle.std.proofs.lemmas.Bool.{le-leb, lt-ltb}
 use Rattle.std.proofs.lemmas.List.Elements.{All-nil, All-cons, All-head, All-tail}
 use Rattle.pcm_cells.specs.declared.array.Sense.{Sense}
 use Rattle.bank_shape.specs.declared.BankShape.{BankShape}
 use Rattle.bank_shape.specs.Shape.{lines_in}
+use Rattle.bank_model.specs.Changes.{numbers_from}
 use Rattle.bank_laws.specs.Laws.{log_of}
+use Rattle.bank_laws.proofs.Fates.{or_first, or_second}
 use Rattle.bank_laws.proofs.Walking.{and_both}
 
 -- the senses of a line
@@ -73,3 +75,21 @@ module _ {n m : ℕ} (line : ℕ) where
           subst (λ l. (nat_le shape.base l && nat_lt l (shape.base + lines_in shape)) ≡ true) (sym same)
           (and_both (nat_le shape.base line) _ (le-leb shape.base line le) (lt-ltb line (shape.base + lines_in shape) lt)) in
           absurd (cc)
+
+-- the lines from one on are those from it up to their count
+pub numbers-from : (from count line : ℕ) → among line (numbers_from from count) ≡ true → from ≤ line
+numbers-from from zero line h = absurd (cc)
+numbers-from from (suc count) line h = by (from == line) refl h (λ k. numbers-from (from + 1) count line k)
+  where
+    by : (b : Bool) → (from == line) ≡ b → (b || among line (numbers_from (from + 1) count)) ≡ true → (among line (numbers_from (from + 1) count) ≡ true → from + 1 ≤ line) → from ≤ line
+    by true is h rest = let same : from ≡ line = eqb-true from line is in omega (arith, same)
+    by false is h rest = let k : from + 1 ≤ line = rest h in omega (arith, k)
+
+pub numbers-all : (from count item : ℕ) → item < count → among (from + item) (numbers_from from count) ≡ true
+numbers-all from zero item lt = absurd (omega arith)
+numbers-all from (suc count) zero lt = or_first (from == from + 0) _ (eq-eqb from (from + 0) (omega arith))
+numbers-all from (suc count) (suc item) lt =
+    or_second (from == from + suc item) _ (subst (λ k. among k (numbers_from (from + 1) count) ≡ true) (next from item) (numbers-all (from + 1) count item (omega (arith, lt))))
+  where
+    next : (from item : ℕ) → (from + 1) + item ≡ from + suc item
+    next from item = omega arith

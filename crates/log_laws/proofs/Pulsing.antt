@@ -1,6 +1,6 @@
 -- What the senses of one line have shown after some events: all of its pulses, or all but that of a tear, whose line is the
 -- target of the present work.
-use Rattle.std.proofs.Common.{◌≡◌, ℕ, ◌≤◌, ◌-◌, ◌^◌, ◌==◌, ◌⊎◌, inl, inr, Bool, true, false, List, [], ◌∷◌, ◌++◌, None, sym, ap, ◌∙◌, subst, arith}
+use Rattle.std.proofs.Common.{◌≡◌, ℕ, ◌≤◌, ◌-◌, ◌^◌, ◌==◌, ◌⊎◌, inl, inr, Bool, true, false, List, [], ◌∷◌, ◌++◌, Some, None, sym, ap, ◌∙◌, subst, arith}
 use Rattle.std.specs.Prelude.{All}
 use Rattle.std.proofs.lemmas.List.{append-nil}
 use Rattle.std.proofs.lemmas.List.Elements.{All-head, All-tail, All-weaker, filter-append}
@@ -13,6 +13,7 @@ use Rattle.bank_model.specs.History.{in_progress}
 use Rattle.bank_model.specs.After.{target_after}
 use Rattle.bank_model.specs.Timing.{Pacing, Timed, core, last_tick}
 use Rattle.bank_model.specs.Running.{running}
+use Rattle.bank_model.specs.Changes.{change_after, keeping_after, halted_after, line_of_change}
 use Rattle.bank_model.specs.Sensing.{pulses_of}
 use Rattle.bank_model.specs.Adding.{senses_of}
 use Rattle.bank_laws.specs.Logs.{is_broken, follows, follow_on}
@@ -22,20 +23,30 @@ use Rattle.log_laws.proofs.Firsts.{BeganFrom}
 use Rattle.log_laws.proofs.Owning.{own}
 
 module _ {n m : ℕ} (shape : BankShape) (pace : Pacing) (rules : Rules) (rows : List (Row n)) (wears : Bool) (line : ℕ) (all : List (Timed n m)) where
-  -- the line was torn behind this sense: it is the target of the work that the bank has to do
+  -- the line is that of the line write that is to be begun: the bank's, or that of the change that stands
+  abbrev pub Due : List (Timed n m) → Type 0
+  Due xs =
+      ((change_after shape xs ≡ None) × WorkAfter shape (core xs) × (in_progress (core xs) ≡ false) × (target_after shape (core xs) ≡ line))
+      ⊎ ((line_of_change shape (change_after shape xs) ≡ Some line) × (keeping_after xs ≡ false) × (halted_after xs ≡ false))
+
+  -- or that of the line write that is in progress
+  abbrev pub Busy : List (Timed n m) → Type 0
+  Busy xs =
+      ((change_after shape xs ≡ None) × (in_progress (core xs) ≡ true) × (target_after shape (core xs) ≡ line))
+      ⊎ ((line_of_change shape (change_after shape xs) ≡ Some line) × (keeping_after xs ≡ true))
+
+  -- the line was torn behind this sense: it is that of the line write that is next
   pub record Torn (xs : List (Timed n m)) (s : Sense n m) : Type 0 where
     pub up : pulses_of xs line ≡ counted s.pulses
     pub few : s.pulses ≤ 2 ^ 64 - 1
-    pub work : WorkAfter shape (core xs)
-    pub stopped : in_progress (core xs) ≡ false
-    pub target : target_after shape (core xs) ≡ line
+    pub due : Due xs
     pub broken : (pre : List (Timed n m)) (z : Timed n m) → all ≡ pre ++ z ∷ xs → (t : ℕ) → last_tick xs ≤ t → is_broken rules rows s.tick t ≡ true
 
   -- a line that wasn't sensed has no pulses, and is no target of a line write in progress
   pub record Unseen (xs : List (Timed n m)) : Type 0 where
     pub none : own line (senses_of xs) ≡ []
     pub unpulsed : pulses_of xs line ≡ 0
-    pub untouched : in_progress (core xs) ≡ true → target_after shape (core xs) ≡ line → ⊥
+    pub untouched : Busy xs → ⊥
 
   -- the senses of a line
   pub record Seen (xs : List (Timed n m)) (s : Sense n m) (ss : List (Sense n m)) : Type 0 where
@@ -58,7 +69,7 @@ module _ {n m : ℕ} (shape : BankShape) (pace : Pacing) (rules : Rules) (rows :
   -- an event that neither senses nor pulses the line
   pub quiet : (xs : List (Timed n m)) (x : Timed n m) → own line x.senses ≡ [] → pulses_of (x ∷ xs) line ≡ pulses_of xs line → last_tick xs ≤ x.tick
       → ((p : ℕ) → p ≤ last_tick xs → BeganFrom p (running shape pace xs) → BeganFrom p (running shape pace (x ∷ xs)))
-      → ((s : Sense n m) → Torn xs s → Torn (x ∷ xs) s) → (Unseen xs → in_progress (core (x ∷ xs)) ≡ true → target_after shape (core (x ∷ xs)) ≡ line → ⊥)
+      → ((s : Sense n m) → Torn xs s → Torn (x ∷ xs) s) → (Unseen xs → Busy (x ∷ xs) → ⊥)
       → Shown xs → Shown (x ∷ xs)
   quiet xs x none same rises keeps torn untouched (inl u) = inl (record { none = own-quiet xs x none ∙ u.none; unpulsed = same ∙ u.unpulsed; untouched = untouched u })
   quiet xs x none same rises keeps torn untouched (inr v) =

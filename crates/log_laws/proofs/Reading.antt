@@ -19,7 +19,7 @@ use Rattle.bank_model.specs.After.{stands_at_after}
 use Rattle.bank_model.specs.Answers.{IsServed}
 use Rattle.bank_model.specs.Adding.{senses_of}
 use Rattle.bank_model.specs.Sensing.{pulses_of, stand_of, IsLaid, IsReadRight}
-use Rattle.bank_model.specs.Timing.{Pacing, Happens, Core, Timed, core, core_of}
+use Rattle.bank_model.specs.Timing.{Pacing, Happens, Core, Regs, Timed, core, core_of}
 use Rattle.bank_model.specs.Lawful.{Lawful, MayCome}
 use Rattle.bank_laws.specs.Logs.{is_sensed}
 use Rattle.bank_laws.specs.Outcomes.{on_row, outcome_with, outcome_of}
@@ -105,6 +105,7 @@ module _ {n m : ℕ} (shape : BankShape) where
   answers-now zs y (Core (Serve answer)) row u p bytes s = read_now answer.row row y.tick answer.place answer.bytes _ u p bytes s
   answers-now zs y (Core (Begin (did.Stored at place))) row u p bytes s = inr (not_read at row _ _ u p bytes (λ is. absurd (cc)) s)
   answers-now zs y (Core (Begin did.More)) row u p bytes s = inr s
+  answers-now zs y (Regs event) row u p bytes s = inr s
   answers-now zs y (Core (Begin (did.Moved step))) row u p bytes s = inr s
   answers-now zs y (Core (Begin (did.Retired slot line))) row u p bytes s = inr s
   answers-now zs y (Core (Begin did.Exhausted)) row u p bytes s = inr s
@@ -125,6 +126,7 @@ module _ {n m : ℕ} (shape : BankShape) (pace : Pacing) (e : ℕ) (mine : Await
   only-next zs y (Core (Read row line (came.Forwarded bytes))) may above k = k
   only-next zs y (Core (Serve answer)) may above k = only-drop mine (waits shape (core zs)) k
   only-next zs y (Core (Begin answer)) may above k = k
+  only-next zs y (Regs event) may above k = k
   only-next zs y (Core (Iterate answer)) may above k = k
   only-next zs y (Core (Cut tearing)) may above k = tt
 
@@ -163,6 +165,7 @@ module _ {n m : ℕ} (shape : BankShape) (pace : Pacing) (e : ℕ) (mine : Await
   served-sense zs y (Core (Write at line some given answer)) u p bytes may only s = absurd s
   served-sense zs y (Core (Read at line answer)) u p bytes may only s = absurd s
   served-sense zs y (Core (Begin answer)) u p bytes may only s = absurd s
+  served-sense zs y (Regs event) u p bytes may only s = absurd s
   served-sense zs y (Core (Iterate answer)) u p bytes may only s = absurd s
   served-sense zs y (Core (Cut tearing)) u p bytes may only s = absurd s
 

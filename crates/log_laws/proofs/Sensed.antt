@@ -23,7 +23,7 @@ use Rattle.bank_model.specs.declared.answer.ReadAnswer.TheVariants as came
 use Rattle.bank_model.specs.Events.{Write, Read, Serve, Begin, Iterate, Cut, newest}
 use Rattle.bank_model.specs.History.{Awaited, awaited, queue, waits}
 use Rattle.bank_model.specs.Adding.{senses_of}
-use Rattle.bank_model.specs.Timing.{Pacing, Happens, Core, Timed, core, core_of}
+use Rattle.bank_model.specs.Timing.{Pacing, Happens, Core, Regs, Timed, core, core_of}
 use Rattle.bank_model.specs.Lawful.{Lawful, MayCome}
 use Rattle.bank_laws.specs.Laws.{IsSized, log_of}
 use Rattle.bank_laws.specs.Logs.{is_sensed, outcome_sensed, has_sense}
@@ -41,7 +41,7 @@ use Rattle.log_laws.proofs.Reading.{read-sensed}
 use Rattle.log_laws.proofs.Storing.{stored-sensed}
 use Rattle.log_laws.proofs.Uncovering.{cover-same}
 
-any-filter : {X : Type 0} (p keep : X → Bool) (xs : List X) → list_any p (filter keep xs) ≡ true → list_any p xs ≡ true
+pub any-filter : {X : Type 0} (p keep : X → Bool) (xs : List X) → list_any p (filter keep xs) ≡ true → list_any p xs ≡ true
 any-filter p keep [] h = h
 any-filter p keep (x ∷ xs) h = by (keep x) (p x) (λ k. any-filter p keep xs k) refl h
   where
@@ -141,6 +141,7 @@ module _ {n m : ℕ} (shape : BankShape) (pace : Pacing) (e : ℕ) (all : List (
             (settled_in_end row (newest (core ys) line) none
             (on.reads row (newest (core ys) line) (inl (awaits-new (waits shape (core ys)) (awaited row line (newest (core ys) line) (layer_of (queue shape (core ys)) line)))))) refl
         by (Core (Serve answer)) cancels is may on old new = tt
+        by (Regs event) cancels is may on old new = tt
         by (Core (Begin answer)) cancels is may on old new = tt
         by (Core (Iterate answer)) cancels is may on old new = tt
         by (Core (Cut tearing)) true is may on old new = tt

@@ -23,7 +23,7 @@ use Rattle.bank_model.specs.After.{array_line_after, slot_of_work, sources_of, t
 use Rattle.bank_model.specs.Answers.{IsDone}
 use Rattle.bank_model.specs.Adding.{senses_of}
 use Rattle.bank_model.specs.Sensing.{pulses_of, IsReadRight}
-use Rattle.bank_model.specs.Timing.{Pacing, Happens, Core, Timed, core}
+use Rattle.bank_model.specs.Timing.{Pacing, Happens, Core, Regs, Timed, core}
 use Rattle.bank_model.specs.Lawful.{Lawful, MayCome}
 use Rattle.bank_laws.specs.Logs.{is_sensed}
 use Rattle.bank_laws.specs.Outcomes.{on_row, outcome_with, outcome_of}
@@ -89,6 +89,7 @@ module _ {n m : ℕ} (shape : BankShape) where
   stores-now zs y (Core (Serve answer)) row u p s = inr (not_stored answer.row row _ _ u p (λ is. absurd (cc)) s)
   stores-now zs y (Core (Begin (did.Stored at place))) row u p s = stored_now at row y.tick place _ u p s
   stores-now zs y (Core (Begin did.More)) row u p s = inr s
+  stores-now zs y (Regs event) row u p s = inr s
   stores-now zs y (Core (Begin (did.Moved step))) row u p s = inr s
   stores-now zs y (Core (Begin (did.Retired slot line))) row u p s = inr s
   stores-now zs y (Core (Begin did.Exhausted)) row u p s = inr s
@@ -134,6 +135,7 @@ module _ {n m : ℕ} (shape : BankShape) (pace : Pacing) (e : ℕ) where
       subst (λ r. decode e sense.cells ≡ newest (up_to r (core zs)) (line_of_row r (core zs))) s.0
       (subst (λ ss. IsReadRight e shape zs (Iterate (did.Stored at place)) ss) are may.right))
   stored-sense zs y (Core (Begin did.More)) row u p may s = absurd s
+  stored-sense zs y (Regs event) row u p may s = absurd s
   stored-sense zs y (Core (Begin (did.Moved step))) row u p may s = absurd s
   stored-sense zs y (Core (Begin (did.Retired slot line))) row u p may s = absurd s
   stored-sense zs y (Core (Begin did.Exhausted)) row u p may s = absurd s
@@ -150,6 +152,7 @@ module _ {n m : ℕ} (shape : BankShape) (pace : Pacing) (e : ℕ) where
   stored-tick zs y (Core (Begin (did.Stored at place))) row u p s = s.1
   stored-tick zs y (Core (Iterate (did.Stored at place))) row u p s = s.1
   stored-tick zs y (Core (Begin did.More)) row u p s = absurd s
+  stored-tick zs y (Regs event) row u p s = absurd s
   stored-tick zs y (Core (Begin (did.Moved step))) row u p s = absurd s
   stored-tick zs y (Core (Begin (did.Retired slot line))) row u p s = absurd s
   stored-tick zs y (Core (Begin did.Exhausted)) row u p s = absurd s

@@ -16,7 +16,7 @@ use Rattle.bank_model.specs.declared.answer.WriteAnswer.TheVariants as wrote
 use Rattle.bank_model.specs.Events.{Write, Read, Serve, Begin, Iterate, Cut}
 use Rattle.bank_model.specs.History.{queue}
 use Rattle.bank_model.specs.Sensing.{most_steps}
-use Rattle.bank_model.specs.Timing.{Pacing, Happens, Core, Timed, core, core_of, last_tick}
+use Rattle.bank_model.specs.Timing.{Pacing, Happens, Core, Regs, Timed, core, core_of, last_tick}
 use Rattle.bank_model.specs.Lawful.{Lawful, MayCome}
 use Rattle.bank_laws.specs.Laws.{IsSized}
 use Rattle.bank_laws.specs.Outcomes.{outcome_of, ended, row_with, rows_from}
@@ -148,6 +148,7 @@ module _ {n m : ℕ} (shape : BankShape) (pace : Pacing) (e : ℕ) (all : List (
             or_none ((to == line) && stored_by x.tick (ended y.tick (outcome_of shape all at))) false (and_second (to == line) _ (stored-ended x.tick y.tick (outcome_of shape all at) ∙ late)) refl
         row (Core (Read at to answer)) cancels its = refl
         row (Core (Serve answer)) cancels its = refl
+        row (Regs event) cancels its = refl
         row (Core (Begin answer)) cancels its = refl
         row (Core (Iterate answer)) cancels its = refl
         row (Core (Cut tearing)) true its = refl
@@ -222,6 +223,7 @@ module _ {n m : ℕ} (shape : BankShape) (pace : Pacing) (e : ℕ) (all : List (
             refused_row n (at == line) _ _ given _ _ (refused-unstored x.tick (ended w.tick (outcome_of shape all row)) acc) acc rest
         by (Core (Read row at answer)) cancels is may on rest = rest
         by (Core (Serve answer)) cancels is may on rest = rest
+        by (Regs event) cancels is may on rest = rest
         by (Core (Begin answer)) cancels is may on rest = rest
         by (Core (Iterate answer)) cancels is may on rest = rest
         by (Core (Cut tearing)) true is may on rest = rest

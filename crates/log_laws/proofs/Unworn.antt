@@ -10,7 +10,7 @@ use Rattle.row_laws.specs.Wearing.{worn_row}
 use Rattle.bank_shape.specs.declared.BankShape.{BankShape}
 use Rattle.bank_model.specs.Events.{Write, Read, Serve, Begin, Iterate, Cut}
 use Rattle.bank_model.specs.History.{has_exhausted}
-use Rattle.bank_model.specs.Timing.{Pacing, Happens, Core, Timed, core, last_tick}
+use Rattle.bank_model.specs.Timing.{Pacing, Happens, Core, Regs, Timed, core, last_tick}
 use Rattle.bank_model.specs.Lawful.{Lawful}
 use Rattle.bank_laws.specs.Outcomes.{outcome_of, ended, row_with, rows_from}
 use Rattle.bank_laws.specs.Settling.{AreOpen}
@@ -45,6 +45,7 @@ module _ {n m : ℕ} (shape : BankShape) (pace : Pacing) (e : ℕ) where
       or_none (is_worn (ended tick (outcome_of shape all row)) && nat_lt tick t) false (and_second (is_worn (ended tick (outcome_of shape all row))) _ late) refl
   row_late all t tick (Core (Read row line answer)) cancels late = refl
   row_late all t tick (Core (Serve answer)) cancels late = refl
+  row_late all t tick (Regs event) cancels late = refl
   row_late all t tick (Core (Begin answer)) cancels late = refl
   row_late all t tick (Core (Iterate answer)) cancels late = refl
   row_late all t tick (Core (Cut tearing)) true late = refl
@@ -54,6 +55,7 @@ module _ {n m : ℕ} (shape : BankShape) (pace : Pacing) (e : ℕ) where
   row_none all t tick (Core (Write row line bytes given answer)) cancels is = absurd (cc)
   row_none all t tick (Core (Read row line answer)) cancels is = absurd (cc)
   row_none all t tick (Core (Serve answer)) cancels is = refl
+  row_none all t tick (Regs event) cancels is = refl
   row_none all t tick (Core (Begin answer)) cancels is = refl
   row_none all t tick (Core (Iterate answer)) cancels is = refl
   row_none all t tick (Core (Cut tearing)) cancels is = absurd (cc)

@@ -2,9 +2,11 @@
 use Rattle.log_laws.specs.Laws.{WholeLogLaw}
 use Rattle.log_laws.proofs.Fair.{pulse_steps_law}
 use Rattle.log_laws.proofs.Sensed.{sensed_law}
+use Rattle.log_laws.proofs.Controls.{controls_law}
 
 pub whole_log_law : WholeLogLaw
 whole_log_law n m e shape pace xs array log extra sized l idle leaves shown are = record {
   sensed = sensed_law n m e shape pace xs log extra sized l idle shown;
   lines = λ line from below. pulse_steps_law n m e shape pace xs array log extra sized l idle leaves shown are line from below;
+  controls = controls_law n m e shape pace xs log extra l shown;
 }

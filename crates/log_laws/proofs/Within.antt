@@ -1,6 +1,6 @@
 -- The array lines that a history senses are those of its bank.
 use Rattle.std.proofs.Common.{◌≡◌, ℕ, ◌+◌, ◌-◌, ◌*◌, ◌/◌, ◌<◌, ◌≤◌, ◌==◌, inl, Bool, true, false, cond, List, [], ◌∷◌, Option, Some, None, refl, sym, subst, arith}
-use Rattle.std.specs.Prelude.{All, map}
+use Rattle.std.specs.Prelude.{zero, suc, All, IfSome, map}
 use Rattle.std.proofs.lemmas.Nat.{div_below}
 use Rattle.std.proofs.lemmas.List.Elements.{All-nil, All-cons, All-head, All-tail, All-append}
 use Rattle.masked_bytes.specs.declared.entry.Entry.{Entry}
@@ -11,14 +11,15 @@ use Rattle.spare_pool.proofs.Lines.{line_by-within}
 use Rattle.bank_shape.specs.declared.BankShape.{BankShape}
 use Rattle.bank_shape.specs.declared.Work.{Work}
 use Rattle.bank_shape.specs.declared.Work.TheVariants.{Nothing}
-use Rattle.bank_shape.specs.Shape.{slots_of, lines_in}
+use Rattle.bank_shape.specs.Shape.{slots_of, lines_in, controls_of, controls_from}
 use Rattle.bank_model.specs.declared.answer.Step.TheVariants as did
 use Rattle.bank_model.specs.Events.{Event, Write, Read, Serve, Begin, Iterate, Cut, RowsBelow, line_of_row}
 use Rattle.bank_model.specs.History.{Awaited, first_or, stores, moved_in, retired, has_exhausted, due_after, queue, waits}
 use Rattle.bank_model.specs.After.{due_work, work_after, slot_of_work, slot_after, array_line_after, target_after, sources_of}
 use Rattle.bank_model.specs.Answers.{MayAll}
-use Rattle.bank_model.specs.Sensing.{most_steps, stand_of, sensed_by}
-use Rattle.bank_model.specs.Timing.{Happens, Core, core}
+use Rattle.bank_model.specs.Sensing.{most_steps, stand_of, sensed_by, read_again, kept_sensed}
+use Rattle.bank_model.specs.Changes.{change_after, line_of_change, numbers_from, all_controls}
+use Rattle.bank_model.specs.Timing.{Happens, Core, Regs, Keeping, KeepBegin, KeepIterate, KeepCut, core}
 use Rattle.bank_model.specs.Lawful.{MayCome}
 use Rattle.bank_model.specs.Adding.{senses_of}
 use Rattle.bank_laws.proofs.Lines.{Stands}
@@ -27,6 +28,7 @@ use Rattle.bank_laws.proofs.Waiting.{may_all}
 use Rattle.place_laws.proofs.Asked.{WaitsFor, asked-within, wrote-asked, queue-wrote, waits-asked}
 use Rattle.place_laws.proofs.Moves.{some-due}
 use Rattle.place_laws.proofs.Slots.{slot_at-within, slot_moved-within, gap-within, retired-few}
+use Rattle.place_laws.proofs.WornOut.{change-within}
 use Rattle.log_laws.specs.Laws.{WithinLaw}
 
 -- a line of a bank
@@ -35,6 +37,12 @@ IsIn shape line = (shape.base ≤ line) × (line < shape.base + lines_in shape)
 
 some_product : (a b : ℕ) → 1 ≤ a → 1 ≤ b → 0 < a * b
 some_product a b p q = grind (arith, p, q)
+
+-- so many lines from one on are a bank's where the last is
+numbers-in : (shape : BankShape) (from count : ℕ) → shape.base ≤ from → from + count ≤ shape.base + lines_in shape → All (IsIn shape) (numbers_from from count)
+numbers-in shape from zero low high = All-nil (IsIn shape)
+numbers-in shape from (suc count) low high =
+    All-cons (IsIn shape) from (numbers_from (from + 1) count) (low, omega (arith, high)) (numbers-in shape (from + 1) count (omega (arith, low)) (omega (arith, high)))
 
 -- the place below a gap is one of the region's
 below_gap-within : (n gap : ℕ) → gap ≤ n → below_gap n gap ≤ n
@@ -120,8 +128,8 @@ module _ {n : ℕ} (shape : BankShape) (r : 1 ≤ shape.regions) (l : 1 ≤ shap
         let exists = slot_moved-within shape w.line (moved_in shape.lines h (w.line / shape.lines)) l (asked-within shape most h w.row w.line may asked) in
         All-cons (IsIn shape) _ [] (array_line-in (slot_after shape h w.line) exists) (All-nil (IsIn shape))
 
-    sensed-in : (next : ℕ) → RowsBelow h next → (event : Event n) → All (IsIn shape) (sensed_by shape h event)
-    sensed-in next b event = by event
+    sensed-in : (next : ℕ) → RowsBelow h next → (cancels : Bool) (event : Event n) → All (IsIn shape) (sensed_by shape h (read_again shape cancels) event)
+    sensed-in next b cancels event = by event
       where
         own : IsOwn (work_after shape h)
         own = work-own next b
@@ -129,13 +137,17 @@ module _ {n : ℕ} (shape : BankShape) (r : 1 ≤ shape.regions) (l : 1 ≤ shap
         target : All (IsIn shape) (target_after shape h ∷ [])
         target = All-cons (IsIn shape) _ [] (array_line-in (slot_of_work shape h (work_after shape h)) own.0) (All-nil (IsIn shape))
 
-        by : (event : Event n) → All (IsIn shape) (sensed_by shape h event)
+        controls : (cancels : Bool) → All (IsIn shape) (read_again shape cancels)
+        controls true = All-nil (IsIn shape)
+        controls false = numbers-in shape (controls_from shape) (controls_of shape) (omega arith) (omega arith)
+
+        by : (event : Event n) → All (IsIn shape) (sensed_by shape h (read_again shape cancels) event)
         by (Write row line bytes given answer) = All-nil (IsIn shape)
         by (Read row line answer) = All-nil (IsIn shape)
         by (Serve answer) = stand-in (waits shape h) refl
         by (Begin answer) = All-append (IsIn shape) (sources_of shape h (work_after shape h)) (target_after shape h ∷ []) own.1 target
         by (Iterate answer) = target
-        by (Cut tearing) = All-nil (IsIn shape)
+        by (Cut tearing) = controls cancels
 
 -- senses are of lines of a bank where those lines are
 senses-in : {n m : ℕ} (shape : BankShape) (ss : List (Sense n m)) → All (IsIn shape) (map (λ s. s.line) ss) → All (λ s. IsIn shape s.line) ss
@@ -153,4 +165,13 @@ within_law n m e shape pace (x ∷ xs) r l lawful =
     by (Core event) may =
         let b = above_all shape pace e xs lawful.1 in
         senses-in shape x.senses
-        (subst (λ lines. All (IsIn shape) lines) (sym may.lines) (sensed-in shape r l (most_steps e) (core xs) (may_all shape pace e xs lawful.1) b.0 b.1 event))
+        (subst (λ lines. All (IsIn shape) lines) (sym may.lines) (sensed-in shape r l (most_steps e) (core xs) (may_all shape pace e xs lawful.1) b.0 b.1 x.cancels event))
+    by (Regs event) may =
+        senses-in shape x.senses
+        (subst (λ lines. All (IsIn shape) lines) (sym may.lines) (kept-in (change_after shape xs) (change-within shape pace e xs r l lawful.1) event))
+      where
+        kept-in : (change : Option ℕ) → IfSome change (λ item. item < controls_of shape) → (event : Keeping) → All (IsIn shape) (kept_sensed (line_of_change shape change) event)
+        kept-in None within event = All-nil (IsIn shape)
+        kept-in (Some item) within (KeepBegin answer) = All-cons (IsIn shape) _ [] (omega arith, omega (arith, within)) (All-nil (IsIn shape))
+        kept-in (Some item) within (KeepIterate answer) = All-cons (IsIn shape) _ [] (omega arith, omega (arith, within)) (All-nil (IsIn shape))
+        kept-in (Some item) within (KeepCut tearing) = All-nil (IsIn shape)

@@ -10,7 +10,7 @@ use Rattle.bank_model.specs.Adding.{senses_of}
 use Rattle.bank_model.specs.Timing.{Pacing, Timed}
 use Rattle.bank_model.specs.Lawful.{Lawful, IsIdle}
 use Rattle.bank_laws.specs.Outcomes.{table_of}
-use Rattle.bank_laws.specs.Logs.{has_sense, is_line_fair}
+use Rattle.bank_laws.specs.Logs.{has_sense, has_controls, is_line_fair}
 use Rattle.bank_laws.specs.Laws.{LeavesArray, IsSized, LogLaw, rules_of, log_of}
 
 -- the senses of each of a bank's lines begin at no pulses, go on by at most one pulse, an iteration or broken off, and end with
@@ -30,6 +30,12 @@ SensedLaw =
     (n m e : ℕ) (shape : BankShape) (pace : Pacing) (xs : List (Timed n m)) (log extra : List (Sense n m))
     → IsSized shape pace → Lawful shape pace e xs → IsIdle shape pace xs → log_of shape log ≡ senses_of xs ++ extra
     → IsTrue (each_row (has_sense (decode e) log) (table_of shape xs) [])
+
+-- each cut has a sense of every control line at its tick
+abbrev pub ControlsLaw : Type 0
+ControlsLaw =
+    (n m e : ℕ) (shape : BankShape) (pace : Pacing) (xs : List (Timed n m)) (log extra : List (Sense n m))
+    → Lawful shape pace e xs → log_of shape log ≡ senses_of xs ++ extra → IsTrue (each_row (has_controls shape log) (table_of shape xs) [])
 
 -- each sense of a bank's history is of one of its lines
 abbrev pub WithinLaw : Type 0

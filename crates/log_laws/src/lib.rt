@@ -2,7 +2,7 @@
 //! a function here ensures; the functions do nothing when they run.
 #![tactic(auto)]
 
-ghost use Rattle.log_laws.specs.Laws.{PulseStepsLaw, SensedLaw, WholeLogLaw, WithinLaw};
+ghost use Rattle.log_laws.specs.Laws.{ControlsLaw, PulseStepsLaw, SensedLaw, WholeLogLaw, WithinLaw};
 
 /// The first sense of a line carries no pulses, the next at most one more each, an iteration later or broken off by a cut,
 /// none behind a bank's wearing out, and the last the line's pulses.
@@ -15,7 +15,12 @@ pub fn rows_are_sensed()
     ensures { SensedLaw }
 {}
 
-/// Each sense of a lawful history is of a slot or a spare of its bank.
+/// Each cut has read every control line, at its tick.
+pub fn cuts_read_the_controls()
+    ensures { ControlsLaw }
+{}
+
+/// Each sense of a lawful history is of a slot, a spare or a control line of its bank.
 pub fn senses_are_of_the_bank()
     ensures { WithinLaw }
 {}
@@ -28,12 +33,13 @@ pub fn logs_are_fair()
 /// The laws are facts, and cost nothing to ask for.
 #[cfg(test)]
 mod tests {
-    use crate::{logs_are_fair, pulses_are_sensed, rows_are_sensed, senses_are_of_the_bank};
+    use crate::{cuts_read_the_controls, logs_are_fair, pulses_are_sensed, rows_are_sensed, senses_are_of_the_bank};
 
     #[test]
     fn laws_hold_of_every_history() {
         pulses_are_sensed();
         rows_are_sensed();
+        cuts_read_the_controls();
         senses_are_of_the_bank();
         logs_are_fair();
     }

@@ -1,6 +1,6 @@
 -- Where a bank's history stands as a row of its module comes, so that the row finds what the bank holds there.
 use Rattle.std.proofs.Common.{◌≡◌, ℕ, ◌<◌, ◌≤◌, ◌&&◌, ◌⊎◌, inl, inr, Bool, true, false, List, [], ◌∷◌, ◌++◌, map, refl, sym, ap, ◌∙◌, subst, cond, arith, append_assoc, le_refl}
-use Rattle.std.specs.Prelude.{IsFalse, filter, All}
+use Rattle.std.specs.Prelude.{filter, All}
 use Rattle.std.proofs.lemmas.Bool.{cases_lt}
 use Rattle.std.proofs.lemmas.List.Elements.{All-head, All-tail, All-nil, All-cons, All-append, All-weaker}
 use Rattle.result_rows.specs.declared.Outcome.{Outcome}
@@ -10,7 +10,7 @@ use Rattle.row_laws.specs.Queueing.{has_room}
 use Rattle.row_laws.specs.Table.{is_of}
 use Rattle.bank_shape.specs.declared.BankShape.{BankShape}
 use Rattle.bank_model.specs.Events.{Write, Read, Serve, Begin, Iterate, Cut}
-use Rattle.bank_model.specs.Timing.{Pacing, Happens, Core, Timed, last_tick}
+use Rattle.bank_model.specs.Timing.{Pacing, Happens, Core, Regs, Timed, last_tick}
 use Rattle.bank_model.specs.Lawful.{Lawful, IsIdle}
 use Rattle.bank_laws.specs.Laws.{IsSized, rules_of}
 use Rattle.bank_laws.specs.Room.{RoomLaw}
@@ -75,7 +75,7 @@ module _ {n m : ℕ} (shape : BankShape) (pace : Pacing) (e : ℕ) (read : 1 ≤
       → IsSplit a.tick asked xs × (a.tick ≤ last_tick xs)
   own_split a asked [] l are = absurd (cc)
   own_split a asked (x ∷ xs) l are =
-      by x.happens are (λ later. own_split a asked xs l.1 later)
+      by x.happens x.cancels are (λ later. own_split a asked xs l.1 later)
     where
       later : IsSplit a.tick asked xs × (a.tick ≤ last_tick xs) → IsSplit a.tick asked (x ∷ xs) × (a.tick ≤ x.tick)
       later s =
@@ -83,14 +83,16 @@ module _ {n m : ℕ} (shape : BankShape) (pace : Pacing) (e : ℕ) (read : 1 ≤
           let late : a.tick ≤ x.tick = omega (arith, s.1, up) in
           (one_more a.tick asked x xs late s.0, late)
 
-      by : (h : Happens n) → IsAsked h x.tick (AreAsked xs) (a ∷ asked) → (AreAsked xs (a ∷ asked) → IsSplit a.tick asked xs × (a.tick ≤ last_tick xs))
+      by : (h : Happens n) (cancels : Bool) → IsAsked h cancels x.tick (AreAsked xs) (a ∷ asked) → (AreAsked xs (a ∷ asked) → IsSplit a.tick asked xs × (a.tick ≤ last_tick xs))
           → IsSplit a.tick asked (x ∷ xs) × (a.tick ≤ x.tick)
-      by (Core (Write row line bytes given answer)) are ih = just_before a asked x xs l (ap (λ (b : Asked n). b.tick) are.0) are.1
-      by (Core (Read row line answer)) are ih = just_before a asked x xs l (ap (λ (b : Asked n). b.tick) are.0) are.1
-      by (Core (Serve answer)) are ih = later (ih are)
-      by (Core (Begin answer)) are ih = later (ih are)
-      by (Core (Iterate answer)) are ih = later (ih are)
-      by (Core (Cut tearing)) are ih = just_before a asked x xs l are.0 are.2
+      by (Core (Write row line bytes given answer)) cancels are ih = just_before a asked x xs l (ap (λ (b : Asked n). b.tick) are.0) are.1
+      by (Core (Read row line answer)) cancels are ih = just_before a asked x xs l (ap (λ (b : Asked n). b.tick) are.0) are.1
+      by (Core (Serve answer)) cancels are ih = later (ih are)
+      by (Regs event) cancels are ih = later (ih are)
+      by (Core (Begin answer)) cancels are ih = later (ih are)
+      by (Core (Iterate answer)) cancels are ih = later (ih are)
+      by (Core (Cut tearing)) true are ih = later (ih are)
+      by (Core (Cut tearing)) false are ih = just_before a asked x xs l are.0 are.2
 
   -- a row of another bank splits it at its tick
   other_split : (tick : ℕ) (asked : List (Asked n)) (xs : List (Timed n m)) → AreAsked xs asked → All (By tick) asked → IsSplit tick asked xs
@@ -104,17 +106,19 @@ module _ {n m : ℕ} (shape : BankShape) (pace : Pacing) (e : ℕ) (read : 1 ≤
   }
   other_split tick asked (x ∷ xs) are all = at (λ later. other_split tick asked xs later all) (cases_lt tick x.tick)
     where
-      by : (h : Happens n) → tick < x.tick → (asked : List (Asked n)) → All (By tick) asked → IsAsked h x.tick (AreAsked xs) asked
+      by : (h : Happens n) (cancels : Bool) → tick < x.tick → (asked : List (Asked n)) → All (By tick) asked → IsAsked h cancels x.tick (AreAsked xs) asked
           → (AreAsked xs asked → IsSplit tick asked xs) → IsSplit tick asked (x ∷ xs)
-      by (Core (Write row line bytes given answer)) late [] all are ih = absurd are
-      by (Core (Write row line bytes given answer)) late (b ∷ asked) all are ih = absurd (too_late tick x.tick b asked all (ap (λ (b : Asked n). b.tick) are.0) late)
-      by (Core (Read row line answer)) late [] all are ih = absurd are
-      by (Core (Read row line answer)) late (b ∷ asked) all are ih = absurd (too_late tick x.tick b asked all (ap (λ (b : Asked n). b.tick) are.0) late)
-      by (Core (Serve answer)) late asked all are ih = one_more tick asked x xs (omega (arith, late)) (ih are)
-      by (Core (Begin answer)) late asked all are ih = one_more tick asked x xs (omega (arith, late)) (ih are)
-      by (Core (Iterate answer)) late asked all are ih = one_more tick asked x xs (omega (arith, late)) (ih are)
-      by (Core (Cut tearing)) late [] all are ih = absurd are
-      by (Core (Cut tearing)) late (b ∷ asked) all are ih = absurd (too_late tick x.tick b asked all are.0 late)
+      by (Core (Write row line bytes given answer)) cancels late [] all are ih = absurd are
+      by (Core (Write row line bytes given answer)) cancels late (b ∷ asked) all are ih = absurd (too_late tick x.tick b asked all (ap (λ (b : Asked n). b.tick) are.0) late)
+      by (Core (Read row line answer)) cancels late [] all are ih = absurd are
+      by (Core (Read row line answer)) cancels late (b ∷ asked) all are ih = absurd (too_late tick x.tick b asked all (ap (λ (b : Asked n). b.tick) are.0) late)
+      by (Core (Serve answer)) cancels late asked all are ih = one_more tick asked x xs (omega (arith, late)) (ih are)
+      by (Regs event) cancels late asked all are ih = one_more tick asked x xs (omega (arith, late)) (ih are)
+      by (Core (Begin answer)) cancels late asked all are ih = one_more tick asked x xs (omega (arith, late)) (ih are)
+      by (Core (Iterate answer)) cancels late asked all are ih = one_more tick asked x xs (omega (arith, late)) (ih are)
+      by (Core (Cut tearing)) true late asked all are ih = one_more tick asked x xs (omega (arith, late)) (ih are)
+      by (Core (Cut tearing)) false late [] all are ih = absurd are
+      by (Core (Cut tearing)) false late (b ∷ asked) all are ih = absurd (too_late tick x.tick b asked all are.0 late)
 
       at : (AreAsked xs asked → IsSplit tick asked xs) → (tick < x.tick) ⊎ (x.tick ≤ tick) → IsSplit tick asked (x ∷ xs)
       at ih (inr early) = record {
@@ -125,7 +129,7 @@ module _ {n m : ℕ} (shape : BankShape) (pace : Pacing) (e : ℕ) (read : 1 ≤
         before = early;
         behind = All-nil (Since tick);
       }
-      at ih (inl late) = by x.happens late asked all are ih
+      at ih (inl late) = by x.happens x.cancels late asked all are ih
 
 module _ {n : ℕ} (bank_of line_in : ℕ → ℕ) (bank : ℕ) where
   -- what is asked of a bank comes no later than what is asked of all
@@ -140,8 +144,7 @@ module _ {n : ℕ} (bank_of line_in : ℕ → ℕ) (bank : ℕ) where
       by false ih = ih
 
 module _ {n m : ℕ} (e : ℕ) (shape : BankShape) (pace : Pacing) (bank_of line_in : ℕ → ℕ) (bank : ℕ) (outcome : ℕ → Outcome n)
-    (room : RoomLaw n m) (sized : IsSized shape pace) (xs : List (Timed n m)) (l : Lawful shape pace e xs) (idle : IsIdle shape pace xs)
-    (whole : All (λ x. IsFalse x.cancels) xs) where
+    (room : RoomLaw n m) (sized : IsSized shape pace) (xs : List (Timed n m)) (l : Lawful shape pace e xs) (idle : IsIdle shape pace xs) where
   abbrev IsRight : Asked n → Type 0
   IsRight a = outcome a.row ≡ last_outcome shape xs a a.asks
 
@@ -177,19 +180,12 @@ module _ {n m : ℕ} (e : ℕ) (shape : BankShape) (pace : Pacing) (bank_of line
       All-append (λ x. a.tick ≤ x.tick) newer s.since (All-weaker (λ x. tick ≤ x.tick) (λ x. a.tick ≤ x.tick) (λ x h. omega (arith, first, h)) newer late) s.behind in
       let rest : AreRecorded shape xs outcome (asked_of bank_of line_in bank asked) = rest_right a asked (is_of bank_of bank a.asks) rec in
       let rows : bank_table bank_of line_in bank (map (row_with outcome) asked) ≡ rows_from shape xs s.past =
-      rows_of_asked bank_of line_in bank outcome asked ∙ rows_are shape xs outcome s.past (asked_of bank_of line_in bank asked) s.asked_before rest (past_whole newer' s.past same') in
+      rows_of_asked bank_of line_in bank outcome asked ∙ rows_are shape xs outcome s.past (asked_of bank_of line_in bank asked) s.asked_before rest in
       both _ _
       (ap (λ (rs : List (Row n)). has_room (rules_of e shape pace) a.tick rs) rows
       ∙ ap (λ (zs : List (Timed n m)). has_room (rules_of e shape pace) a.tick (rows_from shape zs s.past)) same'
       ∙ room e shape pace s.past newer' a.tick sized (subst (λ (zs : List (Timed n m)). Lawful shape pace e zs) same' l) (subst (λ (zs : List (Timed n m)). IsIdle shape pace zs) same' idle) s.before late')
       (every_row asked newer' s.past a.tick (row_with outcome a ∷ after) same' late' falls.0 falls.1 s.asked_before rest)
-    where
-      past_whole : (newer past : List (Timed n m)) → xs ≡ newer ++ past → All (λ x. IsFalse x.cancels) past
-      past_whole newer past same = of newer (subst (λ (zs : List (Timed n m)). All (λ x. IsFalse x.cancels) zs) same whole)
-        where
-          of : (newer : List (Timed n m)) → All (λ x. IsFalse x.cancels) (newer ++ past) → All (λ x. IsFalse x.cancels) past
-          of [] all = all
-          of (x ∷ newer) all = of newer (All-tail (λ x. IsFalse x.cancels) x (newer ++ past) all)
 
 abbrev last_of : {n : ℕ} → List (Asked n) → ℕ
 last_of [] = 0
@@ -200,5 +196,5 @@ all_by [] falls = All-nil (By 0)
 all_by (a ∷ asked) falls = All-cons (By a.tick) a asked (le_refl a.tick) falls.0
 
 pub room_law : RoomByBankLaw
-room_law n m e shape pace bank_of line_in bank xs asked outcome room sized l idle whole falls are rec =
-    every_row e shape pace bank_of line_in bank outcome room sized xs l idle whole asked [] xs (last_of asked) [] refl (All-nil (λ x. last_of asked ≤ x.tick)) (all_by asked falls) falls are rec
+room_law n m e shape pace bank_of line_in bank xs asked outcome room sized l idle falls are rec =
+    every_row e shape pace bank_of line_in bank outcome room sized xs l idle asked [] xs (last_of asked) [] refl (All-nil (λ x. last_of asked ≤ x.tick)) (all_by asked falls) falls are rec

@@ -1,6 +1,6 @@
 -- A bank's table is that of its history.
 use Rattle.std.proofs.Common.{◌≡◌, ℕ, Bool, true, false, List, [], ◌∷◌, ◌++◌, map, refl, sym, ap, ◌∙◌, cond}
-use Rattle.std.specs.Prelude.{IsFalse, filter, All}
+use Rattle.std.specs.Prelude.{filter}
 use Rattle.std.proofs.lemmas.List.Elements.{All-head, All-tail}
 use Rattle.result_rows.specs.declared.Outcome.{Outcome}
 use Rattle.result_rows.specs.declared.Outcome.TheVariants as out
@@ -10,7 +10,7 @@ use Rattle.row_laws.specs.declared.Row.{Row}
 use Rattle.row_laws.specs.Table.{is_of, of_bank}
 use Rattle.bank_shape.specs.declared.BankShape.{BankShape}
 use Rattle.bank_model.specs.Events.{Write, Read, Serve, Begin, Iterate, Cut}
-use Rattle.bank_model.specs.Timing.{Happens, Core, Timed}
+use Rattle.bank_model.specs.Timing.{Happens, Core, Regs, Timed}
 use Rattle.bank_laws.specs.Outcomes.{outcome_of, ended, row_with as row_of, rows_from}
 use Rattle.module_laws.specs.Asking.{Asked, row_with, asked_in, asked_of, row_in, bank_table, AreAsked, IsAsked}
 use Rattle.module_laws.specs.Serves.{last_outcome, AreRecorded, BankTableLaw}
@@ -59,34 +59,34 @@ module _ {n m : ℕ} (shape : BankShape) (all : List (Timed n m)) (outcome : ℕ
       ∙ ap (λ (asks : Asks n). record { tick = a.tick; asks = asks; outcome = out.Cut a.tick }) is
       ∙ ap (λ (t : ℕ). record { tick = t; asks = Cuts; outcome = out.Cut t }) at
 
-  pub rows_are : (xs : List (Timed n m)) (asked : List (Asked n)) → AreAsked xs asked → AreRecorded shape all outcome asked → All (λ x. IsFalse x.cancels) xs
+  pub rows_are : (xs : List (Timed n m)) (asked : List (Asked n)) → AreAsked xs asked → AreRecorded shape all outcome asked
       → map (row_with outcome) asked ≡ rows_from shape all xs
-  rows_are [] asked none rec whole = ap (map (row_with outcome)) none
-  rows_are (x ∷ xs) asked is rec whole =
-      by x.happens x.cancels (All-head (λ (x : Timed n m). IsFalse x.cancels) x xs whole) asked is rec
-      (λ rest are r. rows_are xs rest are r (All-tail (λ (x : Timed n m). IsFalse x.cancels) x xs whole))
+  rows_are [] asked none rec = ap (map (row_with outcome)) none
+  rows_are (x ∷ xs) asked is rec =
+      by x.happens x.cancels asked is rec (λ rest are r. rows_are xs rest are r)
     where
-      by : (h : Happens n) (cancels : Bool) → IsFalse cancels → (asked : List (Asked n)) → IsAsked h x.tick (AreAsked xs) asked → AreRecorded shape all outcome asked
+      by : (h : Happens n) (cancels : Bool) (asked : List (Asked n)) → IsAsked h cancels x.tick (AreAsked xs) asked → AreRecorded shape all outcome asked
           → ((rest : List (Asked n)) → AreAsked xs rest → AreRecorded shape all outcome rest → map (row_with outcome) rest ≡ rows_from shape all xs)
           → map (row_with outcome) asked ≡ row_of shape all h x.tick cancels ++ rows_from shape all xs
-      by (Core (Write row line bytes given answer)) cancels whole [] is rec ih = absurd is
-      by (Core (Write row line bytes given answer)) cancels whole (a ∷ asked) is rec ih =
+      by (Core (Write row line bytes given answer)) cancels [] is rec ih = absurd is
+      by (Core (Write row line bytes given answer)) cancels (a ∷ asked) is rec ih =
           ap (λ (r : Row n). r ∷ map (row_with outcome) asked) (row_written x.tick row line bytes given a is.0 (All-head IsRight a asked rec))
           ∙ ap (λ (rs : List (Row n)). record { tick = x.tick; asks = Writes line bytes given; outcome = ended x.tick (outcome_of shape all row) } ∷ rs) (ih asked is.1 (All-tail IsRight a asked rec))
-      by (Core (Read row line answer)) cancels whole [] is rec ih = absurd is
-      by (Core (Read row line answer)) cancels whole (a ∷ asked) is rec ih =
+      by (Core (Read row line answer)) cancels [] is rec ih = absurd is
+      by (Core (Read row line answer)) cancels (a ∷ asked) is rec ih =
           ap (λ (r : Row n). r ∷ map (row_with outcome) asked) (row_read x.tick row line a is.0 (All-head IsRight a asked rec))
           ∙ ap (λ (rs : List (Row n)). record { tick = x.tick; asks = Reads line; outcome = outcome_of shape all row } ∷ rs) (ih asked is.1 (All-tail IsRight a asked rec))
-      by (Core (Serve answer)) cancels whole asked is rec ih = ih asked is rec
-      by (Core (Begin answer)) cancels whole asked is rec ih = ih asked is rec
-      by (Core (Iterate answer)) cancels whole asked is rec ih = ih asked is rec
-      by (Core (Cut tearing)) true whole asked is rec ih = absurd (cc)
-      by (Core (Cut tearing)) false whole [] is rec ih = absurd is
-      by (Core (Cut tearing)) false whole (a ∷ asked) is rec ih =
+      by (Core (Serve answer)) cancels asked is rec ih = ih asked is rec
+      by (Regs event) cancels asked is rec ih = ih asked is rec
+      by (Core (Begin answer)) cancels asked is rec ih = ih asked is rec
+      by (Core (Iterate answer)) cancels asked is rec ih = ih asked is rec
+      by (Core (Cut tearing)) true asked is rec ih = ih asked is rec
+      by (Core (Cut tearing)) false [] is rec ih = absurd is
+      by (Core (Cut tearing)) false (a ∷ asked) is rec ih =
           ap (λ (r : Row n). r ∷ map (row_with outcome) asked) (row_cut x.tick a is.0 is.1 (All-head IsRight a asked rec))
           ∙ ap (λ (rs : List (Row n)). record { tick = x.tick; asks = Cuts; outcome = out.Cut x.tick } ∷ rs) (ih asked is.2 (All-tail IsRight a asked rec))
 
 pub bank_table_law : BankTableLaw
-bank_table_law n m shape bank_of line_in bank xs asked outcome are rec whole =
+bank_table_law n m shape bank_of line_in bank xs asked outcome are rec =
     rows_of_asked bank_of line_in bank outcome asked
-    ∙ rows_are shape xs outcome xs (asked_of bank_of line_in bank asked) are rec whole
+    ∙ rows_are shape xs outcome xs (asked_of bank_of line_in bank asked) are rec

@@ -1,12 +1,12 @@
 -- What the rows of a trace ask of a module, and what arrives in one bank.
-use Rattle.std.specs.Prelude.{◌≡◌, ℕ, List, [], ◌∷◌, map, filter}
+use Rattle.std.specs.Prelude.{◌≡◌, ℕ, Bool, true, false, List, [], ◌∷◌, map, filter}
 use Rattle.result_rows.specs.declared.Outcome.{Outcome}
 use Rattle.row_laws.specs.declared.Asks.{Asks}
 use Rattle.row_laws.specs.declared.Asks.TheVariants.{Reads, Writes, Cuts}
 use Rattle.row_laws.specs.declared.Row.{Row}
 use Rattle.row_laws.specs.Table.{is_of, of_bank}
 use Rattle.bank_model.specs.Events.{Event, Write, Read, Cut}
-use Rattle.bank_model.specs.Timing.{Happens, Core, Timed}
+use Rattle.bank_model.specs.Timing.{Happens, Core, Regs, Timed}
 
 -- a row with its number, as it is asked for
 pub record Asked (n : ℕ) : Type 0 where
@@ -40,19 +40,22 @@ module _ {n : ℕ} (bank_of line_in : ℕ → ℕ) where
   bank_table bank rows = map row_in (of_bank bank_of bank rows)
 
 -- the rows of a bank's history are what was asked of the bank, both the newest first: each write and read has the number, the line
--- and the tick of its row, and each power cut the tick of its row, which has no number in the history. What is no arrival has no row
-abbrev pub IsAskedBy : {n : ℕ} → Event n → ℕ → (List (Asked n) → Type 0) → List (Asked n) → Type 0
-IsAskedBy (Write row line bytes given answer) tick rest [] = ⊥
-IsAskedBy (Write row line bytes given answer) tick rest (a ∷ asked) = (a ≡ record { row = row; tick = tick; asks = Writes line bytes given }) × rest asked
-IsAskedBy (Read row line answer) tick rest [] = ⊥
-IsAskedBy (Read row line answer) tick rest (a ∷ asked) = (a ≡ record { row = row; tick = tick; asks = Reads line }) × rest asked
-IsAskedBy (Cut tearing) tick rest [] = ⊥
-IsAskedBy (Cut tearing) tick rest (a ∷ asked) = (a.tick ≡ tick) × (a.asks ≡ Cuts) × rest asked
-IsAskedBy _ tick rest asked = rest asked
+-- and the tick of its row, and each power cut the tick of its row, which has no number in the history. What is no arrival has no row,
+-- nor has a cut that a read made
+abbrev pub IsAskedBy : {n : ℕ} → Event n → Bool → ℕ → (List (Asked n) → Type 0) → List (Asked n) → Type 0
+IsAskedBy (Write row line bytes given answer) cancels tick rest [] = ⊥
+IsAskedBy (Write row line bytes given answer) cancels tick rest (a ∷ asked) = (a ≡ record { row = row; tick = tick; asks = Writes line bytes given }) × rest asked
+IsAskedBy (Read row line answer) cancels tick rest [] = ⊥
+IsAskedBy (Read row line answer) cancels tick rest (a ∷ asked) = (a ≡ record { row = row; tick = tick; asks = Reads line }) × rest asked
+IsAskedBy (Cut tearing) true tick rest asked = rest asked
+IsAskedBy (Cut tearing) false tick rest [] = ⊥
+IsAskedBy (Cut tearing) false tick rest (a ∷ asked) = (a.tick ≡ tick) × (a.asks ≡ Cuts) × rest asked
+IsAskedBy _ cancels tick rest asked = rest asked
 
-abbrev pub IsAsked : {n : ℕ} → Happens n → ℕ → (List (Asked n) → Type 0) → List (Asked n) → Type 0
-IsAsked (Core event) tick rest asked = IsAskedBy event tick rest asked
+abbrev pub IsAsked : {n : ℕ} → Happens n → Bool → ℕ → (List (Asked n) → Type 0) → List (Asked n) → Type 0
+IsAsked (Core event) cancels tick rest asked = IsAskedBy event cancels tick rest asked
+IsAsked (Regs event) cancels tick rest asked = rest asked
 
 abbrev pub AreAsked : {n m : ℕ} → List (Timed n m) → List (Asked n) → Type 0
 AreAsked [] asked = asked ≡ []
-AreAsked (x ∷ xs) asked = IsAsked x.happens x.tick (AreAsked xs) asked
+AreAsked (x ∷ xs) asked = IsAsked x.happens x.cancels x.tick (AreAsked xs) asked

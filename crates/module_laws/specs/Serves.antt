@@ -1,5 +1,5 @@
 -- What the finished table of a module keeps, over the tables of its banks.
-use Rattle.std.specs.Prelude.{◌≡◌, ℕ, ◌<◌, ◌≤◌, IsTrue, IsFalse, List, [], ◌∷◌, All, map}
+use Rattle.std.specs.Prelude.{◌≡◌, ℕ, ◌<◌, ◌≤◌, IsTrue, List, [], ◌∷◌, All, map}
 use Rattle.result_rows.specs.declared.Outcome.{Outcome}
 use Rattle.result_rows.specs.declared.Outcome.TheVariants as out
 use Rattle.row_laws.specs.declared.Asks.{Asks}
@@ -32,7 +32,7 @@ abbrev pub BankTableLaw : Type 0
 BankTableLaw =
     (n m : ℕ) (shape : BankShape) (bank_of line_in : ℕ → ℕ) (bank : ℕ) (xs : List (Timed n m)) (asked : List (Asked n)) (outcome : ℕ → Outcome n)
     → AreAsked xs (asked_of bank_of line_in bank asked) → AreRecorded shape xs outcome (asked_of bank_of line_in bank asked)
-    → All (λ x. IsFalse x.cancels) xs → bank_table bank_of line_in bank (map (row_with outcome) asked) ≡ table_of shape xs
+    → bank_table bank_of line_in bank (map (row_with outcome) asked) ≡ table_of shape xs
 
 -- the lines of a module: each is of one bank, where no other line has its number
 pub record AreLines (banks lines : ℕ) (bank_of line_in : ℕ → ℕ) : Type 0 where
@@ -66,6 +66,6 @@ finds_room_in bank_of line_in rules bank before r after = has_room rules r.tick 
 abbrev pub RoomByBankLaw : Type 0
 RoomByBankLaw =
     (n m e : ℕ) (shape : BankShape) (pace : Pacing) (bank_of line_in : ℕ → ℕ) (bank : ℕ) (xs : List (Timed n m)) (asked : List (Asked n)) (outcome : ℕ → Outcome n)
-    → RoomLaw n m → IsSized shape pace → Lawful shape pace e xs → IsIdle shape pace xs → All (λ x. IsFalse x.cancels) xs → TicksFall asked
+    → RoomLaw n m → IsSized shape pace → Lawful shape pace e xs → IsIdle shape pace xs → TicksFall asked
     → AreAsked xs (asked_of bank_of line_in bank asked) → AreRecorded shape xs outcome (asked_of bank_of line_in bank asked)
     → IsTrue (each_row (finds_room_in bank_of line_in (rules_of e shape pace) bank) (map (row_with outcome) asked) [])

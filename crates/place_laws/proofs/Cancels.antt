@@ -1,5 +1,5 @@
 -- Reads cancel one line write few times.
-use Rattle.std.proofs.Common.{◌≡◌, ℕ, ◌+◌, ◌*◌, ◌<◌, ◌≤◌, ◌&&◌, not, Bool, true, false, List, [], ◌∷◌, refl, arith}
+use Rattle.std.proofs.Common.{◌≡◌, ℕ, ◌+◌, ◌*◌, ◌<◌, ◌≤◌, ◌&&◌, not, Bool, true, false, List, [], ◌∷◌, refl, sym, subst, arith, cond}
 use Rattle.std.specs.Prelude.{nat_lt}
 use Rattle.std.proofs.lemmas.Bool.{ltb-true}
 use Rattle.bank_shape.specs.declared.BankShape.{BankShape}
@@ -7,8 +7,10 @@ use Rattle.bank_shape.specs.Pausing.{Pausing, is_cancelling, most_cancels}
 use Rattle.bank_model.specs.declared.answer.Step.TheVariants as did
 use Rattle.bank_model.specs.Events.{Write, Read, Serve, Begin, Iterate, Cut}
 use Rattle.bank_model.specs.History.{has_exhausted, waits}
-use Rattle.bank_model.specs.Running.{running_at, cancels_with, cancels_after}
-use Rattle.bank_model.specs.Timing.{Pacing, Happens, Core, Timed, is_writing, is_empty, core, core_of}
+use Rattle.bank_model.specs.Running.{over_by, is_over, running_at, cancels_with, cancels_after}
+use Rattle.bank_model.specs.Changes.{change_after, change_by, halted_after, halted_by}
+use Rattle.bank_model.specs.declared.answer.Keep.TheVariants as keep
+use Rattle.bank_model.specs.Timing.{Pacing, Happens, Core, Regs, KeepBegin, KeepIterate, KeepCut, Timed, is_writing, is_empty, core, core_of}
 use Rattle.bank_model.specs.Lawful.{Lawful, MayCome, would_cancel}
 use Rattle.place_laws.proofs.Counts.{one_if}
 use Rattle.place_laws.proofs.Pulsing.{ends_work, cancels_work, ends_in, cancels_in}
@@ -36,41 +38,53 @@ closed : (policy : Pausing) (ex new : Bool) (cancels ends count : ℕ) → Keeps
 closed policy ex new cancels ends count k = record { few = omega (arith, k.few, k.most); most = omega arith; calm = λ is. refl; plain = λ is. omega (arith, k.plain is) }
 
 module _ {n m : ℕ} (shape : BankShape) (pace : Pacing) (e : ℕ) where
-  cut_kept : (xs : List (Timed n m)) (tick : ℕ) (by_read : Bool) (cancels ends : ℕ) → Lawful shape pace e xs
-      → (by_read ≡ true → would_cancel shape (core xs) pace.policy (running_at shape pace xs tick) (cancels_after xs) ≡ true)
-      → KeepsCancels pace.policy (has_exhausted (core xs)) cancels ends (cancels_after xs)
-      → KeepsCancels pace.policy (has_exhausted (core xs)) (one_if by_read + cancels) (one_if (not by_read) + ends) (cancels_with {n = n} (Core (Cut true)) by_read (cancels_after xs))
-  cut_kept xs tick true cancels ends l would k =
+  cut_kept : (xs : List (Timed n m)) (tick : ℕ) (by_read : Bool) (cancels ends count : ℕ) → Lawful shape pace e xs
+      → (by_read ≡ true → would_cancel shape (core xs) pace.policy (running_at shape pace xs tick) (cancels_after xs) ≡ true) → count ≡ cond by_read (cancels_after xs + 1) 0
+      → KeepsCancels pace.policy (is_over shape xs) cancels ends (cancels_after xs)
+      → KeepsCancels pace.policy (is_over shape xs) (one_if by_read + cancels) (one_if (not by_read) + ends) count
+  cut_kept xs tick true cancels ends count l would is k =
       let w = cancels-when (is_cancelling pace.policy) (is_writing (running_at shape pace xs tick)) (is_empty (waits shape (core xs))) (cancels_after xs) (would refl) in
       record {
-        few = omega (arith, k.few);
-        most = omega (arith, w.2);
-        calm = λ ex. absurd (cc (still_at shape pace e xs tick l ex, w.1));
-        plain = λ is. absurd (cc (w.0, is));
+        few = omega (arith, k.few, is);
+        most = omega (arith, w.2, is);
+        calm = λ over. absurd (cc (still_at shape pace e xs tick l over, w.1));
+        plain = λ no. absurd (cc (w.0, no));
       }
-  cut_kept xs tick false cancels ends l would k = closed pace.policy (has_exhausted (core xs)) (has_exhausted (core xs)) cancels ends (cancels_after xs) k
+  cut_kept xs tick false cancels ends count l would is k =
+      subst (λ c. KeepsCancels pace.policy (is_over shape xs) (0 + cancels) (1 + ends) c) (sym is) (closed pace.policy (is_over shape xs) (is_over shape xs) cancels ends (cancels_after xs) k)
 
-  pub cancels-kept : (xs : List (Timed n m)) → Lawful shape pace e xs → KeepsCancels pace.policy (has_exhausted (core xs)) (cancels_in xs) (ends_in xs) (cancels_after xs)
+  pub cancels-kept : (xs : List (Timed n m)) → Lawful shape pace e xs → KeepsCancels pace.policy (is_over shape xs) (cancels_in xs) (ends_in xs) (cancels_after xs)
   cancels-kept [] l = record { few = omega arith; most = omega arith; calm = λ is. refl; plain = λ is. refl }
   cancels-kept (x ∷ xs) l = by x.happens x.cancels refl l.0 (cancels-kept xs l.1)
     where
       before : Lawful shape pace e xs
       before = l.1
 
-      by : (h : Happens n) (cancels : Bool) → x.cancels ≡ cancels → MayCome shape pace e xs x h → KeepsCancels pace.policy (has_exhausted (core xs)) (cancels_in xs) (ends_in xs) (cancels_after xs)
-          → KeepsCancels pace.policy (has_exhausted (core_of h (core xs))) (one_if (cancels_work h cancels) + cancels_in xs) (one_if (ends_work h cancels) + ends_in xs) (cancels_with h cancels (cancels_after xs))
+      By : Happens n → Bool → Type 0
+      By h cancels =
+          KeepsCancels pace.policy (over_by (change_by shape (core xs) h (change_after shape xs)) (halted_by h (halted_after xs)) (has_exhausted (core_of h (core xs))))
+          (one_if (cancels_work h cancels) + cancels_in xs) (one_if (ends_work h cancels) + ends_in xs) (cancels_with h cancels (cancels_after xs))
+
+      by : (h : Happens n) (cancels : Bool) → x.cancels ≡ cancels → MayCome shape pace e xs x h → KeepsCancels pace.policy (is_over shape xs) (cancels_in xs) (ends_in xs) (cancels_after xs) → By h cancels
       by (Core (Write row line bytes given answer)) cancels is may k = passed pace.policy _ _ _ _ k
       by (Core (Read row line answer)) cancels is may k = passed pace.policy _ _ _ _ k
       by (Core (Serve answer)) cancels is may k = passed pace.policy _ _ _ _ k
       by (Core (Begin did.More)) cancels is may k = passed pace.policy _ _ _ _ k
-      by (Core (Begin (did.Stored row place))) cancels is may k = closed pace.policy (has_exhausted (core xs)) _ _ _ (cancels_after xs) k
-      by (Core (Begin (did.Moved step))) cancels is may k = closed pace.policy (has_exhausted (core xs)) _ _ _ (cancels_after xs) k
-      by (Core (Begin (did.Retired slot line))) cancels is may k = closed pace.policy (has_exhausted (core xs)) _ _ _ (cancels_after xs) k
-      by (Core (Begin did.Exhausted)) cancels is may k = closed pace.policy (has_exhausted (core xs)) _ _ _ (cancels_after xs) k
+      by (Core (Begin (did.Stored row place))) cancels is may k = closed pace.policy (is_over shape xs) _ _ _ (cancels_after xs) k
+      by (Core (Begin (did.Moved step))) cancels is may k = closed pace.policy (is_over shape xs) _ _ _ (cancels_after xs) k
+      by (Core (Begin (did.Retired slot line))) cancels is may k = closed pace.policy (is_over shape xs) _ _ _ (cancels_after xs) k
+      by (Core (Begin did.Exhausted)) cancels is may k = closed pace.policy (is_over shape xs) _ _ _ (cancels_after xs) k
       by (Core (Iterate did.More)) cancels is may k = passed pace.policy _ _ _ _ k
-      by (Core (Iterate (did.Stored row place))) cancels is may k = closed pace.policy (has_exhausted (core xs)) _ _ _ (cancels_after xs) k
-      by (Core (Iterate (did.Moved step))) cancels is may k = closed pace.policy (has_exhausted (core xs)) _ _ _ (cancels_after xs) k
-      by (Core (Iterate (did.Retired slot line))) cancels is may k = closed pace.policy (has_exhausted (core xs)) _ _ _ (cancels_after xs) k
-      by (Core (Iterate did.Exhausted)) cancels is may k = closed pace.policy (has_exhausted (core xs)) _ _ _ (cancels_after xs) k
-      by (Core (Cut tearing)) true is may k = cut_kept xs x.tick true _ _ before (λ yes. may.on_time.2 is) k
-      by (Core (Cut tearing)) false is may k = cut_kept xs x.tick false _ _ before (λ yes. absurd (cc)) k
+      by (Core (Iterate (did.Stored row place))) cancels is may k = closed pace.policy (is_over shape xs) _ _ _ (cancels_after xs) k
+      by (Core (Iterate (did.Moved step))) cancels is may k = closed pace.policy (is_over shape xs) _ _ _ (cancels_after xs) k
+      by (Core (Iterate (did.Retired slot line))) cancels is may k = closed pace.policy (is_over shape xs) _ _ _ (cancels_after xs) k
+      by (Core (Iterate did.Exhausted)) cancels is may k = closed pace.policy (is_over shape xs) _ _ _ (cancels_after xs) k
+      by (Core (Cut tearing)) true is may k = cut_kept xs x.tick true _ _ _ before (λ yes. may.on_time.2 is) refl k
+      by (Core (Cut tearing)) false is may k = cut_kept xs x.tick false _ _ _ before (λ yes. absurd (cc)) refl k
+      by (Regs (KeepBegin keep.More)) cancels is may k = passed pace.policy _ _ _ _ k
+      by (Regs (KeepBegin keep.Done)) cancels is may k = closed pace.policy (is_over shape xs) _ _ _ (cancels_after xs) k
+      by (Regs (KeepBegin keep.Halted)) cancels is may k = closed pace.policy (is_over shape xs) _ _ _ (cancels_after xs) k
+      by (Regs (KeepIterate keep.More)) cancels is may k = passed pace.policy _ _ _ _ k
+      by (Regs (KeepIterate keep.Done)) cancels is may k = closed pace.policy (is_over shape xs) _ _ _ (cancels_after xs) k
+      by (Regs (KeepIterate keep.Halted)) cancels is may k = closed pace.policy (is_over shape xs) _ _ _ (cancels_after xs) k
+      by (Regs (KeepCut tearing)) cancels is may k = cut_kept xs x.tick true _ _ _ before (λ yes. may.on_time.3) refl k

@@ -8,7 +8,7 @@ pub mod Slots
 pub mod Splits
 pub mod Placed
 mod Owners
-mod WornOut
+pub mod WornOut
 mod Taken
 mod Pulsing
 mod Trying

@@ -16,7 +16,7 @@ use Rattle.bank_model.specs.Events.{Write, Read, Serve, Begin, Iterate, Cut}
 use Rattle.bank_model.specs.History.{retired, moved_in, stored_in}
 use Rattle.bank_model.specs.After.{slot_after, stands_at_after}
 use Rattle.bank_model.specs.Sensing.{most_steps}
-use Rattle.bank_model.specs.Timing.{Pacing, Happens, Core, Timed, core, core_of}
+use Rattle.bank_model.specs.Timing.{Pacing, Happens, Core, Regs, Timed, core, core_of}
 use Rattle.bank_model.specs.Lawful.{Lawful}
 use Rattle.bank_laws.specs.Laws.{IsSized, LeavesArray, is_worn_at}
 use Rattle.bank_laws.specs.Outcomes.{outcome_of, ended, row_with, rows_from, table_of}
@@ -80,6 +80,7 @@ module _ {n m : ℕ} (shape : BankShape) where
   asked-more (Core (Write at of bytes given answer)) zs row line a = inr a
   asked-more (Core (Read at of answer)) zs row line a = inr a
   asked-more (Core (Serve answer)) zs row line a = a
+  asked-more (Regs event) zs row line a = a
   asked-more (Core (Begin answer)) zs row line a = a
   asked-more (Core (Iterate answer)) zs row line a = a
   asked-more (Core (Cut tearing)) zs row line a = a
@@ -209,6 +210,7 @@ module _ {n m : ℕ} (shape : BankShape) (pace : Pacing) (e : ℕ) (all : List (
           (outcome-placed (rows_from shape all ys ++ (row_with shape all (Core (Write row line bytes given answer)) x.tick cancels ++ rows_after shape all later)) row line sums (asked row line (inl (refl, refl))))
       by (Core (Read row line answer)) cancels sums asked = outcome-placed (rows_from shape all ys ++ (row_with shape all (Core (Read row line answer)) x.tick cancels ++ rows_after shape all later)) row line sums (asked row line (inl (refl, refl)))
       by (Core (Serve answer)) cancels sums asked = tt
+      by (Regs event) cancels sums asked = tt
       by (Core (Begin answer)) cancels sums asked = tt
       by (Core (Iterate answer)) cancels sums asked = tt
       by (Core (Cut tearing)) true sums asked = tt

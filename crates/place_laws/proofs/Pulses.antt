@@ -1,21 +1,27 @@
 -- All pulses of a bank, by its rows.
-use Rattle.std.proofs.Common.{◌≡◌, ℕ, zero, suc, ◌+◌, ◌*◌, ◌<◌, ◌≤◌, ◌&&◌, not, Bool, true, false, List, [], ◌∷◌, ◌++◌, refl, ap, ◌∙◌, arith, sum_by, length, cond}
+use Rattle.std.proofs.Common.{◌≡◌, ℕ, zero, suc, ◌+◌, ◌*◌, ◌<◌, ◌≤◌, ◌&&◌, not, Bool, true, false, List, [], ◌∷◌, ◌++◌, Option, Some, None, refl, sym, ap, ◌∙◌, subst, arith, sum_by, length, cond}
 use Rattle.std.proofs.Math.Nat.{mul-le-mul_left}
 use Rattle.row_laws.specs.declared.Asks.TheVariants.{Reads, Writes, Cuts}
 use Rattle.row_laws.specs.declared.Row.{Row}
 use Rattle.row_laws.specs.Answers.{is_stored}
 use Rattle.row_laws.specs.Rows.{asks_write, is_cut}
-use Rattle.row_laws.specs.Ticking.{tries}
+use Rattle.row_laws.specs.Ticking.{tries, writings}
 use Rattle.result_rows.specs.declared.Outcome.TheVariants as out
 use Rattle.std.proofs.lemmas.List.Sums.{sum_by-cons}
 use Rattle.bank_shape.specs.declared.BankShape.{BankShape}
 use Rattle.bank_shape.specs.Pausing.{Pausing, Pause, Plain, Cancel, is_cancelling}
-use Rattle.bank_shape.specs.Shape.{lines_in}
+use Rattle.bank_shape.specs.Shape.{is_array, if_array, controls_of, lines_in}
+use Rattle.bank_shape.specs.declared.Home.{Home}
+use Rattle.bank_shape.specs.declared.Home.TheVariants as home
+use Rattle.std.specs.Prelude.{nat_lt}
+use Rattle.std.proofs.lemmas.Bool.{lt-ltb}
 use Rattle.bank_model.specs.Events.{Write, Read, Serve, Begin, Iterate, Cut}
 use Rattle.bank_model.specs.History.{has_exhausted, retired, waits, iterated, due_after}
-use Rattle.bank_model.specs.Running.{gives_way, choice_after, cancels_after}
+use Rattle.bank_model.specs.Running.{over_by, busy_after, made_after, is_over, gives_way, choice_after, cancels_after}
+use Rattle.bank_model.specs.Changes.{change_after, halted_after}
+use Rattle.bank_model.specs.Answers.{MayAll}
 use Rattle.bank_model.specs.Sensing.{most_steps, pulses_of}
-use Rattle.bank_model.specs.Timing.{Pacing, Happens, Core, Timed, core, is_empty}
+use Rattle.bank_model.specs.Timing.{Pacing, Happens, Core, Regs, Timed, core, is_empty}
 use Rattle.bank_model.specs.Lawful.{Lawful, IsIdle}
 use Rattle.bank_laws.specs.Laws.{IsSized, rules_of}
 use Rattle.bank_laws.specs.Outcomes.{outcome_of, ended, row_with, rows_from, table_of}
@@ -27,8 +33,9 @@ use Rattle.place_laws.proofs.Storing.{stored-counted}
 use Rattle.place_laws.proofs.Tables.{all-counted}
 use Rattle.place_laws.proofs.Slots.{retired-few}
 use Rattle.place_laws.proofs.WornOut.{none-ready}
-use Rattle.place_laws.proofs.Pulsing.{ends_in, cancels_in, pulses_in, pulses-kept, held}
-use Rattle.place_laws.proofs.Trying.{all_stores, all_moves, cuts_power, cuts_in, due_one, moves-few, ends-few}
+use Rattle.place_laws.proofs.Pulsing.{ends_in, cancels_in, pulses_in, pulses-kept, held_by, held-idle}
+use Rattle.place_laws.proofs.Trying.{all_stores, all_moves, cuts_power, cuts_in, due_one, moves-few, causes, unwritten, each, ends-few}
+use Rattle.place_laws.proofs.Moves.{next_product}
 use Rattle.place_laws.proofs.Cancels.{cancels-kept}
 
 -- the same pulses of lines counted from a base
@@ -40,15 +47,13 @@ pulses-same f g base from (suc n) each =
     let rest : pulses_among f (base + (from + 1)) n ≡ pulses_among g (base + (from + 1)) n = pulses-same f g base (from + 1) n (λ line lt. each line (omega (arith, lt))) in
     omega (arith, each from (omega arith), next f, next g, rest)
 
--- how many line writes there were, ended or cancelled, by how many ended but for the one that found no spare
-tries-few : (policy : Pausing) (ex : Bool) (ends cancels count known : ℕ) → ends ≤ known + one_if ex → cancels ≤ 4 * ends + count → count ≤ 4 → (ex ≡ true → count ≡ 0)
-    → (is_cancelling policy ≡ false → cancels ≡ 0) → ends + cancels ≤ tries policy * (known + 1)
-tries-few Pause true ends cancels count known few more most calm plain = omega (arith, few, plain refl)
-tries-few Pause false ends cancels count known few more most calm plain = omega (arith, few, plain refl)
-tries-few Plain true ends cancels count known few more most calm plain = omega (arith, few, plain refl)
-tries-few Plain false ends cancels count known few more most calm plain = omega (arith, few, plain refl)
-tries-few Cancel true ends cancels count known few more most calm plain = omega (arith, few, more, calm refl)
-tries-few Cancel false ends cancels count known few more most calm plain = omega (arith, few, more, most)
+-- how many line writes there were, ended or cancelled, where one is to be written still or one more may end
+tries-few : (policy : Pausing) (over : Bool) (ends cancels count most : ℕ) → ends ≤ most → (over ≡ false → ends + 1 ≤ most) → cancels ≤ 4 * ends + count → count ≤ 4 → (over ≡ true → count ≡ 0)
+    → (is_cancelling policy ≡ false → cancels ≡ 0) → ends + cancels ≤ tries policy * most
+tries-few Pause over ends cancels count most few room more four calm plain = omega (arith, few, plain refl)
+tries-few Plain over ends cancels count most few room more four calm plain = omega (arith, few, plain refl)
+tries-few Cancel true ends cancels count most few room more four calm plain = omega (arith, few, more, calm refl)
+tries-few Cancel false ends cancels count most few room more four calm plain = omega (arith, room refl, more, four)
 
 bounded : (steps times all most : ℕ) → all ≤ times * most → steps * all ≤ times * steps * most
 bounded steps times all most le =
@@ -72,6 +77,7 @@ module _ {n m : ℕ} (shape : BankShape) (all : List (Timed n m)) where
       by (Core (Read row line answer)) cancels ih =
           omega (arith, ih, sum_by-cons (λ (r : Row n). one_if (is_cut r)) (record { tick = x.tick; asks = Reads line; outcome = outcome_of shape all row }) (rows_from shape all ys))
       by (Core (Serve answer)) cancels ih = omega (arith, ih)
+      by (Regs event) cancels ih = omega (arith, ih)
       by (Core (Begin answer)) cancels ih = omega (arith, ih)
       by (Core (Iterate answer)) cancels ih = omega (arith, ih)
       by (Core (Cut tearing)) true ih = omega (arith, ih)
@@ -79,40 +85,85 @@ module _ {n m : ℕ} (shape : BankShape) (all : List (Timed n m)) where
           omega (arith, ih, sum_by-cons (λ (r : Row n). one_if (is_cut r)) (record { tick = x.tick; asks = Cuts; outcome = out.Cut x.tick }) (rows_from shape all ys))
 
 module _ {n m : ℕ} (shape : BankShape) (pace : Pacing) (e : ℕ) (all : List (Timed n m)) (sized : IsSized shape pace) (l : Lawful shape pace e all) (idle : IsIdle shape pace all) where
-  -- what the rows say of the line writes
-  rows_bound : ends_in all + cancels_in all
-      ≤ tries pace.policy * (2 * sum_by (λ (q : Row n). one_if (asks_write q.asks && is_stored q.outcome)) (table_of shape all) + shape.spares + 1 + sum_by (λ (r : Row n). one_if (is_cut r)) (table_of shape all))
-  rows_bound =
-      let may = may_all shape pace e all l in
-      let k = cancels-kept shape pace e all l in
-      let stores : sum_by (λ (q : Row n). one_if (asks_write q.asks && is_stored q.outcome)) (table_of shape all) ≡ all_stores (core all) =
-      all-counted shape all ∙ stored-counted shape pace e (λ line. true) all l in
-      let cuts : sum_by (λ (r : Row n). one_if (is_cut r)) (table_of shape all) ≡ cuts_in all = cuts-counted shape all all in
-      let moves : all_moves (core all) + due_one (due_after shape (core all)) ≤ all_stores (core all) = moves-few shape (most_steps e) (core all) sized.psi may in
-      let spares : length (retired (core all)) ≤ shape.spares = retired-few shape (most_steps e) (core all) may in
-      let known : ℕ = all_stores (core all) + all_moves (core all) + length (retired (core all)) + cuts_in all in
-      let tried : ends_in all + cancels_in all ≤ tries pace.policy * (known + 1) =
-      tries-few pace.policy (has_exhausted (core all)) (ends_in all) (cancels_in all) (cancels_after all) known (ends-few shape pace e all l) k.few k.most k.calm k.plain in
-      let whole : known + 1
-      ≤ 2 * sum_by (λ (q : Row n). one_if (asks_write q.asks && is_stored q.outcome)) (table_of shape all) + shape.spares + 1 + sum_by (λ (r : Row n). one_if (is_cut r)) (table_of shape all) =
-      omega (arith, stores, cuts, moves, spares) in
-      omega (arith, tried, mul-le-mul_left (tries pace.policy) whole)
+  abbrev stores_by_rows : ℕ
+  stores_by_rows = sum_by (λ (q : Row n). one_if (asks_write q.asks && is_stored q.outcome)) (table_of shape all)
 
-  held_none : held (core all) ≡ 0
-  held_none = ap (λ b. cond b (iterated (core all)) 0) (none-ready (gives_way pace.policy) (not (is_empty (waits shape (core all)))) (choice_after shape pace all) idle.chosen).0
+  abbrev cuts_by_rows : ℕ
+  cuts_by_rows = sum_by (λ (r : Row n). one_if (is_cut r)) (table_of shape all)
+
+  -- what the rows say of the line writes
+  rows_bound : ends_in all + cancels_in all ≤ tries pace.policy * (each shape * (2 * stores_by_rows + shape.spares + 1) + cuts_by_rows)
+  rows_bound =
+      let k = cancels-kept shape pace e all l in
+      tries-few pace.policy (is_over shape all) (ends_in all) (cancels_in all) (cancels_after all) (each shape * (2 * stores_by_rows + shape.spares + 1) + cuts_by_rows)
+      (omega (arith, few, within, cuts)) (λ going. room going) k.few k.most k.calm k.plain
+    where
+      may : MayAll shape (most_steps e) (core all)
+      may = may_all shape pace e all l
+
+      cuts : cuts_by_rows ≡ cuts_in all
+      cuts = cuts-counted shape all all
+
+      few : ends_in all + unwritten (change_after shape all) (halted_after all) ≤ each shape * causes (core all) + cuts_in all
+      few = ends-few shape pace e all l
+
+      stores : stores_by_rows ≡ all_stores (core all)
+      stores = all-counted shape all ∙ stored-counted shape pace e (λ line. true) all l
+
+      moves : all_moves (core all) + due_one (due_after shape (core all)) ≤ all_stores (core all)
+      moves = moves-few shape (most_steps e) (core all) sized.psi may
+
+      spares : length (retired (core all)) ≤ shape.spares
+      spares = retired-few shape (most_steps e) (core all) may
+
+      at_most : (ex : Bool) → one_if ex ≤ 1
+      at_most true = omega arith
+      at_most false = omega arith
+
+      within : each shape * causes (core all) ≤ each shape * (2 * stores_by_rows + shape.spares + 1)
+      within = mul-le-mul_left (each shape) (omega (arith, stores, moves, spares, at_most (has_exhausted (core all))))
+
+      one_each : 1 ≤ each shape
+      one_each = by (is_array shape.home)
+        where
+          by : (b : Bool) → 1 ≤ writings b
+          by true = omega arith
+          by false = omega arith
+
+      room : is_over shape all ≡ false → ends_in all + 1 ≤ each shape * (2 * stores_by_rows + shape.spares + 1) + cuts_by_rows
+      room going = by (change_after shape all) (halted_after all) going few
+        where
+          by : (change : Option ℕ) (halted : Bool) → over_by change halted (has_exhausted (core all)) ≡ false → ends_in all + unwritten change halted ≤ each shape * causes (core all) + cuts_in all
+              → ends_in all + 1 ≤ each shape * (2 * stores_by_rows + shape.spares + 1) + cuts_by_rows
+          by None halted fresh le =
+              let less : each shape * (all_stores (core all) + all_moves (core all) + length (retired (core all))) ≤ each shape * (2 * stores_by_rows + shape.spares) =
+              mul-le-mul_left (each shape) (omega (arith, stores, moves, spares)) in
+              let more : each shape * (2 * stores_by_rows + shape.spares + 1) ≡ each shape * (2 * stores_by_rows + shape.spares) + each shape = next_product (each shape) (2 * stores_by_rows + shape.spares) in
+              let none : each shape * causes (core all) ≡ each shape * (all_stores (core all) + all_moves (core all) + length (retired (core all))) =
+              ap (λ k. each shape * k) (omega (arith, ap one_if fresh)) in
+              omega (arith, le, less, more, none, one_each, cuts)
+          by (Some item) true halted le = absurd (cc)
+          by (Some item) false halted le = omega (arith, le, within, cuts)
+
+  held_none : held_by (busy_after shape all) (made_after shape all) ≡ 0
+  held_none = held-idle (busy_after shape all) (made_after shape all) (none-ready (gives_way pace.policy) (not (is_empty (waits shape (core all)))) (choice_after shape pace all) idle.chosen).0
+
+  -- each change is one of the bank whose registers are in the array
+  twice_is : nat_lt 0 (controls_of shape) ≡ is_array shape.home
+  twice_is = by shape.home
+    where
+      by : (where_ : Home) → nat_lt 0 (if_array where_ (shape.regions + shape.spares + 1)) ≡ is_array where_
+      by home.Guarded = refl
+      by home.Array = lt-ltb 0 (shape.regions + shape.spares + 1) (omega arith)
 
   pub events_bound : pulses_among (λ line. pulses_of all line) shape.base (lines_in shape) ≤ most_pulses (rules_of e shape pace) (table_of shape all)
   events_bound =
-      let stores : ℕ = sum_by (λ (q : Row n). one_if (asks_write q.asks && is_stored q.outcome)) (table_of shape all) in
-      let cuts : ℕ = sum_by (λ (r : Row n). one_if (is_cut r)) (table_of shape all) in
       let k = pulses-kept shape pace e shape.base (lines_in shape) all l in
-      let bound : most_steps e * (ends_in all + cancels_in all) ≤ tries pace.policy * most_steps e * (2 * stores + shape.spares + 1 + cuts) =
-      bounded (most_steps e) (tries pace.policy) (ends_in all + cancels_in all) (2 * stores + shape.spares + 1 + cuts) rows_bound in
-      let form : tries pace.policy * most_steps e * (2 * stores + shape.spares + 1 + cuts) ≡ tries pace.policy * most_steps e * (1 * (2 * stores + shape.spares + 1) + cuts) =
-      ap (λ k. tries pace.policy * most_steps e * k) (omega arith) in
-      let few : pulses_in shape pace e shape.base (lines_in shape) all ≤ tries pace.policy * most_steps e * (1 * (2 * stores + shape.spares + 1) + cuts) =
-      omega (arith, k.few, held_none, bound, form) in
-      few
+      let bound : most_steps e * (ends_in all + cancels_in all) ≤ tries pace.policy * most_steps e * (each shape * (2 * stores_by_rows + shape.spares + 1) + cuts_by_rows) =
+      bounded (most_steps e) (tries pace.policy) (ends_in all + cancels_in all) (each shape * (2 * stores_by_rows + shape.spares + 1) + cuts_by_rows) rows_bound in
+      let few : pulses_in shape pace e shape.base (lines_in shape) all ≤ tries pace.policy * most_steps e * (each shape * (2 * stores_by_rows + shape.spares + 1) + cuts_by_rows) =
+      omega (arith, k.few, held_none, bound) in
+      subst (λ b. pulses_in shape pace e shape.base (lines_in shape) all ≤ tries pace.policy * most_steps e * (writings b * (2 * stores_by_rows + shape.spares + 1) + cuts_by_rows)) (sym twice_is) few
 
 pub pulse_law : PulsesLaw
 pulse_law n m e shape pace xs array sized l idle leaves =

@@ -13,7 +13,7 @@ use Rattle.bank_model.specs.Events.{Event, Write, Read, Serve, Begin, Iterate, C
 use Rattle.bank_model.specs.History.{retired}
 use Rattle.bank_model.specs.After.{work_after}
 use Rattle.bank_model.specs.Answers.{IsDone, MayAll}
-use Rattle.bank_model.specs.Timing.{Happens, Core, Timed, core, core_of}
+use Rattle.bank_model.specs.Timing.{Happens, Core, Regs, Timed, core, core_of}
 
 -- the slot of a place is one of the bank
 pub slot_at-within : (shape : BankShape) (region place : ℕ) → region < shape.regions → place ≤ shape.lines → slot_at shape region place < slots_of shape
@@ -92,3 +92,4 @@ module _ {n : ℕ} (shape : BankShape) where
     where
       by : (h : Happens n) → IsAway (core (later ++ zs)) slot → IsAway (core_of h (core (later ++ zs))) slot
       by (Core event) away = away-more event (core (later ++ zs)) slot away
+      by (Regs event) away = away

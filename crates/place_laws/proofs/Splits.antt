@@ -12,7 +12,7 @@ use Rattle.bank_model.specs.Events.{Event, Write, Read, Serve, Begin, Iterate, C
 use Rattle.bank_model.specs.History.{Awaited, waits}
 use Rattle.bank_model.specs.After.{stands_at_after}
 use Rattle.bank_model.specs.Answers.{IsServed}
-use Rattle.bank_model.specs.Timing.{Pacing, Happens, Core, Timed, core}
+use Rattle.bank_model.specs.Timing.{Pacing, Happens, Core, Regs, Timed, core}
 use Rattle.bank_model.specs.Lawful.{Lawful, MayCome}
 use Rattle.bank_laws.specs.Standing.{has_wait}
 use Rattle.bank_laws.specs.Outcomes.{on_row, outcome_with, outcome_of}
@@ -113,6 +113,7 @@ module _ {n m : ℕ} (shape : BankShape) (pace : Pacing) (e : ℕ) where
       by (Core (Read at line came.Waiting)) is may go s = more (go s)
       by (Core (Read at line came.Busy)) is may go s = more (go (not_this at row _ _ _ (λ k. absurd (cc)) s))
       by (Core (Read at line (came.Forwarded bytes))) is may go s = more (go (not_this at row _ _ _ (λ k. absurd (cc)) s))
+      by (Regs event) is may go s = more (go s)
       by (Core (Serve answer)) is may go s = more (go (not_this answer.row row _ _ _ (λ k. absurd (cc)) s))
       by (Core (Begin (did.Stored at place))) is may go s = store_now x zs at place row u p (ap ends_action is) (done-store shape (core zs) at place may.may.1) go s
       by (Core (Begin did.More)) is may go s = more (go s)
@@ -161,6 +162,7 @@ module _ {n m : ℕ} (shape : BankShape) (pace : Pacing) (e : ℕ) where
       by (Core (Read at line came.Waiting)) is may go s = more (go s)
       by (Core (Read at line came.Busy)) is may go s = more (go (not_this at row _ _ _ (λ k. absurd (cc)) s))
       by (Core (Read at line (came.Forwarded some))) is may go s = more (go (not_this at row _ _ _ (λ k. absurd (cc)) s))
+      by (Regs event) is may go s = more (go s)
       by (Core (Serve answer)) is may go s = serve_now x zs answer row u p bytes (ap ends_action is) (served-of shape (core zs) answer may.may) go s
       by (Core (Begin (did.Stored at place))) is may go s = more (go (not_this at row _ _ _ (λ k. absurd (cc)) s))
       by (Core (Begin did.More)) is may go s = more (go s)

@@ -12,7 +12,7 @@ use Rattle.bank_model.specs.declared.answer.Step.TheVariants as did
 use Rattle.bank_model.specs.Events.{Event, Write, Read, Serve, Begin, Iterate, Cut, RowsBelow, line_of_row}
 use Rattle.bank_model.specs.History.{queue, waits, stored_in}
 use Rattle.bank_model.specs.Sensing.{most_steps}
-use Rattle.bank_model.specs.Timing.{Pacing, Happens, Core, Timed, core, core_of, last_tick}
+use Rattle.bank_model.specs.Timing.{Pacing, Happens, Core, Regs, Timed, core, core_of, last_tick}
 use Rattle.bank_model.specs.Lawful.{Lawful, MayCome}
 use Rattle.bank_laws.specs.Standing.{has_wait}
 use Rattle.bank_laws.specs.Settling.{AreOpen}
@@ -137,6 +137,7 @@ module _ {n m : ℕ} (shape : BankShape) (pace : Pacing) (e : ℕ) where
           same (Core (Read at line came.Busy)) (λ row. other_kept at row (out.Busy x.tick) (outcome_of shape zs) refl (o.coming at may.asked)) ih
       by (Core (Read at line (came.Forwarded bytes))) may o ih =
           same (Core (Read at line (came.Forwarded bytes))) (λ row. other_kept at row (out.Forwarded x.tick bytes) (outcome_of shape zs) refl (o.coming at may.asked)) ih
+      by (Regs event) may o ih = ih
       by (Core (Serve answer)) may o ih =
           same (Core (Serve answer)) (λ row. other_kept answer.row row (out.Read x.tick answer.place answer.bytes) (outcome_of shape zs) refl
           (o.waiting answer.row (first-there (waits shape (core zs)) answer.row (served-first shape (core zs) (waits shape (core zs)) answer may.may)))) ih
@@ -161,6 +162,7 @@ module _ {n m : ℕ} (shape : BankShape) (pace : Pacing) (e : ℕ) where
       by (Core (Write row line bytes given answer)) bound b go = rows_below-more (core zs) row bound (omega (arith, b.0)) (go row b.1)
       by (Core (Read row line answer)) bound b go = rows_below-more (core zs) row bound (omega (arith, b.0)) (go row b.1)
       by (Core (Serve answer)) bound b go = go bound b
+      by (Regs event) bound b go = go bound b
       by (Core (Begin answer)) bound b go = go bound b
       by (Core (Iterate answer)) bound b go = go bound b
       by (Core (Cut tearing)) bound b go = go bound b
@@ -175,6 +177,7 @@ module _ {n m : ℕ} (shape : BankShape) (pace : Pacing) (e : ℕ) where
       by (Core (Write row line bytes given answer)) may ih = none_first (keep line) (f row) _ _ (none row (rows_below-before later zs row may.asked)) ih
       by (Core (Read row line answer)) may ih = ih
       by (Core (Serve answer)) may ih = ih
+      by (Regs event) may ih = ih
       by (Core (Begin answer)) may ih = ih
       by (Core (Iterate answer)) may ih = ih
       by (Core (Cut tearing)) may ih = ih

@@ -9,7 +9,7 @@ use Rattle.row_laws.specs.Answers.{is_stored, stored_before}
 use Rattle.row_laws.specs.Rows.{asks_write, line_of}
 use Rattle.bank_shape.specs.declared.BankShape.{BankShape}
 use Rattle.bank_model.specs.Events.{Write, Read, Serve, Begin, Iterate, Cut}
-use Rattle.bank_model.specs.Timing.{Happens, Core, Timed, core, core_of}
+use Rattle.bank_model.specs.Timing.{Happens, Core, Regs, Timed, core, core_of}
 use Rattle.bank_laws.specs.Outcomes.{outcome_of, ended, row_with, rows_from, table_of}
 use Rattle.bank_laws.proofs.Walking.{rows_after, rows_after-more}
 use Rattle.place_laws.proofs.Counts.{one_if, writes_with}
@@ -46,6 +46,7 @@ module _ {n m : ℕ} (shape : BankShape) (all : List (Timed n m)) where
       by (Core (Write row line bytes given answer)) cancels ih = first _ _ _ (is.writes x.tick line bytes given (outcome_of shape all row)) ih
       by (Core (Read row line answer)) cancels ih = none _ _ (is.reads x.tick line (outcome_of shape all row)) ih
       by (Core (Serve answer)) cancels ih = ih
+      by (Regs event) cancels ih = ih
       by (Core (Begin answer)) cancels ih = ih
       by (Core (Iterate answer)) cancels ih = ih
       by (Core (Cut tearing)) true ih = ih

@@ -1,7 +1,7 @@
 -- What refused and queued writes say of worn lines, and when a write is taken.
-use Rattle.std.proofs.Common.{◌≡◌, ℕ, ◌<◌, ◌==◌, ◌&&◌, ◌||◌, not, inl, inr, Bool, true, false, List, [], ◌∷◌, ◌++◌, length, refl, sym, ap, ◌∙◌, subst, append_assoc, arith}
-use Rattle.std.specs.Prelude.{nat_lt}
-use Rattle.std.proofs.lemmas.Bool.{ltb-true, eqb-true}
+use Rattle.std.proofs.Common.{◌≡◌, ℕ, ◌<◌, ◌==◌, ◌&&◌, ◌||◌, not, inl, inr, Bool, true, false, List, [], ◌∷◌, ◌++◌, Option, Some, None, length, refl, sym, ap, ◌∙◌, subst, append_assoc, arith}
+use Rattle.std.specs.Prelude.{nat_lt, IfSome}
+use Rattle.std.proofs.lemmas.Bool.{ltb-true, lt-ltb, eqb-true}
 use Rattle.result_rows.specs.declared.Outcome.{Outcome}
 use Rattle.result_rows.specs.declared.Outcome.TheVariants as out
 use Rattle.pcm_cells.specs.Device.{ArrayState}
@@ -17,7 +17,10 @@ use Rattle.bank_model.specs.declared.answer.WriteAnswer.{WriteAnswer}
 use Rattle.bank_model.specs.declared.answer.WriteAnswer.TheVariants as wrote
 use Rattle.bank_model.specs.Events.{Write, Read, Serve, Begin, Iterate, Cut}
 use Rattle.bank_model.specs.History.{queue, has_exhausted}
-use Rattle.bank_model.specs.Timing.{Pacing, Happens, Core, Timed, core}
+use Rattle.bank_model.specs.Timing.{Pacing, Happens, Core, Regs, Timed, core}
+use Rattle.bank_model.specs.Changes.{change_after, halted_after}
+use Rattle.bank_model.specs.Running.{over_by, is_over}
+use Rattle.bank_shape.specs.Shape.{controls_of, control_line}
 use Rattle.bank_model.specs.Lawful.{Lawful, IsIdle, MayCome}
 use Rattle.bank_laws.specs.Laws.{IsSized, LeavesArray, is_worn_at, rules_of}
 use Rattle.bank_laws.specs.Outcomes.{outcome_of, ended, row_with, rows_from, table_of}
@@ -32,7 +35,7 @@ use Rattle.bank_laws.proofs.Serves.{may_at, onwards_at, served_law}
 use Rattle.bank_laws.proofs.Wears.{worn_outcome, refused-exhausted, exhausted_later}
 use Rattle.bank_laws.proofs.Pending.{queue_law}
 use Rattle.place_laws.specs.PlaceLaws.{WornLaw, TakenLaw}
-use Rattle.place_laws.proofs.WornOut.{worn_out, idle-exhausted}
+use Rattle.place_laws.proofs.WornOut.{worn_out, worn_control, change-within, idle-queued}
 
 implied : (a b : Bool) → (a ≡ true → b ≡ true) → (not a || b) ≡ true
 implied true b h = h refl
@@ -41,6 +44,10 @@ implied false b h = refl
 or_left_true : (a b : Bool) → a ≡ true → (a || b) ≡ true
 or_left_true true b h = refl
 or_left_true false b h = absurd (cc)
+
+or_right_true : (a b : Bool) → b ≡ true → (a || b) ≡ true
+or_right_true true b h = refl
+or_right_true false b h = h
 
 both_first : (a b : Bool) → (a && b) ≡ true → a ≡ true
 both_first true b h = refl
@@ -82,12 +89,17 @@ module _ {n : ℕ} where
       (each-of one two three test pass rows (x ∷ after) (both_second _ _ p) (both_second _ _ q) (both_second _ _ r))
 
 module _ {n m : ℕ} (shape : BankShape) (pace : Pacing) (e : ℕ) (all : List (Timed n m)) (array : ArrayState n m) (sized : IsSized shape pace) (l : Lawful shape pace e all) (idle : IsIdle shape pace all) (leaves : LeavesArray e shape all array) where
-  pub leaves_work : has_exhausted (core all) ≡ true → may_leave shape (is_worn_at e array) ≡ true
-  leaves_work ex = or_left_true _ _ (worn_out shape pace e all array sized l leaves ex)
+  pub leaves_work : is_over shape all ≡ true → may_leave shape (is_worn_at e array) ≡ true
+  leaves_work over = by (change_after shape all) (change-within shape pace e all sized.regions sized.lines l) over leaves.halted
+    where
+      by : (change : Option ℕ) → IfSome change (λ item. item < controls_of shape) → over_by change (halted_after all) (has_exhausted (core all)) ≡ true
+          → (halted_after all ≡ true → IfSome change (λ item. is_worn_at e array (control_line shape item) ≡ true)) → may_leave shape (is_worn_at e array) ≡ true
+      by None exists ex halts = or_left_true _ _ (worn_out shape pace e all array sized l leaves ex)
+      by (Some item) exists halted halts = or_right_true _ _ (lt-ltb _ _ (worn_control shape pace e all array sized l leaves item exists (halts halted)))
 
   -- an accepted write that is queued in the end
   fate_true : (tick row : ℕ) → WriteFate shape all row → is_queued (ended tick (outcome_of shape all row)) ≡ true → may_leave shape (is_worn_at e array) ≡ true
-  fate_true tick row (inl there) queued = leaves_work (idle-exhausted shape pace all row idle there)
+  fate_true tick row (inl there) queued = leaves_work (idle-queued shape pace all row idle there)
   fate_true tick row (inr left) queued = absurd (cc (left-not_queued tick (outcome_of shape all row) left))
 
   queued_true : (ys : List (Timed n m)) (x : Timed n m) (row line : ℕ) (bytes : List ℕ) (given : List Bool) (answer : WriteAnswer) → MayCome shape pace e ys x (Core (Write row line bytes given answer))
@@ -117,6 +129,7 @@ module _ {n m : ℕ} (shape : BankShape) (pace : Pacing) (e : ℕ) (all : List (
           (implied (is_queued (ended x.tick (outcome_of shape all row))) _ (queued_true ys x row line bytes given answer may on is))
       by (Core (Read row line answer)) cancels may on on_exhausted = refl
       by (Core (Serve answer)) cancels may on on_exhausted = tt
+      by (Regs event) cancels may on on_exhausted = tt
       by (Core (Begin answer)) cancels may on on_exhausted = tt
       by (Core (Iterate answer)) cancels may on on_exhausted = tt
       by (Core (Cut tearing)) true may on on_exhausted = tt

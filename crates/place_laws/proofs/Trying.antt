@@ -1,6 +1,6 @@
 -- How many line writes end, and how many are cancelled.
-use Rattle.std.proofs.Common.{◌≡◌, ℕ, ◌+◌, ◌*◌, ◌≤◌, ◌==◌, ◌&&◌, not, Bool, true, false, List, [], ◌∷◌, Option, Some, None, length, length-append, refl, ap, arith, cond}
-use Rattle.std.specs.Prelude.{nat_lt, nat_le}
+use Rattle.std.proofs.Common.{◌≡◌, ℕ, ◌+◌, ◌*◌, ◌≤◌, ◌==◌, ◌&&◌, ◌||◌, not, Bool, true, false, List, [], ◌∷◌, Option, Some, None, length, length-append, refl, ap, ◌∙◌, arith, cond}
+use Rattle.std.specs.Prelude.{nat_lt, nat_le, is_some}
 use Rattle.std.proofs.lemmas.Bool.{lt-leb}
 use Rattle.bank_shape.specs.declared.BankShape.{BankShape}
 use Rattle.bank_shape.specs.declared.Work.TheVariants.{Nothing}
@@ -13,10 +13,17 @@ use Rattle.bank_model.specs.Events.{Event, Write, Read, Serve, Begin, Iterate, C
 use Rattle.bank_model.specs.History.{moved_in, stored_in, retired, has_exhausted, due_after, queue, waits, in_progress}
 use Rattle.bank_model.specs.After.{due_work, work_after, is_ready, is_store_of, may_begin_after}
 use Rattle.bank_model.specs.Answers.{MayAll}
-use Rattle.bank_model.specs.Running.{choice, chosen_by, gives_way, started, left_by, running, running_at, chosen_after}
+use Rattle.bank_model.specs.Running.{busy_by, ready_by, over_by, busy_after, ready_after, is_over, drops_begin, choice, chosen_by, gives_way, started, left_by, running, running_at, chosen_after}
 use Rattle.bank_model.specs.Sensing.{most_steps}
-use Rattle.bank_model.specs.Timing.{Pacing, Happens, Core, Timed, is_doing, is_writing, is_empty, core, core_of, last_tick}
+use Rattle.bank_model.specs.Timing.{Pacing, Happens, Core, Regs, KeepBegin, KeepIterate, KeepCut, Timed, is_doing, is_writing, is_empty, core, core_of, last_tick}
 use Rattle.bank_model.specs.Lawful.{Lawful, MayCome}
+use Rattle.bank_model.specs.declared.answer.Keep.TheVariants as keep
+use Rattle.bank_model.specs.Changes.{item_if, change_after, change_by, keeping_after, halted_after, halted_by}
+use Rattle.bank_shape.specs.declared.Home.{Home}
+use Rattle.bank_shape.specs.declared.Home.TheVariants as home
+use Rattle.bank_shape.specs.Shape.{is_array}
+use Rattle.row_laws.specs.Ticking.{writings}
+use Rattle.bank_laws.proofs.Changing.{halted-stops}
 use Rattle.bank_laws.proofs.Waiting.{may_all}
 use Rattle.bank_laws.proofs.Fates.{eqb-same}
 use Rattle.place_laws.proofs.Counts.{one_if, stores_with}
@@ -40,6 +47,7 @@ module _ {n : ℕ} where
 abbrev pub cuts_power : {n : ℕ} → Happens n → Bool → Bool
 cuts_power (Core (Cut tearing)) cancels = not cancels
 cuts_power (Core _) cancels = false
+cuts_power (Regs event) cancels = false
 
 abbrev pub cuts_in : {n m : ℕ} → List (Timed n m) → ℕ
 cuts_in [] = 0
@@ -153,65 +161,134 @@ dropped-still : (b : Bool) (r : Option Action) → is_writing r ≡ false → is
 dropped-still true r still = refl
 dropped-still false r still = still
 
+-- each line write of the bank that ends is a store, a move, a retirement, or the one that finds no spare
+abbrev pub causes : {n : ℕ} → List (Event n) → ℕ
+causes h = all_stores h + all_moves h + length (retired h) + one_if (has_exhausted h)
+
+-- one, where a change stands that is still to be written
+abbrev pub unwritten : Option ℕ → Bool → ℕ
+unwritten None halted = 0
+unwritten (Some item) halted = one_if (not halted)
+
+-- how many line writes each of those brings
+abbrev pub each : BankShape → ℕ
+each shape = writings (is_array shape.home)
+
+new_change : (shape : BankShape) (item : ℕ) (halted : Bool) → 1 + unwritten (item_if shape.home item) halted ≤ each shape
+new_change shape item halted = by shape.home halted
+  where
+    by : (where_ : Home) (halted : Bool) → 1 + unwritten (item_if where_ item) halted ≤ writings (is_array where_)
+    by home.Guarded halted = omega arith
+    by home.Array true = omega arith
+    by home.Array false = omega arith
+
+no_change : (change : Option ℕ) (halted : Bool) → change ≡ None → unwritten change halted ≡ 0
+no_change None halted is = refl
+no_change (Some item) halted is = absurd (cc)
+
+some_change : (change : Option ℕ) (halted : Bool) → is_some change ≡ true → halted ≡ false → unwritten change halted ≡ 1
+some_change None halted is off = absurd (cc)
+some_change (Some item) true is off = absurd (cc)
+some_change (Some item) false is off = refl
+
+one_more : (k c s : ℕ) → k ≡ c + 1 → s * k ≡ s * c + s
+one_more k c s is = ap (λ k. s * k) is ∙ next_product s c
+
 module _ {n m : ℕ} (shape : BankShape) (pace : Pacing) (e : ℕ) where
-  chosen-still : (xs : List (Timed n m)) → Lawful shape pace e xs → has_exhausted (core xs) ≡ true → (a : Doing) → chosen_after shape pace xs ≡ Some a → a ≡ doing.Serving
-  chosen-still xs l ex a is =
-      chosen-serves (gives_way pace.policy) (not (is_empty (waits shape (core xs)))) (in_progress (core xs)) (may_begin_after shape (core xs)) a
-      (exhausted-idle shape (most_steps e) (core xs) (may_all shape pace e xs l) ex) (exhausted-begins_none shape (core xs) ex) is
-
-  -- in an exhausted bank no action of a line write runs
-  exhausted-still : (xs : List (Timed n m)) → Lawful shape pace e xs → has_exhausted (core xs) ≡ true → is_writing (running shape pace xs) ≡ false
-  exhausted-still [] l ex = refl
-  exhausted-still (x ∷ xs) l ex =
-      by x.happens ex (λ ex. started-still (running shape pace xs) (chosen_after shape pace xs) (last_tick xs) x.tick (exhausted-still xs l.1 ex) (chosen-still xs l.1 ex))
+  -- where no line write is begun any more, none is in progress and none is ready
+  pub over-rests : (xs : List (Timed n m)) → Lawful shape pace e xs → is_over shape xs ≡ true → (busy_after shape xs ≡ false) × (ready_after shape xs ≡ false)
+  over-rests xs l over = by (change_after shape xs) over
     where
-      by : (h : Happens n) → has_exhausted (core_of h (core xs)) ≡ true → (has_exhausted (core xs) ≡ true → is_writing (running_at shape pace xs x.tick) ≡ false)
-          → is_writing (left_by shape (core xs) h (running_at shape pace xs x.tick)) ≡ false
-      by (Core (Write row line bytes given answer)) ex still = still ex
-      by (Core (Read row line came.Waiting)) ex still =
-          dropped-still (is_doing doing.Beginning (running_at shape pace xs x.tick) && is_store_of line (work_after shape (core xs))) (running_at shape pace xs x.tick) (still ex)
-      by (Core (Read row line came.Busy)) ex still = still ex
-      by (Core (Read row line (came.Forwarded bytes))) ex still = still ex
-      by (Core (Serve answer)) ex still = refl
-      by (Core (Begin answer)) ex still = refl
-      by (Core (Iterate answer)) ex still = refl
-      by (Core (Cut tearing)) ex still = refl
+      stopped : (keeping halted : Bool) → keeping ≡ false → halted ≡ true → not (keeping || halted) ≡ false
+      stopped true halted off on = absurd (cc)
+      stopped false true off on = refl
+      stopped false false off on = absurd (cc)
 
-  pub still_at : (xs : List (Timed n m)) (tick : ℕ) → Lawful shape pace e xs → has_exhausted (core xs) ≡ true → is_writing (running_at shape pace xs tick) ≡ false
-  still_at xs tick l ex = started-still (running shape pace xs) (chosen_after shape pace xs) (last_tick xs) tick (exhausted-still xs l ex) (chosen-still xs l ex)
+      by : (change : Option ℕ) → over_by change (halted_after xs) (has_exhausted (core xs)) ≡ true
+          → (busy_by change (keeping_after xs) (in_progress (core xs)) ≡ false) × (ready_by change (keeping_after xs || halted_after xs) (may_begin_after shape (core xs)) ≡ false)
+      by None ex = (exhausted-idle shape (most_steps e) (core xs) (may_all shape pace e xs l) ex, exhausted-begins_none shape (core xs) ex)
+      by (Some item) halted = (halted-stops shape pace e xs l halted, stopped (keeping_after xs) (halted_after xs) (halted-stops shape pace e xs l halted) halted)
 
-  -- each line write that ends is a store, a move, a retirement, a cut, or the one that finds no spare
-  abbrev pub causes : List (Timed n m) → ℕ
-  causes xs = all_stores (core xs) + all_moves (core xs) + length (retired (core xs)) + cuts_in xs + one_if (has_exhausted (core xs))
+  chosen-still : (xs : List (Timed n m)) → Lawful shape pace e xs → is_over shape xs ≡ true → (a : Doing) → chosen_after shape pace xs ≡ Some a → a ≡ doing.Serving
+  chosen-still xs l over a is =
+      let rests = over-rests xs l over in
+      chosen-serves (gives_way pace.policy) (not (is_empty (waits shape (core xs)))) (busy_after shape xs) (ready_after shape xs) a rests.0 rests.1 is
 
-  pub ends-few : (xs : List (Timed n m)) → Lawful shape pace e xs → ends_in xs ≤ causes xs
+  -- in such a bank no action of a line write runs
+  over-still : (xs : List (Timed n m)) → Lawful shape pace e xs → is_over shape xs ≡ true → is_writing (running shape pace xs) ≡ false
+  over-still [] l over = refl
+  over-still (x ∷ xs) l over =
+      by x.happens over (λ over. started-still (running shape pace xs) (chosen_after shape pace xs) (last_tick xs) x.tick (over-still xs l.1 over) (chosen-still xs l.1 over))
+    where
+      by : (h : Happens n) → over_by (change_by shape (core xs) h (change_after shape xs)) (halted_by h (halted_after xs)) (has_exhausted (core_of h (core xs))) ≡ true
+          → (is_over shape xs ≡ true → is_writing (running_at shape pace xs x.tick) ≡ false)
+          → is_writing (left_by shape (core xs) (change_after shape xs) h (running_at shape pace xs x.tick)) ≡ false
+      by (Core (Write row line bytes given answer)) over still = still over
+      by (Core (Read row line came.Waiting)) over still = dropped-still (drops_begin shape (core xs) (change_after shape xs) line (running_at shape pace xs x.tick)) (running_at shape pace xs x.tick) (still over)
+      by (Core (Read row line came.Busy)) over still = still over
+      by (Core (Read row line (came.Forwarded bytes))) over still = still over
+      by (Core (Serve answer)) over still = refl
+      by (Core (Begin answer)) over still = refl
+      by (Core (Iterate answer)) over still = refl
+      by (Core (Cut tearing)) over still = refl
+      by (Regs event) over still = refl
+
+  pub still_at : (xs : List (Timed n m)) (tick : ℕ) → Lawful shape pace e xs → is_over shape xs ≡ true → is_writing (running_at shape pace xs tick) ≡ false
+  still_at xs tick l over = started-still (running shape pace xs) (chosen_after shape pace xs) (last_tick xs) tick (over-still xs l over) (chosen-still xs l over)
+
+  pub ends-few : (xs : List (Timed n m)) → Lawful shape pace e xs → ends_in xs + unwritten (change_after shape xs) (halted_after xs) ≤ each shape * causes (core xs) + cuts_in xs
   ends-few [] l = omega arith
   ends-few (x ∷ xs) l = by x.happens x.cancels l.0 (ends-few xs l.1) (exhausted-idle shape (most_steps e) (core xs) (may_all shape pace e xs l.1))
     where
-      after : Happens n → Bool → ℕ
-      after h cancels =
-          all_stores (core_of h (core xs)) + all_moves (core_of h (core xs)) + length (retired (core_of h (core xs))) + (one_if (cuts_power h cancels) + cuts_in xs) + one_if (has_exhausted (core_of h (core xs)))
+      was : ℕ
+      was = unwritten (change_after shape xs) (halted_after xs)
 
-      new_exhausted : (ex busy : Bool) (k c : ℕ) → (ex ≡ true → busy ≡ false) → busy ≡ true → k ≤ c + one_if ex → 1 + k ≤ c + 1
-      new_exhausted true busy k c idle going le = absurd (cc (idle refl))
-      new_exhausted false busy k c idle going le = omega (arith, le)
+      -- a line write of the bank ends
+      ended : (item k : ℕ) → k ≡ causes (core xs) + 1 → change_after shape xs ≡ None → ends_in xs + was ≤ each shape * causes (core xs) + cuts_in xs
+          → 1 + ends_in xs + unwritten (item_if shape.home item) (halted_after xs) ≤ each shape * k + (0 + cuts_in xs)
+      ended item k is none ih = omega (arith, ih, one_more k (causes (core xs)) (each shape) is, new_change shape item (halted_after xs), no_change (change_after shape xs) (halted_after xs) none)
 
-      by : (h : Happens n) (cancels : Bool) → MayCome shape pace e xs x h → ends_in xs ≤ causes xs → (has_exhausted (core xs) ≡ true → in_progress (core xs) ≡ false) → one_if (ends_work h cancels) + ends_in xs ≤ after h cancels
+      not_halted : (b : Bool) → b ≡ true → (halted_after xs ≡ true → b ≡ false) → halted_after xs ≡ false
+      not_halted b on off = own (halted_after xs) off
+        where
+          own : (h : Bool) → (h ≡ true → b ≡ false) → h ≡ false
+          own true off = let no : b ≡ false = off refl in absurd (cc)
+          own false off = refl
+
+      fresh : (ex busy : Bool) → (ex ≡ true → busy ≡ false) → busy ≡ true → ex ≡ false
+      fresh true busy idle going = let no : busy ≡ false = idle refl in absurd (cc)
+      fresh false busy idle going = refl
+
+      by : (h : Happens n) (cancels : Bool) → MayCome shape pace e xs x h → ends_in xs + was ≤ each shape * causes (core xs) + cuts_in xs → (has_exhausted (core xs) ≡ true → in_progress (core xs) ≡ false)
+          → one_if (ends_work h cancels) + ends_in xs + unwritten (change_by shape (core xs) h (change_after shape xs)) (halted_by h (halted_after xs)) ≤ each shape * causes (core_of h (core xs)) + (one_if (cuts_power h cancels) + cuts_in xs)
       by (Core (Write row line bytes given answer)) cancels may ih idle = omega (arith, ih)
       by (Core (Read row line answer)) cancels may ih idle = omega (arith, ih)
       by (Core (Serve answer)) cancels may ih idle = omega (arith, ih)
       by (Core (Begin did.More)) cancels may ih idle = omega (arith, ih)
-      by (Core (Begin (did.Stored row place))) cancels may ih idle = omega (arith, ih)
-      by (Core (Begin (did.Moved step))) cancels may ih idle = omega (arith, ih)
+      by (Core (Begin (did.Stored row place))) cancels may ih idle = ended _ _ (omega arith) may.on_time.2 ih
+      by (Core (Begin (did.Moved step))) cancels may ih idle = ended _ _ (omega arith) may.on_time.2 ih
       by (Core (Begin (did.Retired slot line))) cancels may ih idle = absurd (begin-retires_none shape (core xs) (work_after shape (core xs)) slot line may.may.1)
       by (Core (Begin did.Exhausted)) cancels may ih idle = absurd (begin-exhausts_none shape (core xs) (work_after shape (core xs)) may.may.1)
       by (Core (Iterate did.More)) cancels may ih idle = omega (arith, ih)
-      by (Core (Iterate (did.Stored row place))) cancels may ih idle = omega (arith, ih)
-      by (Core (Iterate (did.Moved step))) cancels may ih idle = omega (arith, ih)
-      by (Core (Iterate (did.Retired slot line))) cancels may ih idle = omega (arith, ih, length-append (retired (core xs)) (slot ∷ []))
+      by (Core (Iterate (did.Stored row place))) cancels may ih idle = ended _ _ (omega arith) may.on_time.2 ih
+      by (Core (Iterate (did.Moved step))) cancels may ih idle = ended _ _ (omega arith) may.on_time.2 ih
+      by (Core (Iterate (did.Retired slot line))) cancels may ih idle = ended _ _ (omega (arith, length-append (retired (core xs)) (slot ∷ []))) may.on_time.2 ih
       by (Core (Iterate did.Exhausted)) cancels may ih idle =
-          let more : 1 + ends_in xs ≤ all_stores (core xs) + all_moves (core xs) + length (retired (core xs)) + cuts_in xs + 1 =
-          new_exhausted (has_exhausted (core xs)) (in_progress (core xs)) (ends_in xs) (all_stores (core xs) + all_moves (core xs) + length (retired (core xs)) + cuts_in xs) idle may.may.0 ih in
-          omega (arith, more)
+          ended _ _ (let f : has_exhausted (core xs) ≡ false = fresh (has_exhausted (core xs)) (in_progress (core xs)) idle may.may.0 in omega (arith, ap one_if f)) may.on_time.2 ih
       by (Core (Cut tearing)) true may ih idle = omega (arith, ih)
       by (Core (Cut tearing)) false may ih idle = omega (arith, ih)
+      by (Regs (KeepBegin keep.More)) cancels may ih idle = omega (arith, ih)
+      by (Regs (KeepBegin keep.Done)) cancels may ih idle = omega (arith, ih, some_change (change_after shape xs) (halted_after xs) may.stands may.may.1)
+      by (Regs (KeepBegin keep.Halted)) cancels may ih idle = absurd (may.may.2 refl)
+      by (Regs (KeepIterate keep.More)) cancels may ih idle = omega (arith, ih)
+      by (Regs (KeepIterate keep.Done)) cancels may ih idle =
+          omega (arith, ih, some_change (change_after shape xs) (halted_after xs) may.stands (not_halted (keeping_after xs) may.may.0 (halted-stops shape pace e xs l.1)))
+      by (Regs (KeepIterate keep.Halted)) cancels may ih idle =
+          let one = some_change (change_after shape xs) (halted_after xs) may.stands (not_halted (keeping_after xs) may.may.0 (halted-stops shape pace e xs l.1)) in
+          let none = gone (change_after shape xs) in
+          omega (arith, ih, one, none)
+        where
+          gone : (change : Option ℕ) → unwritten change true ≡ 0
+          gone None = refl
+          gone (Some item) = refl
+      by (Regs (KeepCut tearing)) cancels may ih idle = omega (arith, ih)

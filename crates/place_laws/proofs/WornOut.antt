@@ -1,5 +1,5 @@
 -- A bank that is exhausted has more worn lines than spares.
-use Rattle.std.proofs.Common.{◌≡◌, ℕ, zero, suc, ◌+◌, ◌*◌, ◌/◌, ◌<◌, ◌≤◌, ◌==◌, ◌&&◌, not, inl, inr, Bool, true, false, List, [], ◌∷◌, Option, Some, None, length, refl, sym, ap, subst, arith, cond}
+use Rattle.std.proofs.Common.{◌≡◌, ℕ, zero, suc, ◌+◌, ◌*◌, ◌/◌, ◌<◌, ◌≤◌, ◌==◌, ◌&&◌, ◌||◌, not, inl, inr, Bool, true, false, List, [], ◌∷◌, Option, Some, None, length, refl, sym, ap, subst, arith, cond}
 use Rattle.std.proofs.lemmas.Bool.{eq-eqb, ne_eqb, le-leb, cases_eq}
 use Rattle.std.proofs.lemmas.Nat.{div_below}
 use Rattle.masked_bytes.specs.declared.entry.Entry.{Entry}
@@ -10,17 +10,22 @@ use Rattle.spare_pool.specs.Table.{Table, line_from}
 use Rattle.spare_pool.proofs.Lines.{line_by-within}
 use Rattle.bank_shape.specs.declared.BankShape.{BankShape}
 use Rattle.bank_shape.specs.declared.Work.TheVariants.{Nothing}
-use Rattle.bank_shape.specs.Shape.{slots_of}
+use Rattle.bank_shape.specs.Shape.{slots_of, if_array, controls_of, control_line}
+use Rattle.bank_shape.specs.declared.Home.{Home}
+use Rattle.bank_shape.specs.declared.Home.TheVariants as home
+use Rattle.bank_model.specs.declared.answer.Keep.TheVariants as keep
+use Rattle.std.specs.Prelude.{IfSome}
 use Rattle.bank_model.specs.declared.answer.Step.TheVariants as did
 use Rattle.bank_model.specs.Events.{Event, Write, Read, Serve, Begin, Iterate, Cut, RowsBelow, line_of_row}
 use Rattle.bank_model.specs.History.{Awaited, first_or, stores, moved_in, retired, has_exhausted, due_after, queue, waits, in_progress}
 use Rattle.bank_model.specs.After.{due_work, work_after, slot_of_work, is_ready, may_begin_after}
 use Rattle.bank_model.specs.Answers.{MayAll}
 use Rattle.bank_model.specs.declared.clock.Doing.TheVariants as doing
-use Rattle.bank_model.specs.Running.{Choice, chosen_by, gives_way, choice_after}
+use Rattle.bank_model.specs.Running.{Choice, busy_by, ready_by, over_by, busy_after, ready_after, is_over, chosen_by, gives_way, choice_after}
+use Rattle.bank_model.specs.Changes.{item_if, change_after, change_by, keeping_after, halted_after}
 use Rattle.bank_model.specs.Sensing.{most_steps}
-use Rattle.bank_model.specs.Timing.{Pacing, Timed, core, is_empty}
-use Rattle.bank_model.specs.Lawful.{Lawful, IsIdle}
+use Rattle.bank_model.specs.Timing.{Pacing, Happens, Core, Regs, KeepBegin, KeepIterate, KeepCut, Timed, core, is_empty}
+use Rattle.bank_model.specs.Lawful.{Lawful, IsIdle, MayCome}
 use Rattle.bank_laws.specs.Laws.{IsSized, LeavesArray, is_worn_at}
 use Rattle.bank_laws.specs.Places.{worn_among, is_worn_out}
 use Rattle.bank_laws.proofs.Settling.{above_all}
@@ -112,12 +117,27 @@ none-ready way reads c is = by way reads c.busy c.ready is
     by false false false true is = absurd (cc)
     by false false false false is = (refl, refl)
 
--- a bank without work in whose queue a row stands is exhausted
-pub idle-exhausted : {n m : ℕ} (shape : BankShape) (pace : Pacing) (xs : List (Timed n m)) (row : ℕ) → IsIdle shape pace xs → has_row (queue shape (core xs)) row ≡ true → has_exhausted (core xs) ≡ true
-idle-exhausted {n} shape pace xs row idle there =
-    by (in_progress (core xs)) (has_exhausted (core xs)) (due_after shape (core xs)) (queue shape (core xs)) (waits shape (core xs)) none.0 (idle-waits shape pace xs idle) none.1 there
+-- a bank without work in which something is left to do begins no line write any more: it is exhausted, or the writing of a change has halted
+idle-over : {n m : ℕ} (shape : BankShape) (xs : List (Timed n m)) → busy_after shape xs ≡ false → ready_after shape xs ≡ false
+    → (in_progress (core xs) ≡ false → may_begin_after shape (core xs) ≡ false → has_exhausted (core xs) ≡ true) → is_over shape xs ≡ true
+idle-over shape xs idle none core_over = by (change_after shape xs) idle none
   where
-    none : (in_progress (core xs) ≡ false) × (may_begin_after shape (core xs) ≡ false)
+    stopped : (keeping halted : Bool) → keeping ≡ false → not (keeping || halted) ≡ false → halted ≡ true
+    stopped true halted off is = absurd (cc)
+    stopped false true off is = refl
+    stopped false false off is = absurd (cc)
+
+    by : (change : Option ℕ) → busy_by change (keeping_after xs) (in_progress (core xs)) ≡ false
+        → ready_by change (keeping_after xs || halted_after xs) (may_begin_after shape (core xs)) ≡ false → over_by change (halted_after xs) (has_exhausted (core xs)) ≡ true
+    by None idle none = core_over idle none
+    by (Some item) idle none = stopped (keeping_after xs) (halted_after xs) idle none
+
+-- so is one in whose queue a row stands
+pub idle-queued : {n m : ℕ} (shape : BankShape) (pace : Pacing) (xs : List (Timed n m)) (row : ℕ) → IsIdle shape pace xs → has_row (queue shape (core xs)) row ≡ true → is_over shape xs ≡ true
+idle-queued {n} shape pace xs row idle there = idle-over shape xs none.0 none.1 (λ still never.
+    by (in_progress (core xs)) (has_exhausted (core xs)) (due_after shape (core xs)) (queue shape (core xs)) (waits shape (core xs)) still (idle-waits shape pace xs idle) never there)
+  where
+    none : (busy_after shape xs ≡ false) × (ready_after shape xs ≡ false)
     none = none-ready (gives_way pace.policy) (not (is_empty (waits shape (core xs)))) (choice_after shape pace xs) idle.chosen
 
     by : (busy ex : Bool) (due : Option ℕ) (es : List (Entry n)) (ws : List Awaited) → busy ≡ false → ws ≡ []
@@ -130,11 +150,11 @@ idle-exhausted {n} shape pace xs row idle there =
     by false false None (e ∷ es) (w ∷ ws) idle empty ready there = absurd (cc)
 
 -- and so is one where a move is due
-pub idle-due : {n m : ℕ} (shape : BankShape) (pace : Pacing) (xs : List (Timed n m)) (region : ℕ) → IsIdle shape pace xs → due_after shape (core xs) ≡ Some region → has_exhausted (core xs) ≡ true
-idle-due {n} shape pace xs region idle due =
-    by (in_progress (core xs)) (has_exhausted (core xs)) (due_after shape (core xs)) none.0 due none.1
+pub idle-due : {n m : ℕ} (shape : BankShape) (pace : Pacing) (xs : List (Timed n m)) (region : ℕ) → IsIdle shape pace xs → due_after shape (core xs) ≡ Some region → is_over shape xs ≡ true
+idle-due {n} shape pace xs region idle due = idle-over shape xs none.0 none.1 (λ still never.
+    by (in_progress (core xs)) (has_exhausted (core xs)) (due_after shape (core xs)) still due never)
   where
-    none : (in_progress (core xs) ≡ false) × (may_begin_after shape (core xs) ≡ false)
+    none : (busy_after shape xs ≡ false) × (ready_after shape xs ≡ false)
     none = none-ready (gives_way pace.policy) (not (is_empty (waits shape (core xs)))) (choice_after shape pace xs) idle.chosen
 
     by : (busy ex : Bool) (due : Option ℕ) → busy ≡ false → due ≡ Some region → (not busy && is_ready (waits shape (core xs)) (cond ex Nothing (due_work shape (core xs) due (queue shape (core xs))))) ≡ false → ex ≡ true
@@ -189,3 +209,77 @@ module _ {n m : ℕ} (shape : BankShape) (pace : Pacing) (e : ℕ) (all : List (
 
       many : shape.spares + 1 ≤ worn_among (is_worn_at e array) shape.base (slots_of shape + shape.spares)
       many = worn-many (is_worn_at e array) line_at shape.base (slots_of shape) shape.spares (line_at target) exists each
+
+  -- so is one at whose control line the writing of a change has halted, in its way
+  pub worn_control : (item : ℕ) → item < controls_of shape → is_worn_at e array (control_line shape item) ≡ true
+      → 0 < worn_among (is_worn_at e array) (shape.base + slots_of shape + shape.spares) (controls_of shape)
+  worn_control item exists worn = some (controls_of shape) (shape.base + slots_of shape + shape.spares) item exists worn
+    where
+      some : (count from item : ℕ) → item < count → is_worn_at e array (from + item) ≡ true → 0 < worn_among (is_worn_at e array) from count
+      some zero from item lt worn = absurd (omega (arith, lt))
+      some (suc count) from zero lt worn =
+          let here : is_worn_at e array from ≡ true = subst (λ k. is_worn_at e array k ≡ true) (omega arith) worn in
+          omega (arith, ap one_if here)
+      some (suc count) from (suc item) lt worn =
+          let next : is_worn_at e array (from + 1 + item) ≡ true = subst (λ k. is_worn_at e array k ≡ true) (omega arith) worn in
+          let rest : 0 < worn_among (is_worn_at e array) (from + 1) count = some count (from + 1) item (omega (arith, lt)) next in
+          omega (arith, rest)
+
+-- a change is of an item of the bank
+pub change-within : {n m : ℕ} (shape : BankShape) (pace : Pacing) (e : ℕ) (xs : List (Timed n m)) → 1 ≤ shape.regions → 1 ≤ shape.lines → Lawful shape pace e xs
+    → IfSome (change_after shape xs) (λ item. item < controls_of shape)
+change-within shape pace e [] r l law = tt
+change-within {n} shape pace e (x ∷ xs) r l law = by x.happens law.0 (change-within shape pace e xs r l law.1)
+  where
+    Within : Option ℕ → Type 0
+    Within change = IfSome change (λ item. item < controls_of shape)
+
+    may_be : MayAll shape (most_steps e) (core xs)
+    may_be = may_all shape pace e xs law.1
+
+    some : 0 < shape.lines
+    some = omega (arith, l)
+
+    there : (item : ℕ) → item < shape.regions + shape.spares + 1 → Within (item_if shape.home item)
+    there item lt = own shape.home refl
+      where
+        own : (where_ : Home) → where_ ≡ shape.home → IfSome (item_if where_ item) (λ item. item < if_array where_ (shape.regions + shape.spares + 1))
+        own home.Guarded is = tt
+        own home.Array is = lt
+
+    stored : (row place : ℕ) → IsStoreOf shape (core xs) row place → Within (item_if shape.home (line_of_row row (core xs) / shape.lines))
+    stored row place store =
+        let b = above_all shape pace e xs law.1 in
+        let within : line_of_row row (core xs) / shape.lines < shape.regions =
+        div_below (line_of_row row (core xs)) shape.lines shape.regions some (store_line shape (most_steps e) (core xs) b.0 row place may_be b.1 store) in
+        there _ (omega (arith, within))
+
+    moved : Within (item_if shape.home (first_or 0 (stores (core xs)) / shape.lines))
+    moved =
+        let b = above_all shape pace e xs law.1 in
+        let within : first_or 0 (stores (core xs)) / shape.lines < shape.regions =
+        div_below (first_or 0 (stores (core xs))) shape.lines shape.regions some (last_within shape (most_steps e) (core xs) b.0 r l may_be b.1) in
+        there _ (omega (arith, within))
+
+    by : (h : Happens n) → MayCome shape pace e xs x h → Within (change_after shape xs) → Within (change_by shape (core xs) h (change_after shape xs))
+    by (Core (Write row line bytes given answer)) may old = old
+    by (Core (Read row line answer)) may old = old
+    by (Core (Serve answer)) may old = old
+    by (Core (Begin did.More)) may old = old
+    by (Core (Begin (did.Stored row place))) may old = stored row place (done-store shape (core xs) row place may.may.1)
+    by (Core (Begin (did.Moved step))) may old = moved
+    by (Core (Begin (did.Retired slot line))) may old = absurd (begin-retires_none shape (core xs) (work_after shape (core xs)) slot line may.may.1)
+    by (Core (Begin did.Exhausted)) may old = absurd (begin-exhausts_none shape (core xs) (work_after shape (core xs)) may.may.1)
+    by (Core (Iterate did.More)) may old = old
+    by (Core (Iterate (did.Stored row place))) may old = stored row place (done-store shape (core xs) row place may.may.1)
+    by (Core (Iterate (did.Moved step))) may old = moved
+    by (Core (Iterate (did.Retired slot line))) may old = there _ (omega (arith, may.may.1.2))
+    by (Core (Iterate did.Exhausted)) may old = there _ (omega arith)
+    by (Core (Cut tearing)) may old = old
+    by (Regs (KeepBegin keep.More)) may old = old
+    by (Regs (KeepBegin keep.Done)) may old = tt
+    by (Regs (KeepBegin keep.Halted)) may old = old
+    by (Regs (KeepIterate keep.More)) may old = old
+    by (Regs (KeepIterate keep.Done)) may old = tt
+    by (Regs (KeepIterate keep.Halted)) may old = old
+    by (Regs (KeepCut tearing)) may old = old

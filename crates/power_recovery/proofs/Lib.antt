@@ -1,3 +1,4 @@
 pub mod Placing
 pub mod Bundle
 pub mod Frames
+pub mod Restoring

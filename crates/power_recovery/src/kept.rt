@@ -1,5 +1,5 @@
 //! The bundle that survives a power cut.
-ghost use Rattle.std.specs.Prelude.{◌≡◌, ℕ, ◌+◌, ◌/◌, ◌%◌, ◌<◌, ◌≤◌, ◌↔◌, [], false, length, slice_get, option_copied, IfOk, IsOk, OnOk, OnErr, IsTrue};
+ghost use Rattle.std.specs.Prelude.{◌≡◌, ℕ, ◌+◌, ◌/◌, ◌%◌, ◌<◌, ◌≤◌, ◌↔◌, [], false, length, replicate, slice_get, option_copied, IfOk, IsOk, OnOk, OnErr, IsTrue};
 ghost use Rattle.masked_bytes.specs.Masked.{none_given, IsMasked};
 ghost use Rattle.masked_bytes.specs.Entries.{layer_of, newest_place, head_row};
 ghost use Rattle.protected_queue.specs.Queue.{accept_answer};
@@ -9,6 +9,8 @@ ghost use Rattle.bank_shape.specs.Shape.{IsBankShape, slots_of, lines_in, slot_a
 ghost use Rattle.power_recovery.specs.Slots.{bank_lines};
 ghost use Rattle.power_recovery.specs.Kept.{IsKept, region_at, slot_of, array_line, next_work, due_region};
 ghost use Rattle.power_recovery.specs.Events.{is_store, is_copy, first_kept, accepted_kept, completed_kept, stored_kept, moved_kept, retired_kept, exhausted_kept};
+ghost use Rattle.power_recovery.specs.Restoring.{IsOneDue, stripped_kept, region_restored};
+ghost use Rattle.region_regs.specs.Region.{first_region};
 
 use bank_shape::{BankShape, Work};
 use masked_bytes::entry::Entry;
@@ -67,11 +69,11 @@ impl<const B: usize> Kept<B> {
     }
 
     /// The bank's shape.
-    pub fn shape(&self) -> BankShape
-        ensures shape { result ≡ self.now.shape }
+    pub fn shape(&self) -> &BankShape
+        ensures shape { result.now ≡ self.now.shape }
         ensures in_range { IsKept self.now }
     {
-        self.shape
+        &self.shape
     }
 
     /// Takes a write in, as the queue does. `head_busy` says that the head is being written.
@@ -255,5 +257,69 @@ impl<const B: usize> Kept<B> {
         ensures in_range { IsKept self.now }
     {
         &self.regions[i as usize]
+    }
+
+    /// Leaves the queue, and makes all else as it was at first. Takes no memory.
+    pub fn strip(&mut self)
+        ensures kept { self.new ≡ stripped_kept self.old }
+        ensures in_range { IsKept self.new }
+    {
+        self.remap.reset();
+        start_over(&mut self.regions, self.shape.lines, self.shape.psi);
+        self.exhausted = false;
+    }
+
+    /// Puts the registers and the counter of a region back.
+    pub fn restore_region(&mut self, i: u32, start: u32, gap: u32, counter: u32)
+        requires exists { i < self.old.shape.regions }
+        requires start { start < self.old.shape.lines }
+        requires gap { gap ≤ self.old.shape.lines }
+        requires counter { counter ≤ self.old.shape.psi }
+        requires one_due { IsOneDue (region_restored i start gap counter self.old) }
+        ensures kept { self.new ≡ region_restored i start gap counter self.old }
+        ensures in_range { IsKept self.new }
+    {
+        self.regions[i as usize] = Region::at(
+            self.shape.lines,
+            self.shape.psi,
+            counter,
+            start,
+            gap,
+        );
+    }
+
+    /// Gives a slot the next free spare.
+    pub fn restore_spare(&mut self, slot: u32)
+        requires exists { slot < slots_of self.old.shape }
+        requires free { used_by self.old.table < self.old.shape.spares }
+        ensures kept { self.new ≡ retired_kept slot self.old }
+        ensures in_range { IsKept self.new }
+    {
+        match self.remap.retire(slot) {
+            Ok(_) => {}
+            Err(_) => unreachable!(),
+        }
+    }
+
+    /// Sets the mark of a bank that found no spare.
+    pub fn restore_mark(&mut self)
+        requires all_used { used_by self.old.table ≡ self.old.shape.spares }
+        ensures kept { self.new ≡ exhausted_kept self.old }
+        ensures in_range { IsKept self.new }
+    {
+        self.exhausted = true;
+    }
+}
+
+// Makes each region as it was at first.
+fn start_over(regions: &mut [Region], lines: u32, psi: u32)
+    requires some_lines { 1 ≤ lines }
+    requires few_lines { lines ≤ 4096 }
+    requires some_writes { 1 ≤ psi }
+    requires few_writes { psi ≤ 65535 }
+    ensures { regions.new ≡ replicate (length regions.old) (first_region lines psi) }
+{
+    for i in 0..regions.len() {
+        regions[i] = Region::new(lines, psi);
     }
 }

@@ -1,5 +1,5 @@
 use crate::kept::Kept;
-use bank_shape::{BankShape, Work};
+use bank_shape::{BankShape, Home, Work};
 use masked_bytes::entry::Entry;
 use protected_queue::accept::Accept;
 use spare_pool::NoSpare;
@@ -14,6 +14,7 @@ const SMALL: BankShape = BankShape {
     writes: 1,
     reads: 4,
     psi: 1,
+    home: Home::Guarded,
 };
 
 #[test]
@@ -48,7 +49,7 @@ fn a_store_makes_a_move_due(rt: HostRuntime) -> Result<(), Fail> {
 #[test]
 fn the_third_retirement_finds_no_spare(rt: HostRuntime) -> Result<(), Fail> {
     let mut kept: Kept<64> = Kept::new(rt.alloc(), SMALL)?;
-    assert!(rt; kept.shape() == SMALL && kept.is_empty());
+    assert!(rt; *kept.shape() == SMALL && kept.is_empty());
     assert_eq!(rt; kept.retire(4), Ok(5));
     assert_eq!(rt; kept.retire(4), Ok(6));
     assert!(rt; !kept.exhausted());
@@ -65,6 +66,7 @@ fn masked_writes_merge_unless_the_head_is_in_flight(rt: HostRuntime) -> Result<(
         base: 20,
         writes: 2,
         psi: 100,
+        home: Home::Guarded,
         ..SMALL
     };
     let mut kept = Kept::new(rt.alloc(), shape)?;

@@ -9,7 +9,7 @@ use Rattle.row_laws.specs.Queueing.{waiting}
 use Rattle.bank_shape.specs.declared.BankShape.{BankShape}
 use Rattle.bank_model.specs.Events.{Write, Read, Serve, Begin, Iterate, Cut}
 use Rattle.bank_model.specs.History.{waits}
-use Rattle.bank_model.specs.Timing.{Pacing, Happens, Core, Timed, core, last_tick}
+use Rattle.bank_model.specs.Timing.{Pacing, Happens, Core, Regs, Timed, core, last_tick}
 use Rattle.bank_model.specs.Lawful.{Lawful}
 use Rattle.bank_laws.specs.Outcomes.{outcome_of, row_with, rows_from}
 use Rattle.bank_laws.specs.Standing.{has_wait}
@@ -68,6 +68,7 @@ module _ {n m : ℕ} (shape : BankShape) (pace : Pacing) (e : ℕ) (all later no
       by (Core (Write at line bytes given answer)) cancels f ih = ih
       by (Core (Read at line answer)) cancels f ih = cond_length _ _ _ _ _ (f at (state_new shape pace e all ys z.tick at line answer)) ih
       by (Core (Serve answer)) cancels f ih = ih
+      by (Regs event) cancels f ih = ih
       by (Core (Begin answer)) cancels f ih = ih
       by (Core (Iterate answer)) cancels f ih = ih
       by (Core (Cut tearing)) true f ih = ih

@@ -18,7 +18,7 @@ use Rattle.bank_model.specs.Events.{Write, Read, Serve, Begin, Iterate, Cut, Row
 use Rattle.bank_model.specs.History.{begun, queue, waits, due_after, has_exhausted, in_progress}
 use Rattle.bank_model.specs.Answers.{head_busy_after}
 use Rattle.bank_model.specs.Sensing.{most_steps}
-use Rattle.bank_model.specs.Timing.{Pacing, Happens, Core, Timed, core, core_of}
+use Rattle.bank_model.specs.Timing.{Pacing, Happens, Core, Regs, Timed, core, core_of}
 use Rattle.bank_model.specs.Told.{tick_of_row}
 use Rattle.bank_model.specs.Lawful.{Lawful, MayCome}
 use Rattle.bank_laws.specs.Pairs.{ArePaired}
@@ -73,6 +73,7 @@ module _ {n m : ℕ} (shape : BankShape) (pace : Pacing) (e : ℕ) where
   none_new zs x (Core (Read at line came.Waiting)) row u p less s = s
   none_new zs x (Core (Read at line came.Busy)) row u p less s = not_stored at row (out.Busy x.tick) (outcome_of shape zs row) u p (λ is. absurd (cc)) s
   none_new zs x (Core (Read at line (came.Forwarded bytes))) row u p less s = not_stored at row (out.Forwarded x.tick bytes) (outcome_of shape zs row) u p (λ is. absurd (cc)) s
+  none_new zs x (Regs event) row u p less s = s
   none_new zs x (Core (Serve answer)) row u p less s = not_stored answer.row row (out.Read x.tick answer.place answer.bytes) (outcome_of shape zs row) u p (λ is. absurd (cc)) s
   none_new zs x (Core (Begin (did.Stored at place))) row u p less s = absurd less
   none_new zs x (Core (Begin did.More)) row u p less s = s
@@ -357,6 +358,7 @@ module _ {n m : ℕ} (shape : BankShape) (pace : Pacing) (e : ℕ) where
     covered_step (Core (Write at k bytes given wrote.Full)) may = quiet (Core (Write at k bytes given wrote.Full)) may tt (λ line f. refl) (λ line. new_floor at k bytes given wrote.Full line may tt) (λ row line a. inr a) refl
     covered_step (Core (Write at k bytes given wrote.Exhausted)) may = quiet (Core (Write at k bytes given wrote.Exhausted)) may tt (λ line f. refl) (λ line. new_floor at k bytes given wrote.Exhausted line may tt) (λ row line a. inr a) refl
     covered_step (Core (Read at k answer)) may = quiet (Core (Read at k answer)) may tt (λ line f. refl) (λ line. same_floor (Core (Read at k answer)) line may tt) (λ row line a. a) refl
+    covered_step (Regs event) may = quiet (Regs event) may tt (λ line f. refl) (λ line. same_floor (Regs event) line may tt) (λ row line a. a) refl
     covered_step (Core (Serve answer)) may = quiet (Core (Serve answer)) may tt (λ line f. refl) (λ line. same_floor (Core (Serve answer)) line may tt) (λ row line a. a) refl
     covered_step (Core (Begin (did.Stored at place))) may =
         let s = stored at place (stored-head shape (core zs) at place may.may.1) in record { front = s.front; tails = s.tails; above = s.above; asked = s.asked }

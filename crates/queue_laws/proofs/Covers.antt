@@ -14,7 +14,7 @@ use Rattle.row_laws.specs.Rows.{write_of}
 use Rattle.row_laws.specs.Queueing.{unstored, cover}
 use Rattle.bank_shape.specs.declared.BankShape.{BankShape}
 use Rattle.bank_model.specs.Events.{Write, Read, Serve, Begin, Iterate, Cut, RowsBelow}
-use Rattle.bank_model.specs.Timing.{Pacing, Happens, Core, Timed, core, core_of, last_tick}
+use Rattle.bank_model.specs.Timing.{Pacing, Happens, Core, Regs, Timed, core, core_of, last_tick}
 use Rattle.bank_model.specs.Lawful.{Lawful, MayCome}
 use Rattle.bank_laws.specs.Outcomes.{outcome_of, ended, row_with, rows_from}
 use Rattle.bank_laws.proofs.Entries.{or_none}
@@ -58,6 +58,7 @@ rows_before {n} {m} (x ∷ mid) now bound b = by x.happens (λ bound b. rows_bef
     by (Core (Write at line bytes given answer)) go b = rows_below-more (core now) at bound (omega (arith, b.0)) (go at b.1)
     by (Core (Read at line answer)) go b = rows_below-more (core now) at bound (omega (arith, b.0)) (go at b.1)
     by (Core (Serve answer)) go b = go bound b
+    by (Regs event) go b = go bound b
     by (Core (Begin answer)) go b = go bound b
     by (Core (Iterate answer)) go b = go bound b
     by (Core (Cut tearing)) go b = go bound b
@@ -134,6 +135,7 @@ module _ {n m : ℕ} (shape : BankShape) (pace : Pacing) (e : ℕ) (all later no
               ∙ sym (ap (λ f. since (Write at k bytes given answer ∷ core ys) line f) (floor-skip (k == line && is_stored (outcome_of shape now at)) at (floor_of (outcome_of shape now) (core ys) line) (and_first (k == line) _ ne)))
       by (Core (Read at k answer)) cancels may on ih = ih
       by (Core (Serve answer)) cancels may on ih = ih
+      by (Regs event) cancels may on ih = ih
       by (Core (Begin answer)) cancels may on ih = ih
       by (Core (Iterate answer)) cancels may on ih = ih
       by (Core (Cut tearing)) true may on ih = ih
@@ -157,6 +159,7 @@ module _ {n m : ℕ} (shape : BankShape) (pace : Pacing) (e : ℕ) (all later no
           (λ u p s. let both : ◌≡◌ {A = Outcome n} (out.Stored u p) out.Unset = sym s ∙ (opens shape pace e now here).coming at (low at (rows_before mid zs at may.asked)) in absurd (cc)))) refl
       by (Core (Read at k answer)) cancels may = refl
       by (Core (Serve answer)) cancels may = refl
+      by (Regs event) cancels may = refl
       by (Core (Begin answer)) cancels may = refl
       by (Core (Iterate answer)) cancels may = refl
       by (Core (Cut tearing)) true may = refl

@@ -11,7 +11,7 @@ use Rattle.bank_model.specs.declared.answer.ReadAnswer.TheVariants as came
 use Rattle.bank_model.specs.declared.answer.Step.TheVariants as did
 use Rattle.bank_model.specs.Events.{Write, Read, Serve, Begin, Iterate, Cut, newest}
 use Rattle.bank_model.specs.History.{begun, queue, waits, due_after}
-use Rattle.bank_model.specs.Timing.{Pacing, Happens, Core, Timed, core, core_of, last_tick}
+use Rattle.bank_model.specs.Timing.{Pacing, Happens, Core, Regs, Timed, core, core_of, last_tick}
 use Rattle.bank_model.specs.Lawful.{Lawful, MayCome}
 use Rattle.bank_laws.specs.Standing.{has_wait}
 use Rattle.bank_laws.specs.Ticks.{ends_action}
@@ -104,6 +104,7 @@ module _ {n m : ℕ} (shape : BankShape) (pace : Pacing) (e : ℕ) (now : List (
   head_first zs x (Core (Read at line came.Busy)) head may h none = inl (h, λ row u p unset s. none row u p unset (not_stored at row (out.Busy x.tick) (outcome_of shape zs row) u p (λ is. absurd (cc)) s))
   head_first zs x (Core (Read at line (came.Forwarded bytes))) head may h none =
       inl (h, λ row u p unset s. none row u p unset (not_stored at row (out.Forwarded x.tick bytes) (outcome_of shape zs row) u p (λ is. absurd (cc)) s))
+  head_first zs x (Regs event) head may h none = inl (h, none)
   head_first zs x (Core (Serve answer)) head may h none =
       inl (h, λ row u p unset s. none row u p unset (not_stored answer.row row (out.Read x.tick answer.place answer.bytes) (outcome_of shape zs row) u p (λ is. absurd (cc)) s))
   head_first zs x (Core (Begin (did.Stored at place))) head may h none = inr (stored_first zs x.tick at place head (queue shape (core zs)) (stored-head shape (core zs) at place may.may.1) h none)

@@ -17,7 +17,7 @@ use Rattle.bank_model.specs.Events.{Event, Write, Read, Serve, Begin, Iterate, C
 use Rattle.bank_model.specs.History.{awaited, queue, waits}
 use Rattle.bank_model.specs.Answers.{read_answer}
 use Rattle.bank_model.specs.Sensing.{most_steps}
-use Rattle.bank_model.specs.Timing.{Pacing, Happens, Core, Timed, core, core_of, last_tick}
+use Rattle.bank_model.specs.Timing.{Pacing, Happens, Core, Regs, Timed, core, core_of, last_tick}
 use Rattle.bank_model.specs.Lawful.{Lawful, MayCome}
 use Rattle.bank_laws.specs.Outcomes.{outcome_of, row_with, rows_from}
 use Rattle.bank_laws.specs.RowLaws.{waits_fit}
@@ -106,6 +106,7 @@ one_down {n} x ys bound b = by x.happens b
     by (Core (Write at line bytes given answer)) b = rows_below-more (core ys) at bound (omega (arith, b.0)) b.1
     by (Core (Read at line answer)) b = rows_below-more (core ys) at bound (omega (arith, b.0)) b.1
     by (Core (Serve answer)) b = b
+    by (Regs event) b = b
     by (Core (Begin answer)) b = b
     by (Core (Iterate answer)) b = b
     by (Core (Cut tearing)) b = b
@@ -229,6 +230,7 @@ module _ {n m : ℕ} (shape : BankShape) (pace : Pacing) (e : ℕ) (all : List (
           (fits_waiting shape pace e all (length (waiting x.tick [] (rows_from shape all ys))) (newest (core ys) line) (outcome_of shape all row) settled
           (ap (λ k. k == shape.reads) (f refl).count ∙ (read_room shape pace e all (core ys) line came.Waiting may.may.1).1 refl))
       by (Core (Serve answer)) cancels may on f = tt
+      by (Regs event) cancels may on f = tt
       by (Core (Begin answer)) cancels may on f = tt
       by (Core (Iterate answer)) cancels may on f = tt
       by (Core (Cut tearing)) true may on f = tt

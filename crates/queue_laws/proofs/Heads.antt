@@ -16,7 +16,7 @@ use Rattle.bank_model.specs.declared.answer.WriteAnswer.TheVariants as wrote
 use Rattle.bank_model.specs.declared.answer.Step.TheVariants as did
 use Rattle.bank_model.specs.Events.{Write, Read, Serve, Begin, Iterate, Cut, newest}
 use Rattle.bank_model.specs.History.{begun, queue, due_after}
-use Rattle.bank_model.specs.Timing.{Pacing, Happens, Core, Timed, core, core_of, last_tick}
+use Rattle.bank_model.specs.Timing.{Pacing, Happens, Core, Regs, Timed, core, core_of, last_tick}
 use Rattle.bank_model.specs.Lawful.{Lawful, MayCome}
 use Rattle.bank_laws.specs.Outcomes.{on_row, outcome_with, outcome_of, ended, row_with, rows_from}
 use Rattle.bank_laws.specs.Ticks.{ends_action}
@@ -121,6 +121,7 @@ module _ {n m : ℕ} (shape : BankShape) (all : List (Timed n m)) (row line u p 
       by (Core (Write at k bytes given answer)) cancels go (inr rest) = inr (go rest)
       by (Core (Read at k answer)) cancels go a = inr (go a)
       by (Core (Serve answer)) cancels go a = go a
+      by (Regs event) cancels go a = go a
       by (Core (Begin answer)) cancels go a = go a
       by (Core (Iterate answer)) cancels go a = go a
       by (Core (Cut tearing)) true go a = go a
@@ -140,6 +141,7 @@ module _ {n m : ℕ} (shape : BankShape) (all : List (Timed n m)) (row line u p 
           inl (store-right line u (rows_after shape all mid) (row_with shape all (Core (Write at k bytes given answer)) x.tick cancels) (inl (store-own x.tick at k own.0 own.1)))
       by (Core (Write at k bytes given answer)) cancels go (inr rest) = more (Core (Write at k bytes given answer)) cancels (go rest)
       by (Core (Read at k answer)) cancels go a = more (Core (Read at k answer)) cancels (go a)
+      by (Regs event) cancels go a = more (Regs event) cancels (go a)
       by (Core (Serve answer)) cancels go a = more (Core (Serve answer)) cancels (go a)
       by (Core (Begin answer)) cancels go a = more (Core (Begin answer)) cancels (go a)
       by (Core (Iterate answer)) cancels go a = more (Core (Iterate answer)) cancels (go a)
@@ -180,6 +182,7 @@ module _ {n m : ℕ} (shape : BankShape) (pace : Pacing) (e : ℕ) (now : List (
   asked_more zs (Core (Write at k bytes given answer)) row a = inr a
   asked_more zs (Core (Read at k answer)) row a = a
   asked_more zs (Core (Serve answer)) row a = a
+  asked_more zs (Regs event) row a = a
   asked_more zs (Core (Begin answer)) row a = a
   asked_more zs (Core (Iterate answer)) row a = a
   asked_more zs (Core (Cut tearing)) row a = a
@@ -207,6 +210,7 @@ module _ {n m : ℕ} (shape : BankShape) (pace : Pacing) (e : ℕ) (now : List (
     line_head (Core (Write at k bytes given wrote.Full)) may above head none = on (Core (Write at k bytes given wrote.Full)) tt none head
     line_head (Core (Write at k bytes given wrote.Exhausted)) may above head none = on (Core (Write at k bytes given wrote.Exhausted)) tt none head
     line_head (Core (Read at k answer)) may above head none = on (Core (Read at k answer)) tt none head
+    line_head (Regs event) may above head none = on (Regs event) tt none head
     line_head (Core (Serve answer)) may above head none = on (Core (Serve answer)) tt none head
     line_head (Core (Begin (did.Stored at place))) may above head none =
         inr (record {
@@ -318,6 +322,7 @@ any_entry {n} {m} shape all p row line (y ∷ ys) hit a = by y.happens (λ k. an
     by (Core (Write at k bytes given answer)) go (inr rest) = more (p at) _ (standing p (written shape all ys)) (go rest)
     by (Core (Read at k answer)) go a = go a
     by (Core (Serve answer)) go a = go a
+    by (Regs event) go a = go a
     by (Core (Begin answer)) go a = go a
     by (Core (Iterate answer)) go a = go a
     by (Core (Cut tearing)) go a = go a

@@ -11,7 +11,7 @@ use Rattle.bank_model.specs.Events.{Event, Write, Read, Serve, Begin, Iterate, C
 use Rattle.bank_model.specs.History.{begun, queue, due_after, has_exhausted, in_progress}
 use Rattle.bank_model.specs.After.{is_store, due_work}
 use Rattle.bank_model.specs.Answers.{head_busy_after}
-use Rattle.bank_model.specs.Timing.{Pacing, Happens, Core, Timed, core, core_of, last_tick}
+use Rattle.bank_model.specs.Timing.{Pacing, Happens, Core, Regs, KeepBegin, KeepIterate, KeepCut, Timed, core, core_of, last_tick}
 use Rattle.bank_model.specs.Told.{tick_by, tick_of_row}
 use Rattle.bank_model.specs.Sensing.{most_steps}
 use Rattle.bank_model.specs.Lawful.{Lawful, MayCome}
@@ -210,6 +210,7 @@ module _ {n m : ℕ} (shape : BankShape) (pace : Pacing) (e : ℕ) where
       ap (λ b. cond b x.tick (tick_of_row row zs)) (differ_back row at (below_among (writes_in zs) at row (writes-fall zs at may.asked) there))
   tick_step zs x (Core (Read at line answer)) row may there = refl
   tick_step zs x (Core (Serve answer)) row may there = refl
+  tick_step zs x (Regs event) row may there = refl
   tick_step zs x (Core (Begin answer)) row may there = refl
   tick_step zs x (Core (Iterate answer)) row may there = refl
   tick_step zs x (Core (Cut tearing)) row may there = refl
@@ -229,6 +230,7 @@ module _ {n m : ℕ} (shape : BankShape) (pace : Pacing) (e : ℕ) where
       by (Core (Write at line bytes given answer)) le = pick_tick (eqb at row) x.tick (tick_of_row row zs) le
       by (Core (Read at line answer)) le = le
       by (Core (Serve answer)) le = le
+      by (Regs event) le = le
       by (Core (Begin answer)) le = le
       by (Core (Iterate answer)) le = le
       by (Core (Cut tearing)) le = le
@@ -348,6 +350,9 @@ module _ {n m : ℕ} (shape : BankShape) (pace : Pacing) (e : ℕ) where
     step (Core (Write at line bytes given wrote.Full)) may lt = quiet (Core (Write at line bytes given wrote.Full)) may refl (still (Write at line bytes given wrote.Full ∷ core zs))
     step (Core (Write at line bytes given wrote.Exhausted)) may lt = quiet (Core (Write at line bytes given wrote.Exhausted)) may refl (still (Write at line bytes given wrote.Exhausted ∷ core zs))
     step (Core (Read at line answer)) may lt = quiet (Core (Read at line answer)) may refl (still (Read at line answer ∷ core zs))
+    step (Regs (KeepBegin answer)) may lt = ends (Regs (KeepBegin answer)) (λ row. refl) (lt refl) o.leads
+    step (Regs (KeepIterate answer)) may lt = ends (Regs (KeepIterate answer)) (λ row. refl) (lt refl) o.leads
+    step (Regs (KeepCut tearing)) may lt = quiet (Regs (KeepCut tearing)) may refl (λ b. b)
     step (Core (Serve answer)) may lt = ends (Core (Serve answer)) (λ row. refl) (lt refl) o.leads
     step (Core (Begin (did.Stored at place))) may lt = ends (Core (Begin (did.Stored at place))) (λ row. refl) (lt refl) (leads-drop (λ row. tick_of_row row zs) (queue shape (core zs)) pairs.paired)
     step (Core (Begin did.More)) may lt = ends (Core (Begin did.More)) (λ row. refl) (lt refl) (leads-begun (λ row. tick_of_row row zs) (due_after shape (core zs)) (newest (core zs)) (queue shape (core zs)) o.leads)

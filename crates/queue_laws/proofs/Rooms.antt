@@ -17,7 +17,7 @@ use Rattle.bank_model.specs.Events.{Event, Write, Read, Serve, Begin, Iterate, C
 use Rattle.bank_model.specs.History.{queue, waits, has_exhausted}
 use Rattle.bank_model.specs.Answers.{head_busy_after, accept_answer, write_answer}
 use Rattle.bank_model.specs.Sensing.{most_steps}
-use Rattle.bank_model.specs.Timing.{Pacing, Happens, Core, Timed, core, last_tick}
+use Rattle.bank_model.specs.Timing.{Pacing, Happens, Core, Regs, Timed, core, last_tick}
 use Rattle.bank_model.specs.Told.{tick_of_row}
 use Rattle.bank_model.specs.Lawful.{Lawful, MayCome}
 use Rattle.bank_laws.specs.Laws.{rules_of}
@@ -132,6 +132,7 @@ module _ {n m : ℕ} (shape : BankShape) (pace : Pacing) (e : ℕ) where
         by (Core (Write row line bytes given answer)) cancels few = few refl
         by (Core (Read row line answer)) cancels few = few refl
         by (Core (Serve answer)) cancels few = tt
+        by (Regs event) cancels few = tt
         by (Core (Begin answer)) cancels few = tt
         by (Core (Iterate answer)) cancels few = tt
         by (Core (Cut tearing)) true few = tt
@@ -189,6 +190,7 @@ module _ {n m : ℕ} (shape : BankShape) (pace : Pacing) (e : ℕ) where
           refuse refl line (full-none shape (core ys) line (sym was ∙ may.may.2)))
       by (Core (Read row line answer)) cancels may on refuse = refl
       by (Core (Serve answer)) cancels may on refuse = tt
+      by (Regs event) cancels may on refuse = tt
       by (Core (Begin answer)) cancels may on refuse = tt
       by (Core (Iterate answer)) cancels may on refuse = tt
       by (Core (Cut tearing)) true may on refuse = tt
@@ -218,6 +220,7 @@ no_rows : {n m : ℕ} (shape : BankShape) (all : List (Timed n m)) (h : Happens 
 no_rows shape all (Core (Write row line bytes given answer)) tick cancels is = absurd (cc)
 no_rows shape all (Core (Read row line answer)) tick cancels is = absurd (cc)
 no_rows shape all (Core (Serve answer)) tick cancels is = refl
+no_rows shape all (Regs event) tick cancels is = refl
 no_rows shape all (Core (Begin answer)) tick cancels is = refl
 no_rows shape all (Core (Iterate answer)) tick cancels is = refl
 no_rows shape all (Core (Cut tearing)) tick cancels is = absurd (cc)

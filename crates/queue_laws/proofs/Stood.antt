@@ -12,7 +12,7 @@ use Rattle.row_laws.specs.Queueing.{pending}
 use Rattle.bank_shape.specs.declared.BankShape.{BankShape}
 use Rattle.bank_model.specs.Events.{Write, Read, Serve, Begin, Iterate, Cut}
 use Rattle.bank_model.specs.History.{queue}
-use Rattle.bank_model.specs.Timing.{Pacing, Happens, Core, Timed, core, last_tick}
+use Rattle.bank_model.specs.Timing.{Pacing, Happens, Core, Regs, Timed, core, last_tick}
 use Rattle.bank_model.specs.Told.{tick_by, tick_of_row}
 use Rattle.bank_model.specs.Lawful.{Lawful, MayCome}
 use Rattle.bank_laws.specs.Outcomes.{outcome_with, outcome_of, ended, row_with, rows_from}
@@ -177,6 +177,7 @@ module _ {n m : ℕ} (shape : BankShape) (pace : Pacing) (e : ℕ) (all later no
           own stands false ref = absurd (cc (gone at (outcome_of shape now at) (refused ref) refl, stands))
       by (Core (Read at line answer)) cancels may on f g ticks ih each = (ih, each)
       by (Core (Serve answer)) cancels may on f g ticks ih each = (ih, each)
+      by (Regs event) cancels may on f g ticks ih each = (ih, each)
       by (Core (Begin answer)) cancels may on f g ticks ih each = (ih, each)
       by (Core (Iterate answer)) cancels may on f g ticks ih each = (ih, each)
       by (Core (Cut tearing)) true may on f g ticks ih each = (ih, each)

@@ -6,7 +6,7 @@ use Rattle.row_laws.specs.declared.Asks.TheVariants.{Writes}
 use Rattle.bank_shape.specs.declared.BankShape.{BankShape}
 use Rattle.bank_model.specs.Events.{Write, Read, Serve, Begin, Iterate, Cut, RowsBelow}
 use Rattle.bank_model.specs.History.{queue}
-use Rattle.bank_model.specs.Timing.{Happens, Core, Timed, core, core_of}
+use Rattle.bank_model.specs.Timing.{Happens, Core, Regs, Timed, core, core_of}
 use Rattle.bank_model.specs.Told.{tick_of_row}
 use Rattle.bank_laws.specs.Outcomes.{outcome_of, ended}
 use Rattle.bank_laws.proofs.Lines.{Stands}
@@ -93,6 +93,7 @@ module _ {n m : ℕ} (shape : BankShape) (all : List (Timed n m)) where
       by (Core (Write at line bytes given answer)) go b = cond_fall (p at) _ (standing p (written ys)) bound b.0 (go at b.1)
       by (Core (Read at line answer)) go b = numbers-more (standing p (written ys)) at bound (omega (arith, b.0)) (go at b.1)
       by (Core (Serve answer)) go b = go bound b
+      by (Regs event) go b = go bound b
       by (Core (Begin answer)) go b = go bound b
       by (Core (Iterate answer)) go b = go bound b
       by (Core (Cut tearing)) go b = go bound b
@@ -105,6 +106,7 @@ module _ {n m : ℕ} (shape : BankShape) (all : List (Timed n m)) where
       by (Core (Write at line bytes given answer)) go = cond_count (p at) _ (standing p (written ys)) (hits p (writes_in ys)) go
       by (Core (Read at line answer)) go = go
       by (Core (Serve answer)) go = go
+      by (Regs event) go = go
       by (Core (Begin answer)) go = go
       by (Core (Iterate answer)) go = go
       by (Core (Cut tearing)) go = go

@@ -40,7 +40,7 @@ module _ {n : ℕ} where
   -- the same over all these rows
   abbrev pub last_store : ℕ → List (Row n) → ℕ
   last_store a [] = 0
-  last_store a (q ∷ rows) = store_up_to a q.outcome (last_store a rows)
+  last_store a (q ∷ rows) = if asks_write q.asks then store_up_to a q.outcome (last_store a rows) else last_store a rows
 
   -- how many reads arrived at tick v or later and are read or lost
   abbrev pub came_since : ℕ → List (Row n) → ℕ

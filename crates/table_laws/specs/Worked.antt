@@ -1,6 +1,7 @@
 -- Two worked tables of a bank, as its laws look at them.
 use Rattle.std.specs.Prelude.{ℕ, Bool, false, ◌==◌, List, [], length, reverse, take}
 use Rattle.bank_shape.specs.declared.BankShape.{BankShape}
+use Rattle.bank_shape.specs.declared.Home.TheVariants as home
 use Rattle.row_laws.specs.declared.Row.{Row}
 use Rattle.row_laws.specs.Worked.{one_entry, no_spare}
 use Rattle.row_laws.specs.Queueing.{pending}
@@ -11,7 +12,7 @@ found tick rows = length (pending tick [] (reverse (take rows one_entry)))
 
 -- a bank of four lines without a spare, and its rows, the newest first: a write stays in the queue, the next is refused
 abbrev pub without_spares : BankShape
-without_spares = record { base = 0; regions = 1; lines = 4; spares = 0; writes = 4; reads = 4; psi = 100 }
+without_spares = record { base = 0; regions = 1; lines = 4; spares = 0; writes = 4; reads = 4; psi = 100; home = home.Guarded }
 
 abbrev pub worn_out : List (Row 2)
 worn_out = reverse no_spare

@@ -1,6 +1,6 @@
 -- Which action runs after a lawful history, since when, and what it fits.
 use Rattle.std.proofs.Common.{◌≡◌, ℕ, ◌+◌, ◌<◌, ◌≤◌, ◌&&◌, not, Bool, true, false, List, [], ◌∷◌, ◌++◌, Option, Some, None, refl, sym, ap, ◌∙◌, arith, cond}
-use Rattle.std.specs.Prelude.{IfSome, nat_lt}
+use Rattle.std.specs.Prelude.{IfSome, nat_lt, is_some}
 use Rattle.std.proofs.lemmas.Bool.{ltb-false}
 use Rattle.bank_shape.specs.Pausing.{is_cancelling}
 use Rattle.bank_shape.specs.declared.BankShape.{BankShape}
@@ -11,10 +11,12 @@ use Rattle.bank_model.specs.declared.clock.Doing.TheVariants.{Serving, Beginning
 use Rattle.bank_model.specs.declared.clock.Action.{Action}
 use Rattle.bank_model.specs.Events.{Write, Read, Serve, Begin, Iterate, Cut}
 use Rattle.bank_model.specs.History.{Awaited, waits, in_progress, iterated}
-use Rattle.bank_model.specs.After.{work_after, is_store_of, may_begin_after}
 use Rattle.bank_model.specs.Sensing.{most_steps}
-use Rattle.bank_model.specs.Timing.{Pacing, Happens, Core, Timed, lasts, is_doing, is_empty, core, core_of, last_tick}
-use Rattle.bank_model.specs.Running.{gives_way, choice, chosen_by, started, left_by, running, running_at, chosen_after, cancels_after}
+use Rattle.bank_model.specs.Timing.{Pacing, Happens, Core, Regs, KeepBegin, KeepIterate, KeepCut, Timed, lasts, is_empty, core, core_of, last_tick}
+use Rattle.bank_model.specs.Running.{busy_by, made_by, busy_after, made_after, ready_after, drops_begin, gives_way, choice, chosen_by, started, left_by, running, running_at, chosen_after, cancels_after}
+use Rattle.bank_model.specs.Changes.{change_after, change_by, keeping_after, keeping_by, rounds_after, rounds_by}
+use Rattle.bank_model.specs.declared.answer.Keep.TheVariants as keep
+use Rattle.bank_laws.proofs.Changing.{changed-idle}
 use Rattle.bank_model.specs.Lawful.{Lawful, MayCome, IsEnd, would_cancel}
 use Rattle.bank_laws.proofs.Ticks.{last_tick-rises}
 
@@ -111,7 +113,7 @@ module _ {n m : ℕ} (shape : BankShape) (pace : Pacing) where
 
   -- the action that runs at a later tick fits what the list leaves
   abbrev pub FitsAll : List (Timed n m) → Option Action → Type 0
-  FitsAll xs r = IfSome r (λ a. Fits (gives_way pace.policy) (in_progress (core xs)) (reads_of xs) a.doing)
+  FitsAll xs r = IfSome r (λ a. Fits (gives_way pace.policy) (busy_after shape xs) (reads_of xs) a.doing)
 
 module _ {n m : ℕ} (shape : BankShape) (pace : Pacing) (e : ℕ) where
   pub since-up : (xs : List (Timed n m)) → 1 ≤ pace.read → 1 ≤ pace.iter → Lawful shape pace e xs → since_of shape pace xs ≤ last_tick xs
@@ -123,12 +125,13 @@ module _ {n m : ℕ} (shape : BankShape) (pace : Pacing) (e : ℕ) where
       drop_or true action up = omega arith
       drop_or false action up = up
 
-      by : (h : Happens n) → since (running_at shape pace xs x.tick) x.tick ≤ x.tick → since (left_by shape (core xs) h (running_at shape pace xs x.tick)) x.tick ≤ x.tick
+      by : (h : Happens n) → since (running_at shape pace xs x.tick) x.tick ≤ x.tick → since (left_by shape (core xs) (change_after shape xs) h (running_at shape pace xs x.tick)) x.tick ≤ x.tick
       by (Core (Write row line bytes given answer)) up = up
-      by (Core (Read row line came.Waiting)) up = drop_or (is_doing Beginning (running_at shape pace xs x.tick) && is_store_of line (work_after shape (core xs))) _ up
+      by (Core (Read row line came.Waiting)) up = drop_or (drops_begin shape (core xs) (change_after shape xs) line (running_at shape pace xs x.tick)) _ up
       by (Core (Read row line came.Busy)) up = up
       by (Core (Read row line (came.Forwarded bytes))) up = up
       by (Core (Serve answer)) up = omega arith
+      by (Regs event) up = omega arith
       by (Core (Begin answer)) up = omega arith
       by (Core (Iterate answer)) up = omega arith
       by (Core (Cut tearing)) up = omega arith
@@ -148,12 +151,13 @@ module _ {n m : ℕ} (shape : BankShape) (pace : Pacing) (e : ℕ) where
       drop_or true action up = top
       drop_or false action up = up
 
-      by : (h : Happens n) → since_of shape pace xs ≤ since (running_at shape pace xs x.tick) x.tick → since_of shape pace xs ≤ since (left_by shape (core xs) h (running_at shape pace xs x.tick)) x.tick
+      by : (h : Happens n) → since_of shape pace xs ≤ since (running_at shape pace xs x.tick) x.tick → since_of shape pace xs ≤ since (left_by shape (core xs) (change_after shape xs) h (running_at shape pace xs x.tick)) x.tick
       by (Core (Write row line bytes given answer)) up = up
-      by (Core (Read row line came.Waiting)) up = drop_or (is_doing Beginning (running_at shape pace xs x.tick) && is_store_of line (work_after shape (core xs))) _ up
+      by (Core (Read row line came.Waiting)) up = drop_or (drops_begin shape (core xs) (change_after shape xs) line (running_at shape pace xs x.tick)) _ up
       by (Core (Read row line came.Busy)) up = up
       by (Core (Read row line (came.Forwarded bytes))) up = up
       by (Core (Serve answer)) up = top
+      by (Regs event) up = top
       by (Core (Begin answer)) up = top
       by (Core (Iterate answer)) up = top
       by (Core (Cut tearing)) up = top
@@ -169,15 +173,15 @@ module _ {n m : ℕ} (shape : BankShape) (pace : Pacing) (e : ℕ) where
   running-fits [] = tt
   running-fits (x ∷ xs) =
       by x.happens
-      (started-fits (gives_way pace.policy) (in_progress (core xs)) (reads_of shape pace xs) (running shape pace xs) (chosen_after shape pace xs) (last_tick xs) x.tick (running-fits xs)
-      (chosen-fits (gives_way pace.policy) (in_progress (core xs)) (reads_of shape pace xs) (may_begin_after shape (core xs))))
+      (started-fits (gives_way pace.policy) (busy_after shape xs) (reads_of shape pace xs) (running shape pace xs) (chosen_after shape pace xs) (last_tick xs) x.tick (running-fits xs)
+      (chosen-fits (gives_way pace.policy) (busy_after shape xs) (reads_of shape pace xs) (ready_after shape xs)))
     where
       Fit : Bool → Option Action → Type 0
-      Fit reads r = IfSome r (λ a. Fits (gives_way pace.policy) (in_progress (core xs)) reads a.doing)
+      Fit reads r = IfSome r (λ a. Fits (gives_way pace.policy) (busy_after shape xs) reads a.doing)
 
       more : (r : Option Action) (reads : Bool) → reads ≡ true → Fit (reads_of shape pace xs) r → Fit reads r
       more None reads is f = tt
-      more (Some a) true is f = fits-reads (gives_way pace.policy) (in_progress (core xs)) (reads_of shape pace xs) a.doing f
+      more (Some a) true is f = fits-reads (gives_way pace.policy) (busy_after shape xs) (reads_of shape pace xs) a.doing f
       more (Some a) false is f = absurd (cc)
 
       drop_or : (b : Bool) (reads : Bool) (r : Option Action) → Fit reads r → Fit reads (cond b None r)
@@ -185,45 +189,86 @@ module _ {n m : ℕ} (shape : BankShape) (pace : Pacing) (e : ℕ) where
       drop_or false reads r f = f
 
       by : (h : Happens n) → Fit (reads_of shape pace xs) (running_at shape pace xs x.tick)
-          → IfSome (left_by shape (core xs) h (running_at shape pace xs x.tick)) (λ a. Fits (gives_way pace.policy) (in_progress (core_of h (core xs))) (not (is_empty (waits shape (core_of h (core xs))))) a.doing)
+          → IfSome (left_by shape (core xs) (change_after shape xs) h (running_at shape pace xs x.tick)) (λ a. Fits (gives_way pace.policy) (busy_by (change_by shape (core xs) h (change_after shape xs)) (keeping_by h (keeping_after xs)) (in_progress (core_of h (core xs)))) (not (is_empty (waits shape (core_of h (core xs))))) a.doing)
       by (Core (Write row line bytes given answer)) f = f
       by (Core (Read row line came.Waiting)) f =
-          drop_or (is_doing Beginning (running_at shape pace xs x.tick) && is_store_of line (work_after shape (core xs))) _ (running_at shape pace xs x.tick)
+          drop_or (drops_begin shape (core xs) (change_after shape xs) line (running_at shape pace xs x.tick)) _ (running_at shape pace xs x.tick)
           (more (running_at shape pace xs x.tick) _ (some-push (waits shape (core xs)) _) f)
       by (Core (Read row line came.Busy)) f = f
       by (Core (Read row line (came.Forwarded bytes))) f = f
       by (Core (Serve answer)) f = tt
+      by (Regs event) f = tt
       by (Core (Begin answer)) f = tt
       by (Core (Iterate answer)) f = tt
       by (Core (Cut tearing)) f = tt
 
   pub running_at-fits : (xs : List (Timed n m)) (tick : ℕ) → FitsAll shape pace xs (running_at shape pace xs tick)
   running_at-fits xs tick =
-      started-fits (gives_way pace.policy) (in_progress (core xs)) (reads_of shape pace xs) (running shape pace xs) (chosen_after shape pace xs) (last_tick xs) tick (running-fits xs)
-      (chosen-fits (gives_way pace.policy) (in_progress (core xs)) (reads_of shape pace xs) (may_begin_after shape (core xs)))
+      started-fits (gives_way pace.policy) (busy_after shape xs) (reads_of shape pace xs) (running shape pace xs) (chosen_after shape pace xs) (last_tick xs) tick (running-fits xs)
+      (chosen-fits (gives_way pace.policy) (busy_after shape xs) (reads_of shape pace xs) (ready_after shape xs))
 
   -- a line write in progress was iterated less often than it may be
-  pub iterated-few : (xs : List (Timed n m)) → Lawful shape pace e xs → in_progress (core xs) ≡ true → iterated (core xs) < most_steps e
+  pub iterated-few : (xs : List (Timed n m)) → Lawful shape pace e xs → busy_after shape xs ≡ true → made_after shape xs < most_steps e
   iterated-few [] l busy = absurd (cc)
   iterated-few (x ∷ xs) l busy = by x.happens l.0 (iterated-few xs l.1) busy
     where
-      by : (h : Happens n) → MayCome shape pace e xs x h → (in_progress (core xs) ≡ true → iterated (core xs) < most_steps e) → in_progress (core_of h (core xs)) ≡ true → iterated (core_of h (core xs)) < most_steps e
+      Few : Happens n → Type 0
+      Few h =
+          busy_by (change_by shape (core xs) h (change_after shape xs)) (keeping_by h (keeping_after xs)) (in_progress (core_of h (core xs))) ≡ true
+          → made_by (change_by shape (core xs) h (change_after shape xs)) (rounds_by h (rounds_after xs)) (iterated (core_of h (core xs))) < most_steps e
+
+      -- the bank's line write ended or was dropped
+      stops : (change : Option ℕ) (made : ℕ) → busy_by change false false ≡ true → made < most_steps e
+      stops None made busy = absurd (cc)
+      stops (Some item) made busy = absurd (cc)
+
+      went : (change : Option ℕ) (rounds count : ℕ) → change ≡ None → count < most_steps e → made_by change rounds count < most_steps e
+      went None rounds count is lt = lt
+      went (Some item) rounds count is lt = absurd (cc)
+
+      kept : (change : Option ℕ) (rounds count : ℕ) → is_some change ≡ true → rounds < most_steps e → made_by change rounds count < most_steps e
+      kept None rounds count is lt = absurd (cc)
+      kept (Some item) rounds count is lt = lt
+
+      by : (h : Happens n) → MayCome shape pace e xs x h → (busy_after shape xs ≡ true → made_after shape xs < most_steps e) → Few h
       by (Core (Write row line bytes given answer)) may go busy = go busy
       by (Core (Read row line answer)) may go busy = go busy
       by (Core (Serve answer)) may go busy = go busy
-      by (Core (Begin answer)) may go busy = omega arith
-      by (Core (Iterate did.More)) may go busy = may.may.3 refl
-      by (Core (Iterate (did.Stored row place))) may go busy = absurd (cc)
-      by (Core (Iterate (did.Moved step))) may go busy = absurd (cc)
-      by (Core (Iterate (did.Retired slot line))) may go busy = absurd (cc)
-      by (Core (Iterate did.Exhausted)) may go busy = absurd (cc)
-      by (Core (Cut tearing)) may go busy = absurd (cc)
+      by (Core (Begin did.More)) may go busy = went (change_after shape xs) _ _ may.on_time.2 (omega arith)
+      by (Core (Begin (did.Stored row place))) may go busy = stops _ _ busy
+      by (Core (Begin (did.Moved step))) may go busy = stops _ _ busy
+      by (Core (Begin (did.Retired slot line))) may go busy = stops _ _ busy
+      by (Core (Begin did.Exhausted)) may go busy = stops _ _ busy
+      by (Core (Iterate did.More)) may go busy = went (change_after shape xs) _ _ may.on_time.2 (may.may.3 refl)
+      by (Core (Iterate (did.Stored row place))) may go busy = stops _ _ busy
+      by (Core (Iterate (did.Moved step))) may go busy = stops _ _ busy
+      by (Core (Iterate (did.Retired slot line))) may go busy = stops _ _ busy
+      by (Core (Iterate did.Exhausted)) may go busy = stops _ _ busy
+      by (Core (Cut tearing)) may go busy = stops _ _ busy
+      by (Regs (KeepBegin keep.More)) may go busy = kept (change_after shape xs) _ _ may.stands (omega arith)
+      by (Regs (KeepBegin keep.Done)) may go busy = let idle : in_progress (core xs) ≡ false = changed-idle shape pace e xs l.1 may.stands in absurd (cc)
+      by (Regs (KeepBegin keep.Halted)) may go busy = absurd (may.may.2 refl)
+      by (Regs (KeepIterate keep.More)) may go busy = kept (change_after shape xs) _ _ may.stands (may.may.2 refl)
+      by (Regs (KeepIterate keep.Done)) may go busy = let idle : in_progress (core xs) ≡ false = changed-idle shape pace e xs l.1 may.stands in absurd (cc)
+      by (Regs (KeepIterate keep.Halted)) may go busy = ended (change_after shape xs) may.stands busy
+        where
+          ended : (change : Option ℕ) → is_some change ≡ true → busy_by change false (in_progress (core xs)) ≡ true → made_by change (rounds_after xs + 1) (iterated (core xs)) < most_steps e
+          ended None some busy = absurd (cc)
+          ended (Some item) some busy = absurd (cc)
+      by (Regs (KeepCut tearing)) may go busy = ended (change_after shape xs) may.stands busy
+        where
+          ended : (change : Option ℕ) → is_some change ≡ true → busy_by change false (in_progress (core xs)) ≡ true → made_by change 0 (iterated (core xs)) < most_steps e
+          ended None some busy = absurd (cc)
+          ended (Some item) some busy = absurd (cc)
 
   -- where reads cancel nothing, no cut is a cancel
   pub not-cancelled : (xs : List (Timed n m)) (x : Timed n m) (h : Happens n) → is_cancelling pace.policy ≡ false → MayCome shape pace e xs x h → x.cancels ≡ false
   not-cancelled xs x (Core (Write row line bytes given answer)) none may = may.on_time.1
   not-cancelled xs x (Core (Read row line answer)) none may = may.on_time.1
   not-cancelled xs x (Core (Serve answer)) none may = may.on_time.1
+  not-cancelled xs x (Regs (KeepBegin answer)) none may = may.on_time.1
+  not-cancelled xs x (Regs (KeepIterate answer)) none may = may.on_time.1
+  not-cancelled xs x (Regs (KeepCut tearing)) none may = absurd (cancels_not (is_cancelling pace.policy) _ none may.on_time.3)
   not-cancelled xs x (Core (Begin answer)) none may = may.on_time.1
   not-cancelled xs x (Core (Iterate answer)) none may = may.on_time.1
   not-cancelled xs x (Core (Cut tearing)) none may = by x.cancels may.on_time.2

@@ -10,7 +10,7 @@ use Rattle.row_laws.specs.Rows.{is_cut}
 use Rattle.row_laws.specs.Ticking.{no_cut_below, first_cut_at}
 use Rattle.bank_shape.specs.declared.BankShape.{BankShape}
 use Rattle.bank_model.specs.Events.{Write, Read, Serve, Begin, Iterate, Cut}
-use Rattle.bank_model.specs.Timing.{Pacing, Happens, Core, Timed, last_tick}
+use Rattle.bank_model.specs.Timing.{Pacing, Happens, Core, Regs, Timed, last_tick}
 use Rattle.bank_model.specs.Lawful.{Lawful}
 use Rattle.bank_laws.specs.Outcomes.{row_with}
 use Rattle.bank_laws.proofs.Ticks.{last_tick-rises}
@@ -60,6 +60,7 @@ module _ {n m : ℕ} (shape : BankShape) (all : List (Timed n m)) where
       by (Core (Write row line bytes given answer)) cancels = refl
       by (Core (Read row line answer)) cancels = refl
       by (Core (Serve answer)) cancels = refl
+      by (Regs event) cancels = refl
       by (Core (Begin answer)) cancels = refl
       by (Core (Iterate answer)) cancels = refl
       by (Core (Cut tearing)) true = refl

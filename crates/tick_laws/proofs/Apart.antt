@@ -15,8 +15,9 @@ use Rattle.bank_model.specs.declared.answer.Served.{Served}
 use Rattle.bank_model.specs.declared.clock.Doing.TheVariants.{Serving, Beginning, Iterating}
 use Rattle.bank_model.specs.Events.{Write, Read, Serve, Begin, Iterate, Cut, RowsBelow}
 use Rattle.bank_model.specs.History.{Awaited, waits, in_progress}
-use Rattle.bank_model.specs.Timing.{Pacing, Happens, Core, Timed, core, core_of}
+use Rattle.bank_model.specs.Timing.{Pacing, Happens, Core, Regs, Timed, core, core_of}
 use Rattle.bank_model.specs.Running.{left_by, running_at}
+use Rattle.bank_model.specs.Changes.{change_after}
 use Rattle.bank_model.specs.Lawful.{Lawful, MayCome}
 use Rattle.bank_laws.specs.Outcomes.{on_row, outcome_with, outcome_of, ended, row_with, rows_from}
 use Rattle.bank_laws.specs.Standing.{has_wait}
@@ -47,18 +48,18 @@ module _ {n m : ℕ} (shape : BankShape) (pace : Pacing) (e : ℕ) where
 
   abbrev SpacedBy : List (Timed n m) → Timed n m → Happens n → Type 0
   SpacedBy xs x h =
-      AreSpaced pace.read (λ row. unwrap_or (outcome_with shape xs h x.tick row) (outcome_of shape xs row)) (since (left_by shape (core xs) h (running_at shape pace xs x.tick)) x.tick)
+      AreSpaced pace.read (λ row. unwrap_or (outcome_with shape xs h x.tick row) (outcome_of shape xs row)) (since (left_by shape (core xs) (change_after shape xs) h (running_at shape pace xs x.tick)) x.tick)
       (in_progress (core_of h (core xs))) (waits shape (core_of h (core xs)))
 
   module _ (xs : List (Timed n m)) (x : Timed n m) (some : 1 ≤ pace.read) (l : Lawful shape pace e xs) (s : Spaced xs) where
     -- an event that ends nothing for a row, and leaves line write and reads as they were
-    same : (h : Happens n) → since_of shape pace xs ≤ since (left_by shape (core xs) h (running_at shape pace xs x.tick)) x.tick
+    same : (h : Happens n) → since_of shape pace xs ≤ since (left_by shape (core xs) (change_after shape xs) h (running_at shape pace xs x.tick)) x.tick
         → Plain pace.read (outcome_of shape xs) (since_of shape pace xs) (in_progress (core xs)) (waits shape (core xs)) s (λ row. unwrap_or (outcome_with shape xs h x.tick row) (outcome_of shape xs row))
-        → (in_progress (core_of h (core xs)) ≡ true → (in_progress (core xs) ≡ true) ⊎ (since_of shape pace xs + pace.read ≤ since (left_by shape (core xs) h (running_at shape pace xs x.tick)) x.tick))
+        → (in_progress (core_of h (core xs)) ≡ true → (in_progress (core xs) ≡ true) ⊎ (since_of shape pace xs + pace.read ≤ since (left_by shape (core xs) (change_after shape xs) h (running_at shape pace xs x.tick)) x.tick))
         → ((other : ℕ) → has_wait (waits shape (core_of h (core xs))) other ≡ true → (has_wait (waits shape (core xs)) other ≡ true) ⊎ ((row u p : ℕ) (b : List ℕ) → outcome_of shape xs row ≡ out.Read u p b → row < other))
         → SpacedBy xs x h
     same h rises new wr there =
-        plain pace.read (outcome_of shape xs) (since_of shape pace xs) (in_progress (core xs)) (waits shape (core xs)) s _ (since (left_by shape (core xs) h (running_at shape pace xs x.tick)) x.tick)
+        plain pace.read (outcome_of shape xs) (since_of shape pace xs) (in_progress (core xs)) (waits shape (core xs)) s _ (since (left_by shape (core xs) (change_after shape xs) h (running_at shape pace xs x.tick)) x.tick)
         (in_progress (core_of h (core xs))) (waits shape (core_of h (core xs))) new rises wr there
 
     newer : (row line : ℕ) (v : Awaited) → v.row ≡ row → RowsBelow (core xs) row → (other : ℕ) → has_wait (waits shape (core xs) ++ v ∷ []) other ≡ true
@@ -81,7 +82,7 @@ module _ {n m : ℕ} (shape : BankShape) (pace : Pacing) (e : ℕ) where
     at_serve answer (w ∷ ws) s r first end =
         served pace.read (outcome_of shape xs) (since_of shape pace xs) (in_progress (core xs)) w ws s answer.row x.tick answer.place answer.bytes some first end r.0
 
-    step : (i : 1 ≤ pace.iter) (h : Happens n) → since_of shape pace xs ≤ since (left_by shape (core xs) h (running_at shape pace xs x.tick)) x.tick → MayCome shape pace e xs x h → SpacedBy xs x h
+    step : (i : 1 ≤ pace.iter) (h : Happens n) → since_of shape pace xs ≤ since (left_by shape (core xs) (change_after shape xs) h (running_at shape pace xs x.tick)) x.tick → MayCome shape pace e xs x h → SpacedBy xs x h
     step i (Core (Write row line bytes given wrote.Accepted)) rises may = same (Core (Write row line bytes given wrote.Accepted)) rises (λ row. inl refl) inl (λ other. inl)
     step i (Core (Write row line bytes given (wrote.Merged old))) rises may =
         same (Core (Write row line bytes given (wrote.Merged old))) rises (λ at. plain_on (outcome_of shape xs) old at (out.Merged x.tick) refl) inl (λ other. inl)
@@ -94,6 +95,7 @@ module _ {n m : ℕ} (shape : BankShape) (pace : Pacing) (e : ℕ) where
         same (Core (Read row line came.Busy)) rises (λ at. plain_on (outcome_of shape xs) row at (out.Busy x.tick) refl) inl (λ other. inl)
     step i (Core (Read row line (came.Forwarded bytes))) rises may =
         same (Core (Read row line (came.Forwarded bytes))) rises (λ at. plain_on (outcome_of shape xs) row at (out.Forwarded x.tick bytes) refl) inl (λ other. inl)
+    step i (Regs event) rises may = same (Regs event) rises (λ at. inl refl) inl (λ other. inl)
     step i (Core (Serve answer)) rises may =
         let b = above_all shape pace e xs l in
         at_serve answer (waits shape (core xs)) s (waits_rise shape (core xs) b.0 b.1) (served-first shape (core xs) (waits shape (core xs)) answer may.may) (end-since shape pace e xs x Serving may.on_time.0).1
@@ -141,6 +143,7 @@ module _ {n m : ℕ} (shape : BankShape) (pace : Pacing) (e : ℕ) where
           and_both _ _ (ended-right pace.read z.tick o (outcome_of shape all row) (far row b.0)) (go row b.1 (λ lower lt. far lower (let up : row < bound = b.0 in omega (arith, lt, up))))
       by (Core (Read row line answer)) cancels go b = and_both _ _ (far row b.0) (go row b.1 (λ lower lt. far lower (let up : row < bound = b.0 in omega (arith, lt, up))))
       by (Core (Serve answer)) cancels go b = go bound b far
+      by (Regs event) cancels go b = go bound b far
       by (Core (Begin answer)) cancels go b = go bound b far
       by (Core (Iterate answer)) cancels go b = go bound b far
       by (Core (Cut tearing)) true go b = go bound b far
@@ -160,6 +163,7 @@ module _ {n m : ℕ} (shape : BankShape) (pace : Pacing) (e : ℕ) where
           apart_rows all ys row (ended x.tick (outcome_of shape all row)) may.asked (λ lower lt. ended-left pace.read x.tick (outcome_of shape all row) (outcome_of shape all lower) (pairs lower row lt))
       by (Core (Read row line answer)) cancels may = apart_rows all ys row (outcome_of shape all row) may.asked (λ lower lt. pairs lower row lt)
       by (Core (Serve answer)) cancels may = tt
+      by (Regs event) cancels may = tt
       by (Core (Begin answer)) cancels may = tt
       by (Core (Iterate answer)) cancels may = tt
       by (Core (Cut tearing)) true may = tt

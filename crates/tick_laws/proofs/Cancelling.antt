@@ -7,22 +7,23 @@ use Rattle.result_rows.specs.declared.Outcome.TheVariants as out
 use Rattle.row_laws.specs.declared.Asks.TheVariants.{Reads, Writes}
 use Rattle.row_laws.specs.declared.Row.{Row}
 use Rattle.row_laws.specs.Answers.{is_answered, is_lost}
-use Rattle.row_laws.specs.Rows.{asks_read}
+use Rattle.row_laws.specs.Rows.{asks_read, asks_write}
 use Rattle.row_laws.specs.Ticking.{store_up_to, last_store, came_since}
 use Rattle.masked_bytes.specs.Entries.{layer_of}
 use Rattle.bank_shape.specs.Pausing.{Pausing, Pause, Plain, Cancel, is_cancelling, most_cancels}
 use Rattle.bank_shape.specs.declared.BankShape.{BankShape}
 use Rattle.bank_model.specs.declared.answer.ReadAnswer.TheVariants as came
+use Rattle.bank_model.specs.declared.answer.Keep.TheVariants as keep
 use Rattle.bank_model.specs.declared.answer.Step.TheVariants as did
 use Rattle.bank_model.specs.declared.clock.Doing.{Doing}
-use Rattle.bank_model.specs.declared.clock.Doing.TheVariants.{Serving, Beginning}
+use Rattle.bank_model.specs.declared.clock.Doing.TheVariants.{Serving}
 use Rattle.bank_model.specs.declared.clock.Action.{Action}
 use Rattle.bank_model.specs.Events.{Event, Write, Read, Serve, Begin, Iterate, Cut, newest}
-use Rattle.bank_model.specs.History.{Awaited, awaited, queue, waits, in_progress}
-use Rattle.bank_model.specs.After.{work_after, is_store_of, may_begin_after}
-use Rattle.bank_model.specs.Timing.{Pacing, Happens, Core, Timed, is_doing, is_writing, is_empty, core, core_of, last_tick}
-use Rattle.bank_model.specs.Running.{gives_way, choice, chosen_by, started, left_by, running, running_at, chosen_after, cancels_with, cancels_after}
-use Rattle.bank_model.specs.Lawful.{Lawful, MayCome, FollowsCancel, IsRead}
+use Rattle.bank_model.specs.History.{Awaited, awaited, queue, waits}
+use Rattle.bank_model.specs.Timing.{Pacing, Happens, Core, Regs, KeepBegin, KeepIterate, KeepCut, Timed, is_writing, is_empty, core, core_of, last_tick}
+use Rattle.bank_model.specs.Running.{busy_after, ready_after, drops_begin, gives_way, choice, chosen_by, started, left_by, running, running_at, chosen_after, cancels_with, cancels_after}
+use Rattle.bank_model.specs.Changes.{change_after}
+use Rattle.bank_model.specs.Lawful.{Lawful, MayCome, FollowsCancel, IsRead, IsUncancelled}
 use Rattle.bank_laws.specs.Outcomes.{outcome_with, outcome_of, ended, row_with, rows_from}
 use Rattle.bank_laws.proofs.Settling.{lawful_before}
 use Rattle.bank_laws.proofs.Ticks.{last_tick-rises}
@@ -71,7 +72,7 @@ module _ {n m : ℕ} (shape : BankShape) (pace : Pacing) (e : ℕ) where
       by z.happens l.0
       (λ w some.
       full_count zs cancelling l.1
-      (started-writing (gives_way pace.policy) (reads_of shape pace zs) (in_progress (core zs)) (may_begin_after shape (core zs)) (running shape pace zs) (last_tick zs) z.tick (gives pace.policy cancelling) some w) some)
+      (started-writing (gives_way pace.policy) (reads_of shape pace zs) (busy_after shape zs) (ready_after shape zs) (running shape pace zs) (last_tick zs) z.tick (gives pace.policy cancelling) some w) some)
       writes waits_some
     where
       kept : (b : Bool) (r : Option Action) → is_writing (cond b None r) ≡ true → is_writing r ≡ true
@@ -83,15 +84,16 @@ module _ {n m : ℕ} (shape : BankShape) (pace : Pacing) (e : ℕ) where
       split ws (inr full) go = full
 
       by : (h : Happens n) → MayCome shape pace e zs z h → (is_writing (running_at shape pace zs z.tick) ≡ true → reads_of shape pace zs ≡ true → 4 ≤ cancels_after zs)
-          → is_writing (left_by shape (core zs) h (running_at shape pace zs z.tick)) ≡ true → not (is_empty (waits shape (core_of h (core zs)))) ≡ true → 4 ≤ cancels_with h z.cancels (cancels_after zs)
+          → is_writing (left_by shape (core zs) (change_after shape zs) h (running_at shape pace zs z.tick)) ≡ true → not (is_empty (waits shape (core_of h (core zs)))) ≡ true → 4 ≤ cancels_with h z.cancels (cancels_after zs)
       by (Core (Write row line bytes given answer)) may go w some = go w some
       by (Core (Read row line came.Waiting)) may go w some =
-          let was = kept (is_doing Beginning (running_at shape pace zs z.tick) && is_store_of line (work_after shape (core zs))) (running_at shape pace zs z.tick) w in
+          let was = kept (drops_begin shape (core zs) (change_after shape zs) line (running_at shape pace zs z.tick)) (running_at shape pace zs z.tick) w in
           split (waits shape (core zs))
           (no_cancel (is_cancelling pace.policy) (is_writing (running_at shape pace zs z.tick)) (is_empty (waits shape (core zs))) (cancels_after zs) cancelling was (may.on_time.2 (λ f. f))) (go was)
       by (Core (Read row line came.Busy)) may go w some = go w some
       by (Core (Read row line (came.Forwarded bytes))) may go w some = go w some
       by (Core (Serve answer)) may go w some = absurd (cc)
+      by (Regs event) may go w some = absurd (cc)
       by (Core (Begin answer)) may go w some = absurd (cc)
       by (Core (Iterate answer)) may go w some = absurd (cc)
       by (Core (Cut tearing)) may go w some = absurd (cc)
@@ -102,7 +104,7 @@ stored_at [] = 0
 stored_at (x ∷ xs) = if stores_by x.happens == 1 then x.tick else stored_at xs
 
 -- one where the last event is a cancel, whose read is still to come
-abbrev pending_cancel : {n m : ℕ} → List (Timed n m) → ℕ
+abbrev pub pending_cancel : {n m : ℕ} → List (Timed n m) → ℕ
 pending_cancel [] = 0
 pending_cancel (x ∷ xs) = cond x.cancels 1 0
 
@@ -169,7 +171,11 @@ module _ {n : ℕ} where
 
   last-most : (a most : ℕ) (rows : List (Row n)) → StoredUpTo a most rows → last_store a rows ≤ most
   last-most a most [] f = omega arith
-  last-most a most (q ∷ rows) f = up_to-most a most q.outcome (last_store a rows) (last-most a most rows f.1) f.0
+  last-most a most (q ∷ rows) f = by (asks_write q.asks) (last-most a most rows f.1)
+    where
+      by : (b : Bool) → last_store a rows ≤ most → cond b (store_up_to a q.outcome (last_store a rows)) (last_store a rows) ≤ most
+      by true ih = up_to-most a most q.outcome (last_store a rows) ih f.0
+      by false ih = ih
 
   ended-was : (tick : ℕ) (o : Outcome n) (t p : ℕ) → ended tick o ≡ out.Stored t p → o ≡ out.Stored t p
   ended-was tick out.Unset t p is = absurd (cc)
@@ -189,6 +195,7 @@ module _ {n m : ℕ} (shape : BankShape) (all : List (Timed n m)) (a most : ℕ)
   own_stored (Core (Write row line bytes given answer)) tick cancels = ((λ t p is. f row t p (ended-was tick (outcome_of shape all row) t p is)), tt)
   own_stored (Core (Read row line answer)) tick cancels = (f row, tt)
   own_stored (Core (Serve answer)) tick cancels = tt
+  own_stored (Regs event) tick cancels = tt
   own_stored (Core (Begin answer)) tick cancels = tt
   own_stored (Core (Iterate answer)) tick cancels = tt
   own_stored (Core (Cut tearing)) tick true = tt
@@ -231,10 +238,11 @@ module _ {n : ℕ} where
 
 module _ {n m : ℕ} (shape : BankShape) (pace : Pacing) (e : ℕ) where
   -- a cancel leaves nothing running
-  cancel-drops : (zs : List (Timed n m)) (z : Timed n m) (h : Happens n) → MayCome shape pace e zs z h → z.cancels ≡ true → left_by shape (core zs) h (running_at shape pace zs z.tick) ≡ None
+  cancel-drops : (zs : List (Timed n m)) (z : Timed n m) (h : Happens n) → MayCome shape pace e zs z h → z.cancels ≡ true → left_by shape (core zs) (change_after shape zs) h (running_at shape pace zs z.tick) ≡ None
   cancel-drops zs z (Core (Write row line bytes given answer)) may is = absurd (cc (may.on_time.1))
   cancel-drops zs z (Core (Read row line answer)) may is = absurd (cc (may.on_time.1))
   cancel-drops zs z (Core (Serve answer)) may is = refl
+  cancel-drops zs z (Regs event) may is = refl
   cancel-drops zs z (Core (Begin answer)) may is = refl
   cancel-drops zs z (Core (Iterate answer)) may is = refl
   cancel-drops zs z (Core (Cut tearing)) may is = refl
@@ -287,11 +295,16 @@ module _ {n m : ℕ} (shape : BankShape) (pace : Pacing) (e : ℕ) where
     settled row owed (inl a) = absurd (subst (λ ws. Awaits ws row owed) idle a)
     settled row owed (inr s) = s
 
+    -- where no cancel stands none is pending
+    unpending : (zs : List (Timed n m)) → IsUncancelled shape pace zs → pending_cancel zs ≡ 0
+    unpending [] h = refl
+    unpending (y ∷ ys) h = ap (λ b. cond b 1 0) h
+
     -- behind each cancel came its read
     counted : (later zs : List (Timed n m)) → all ≡ later ++ zs → cancels_after zs ≤ came_since (stored_at zs) (rows_from shape all zs) + pending_cancel zs
     counted later [] same = omega arith
     counted later (z ∷ zs) same =
-        by z.happens z.cancels (may_at shape pace e all later z zs l same) (onwards_at shape pace e all later z zs l same) (counted (later ++ z ∷ []) zs (same ∙ sym (append_assoc later (z ∷ []) zs)))
+        by z.happens z.cancels (may_at shape pace e all later z zs l same) (onwards_at shape pace e all later z zs l same) (λ is. is) (counted (later ++ z ∷ []) zs (same ∙ sym (append_assoc later (z ∷ []) zs)))
       where
         here : Lawful shape pace e (z ∷ zs)
         here = lawful_before shape pace e later (z ∷ zs) (subst (λ (xs : List (Timed n m)). Lawful shape pace e xs) same l)
@@ -302,40 +315,48 @@ module _ {n m : ℕ} (shape : BankShape) (pace : Pacing) (e : ℕ) where
             let rises : last_tick zs ≤ z.tick = last_tick-rises shape pace e zs z r i here in
             omega (arith, low, rises)
 
-        by : (h : Happens n) (cancels : Bool) → MayCome shape pace e zs z h → Onwards shape all zs z.tick h → cancels_after zs ≤ came_since (stored_at zs) (rows_from shape all zs) + pending_cancel zs
+        by : (h : Happens n) (cancels : Bool) → MayCome shape pace e zs z h → Onwards shape all zs z.tick h → (z.cancels ≡ true → cancels ≡ true) → cancels_after zs ≤ came_since (stored_at zs) (rows_from shape all zs) + pending_cancel zs
             → cancels_with h cancels (cancels_after zs) ≤ came_since (cond (stores_by h == 1) z.tick (stored_at zs)) (row_with shape all h z.tick cancels ++ rows_from shape all zs) + cond cancels 1 0
-        by (Core (Write row line bytes given answer)) cancels may on ih =
+        by (Core (Write row line bytes given answer)) cancels may on whole ih =
             let none = no_pending shape pace zs z.tick (Write row line bytes given answer) may.behind (λ f. f) in
             let more = came-row (stored_at zs) (record { tick = z.tick; asks = Writes line bytes given; outcome = ended z.tick (outcome_of shape all row) }) (rows_from shape all zs) in
             omega (arith, ih, none, more)
-        by (Core (Read row line came.Waiting)) cancels may on ih =
+        by (Core (Read row line came.Waiting)) cancels may on whole ih =
             let few = few_pending zs in
             let set = settled row (newest (core zs) line) (on.reads row (newest (core zs) line) (inl (awaits-new (waits shape (core zs)) (awaited row line (newest (core zs) line) (layer_of (queue shape (core zs)) line))))) in
             let more =
             came-new (stored_at zs) (record { tick = z.tick; asks = Reads line; outcome = outcome_of shape all row }) (rows_from shape all zs)
             (and_from _ _ (le-leb (stored_at zs) z.tick up) (came-settled (newest (core zs) line) (outcome_of shape all row) set)) in
             omega (arith, ih, few, more)
-        by (Core (Read row line came.Busy)) cancels may on ih =
+        by (Core (Read row line came.Busy)) cancels may on whole ih =
             let none = no_pending shape pace zs z.tick (Read row line came.Busy) may.behind (λ f. f) in
             let more = came-row (stored_at zs) (record { tick = z.tick; asks = Reads line; outcome = outcome_of shape all row }) (rows_from shape all zs) in
             omega (arith, ih, none, more)
-        by (Core (Read row line (came.Forwarded bytes))) cancels may on ih =
+        by (Core (Read row line (came.Forwarded bytes))) cancels may on whole ih =
             let none = no_pending shape pace zs z.tick (Read row line (came.Forwarded bytes)) may.behind (λ f. f) in
             let more = came-row (stored_at zs) (record { tick = z.tick; asks = Reads line; outcome = outcome_of shape all row }) (rows_from shape all zs) in
             omega (arith, ih, none, more)
-        by (Core (Serve answer)) cancels may on ih = let none = no_pending shape pace zs z.tick (Serve answer) may.behind (λ f. f) in omega (arith, ih, none)
-        by (Core (Begin did.More)) cancels may on ih = let none = no_pending shape pace zs z.tick (Begin did.More) may.behind (λ f. f) in omega (arith, ih, none)
-        by (Core (Begin (did.Stored row place))) cancels may on ih = omega arith
-        by (Core (Begin (did.Moved move))) cancels may on ih = omega arith
-        by (Core (Begin (did.Retired slot line))) cancels may on ih = omega arith
-        by (Core (Begin did.Exhausted)) cancels may on ih = omega arith
-        by (Core (Iterate did.More)) cancels may on ih = let none = no_pending shape pace zs z.tick (Iterate did.More) may.behind (λ f. f) in omega (arith, ih, none)
-        by (Core (Iterate (did.Stored row place))) cancels may on ih = omega arith
-        by (Core (Iterate (did.Moved move))) cancels may on ih = omega arith
-        by (Core (Iterate (did.Retired slot line))) cancels may on ih = omega arith
-        by (Core (Iterate did.Exhausted)) cancels may on ih = omega arith
-        by (Core (Cut tearing)) true may on ih = let none = no_pending shape pace zs z.tick (Cut tearing) may.behind (λ f. f) in omega (arith, ih, none)
-        by (Core (Cut tearing)) false may on ih = omega arith
+        by (Core (Serve answer)) cancels may on whole ih = let none = no_pending shape pace zs z.tick (Serve answer) may.behind (λ f. f) in omega (arith, ih, none)
+        by (Regs (KeepBegin keep.More)) cancels may on whole ih = let none = unpending zs may.behind in omega (arith, ih, none)
+        by (Regs (KeepBegin keep.Done)) cancels may on whole ih = omega arith
+        by (Regs (KeepBegin keep.Halted)) cancels may on whole ih = omega arith
+        by (Regs (KeepIterate keep.More)) cancels may on whole ih = let none = unpending zs may.behind in omega (arith, ih, none)
+        by (Regs (KeepIterate keep.Done)) cancels may on whole ih = omega arith
+        by (Regs (KeepIterate keep.Halted)) cancels may on whole ih = omega arith
+        by (Regs (KeepCut tearing)) true may on whole ih = let none = unpending zs may.behind in omega (arith, ih, none)
+        by (Regs (KeepCut tearing)) false may on whole ih = let k : false ≡ true = whole may.on_time.2 in absurd (cc)
+        by (Core (Begin did.More)) cancels may on whole ih = let none = no_pending shape pace zs z.tick (Begin did.More) may.behind (λ f. f) in omega (arith, ih, none)
+        by (Core (Begin (did.Stored row place))) cancels may on whole ih = omega arith
+        by (Core (Begin (did.Moved move))) cancels may on whole ih = omega arith
+        by (Core (Begin (did.Retired slot line))) cancels may on whole ih = omega arith
+        by (Core (Begin did.Exhausted)) cancels may on whole ih = omega arith
+        by (Core (Iterate did.More)) cancels may on whole ih = let none = no_pending shape pace zs z.tick (Iterate did.More) may.behind (λ f. f) in omega (arith, ih, none)
+        by (Core (Iterate (did.Stored row place))) cancels may on whole ih = omega arith
+        by (Core (Iterate (did.Moved move))) cancels may on whole ih = omega arith
+        by (Core (Iterate (did.Retired slot line))) cancels may on whole ih = omega arith
+        by (Core (Iterate did.Exhausted)) cancels may on whole ih = omega arith
+        by (Core (Cut tearing)) true may on whole ih = let none = no_pending shape pace zs z.tick (Cut tearing) may.behind (λ f. f) in omega (arith, ih, none)
+        by (Core (Cut tearing)) false may on whole ih = omega arith
 
     module _ (later : List (Timed n m)) (x : Timed n m) (ys : List (Timed n m)) (same : all ≡ later ++ x ∷ ys) where
       whole : Lawful shape pace e (later ++ x ∷ ys)
@@ -371,22 +392,27 @@ module _ {n m : ℕ} (shape : BankShape) (pace : Pacing) (e : ℕ) where
           came-earlier (last_store x.tick (rows_from shape all ys ++ rows_after shape all later)) (stored_at ys) (rows_from shape all ys) (let k = last-early in omega (arith, k, at)) in
           omega (arith, lt, count, since, none)
 
-      -- what runs as a read comes is no line write, then
-      pub idle_runs : (row line : ℕ) → is_cancelling pace.policy ≡ true → MayCome shape pace e ys x (Core (Read row line came.Waiting)) → stored_at (x ∷ ys) ≡ stored_at ys
-          → nat_lt (came_since (last_store x.tick (rows_from shape all ys ++ rows_after shape all later)) (rows_from shape all ys)) 4 ≡ true → is_writing (running_at shape pace ys x.tick) ≡ false
-      idle_runs row line cancelling may at few = false_from_ne_true _ (λ writes. clash writes (cancelled_or ys x.tick row line here.1 may.behind))
+      -- what runs as a read comes is no line write, where the present one was cancelled less often than it may be, or that is how this read came
+      pub idle_few : (row line : ℕ) → is_cancelling pace.policy ≡ true → MayCome shape pace e ys x (Core (Read row line came.Waiting)) → (pending_cancel ys ≡ 0 → cancels_after ys < 4)
+          → is_writing (running_at shape pace ys x.tick) ≡ false
+      idle_few row line cancelling may few = false_from_ne_true _ (λ writes. clash writes (cancelled_or ys x.tick row line here.1 may.behind))
         where
           full : (is_empty (waits shape (core ys)) ≡ false) ⊎ (4 ≤ cancels_after ys) → is_writing (running_at shape pace ys x.tick) ≡ true → 4 ≤ cancels_after ys
           full (inr most) writes = most
           full (inl some) writes =
               full_count shape pace e ys cancelling here.1
-              (started-writing (gives_way pace.policy) (reads_of shape pace ys) (in_progress (core ys)) (may_begin_after shape (core ys)) (running shape pace ys) (last_tick ys) x.tick (gives pace.policy cancelling) (ap not some) writes)
+              (started-writing (gives_way pace.policy) (reads_of shape pace ys) (busy_after shape ys) (ready_after shape ys) (running shape pace ys) (last_tick ys) x.tick (gives pace.policy cancelling) (ap not some) writes)
               (ap not some)
 
           clash : is_writing (running_at shape pace ys x.tick) ≡ true → (pending_cancel ys ≡ 0) ⊎ (running_at shape pace ys x.tick ≡ None) → ⊥
           clash writes (inr cancelled) = let k : is_writing (running_at shape pace ys x.tick) ≡ false = ap is_writing cancelled in absurd (cc)
           clash writes (inl none) =
-              let lt : cancels_after ys < 4 = few_came few at none in
+              let lt : cancels_after ys < 4 = few none in
               let most : 4 ≤ cancels_after ys =
               full (no_cancel (is_cancelling pace.policy) (is_writing (running_at shape pace ys x.tick)) (is_empty (waits shape (core ys))) (cancels_after ys) cancelling writes (may.on_time.2 (λ f. f))) writes in
               absurd (omega (arith, lt, most))
+
+      -- so it is where few reads came since the last store
+      pub idle_runs : (row line : ℕ) → is_cancelling pace.policy ≡ true → MayCome shape pace e ys x (Core (Read row line came.Waiting)) → stored_at (x ∷ ys) ≡ stored_at ys
+          → nat_lt (came_since (last_store x.tick (rows_from shape all ys ++ rows_after shape all later)) (rows_from shape all ys)) 4 ≡ true → is_writing (running_at shape pace ys x.tick) ≡ false
+      idle_runs row line cancelling may at few = idle_few row line cancelling may (λ none. few_came few at none)

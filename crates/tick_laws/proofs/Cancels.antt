@@ -5,16 +5,18 @@ use Rattle.std.proofs.lemmas.Bool.{ltb-true}
 use Rattle.row_laws.specs.Ticking.{tries}
 use Rattle.bank_shape.specs.Pausing.{Pausing, Pause, Plain, Cancel, is_cancelling, most_cancels}
 use Rattle.bank_shape.specs.declared.BankShape.{BankShape}
+use Rattle.bank_model.specs.declared.answer.Keep.TheVariants as keep
 use Rattle.bank_model.specs.declared.answer.Step.TheVariants as did
 use Rattle.bank_model.specs.Events.{Event, Write, Read, Serve, Begin, Iterate, Cut}
 use Rattle.bank_model.specs.History.{waits, has_exhausted}
-use Rattle.bank_model.specs.Timing.{Pacing, Happens, Core, Timed, is_writing, is_empty, core, core_of}
+use Rattle.bank_model.specs.Timing.{Pacing, Happens, Core, Regs, KeepBegin, KeepIterate, KeepCut, Timed, is_writing, is_empty, core, core_of}
 use Rattle.bank_model.specs.Running.{running_at, cancels_with, cancels_after}
+use Rattle.bank_model.specs.Changes.{halted_after, halted_by}
 use Rattle.bank_model.specs.Lawful.{Lawful, MayCome, would_cancel}
 use Rattle.tick_laws.proofs.Actions.{not-cancelled}
 use Rattle.bank_laws.proofs.Entries.{either}
 use Rattle.bank_laws.proofs.Wears.{exhausted-more}
-use Rattle.tick_laws.proofs.Tallies.{stores_by, moves_by, retires_by, cuts_by, cancelled_by, tally, tally_cuts}
+use Rattle.tick_laws.proofs.Tallies.{stores_by, moves_by, others_by, cuts_by, cancelled_by, tally, tally_cuts}
 
 few_of : (a b c d : Bool) → (a && (b && (c && d))) ≡ true → d ≡ true
 few_of true true true d h = h
@@ -24,7 +26,16 @@ few_of false b c d h = absurd (cc)
 
 module _ {n : ℕ} where
   pub fine_before : (h : Happens n) (xs : List (Event n)) → has_exhausted (core_of h xs) ≡ false → has_exhausted xs ≡ false
+  fine_before (Regs event) xs fine = fine
   fine_before (Core event) xs fine = either (has_exhausted xs) (λ ex. absurd (cc (exhausted-more event xs ex, fine))) (λ is. is)
+
+  pub runs_before : (h : Happens n) (old : Bool) → halted_by h old ≡ false → old ≡ false
+  runs_before (Core event) old runs = runs
+  runs_before (Regs (KeepBegin answer)) old runs = runs
+  runs_before (Regs (KeepIterate keep.More)) old runs = runs
+  runs_before (Regs (KeepIterate keep.Done)) old runs = runs
+  runs_before (Regs (KeepIterate keep.Halted)) old runs = absurd (cc)
+  runs_before (Regs (KeepCut tearing)) old runs = runs
 
 module _ {n m : ℕ} (shape : BankShape) (pace : Pacing) (e : ℕ) where
   -- the present line write was cancelled at most as often as may be
@@ -43,6 +54,15 @@ module _ {n m : ℕ} (shape : BankShape) (pace : Pacing) (e : ℕ) where
       by (Core (Write row line bytes given answer)) may le = le
       by (Core (Read row line answer)) may le = le
       by (Core (Serve answer)) may le = le
+      by (Regs (KeepBegin keep.More)) may le = le
+      by (Regs (KeepBegin keep.Done)) may le = omega arith
+      by (Regs (KeepBegin keep.Halted)) may le = omega arith
+      by (Regs (KeepIterate keep.More)) may le = le
+      by (Regs (KeepIterate keep.Done)) may le = omega arith
+      by (Regs (KeepIterate keep.Halted)) may le = omega arith
+      by (Regs (KeepCut tearing)) may le =
+          let k : cancels_after zs < 4 = ltb-true (cancels_after zs) 4 (few_of (is_cancelling pace.policy) (is_writing (running_at shape pace zs z.tick)) (is_empty (waits shape (core zs))) (nat_lt (cancels_after zs) most_cancels) may.on_time.3) in
+          omega (arith, k)
       by (Core (Begin did.More)) may le = le
       by (Core (Begin (did.Stored row place))) may le = omega arith
       by (Core (Begin (did.Moved move))) may le = omega arith
@@ -56,31 +76,39 @@ module _ {n m : ℕ} (shape : BankShape) (pace : Pacing) (e : ℕ) where
       by (Core (Cut tearing)) may le = cut tearing z.cancels may.on_time.2 le
 
   -- four cancels at most come to each line write that ends, and to the present one
-  cancels_few : (mid zs : List (Timed n m)) → Lawful shape pace e (mid ++ zs) → has_exhausted (core (mid ++ zs)) ≡ false
-      → tally_cuts cancelled_by mid ≤ 4 * (tally stores_by mid + tally moves_by mid + tally retires_by mid + tally_cuts cuts_by mid) + cancels_after (mid ++ zs)
-  cancels_few [] zs l fine = omega arith
-  cancels_few (y ∷ mid) zs l fine =
-      by y.happens y.cancels l.0 fine (few_cancels (mid ++ zs) l.1) (cancels_few mid zs l.1 (fine_before y.happens (core (mid ++ zs)) fine))
+  cancels_few : (mid zs : List (Timed n m)) → Lawful shape pace e (mid ++ zs) → has_exhausted (core (mid ++ zs)) ≡ false → halted_after (mid ++ zs) ≡ false
+      → tally_cuts cancelled_by mid ≤ 4 * (tally stores_by mid + tally moves_by mid + tally others_by mid + tally_cuts cuts_by mid) + cancels_after (mid ++ zs)
+  cancels_few [] zs l fine runs = omega arith
+  cancels_few (y ∷ mid) zs l fine runs =
+      by y.happens y.cancels l.0 fine runs (few_cancels (mid ++ zs) l.1) (cancels_few mid zs l.1 (fine_before y.happens (core (mid ++ zs)) fine) (runs_before y.happens (halted_after (mid ++ zs)) runs))
     where
-      by : (h : Happens n) (cancels : Bool) → MayCome shape pace e (mid ++ zs) y h → has_exhausted (core_of h (core (mid ++ zs))) ≡ false → cancels_after (mid ++ zs) ≤ 4
-          → tally_cuts cancelled_by mid ≤ 4 * (tally stores_by mid + tally moves_by mid + tally retires_by mid + tally_cuts cuts_by mid) + cancels_after (mid ++ zs)
+      by : (h : Happens n) (cancels : Bool) → MayCome shape pace e (mid ++ zs) y h → has_exhausted (core_of h (core (mid ++ zs))) ≡ false → halted_by h (halted_after (mid ++ zs)) ≡ false → cancels_after (mid ++ zs) ≤ 4
+          → tally_cuts cancelled_by mid ≤ 4 * (tally stores_by mid + tally moves_by mid + tally others_by mid + tally_cuts cuts_by mid) + cancels_after (mid ++ zs)
           → cancelled_by h cancels + tally_cuts cancelled_by mid
-          ≤ 4 * ((stores_by h + tally stores_by mid) + (moves_by h + tally moves_by mid) + (retires_by h + tally retires_by mid) + (cuts_by h cancels + tally_cuts cuts_by mid)) + cancels_with h cancels (cancels_after (mid ++ zs))
-      by (Core (Write row line bytes given answer)) cancels may fine le ih = omega (arith, ih)
-      by (Core (Read row line answer)) cancels may fine le ih = omega (arith, ih)
-      by (Core (Serve answer)) cancels may fine le ih = omega (arith, ih)
-      by (Core (Begin did.More)) cancels may fine le ih = omega (arith, ih)
-      by (Core (Begin (did.Stored row place))) cancels may fine le ih = omega (arith, ih, le)
-      by (Core (Begin (did.Moved move))) cancels may fine le ih = omega (arith, ih, le)
-      by (Core (Begin (did.Retired slot line))) cancels may fine le ih = absurd may.may.1
-      by (Core (Begin did.Exhausted)) cancels may fine le ih = absurd (cc)
-      by (Core (Iterate did.More)) cancels may fine le ih = omega (arith, ih)
-      by (Core (Iterate (did.Stored row place))) cancels may fine le ih = omega (arith, ih, le)
-      by (Core (Iterate (did.Moved move))) cancels may fine le ih = omega (arith, ih, le)
-      by (Core (Iterate (did.Retired slot line))) cancels may fine le ih = omega (arith, ih, le)
-      by (Core (Iterate did.Exhausted)) cancels may fine le ih = absurd (cc)
-      by (Core (Cut tearing)) true may fine le ih = omega (arith, ih)
-      by (Core (Cut tearing)) false may fine le ih = omega (arith, ih, le)
+          ≤ 4 * ((stores_by h + tally stores_by mid) + (moves_by h + tally moves_by mid) + (others_by h + tally others_by mid) + (cuts_by h cancels + tally_cuts cuts_by mid)) + cancels_with h cancels (cancels_after (mid ++ zs))
+      by (Core (Write row line bytes given answer)) cancels may fine runs le ih = omega (arith, ih)
+      by (Core (Read row line answer)) cancels may fine runs le ih = omega (arith, ih)
+      by (Core (Serve answer)) cancels may fine runs le ih = omega (arith, ih)
+      by (Regs (KeepBegin keep.More)) cancels may fine runs le ih = omega (arith, ih)
+      by (Regs (KeepBegin keep.Done)) cancels may fine runs le ih = omega (arith, ih, le)
+      by (Regs (KeepBegin keep.Halted)) cancels may fine runs le ih = let k : ⊥ = may.may.2 refl in absurd k
+      by (Regs (KeepIterate keep.More)) cancels may fine runs le ih = omega (arith, ih)
+      by (Regs (KeepIterate keep.Done)) cancels may fine runs le ih = omega (arith, ih, le)
+      by (Regs (KeepIterate keep.Halted)) cancels may fine runs le ih = absurd (cc)
+      by (Regs (KeepCut tearing)) true may fine runs le ih = omega (arith, ih)
+      by (Regs (KeepCut tearing)) false may fine runs le ih = omega (arith, ih)
+      by (Core (Begin did.More)) cancels may fine runs le ih = omega (arith, ih)
+      by (Core (Begin (did.Stored row place))) cancels may fine runs le ih = omega (arith, ih, le)
+      by (Core (Begin (did.Moved move))) cancels may fine runs le ih = omega (arith, ih, le)
+      by (Core (Begin (did.Retired slot line))) cancels may fine runs le ih = absurd may.may.1
+      by (Core (Begin did.Exhausted)) cancels may fine runs le ih = absurd (cc)
+      by (Core (Iterate did.More)) cancels may fine runs le ih = omega (arith, ih)
+      by (Core (Iterate (did.Stored row place))) cancels may fine runs le ih = omega (arith, ih, le)
+      by (Core (Iterate (did.Moved move))) cancels may fine runs le ih = omega (arith, ih, le)
+      by (Core (Iterate (did.Retired slot line))) cancels may fine runs le ih = omega (arith, ih, le)
+      by (Core (Iterate did.Exhausted)) cancels may fine runs le ih = absurd (cc)
+      by (Core (Cut tearing)) true may fine runs le ih = omega (arith, ih)
+      by (Core (Cut tearing)) false may fine runs le ih = omega (arith, ih, le)
 
   none_cancelled : (mid zs : List (Timed n m)) → is_cancelling pace.policy ≡ false → Lawful shape pace e (mid ++ zs) → tally_cuts cancelled_by mid ≡ 0
   none_cancelled [] zs none l = refl
@@ -94,21 +122,24 @@ module _ {n m : ℕ} (shape : BankShape) (pace : Pacing) (e : ℕ) where
       by (Core (Write row line bytes given answer)) false whole = refl
       by (Core (Read row line answer)) false whole = refl
       by (Core (Serve answer)) false whole = refl
+      by (Regs (KeepBegin answer)) false whole = refl
+      by (Regs (KeepIterate answer)) false whole = refl
+      by (Regs (KeepCut tearing)) false whole = refl
       by (Core (Begin answer)) false whole = refl
       by (Core (Iterate answer)) false whole = refl
       by (Core (Cut tearing)) false whole = refl
 
   -- the attempts, with those that were cancelled, where the present line write was not
-  pub tried_few : (mid zs : List (Timed n m)) → Lawful shape pace e (mid ++ zs) → has_exhausted (core (mid ++ zs)) ≡ false → cancels_after (mid ++ zs) ≡ 0
-      → (tally stores_by mid + tally moves_by mid + tally retires_by mid + tally_cuts cuts_by mid) + tally_cuts cancelled_by mid
-      ≤ tries pace.policy * (tally stores_by mid + tally moves_by mid + tally retires_by mid + tally_cuts cuts_by mid)
-  tried_few mid zs l fine whole = by pace.policy (λ none. none_cancelled mid zs none l)
+  pub tried_few : (mid zs : List (Timed n m)) → Lawful shape pace e (mid ++ zs) → has_exhausted (core (mid ++ zs)) ≡ false → halted_after (mid ++ zs) ≡ false → cancels_after (mid ++ zs) ≡ 0
+      → (tally stores_by mid + tally moves_by mid + tally others_by mid + tally_cuts cuts_by mid) + tally_cuts cancelled_by mid
+      ≤ tries pace.policy * (tally stores_by mid + tally moves_by mid + tally others_by mid + tally_cuts cuts_by mid)
+  tried_few mid zs l fine runs whole = by pace.policy (λ none. none_cancelled mid zs none l)
     where
-      few : tally_cuts cancelled_by mid ≤ 4 * (tally stores_by mid + tally moves_by mid + tally retires_by mid + tally_cuts cuts_by mid) + cancels_after (mid ++ zs)
-      few = cancels_few mid zs l fine
+      few : tally_cuts cancelled_by mid ≤ 4 * (tally stores_by mid + tally moves_by mid + tally others_by mid + tally_cuts cuts_by mid) + cancels_after (mid ++ zs)
+      few = cancels_few mid zs l fine runs
 
-      by : (p : Pausing) → (is_cancelling p ≡ false → tally_cuts cancelled_by mid ≡ 0) → (tally stores_by mid + tally moves_by mid + tally retires_by mid + tally_cuts cuts_by mid) + tally_cuts cancelled_by mid
-          ≤ tries p * (tally stores_by mid + tally moves_by mid + tally retires_by mid + tally_cuts cuts_by mid)
+      by : (p : Pausing) → (is_cancelling p ≡ false → tally_cuts cancelled_by mid ≡ 0) → (tally stores_by mid + tally moves_by mid + tally others_by mid + tally_cuts cuts_by mid) + tally_cuts cancelled_by mid
+          ≤ tries p * (tally stores_by mid + tally moves_by mid + tally others_by mid + tally_cuts cuts_by mid)
       by Pause none = let k : tally_cuts cancelled_by mid ≡ 0 = none refl in omega (arith, k)
       by Plain none = let k : tally_cuts cancelled_by mid ≡ 0 = none refl in omega (arith, k)
       by Cancel none = omega (arith, few, whole)

@@ -11,7 +11,7 @@ use Rattle.row_laws.specs.Rows.{asks_read, asks_write}
 use Rattle.row_laws.specs.Ticking.{cuts_to}
 use Rattle.bank_shape.specs.declared.BankShape.{BankShape}
 use Rattle.bank_model.specs.Events.{Write, Read, Serve, Begin, Iterate, Cut}
-use Rattle.bank_model.specs.Timing.{Pacing, Happens, Core, Timed, last_tick}
+use Rattle.bank_model.specs.Timing.{Pacing, Happens, Core, Regs, Timed, last_tick}
 use Rattle.bank_model.specs.Lawful.{Lawful}
 use Rattle.bank_laws.specs.Outcomes.{outcome_of, ended, row_with, rows_from}
 use Rattle.bank_laws.proofs.Settling.{opens, step_stays, stays}
@@ -129,6 +129,7 @@ module _ {n m : ℕ} (shape : BankShape) (all : List (Timed n m)) where
       by (Core (Write row line bytes given answer)) cancels ih = count-cons _ (record { tick = x.tick; asks = Writes line bytes given; outcome = ended x.tick (outcome_of shape all row) }) (rows_from shape all xs) ∙ one (p (ended x.tick (outcome_of shape all row))) _ _ _ (same x.tick (outcome_of shape all row)) ih
       by (Core (Read row line answer)) cancels ih = count-skip _ (record { tick = x.tick; asks = Reads line; outcome = outcome_of shape all row }) (rows_from shape all xs) _ refl ih
       by (Core (Serve answer)) cancels ih = ih
+      by (Regs event) cancels ih = ih
       by (Core (Begin answer)) cancels ih = ih
       by (Core (Iterate answer)) cancels ih = ih
       by (Core (Cut tearing)) true ih = ih
@@ -148,6 +149,7 @@ module _ {n m : ℕ} (shape : BankShape) (all : List (Timed n m)) where
       by (Core (Write row line bytes given answer)) cancels ih = count-skip _ (record { tick = x.tick; asks = Writes line bytes given; outcome = ended x.tick (outcome_of shape all row) }) (rows_from shape all xs) _ refl ih
       by (Core (Read row line answer)) cancels ih = count-cons _ (record { tick = x.tick; asks = Reads line; outcome = outcome_of shape all row }) (rows_from shape all xs) ∙ one (p (outcome_of shape all row)) _ _ ih
       by (Core (Serve answer)) cancels ih = ih
+      by (Regs event) cancels ih = ih
       by (Core (Begin answer)) cancels ih = ih
       by (Core (Iterate answer)) cancels ih = ih
       by (Core (Cut tearing)) true ih = ih
@@ -184,6 +186,7 @@ module _ {n m : ℕ} (shape : BankShape) (all : List (Timed n m)) where
       by (Core (Write row line bytes given answer)) cancels = omega arith
       by (Core (Read row line answer)) cancels = omega arith
       by (Core (Serve answer)) cancels = omega arith
+      by (Regs event) cancels = omega arith
       by (Core (Begin answer)) cancels = omega arith
       by (Core (Iterate answer)) cancels = omega arith
       by (Core (Cut tearing)) true = omega arith

@@ -1,5 +1,5 @@
 -- When a begin is held up by a read that waits, and when something is chosen.
-use Rattle.std.proofs.Common.{◌≡◌, ℕ, ◌==◌, ◌&&◌, not, Bool, true, false, List, [], ◌∷◌, ◌++◌, Option, Some, None, refl, sym, ◌∙◌, cond, eqb, eqb-true}
+use Rattle.std.proofs.Common.{◌≡◌, ℕ, ◌==◌, ◌&&◌, ◌||◌, not, Bool, true, false, List, [], ◌∷◌, ◌++◌, Option, Some, None, refl, sym, ◌∙◌, cond, eqb, eqb-true}
 use Rattle.std.specs.Prelude.{nat_lt}
 use Rattle.std.specs.List.{list_any}
 use Rattle.std.proofs.lemmas.Bool.{eq-eqb, or_left, or_right}
@@ -15,7 +15,7 @@ use Rattle.bank_model.specs.Events.{Event}
 use Rattle.bank_model.specs.History.{Awaited, queue, waits, due_after, has_exhausted, in_progress}
 use Rattle.bank_model.specs.After.{is_ready, is_store_of, due_work, work_after, may_begin_after}
 use Rattle.bank_model.specs.Timing.{same_doing, is_doing, is_empty}
-use Rattle.bank_model.specs.Running.{choice, chosen_by, started}
+use Rattle.bank_model.specs.Running.{busy_by, ready_by, choice, chosen_by, started}
 
 -- a read waits on the line of the queue's head
 abbrev pub HeldUp : {n : ℕ} → List Awaited → List (Entry n) → Type 0
@@ -103,9 +103,18 @@ module _ {n : ℕ} where
       by false false None [] [] there fine idle none = absurd (cc)
       by false false None (e ∷ es) [] there fine idle none = refl
 
-  pub works : (way : Bool) (shape : BankShape) (h : List (Event n)) (row : ℕ) → has_row (queue shape h) row ≡ true → has_exhausted h ≡ false
-      → (d : Doing) × (chosen_by way (not (is_empty (waits shape h))) (choice (in_progress h) (may_begin_after shape h)) ≡ Some d)
-  works way shape h row there fine = chosen-some way (not (is_empty (waits shape h))) (in_progress h) (may_begin_after shape h) (λ idle none. may-begin shape h row there fine idle none)
+  pub works : (way : Bool) (shape : BankShape) (h : List (Event n)) (change : Option ℕ) (keeping halted : Bool) (row : ℕ) → has_row (queue shape h) row ≡ true → has_exhausted h ≡ false → halted ≡ false
+      → (d : Doing)
+      × (chosen_by way (not (is_empty (waits shape h))) (choice (busy_by change keeping (in_progress h)) (ready_by change (keeping || halted) (may_begin_after shape h))) ≡ Some d)
+  works way shape h None keeping halted row there fine runs =
+      chosen-some way (not (is_empty (waits shape h))) (in_progress h) (may_begin_after shape h) (λ idle none. may-begin shape h row there fine idle none)
+  works way shape h (Some item) keeping halted row there fine runs =
+      chosen-some way (not (is_empty (waits shape h))) keeping (not (keeping || halted)) (λ idle none. by keeping halted idle runs)
+    where
+      by : (keeping halted : Bool) → keeping ≡ false → halted ≡ false → not (keeping || halted) ≡ true
+      by false false idle runs = refl
+      by false true idle runs = absurd (cc)
+      by true halted idle runs = absurd (cc)
 
 -- what isn't a begin
 started-not_begun : (d : Doing) (r : Option Action) (last tick : ℕ) → same_doing Beginning d ≡ false → is_doing Beginning r ≡ false → is_doing Beginning (started r (Some d) last tick) ≡ false

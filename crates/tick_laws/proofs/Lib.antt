@@ -8,6 +8,7 @@ mod Afterwards
 mod Tallies
 mod Moves
 mod Cancels
+mod Causes
 mod Holdups
 mod Delays
 mod Counts

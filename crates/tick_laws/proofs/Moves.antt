@@ -11,7 +11,7 @@ use Rattle.bank_model.specs.Events.{Event, Write, Read, Serve, Begin, Iterate, C
 use Rattle.bank_model.specs.History.{first_or, stores, stored_in, moved_in, due_after, retired, queue, has_exhausted}
 use Rattle.bank_model.specs.After.{work_after, due_work}
 use Rattle.bank_model.specs.Answers.{IsDone}
-use Rattle.bank_model.specs.Timing.{Pacing, Happens, Core, Timed, core, core_of}
+use Rattle.bank_model.specs.Timing.{Pacing, Happens, Core, Regs, Timed, core, core_of}
 use Rattle.bank_model.specs.Lawful.{Lawful, MayCome}
 use Rattle.tick_laws.proofs.Tallies.{stores_by, moves_by, retires_by, tally}
 
@@ -114,6 +114,7 @@ module _ {n m : ℕ} (shape : BankShape) (pace : Pacing) (e : ℕ) where
       by (Core (Write row line bytes given answer)) may b = record { most = b.most; others = b.others }
       by (Core (Read row line answer)) may b = record { most = b.most; others = b.others }
       by (Core (Serve answer)) may b = record { most = b.most; others = b.others }
+      by (Regs event) may b = record { most = b.most; others = b.others }
       by (Core (Begin (did.Stored row place))) may b =
           let k = after_store _ _ _ _ b (line_of_row row (core xs) / shape.lines) (free shape (core xs) (done_store shape (core xs) row place may.may.1)) in record { most = k.most; others = k.others }
       by (Core (Begin did.More)) may b = record { most = b.most; others = b.others }
@@ -134,6 +135,7 @@ module _ {n m : ℕ} (shape : BankShape) (pace : Pacing) (e : ℕ) where
   moves_step xs x (Core (Write row line bytes given answer)) some b may = omega arith
   moves_step xs x (Core (Read row line answer)) some b may = omega arith
   moves_step xs x (Core (Serve answer)) some b may = omega arith
+  moves_step xs x (Regs event) some b may = omega arith
   moves_step xs x (Core (Begin (did.Stored row place))) some b may = let k : flag (due_after shape (core_of (Core (Begin (did.Stored row place))) (core xs))) ≤ 1 = flag-most _ in omega (arith, k)
   moves_step xs x (Core (Begin did.More)) some b may = omega arith
   moves_step xs x (Core (Begin (did.Moved move))) some b may =
@@ -164,6 +166,7 @@ module _ {n m : ℕ} (shape : BankShape) (pace : Pacing) (e : ℕ) where
   retires_step xs x (Core (Write row line bytes given answer)) may = omega arith
   retires_step xs x (Core (Read row line answer)) may = omega arith
   retires_step xs x (Core (Serve answer)) may = omega arith
+  retires_step xs x (Regs event) may = omega arith
   retires_step xs x (Core (Begin (did.Stored row place))) may = omega arith
   retires_step xs x (Core (Begin did.More)) may = omega arith
   retires_step xs x (Core (Begin (did.Moved move))) may = omega arith
@@ -185,6 +188,7 @@ module _ {n m : ℕ} (shape : BankShape) (pace : Pacing) (e : ℕ) where
       by (Core (Write row line bytes given answer)) may few is = few
       by (Core (Read row line answer)) may few is = few
       by (Core (Serve answer)) may few is = few
+      by (Regs event) may few is = few
       by (Core (Begin answer)) may few is = omega (arith, few, is)
       by (Core (Iterate (did.Stored row place))) may few is = few
       by (Core (Iterate did.More)) may few is = few

@@ -20,11 +20,11 @@ use Rattle.bank_model.specs.declared.clock.Doing.{Doing}
 use Rattle.bank_model.specs.declared.clock.Doing.TheVariants.{Serving, Beginning, Iterating}
 use Rattle.bank_model.specs.declared.clock.Action.{Action}
 use Rattle.bank_model.specs.Events.{Write, Read, Serve, Begin, Iterate, Cut, newest}
-use Rattle.bank_model.specs.History.{Awaited, awaited, queue, waits, in_progress, iterated}
+use Rattle.bank_model.specs.History.{Awaited, awaited, queue, waits}
 use Rattle.masked_bytes.specs.Entries.{layer_of}
-use Rattle.bank_model.specs.After.{work_after, is_store_of}
-use Rattle.bank_model.specs.Timing.{Pacing, Happens, Core, Timed, is_doing, is_writing, is_empty, core, core_of, last_tick}
-use Rattle.bank_model.specs.Running.{gives_way, left_by, running_at, cancels_after}
+use Rattle.bank_model.specs.Timing.{Pacing, Happens, Core, Regs, KeepBegin, KeepIterate, KeepCut, Timed, is_writing, is_empty, core, core_of, last_tick}
+use Rattle.bank_model.specs.Running.{busy_after, made_after, drops_begin, gives_way, left_by, running_at, cancels_after}
+use Rattle.bank_model.specs.Changes.{change_after}
 use Rattle.bank_model.specs.Lawful.{Lawful, MayCome, would_cancel}
 use Rattle.bank_laws.specs.Laws.{rules_of}
 use Rattle.bank_laws.specs.Outcomes.{outcome_with, outcome_of, row_with, rows_from}
@@ -39,13 +39,13 @@ use Rattle.bank_laws.proofs.Walking.{Passes, walk, rows_after}
 use Rattle.bank_laws.proofs.Ending.{Onwards, own_answer}
 use Rattle.bank_laws.proofs.Serves.{may_at, onwards_at, idle-waits}
 use Rattle.bank_laws.proofs.Waiting.{waits_length}
-use Rattle.tick_laws.specs.TickLaws.{reads_in_time, ReadTimeLaw}
+use Rattle.tick_laws.specs.TickLaws.{reads_in_time, ReadTimeLaw, count_found, rows_behind, ends_by, FewCancelsLaw}
 use Rattle.tick_laws.proofs.Actions.{since, since-up, FitsAll, running_at-fits}
 use Rattle.tick_laws.proofs.Settings.{SetAt, row_set, setting, unset_before, unset_waits}
 use Rattle.tick_laws.proofs.Turns.{turn, turn-some, turn-new, NotEarly, not_early-new, owes, owes-most}
 use Rattle.tick_laws.proofs.Waits.{Turn, TurnAt, turn_at, TurnBy, step, work_time, few_times, fits_ending, ending, at_end, at_cut, some-reads}
 use Rattle.tick_laws.proofs.Tallies.{stores_by}
-use Rattle.tick_laws.proofs.Cancelling.{stored_at, idle_runs}
+use Rattle.tick_laws.proofs.Cancelling.{stored_at, pending_cancel, idle_few, idle_runs}
 use Rattle.tick_laws.proofs.Afterwards.{none-below, first-behind, rows_after-append, late-cuts}
 
 module _ {n : ℕ} where
@@ -113,6 +113,13 @@ uncancelled shape pace e zs s (Core (Read at line answer)) row may there = may.o
 uncancelled shape pace e zs s (Core (Serve answer)) row may there = may.on_time.1
 uncancelled shape pace e zs s (Core (Begin answer)) row may there = may.on_time.1
 uncancelled shape pace e zs s (Core (Iterate answer)) row may there = may.on_time.1
+uncancelled shape pace e zs s (Regs (KeepBegin answer)) row may there = may.on_time.1
+uncancelled shape pace e zs s (Regs (KeepIterate answer)) row may there = may.on_time.1
+uncancelled shape pace e zs s (Regs (KeepCut tearing)) row may there =
+    let none : is_empty (waits shape (core zs)) ≡ true =
+    would_find (is_cancelling pace.policy) (is_writing (running_at shape pace zs s.tick)) (is_empty (waits shape (core zs))) (nat_lt (cancels_after zs) most_cancels) may.on_time.3 in
+    let some : not (is_empty (waits shape (core zs))) ≡ true = some-reads (waits shape (core zs)) row there in
+    absurd (cc (ap not none, some))
 uncancelled shape pace e zs s (Core (Cut tearing)) row may there = by s.cancels may.on_time.2
   where
     by : (b : Bool) → (b ≡ true → would_cancel shape (core zs) pace.policy (running_at shape pace zs s.tick) (cancels_after zs) ≡ true) → b ≡ false
@@ -146,6 +153,7 @@ module _ {n m : ℕ} (shape : BankShape) (pace : Pacing) (e : ℕ) (all : List (
       uncut (Core (Write at line bytes given answer)) cancels still = refl
       uncut (Core (Read at line answer)) cancels still = refl
       uncut (Core (Serve answer)) cancels still = refl
+      uncut (Regs event) cancels still = refl
       uncut (Core (Begin answer)) cancels still = refl
       uncut (Core (Iterate answer)) cancels still = refl
       uncut (Core (Cut tearing)) cancels still = absurd (cc)
@@ -186,7 +194,7 @@ module _ {n m : ℕ} (shape : BankShape) (pace : Pacing) (e : ℕ) (all : List (
         let end : s.tick ≡ s.first + pace.read = may.on_time.0.1 in
         let low : a ≤ s.first = at_serve (waits shape (core zs)) answer.row s.first (served-first shape (core zs) (waits shape (core zs)) answer may.may) own.0 now.low in
         let high : s.first + pace.read ≤ most =
-        at_end pace.read pace.iter (work_time pace e) most (gives_way pace.policy) (in_progress (core zs)) (iterated (core zs)) s.first (turn pace.read row (waits shape (core zs))) fits.1
+        at_end pace.read pace.iter (work_time pace e) most (gives_way pace.policy) (busy_after shape zs) (made_after shape zs) s.first (turn pace.read row (waits shape (core zs))) fits.1
         (turn-some pace.read row (waits shape (core zs)) there) now.high in
         as_set (Core (Serve answer)) _ o own.1 (
           omega (arith, low, end),
@@ -208,11 +216,12 @@ module _ {n m : ℕ} (shape : BankShape) (pace : Pacing) (e : ℕ) (all : List (
     at_event (Core (Iterate (did.Moved move))) o may whole there none late t is = absurd (cc)
     at_event (Core (Iterate (did.Retired slot line))) o may whole there none late t is = absurd (cc)
     at_event (Core (Iterate did.Exhausted)) o may whole there none late t is = absurd (cc)
+    at_event (Regs event) o may whole there none late t is = absurd (cc)
     at_event (Core (Cut tearing)) o may whole there none late t is =
         as_set (Core (Cut tearing)) (out.Lost s.tick) o (lost (has_wait (waits shape (core zs)) row) is) (
           ap (first_cut_at s.tick) (append_assoc mids (row_with shape all (Core (Cut tearing)) s.tick s.cancels) lates)
               ∙ first-behind s.tick mids _ none ∙ cut_row tearing s.cancels whole,
-          at_cut pace.read pace.iter (work_time pace e) most (gives_way pace.policy) (in_progress (core zs)) _ (iterated (core zs)) s.tick (turn pace.read row (waits shape (core zs))) (running_at shape pace zs s.tick) r
+          at_cut pace.read pace.iter (work_time pace e) most (gives_way pace.policy) (busy_after shape zs) _ (made_after shape zs) s.tick (turn pace.read row (waits shape (core zs))) (running_at shape pace zs s.tick) r
               (turn-some pace.read row (waits shape (core zs)) there) (λ busy. few_times shape pace e zs l.1 busy) (running_at-fits shape pace e zs s.tick) may.on_time.0.2 t.high,
         )
       where
@@ -279,10 +288,10 @@ module _ {n m : ℕ} (shape : BankShape) (pace : Pacing) (e : ℕ) (all : List (
 
       by : (h : Happens n) (cancels : Bool) → MayCome shape pace e ys x h → Onwards shape all ys x.tick h
           → (ends_action h ≡ false → length (waiting x.tick [] (rows_from shape all ys)) ≡ length (waits shape (core ys)))
-          → since (left_by shape (core ys) h runs) x.tick ≤ x.tick
+          → since (left_by shape (core ys) (change_after shape ys) h runs) x.tick ≤ x.tick
           → ((row line : ℕ) → is_cancelling pace.policy ≡ true → MayCome shape pace e ys x (Core (Read row line came.Waiting)) → cond (stores_by h == 1) x.tick (stored_at ys) ≡ stored_at ys
           → nat_lt (came_since (last_store x.tick (rows_from shape all ys ++ rows_after shape all later)) (rows_from shape all ys)) 4 ≡ true → is_writing runs ≡ false)
-          → ((most row : ℕ) (owed : List ℕ) → Awaits (waits shape (core_of h (core ys))) row owed → TurnBy shape pace e x.tick most row ys x here h (left_by shape (core ys) h runs)
+          → ((most row : ℕ) (owed : List ℕ) → Awaits (waits shape (core_of h (core ys))) row owed → TurnBy shape pace e x.tick most row ys x here h (left_by shape (core ys) (change_after shape ys) h runs)
           → outcome_of shape all row ≢ out.Unset → InTime pace.read x.tick most (rows_after shape all later) (outcome_of shape all row))
           → Passes (reads_in_time (rules_of e shape pace)) (rows_from shape all ys) (row_with shape all h x.tick cancels) (rows_after shape all later)
       by (Core (Write row line bytes given answer)) cancels may on count top free go = refl
@@ -294,16 +303,16 @@ module _ {n m : ℕ} (shape : BankShape) (pace : Pacing) (e : ℕ) (all : List (
           (own_answer shape pace e all ys x (Core (Read row line came.Busy)) row (out.Busy x.tick) on refl (λ is. absurd (cc)))
       by (Core (Read row line came.Waiting)) cancels may on count top free go =
           let v = awaited row line (newest (core ys) line) (layer_of (queue shape (core ys)) line) in
-          let drops = is_doing Beginning runs && is_store_of line (work_after shape (core ys)) in
+          let drops = drops_begin shape (core ys) (change_after shape ys) line runs in
           let new : has_wait (waits shape (core ys)) row ≡ false = (stand_apart shape (core ys) row may.asked).waiting_below row (omega arith) in
           let waits_on = awaits-new (waits shape (core ys)) v in
           in_time (rules_of e shape pace) x.tick most (rows_from shape all ys) (rows_after shape all later) (outcome_of shape all row) (bound-is (count refl))
           (go most row (newest (core ys) line) waits_on
           (record {
-            low = not_early-new x.tick row (gives_way pace.policy) (in_progress (core ys)) (waits shape (core ys)) v (cond drops None runs) new (drop_or drops (running_at-fits shape pace e ys x.tick));
+            low = not_early-new x.tick row (gives_way pace.policy) (busy_after shape ys) (waits shape (core ys)) v (cond drops None runs) new (drop_or drops (running_at-fits shape pace e ys x.tick));
             high = sums _ _ _ x.tick (delay (rules_of e shape pace) pace.policy x.tick (rows_from shape all ys) (rows_after shape all later)) ((length (waits shape (core ys)) + 1) * pace.read) _ top
-                (delay-most (rules_of e shape pace) pace.policy x.tick (rows_from shape all ys) (rows_after shape all later) (in_progress (core ys)) (cond drops None runs)
-                (λ cancelling few. owes-idle pace.read pace.iter (work_time pace e) (in_progress (core ys)) drops runs (free row line cancelling may refl few)))
+                (delay-most (rules_of e shape pace) pace.policy x.tick (rows_from shape all ys) (rows_after shape all later) (busy_after shape ys) (cond drops None runs)
+                (λ cancelling few. owes-idle pace.read pace.iter (work_time pace e) (busy_after shape ys) drops runs (free row line cancelling may refl few)))
                 (turn-new pace.read row (waits shape (core ys)) v new refl);
           })
           (ended_read row (newest (core ys) line) (on.reads row (newest (core ys) line) (inl waits_on))))
@@ -312,11 +321,127 @@ module _ {n m : ℕ} (shape : BankShape) (pace : Pacing) (e : ℕ) (all : List (
           ended_read row owed (inl a) un = subst (λ ws. Awaits ws row owed) idle a
           ended_read row owed (inr s) un = subst (λ (o : Outcome n). IsSettled owed o) un s
       by (Core (Serve answer)) cancels may on count top free go = tt
+      by (Regs event) cancels may on count top free go = tt
       by (Core (Begin answer)) cancels may on count top free go = tt
       by (Core (Iterate answer)) cancels may on count top free go = tt
       by (Core (Cut tearing)) true may on count top free go = tt
       by (Core (Cut tearing)) false may on count top free go = refl
 
+module _ {n m : ℕ} (shape : BankShape) (pace : Pacing) (e : ℕ) (all : List (Timed n m)) where
+  sum_few : (s o t x k p : ℕ) → s ≤ x → o ≡ 0 → t ≡ k → s + o + t ≤ x + k + p
+  sum_few s o t x k p top none is = omega arith
+
+  -- a read that waits, and finds the present line write cancelled less often than it may be, ends by the reads before it and its own
+  few_read_at : 1 ≤ pace.read → 1 ≤ pace.iter → Lawful shape pace e all → waits shape (core all) ≡ [] → (later : List (Timed n m)) (x : Timed n m) (ys : List (Timed n m)) → all ≡ later ++ x ∷ ys
+      → (row line : ℕ) → x.happens ≡ Core (Read row line came.Waiting) → is_cancelling pace.policy ≡ true → (pending_cancel ys ≡ 0 → cancels_after ys < 4)
+      → InTime pace.read x.tick (x.tick + (length (waits shape (core ys)) + 1) * pace.read) (rows_after shape all later) (outcome_of shape all row)
+  few_read_at r i l idle later x ys same row line is cancelling few =
+      by x.happens is (may_at shape pace e all later x ys l same) (onwards_at shape pace e all later x ys l same)
+      (since-up shape pace e (x ∷ ys) r i here)
+      (λ most row owed waits_on t set.
+      subst (λ (xs : List (Timed n m)). InTime pace.read x.tick most (rows_after shape all later) (outcome_of shape xs row)) (sym same)
+      (in_end shape pace e all x.tick most row owed later (x ∷ ys) r i whole waits_on (omega arith) t (subst (λ (xs : List (Timed n m)). outcome_of shape xs row ≢ out.Unset) same set)))
+    where
+      whole : Lawful shape pace e (later ++ x ∷ ys)
+      whole = subst (λ (xs : List (Timed n m)). Lawful shape pace e xs) same l
+
+      here : Lawful shape pace e (x ∷ ys)
+      here = lawful_before shape pace e later (x ∷ ys) whole
+
+      runs : Option Action
+      runs = running_at shape pace ys x.tick
+
+      most : ℕ
+      most = x.tick + (length (waits shape (core ys)) + 1) * pace.read
+
+      drop_or : (b : Bool) → FitsAll shape pace ys runs → FitsAll shape pace ys (cond b None runs)
+      drop_or true f = tt
+      drop_or false f = f
+
+      ways : gives_way pace.policy ≡ true
+      ways = by_policy pace.policy cancelling
+        where
+          by_policy : (p : Pausing) → is_cancelling p ≡ true → gives_way p ≡ true
+          by_policy Pause is = absurd (cc)
+          by_policy Plain is = absurd (cc)
+          by_policy Cancel is = refl
+
+      row_of : Happens n → ℕ
+      row_of (Core (Read at line answer)) = at
+      row_of h = 0
+
+      by : (h : Happens n) → h ≡ Core (Read row line came.Waiting) → MayCome shape pace e ys x h → Onwards shape all ys x.tick h
+          → since (left_by shape (core ys) (change_after shape ys) h runs) x.tick ≤ x.tick
+          → ((most row : ℕ) (owed : List ℕ) → Awaits (waits shape (core_of h (core ys))) row owed → TurnBy shape pace e x.tick most row ys x here h (left_by shape (core ys) (change_after shape ys) h runs)
+          → outcome_of shape all row ≢ out.Unset → InTime pace.read x.tick most (rows_after shape all later) (outcome_of shape all row))
+          → InTime pace.read x.tick most (rows_after shape all later) (outcome_of shape all row)
+      by (Core (Write at on bytes given answer)) is may on_ top go = absurd (cc)
+      by (Core (Read at on (came.Forwarded bytes))) is may on_ top go = absurd (cc)
+      by (Core (Read at on came.Busy)) is may on_ top go = absurd (cc)
+      by (Core (Read at on came.Waiting)) is may on_ top go =
+          let v = awaited at on (newest (core ys) on) (layer_of (queue shape (core ys)) on) in
+          let drops = drops_begin shape (core ys) (change_after shape ys) on runs in
+          let new : has_wait (waits shape (core ys)) at ≡ false = (stand_apart shape (core ys) at may.asked).waiting_below at (omega arith) in
+          let waits_on = awaits-new (waits shape (core ys)) v in
+          let free : is_writing runs ≡ false = idle_few shape pace e all r i l idle later x ys same at on cancelling may few in
+          let none : owes pace.read pace.iter (work_time pace e) (gives_way pace.policy) (busy_after shape ys) (cond drops None runs) ≡ 0 =
+          ap (λ w. owes pace.read pace.iter (work_time pace e) w (busy_after shape ys) (cond drops None runs)) ways ∙ owes-idle pace.read pace.iter (work_time pace e) (busy_after shape ys) drops runs free in
+          subst (λ k. InTime pace.read x.tick most (rows_after shape all later) (outcome_of shape all k)) (ap row_of is)
+          (go most at (newest (core ys) on) waits_on
+          (record {
+            low = not_early-new x.tick at (gives_way pace.policy) (busy_after shape ys) (waits shape (core ys)) v (cond drops None runs) new (drop_or drops (running_at-fits shape pace e ys x.tick));
+            high = sum_few _ _ _ x.tick ((length (waits shape (core ys)) + 1) * pace.read) _ top none (turn-new pace.read at (waits shape (core ys)) v new refl);
+          })
+          (ended_read at (newest (core ys) on) (on_.reads at (newest (core ys) on) (inl waits_on))))
+        where
+          ended_read : (row : ℕ) (owed : List ℕ) → ReadFate shape all row owed → outcome_of shape all row ≢ out.Unset
+          ended_read row owed (inl a) un = subst (λ ws. Awaits ws row owed) idle a
+          ended_read row owed (inr s) un = subst (λ (o : Outcome n). IsSettled owed o) un s
+      by (Core (Serve answer)) is may on_ top go = absurd (cc)
+      by (Regs event) is may on_ top go = absurd (cc)
+      by (Core (Begin answer)) is may on_ top go = absurd (cc)
+      by (Core (Iterate answer)) is may on_ top go = absurd (cc)
+      by (Core (Cut tearing)) is may on_ top go = absurd (cc)
+
 pub read_time_law : ReadTimeLaw
 read_time_law n m e shape pace xs sized l idle =
     walk shape xs (reads_in_time (rules_of e shape pace)) [] xs refl (read_at shape pace e xs sized.read sized.iter l (idle-waits shape pace xs idle))
+
+ends-by : {n : ℕ} (read a most : ℕ) (after : List (Row n)) (o : Outcome n) → InTime read a most after o → ends_by read a most o after ≡ true
+ends-by read a most after (out.Read u place bytes) h = both (nat_le (a + read) u) _ (le-leb (a + read) u h.0) (both (nat_le u most) _ (le-leb u most h.1) h.2)
+  where
+    both : (a b : Bool) → a ≡ true → b ≡ true → (a && b) ≡ true
+    both true b h k = k
+    both false b h k = h
+ends-by read a most after (out.Lost u) h = both (first_cut_at u after) _ h.0 (lt-ltb u most h.1)
+  where
+    both : (a b : Bool) → a ≡ true → b ≡ true → (a && b) ≡ true
+    both true b h k = k
+    both false b h k = h
+ends-by read a most after out.Unset h = refl
+ends-by read a most after (out.Stored at place) h = refl
+ends-by read a most after (out.Merged at) h = refl
+ends-by read a most after (out.Queued at) h = refl
+ends-by read a most after (out.Full at) h = refl
+ends-by read a most after (out.Worn at) h = refl
+ends-by read a most after (out.Forwarded at bytes) h = refl
+ends-by read a most after (out.Busy at) h = refl
+ends-by read a most after (out.Cut at) h = refl
+
+behind-is : {n m : ℕ} (shape : BankShape) (all later : List (Timed n m)) → rows_behind shape all later ≡ rows_after shape all later
+behind-is shape all [] = refl
+behind-is shape all (x ∷ later) = ap (λ rows. rows ++ row_with shape all x.happens x.tick x.cancels) (behind-is shape all later)
+
+found-few : {n m : ℕ} (ys : List (Timed n m)) → count_found ys < 4 → pending_cancel ys ≡ 0 → cancels_after ys < 4
+found-few [] few none = few
+found-few (y ∷ ys) few none = by y.cancels few none
+  where
+    by : (b : Bool) → cond b (cancels_after ys) (cancels_after (y ∷ ys)) < 4 → ◌≡◌ {A = ℕ} (cond b 1 0) 0 → cancels_after (y ∷ ys) < 4
+    by true few none = absurd (omega (arith, none))
+    by false few none = few
+
+pub few_cancels_law : FewCancelsLaw
+few_cancels_law n m e row line shape pace later ys x sized l idle is cancelling few =
+    ap (λ rows. ends_by pace.read x.tick (x.tick + (length (waits shape (core ys)) + 1) * pace.read) (outcome_of shape (later ++ x ∷ ys) row) rows) (behind-is shape (later ++ x ∷ ys) later)
+    ∙ ends-by pace.read x.tick (x.tick + (length (waits shape (core ys)) + 1) * pace.read) (rows_after shape (later ++ x ∷ ys) later) (outcome_of shape (later ++ x ∷ ys) row)
+    (few_read_at shape pace e (later ++ x ∷ ys) sized.read sized.iter l (idle-waits shape pace (later ++ x ∷ ys) idle) later x ys refl row line is cancelling (found-few ys few))

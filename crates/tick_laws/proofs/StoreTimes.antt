@@ -1,6 +1,6 @@
 -- A write that is stored is stored in time.
 use Rattle.std.proofs.Common.{◌≡◌, ℕ, ◌+◌, ◌*◌, ◌<◌, ◌≤◌, ◌&&◌, ◌⊎◌, inl, inr, Bool, true, false, List, [], ◌∷◌, ◌++◌, Option, Some, None, refl, sym, ap, ◌∙◌, subst, arith, cond, append_assoc}
-use Rattle.std.specs.Prelude.{unwrap_or, count_by}
+use Rattle.std.specs.Prelude.{unwrap_or, count_by, nat_lt}
 use Rattle.std.proofs.lemmas.Bool.{lt-ltb, le-leb, and_from}
 use Rattle.std.proofs.Math.Nat.{mul-le-mul_left}
 use Rattle.result_rows.specs.declared.Outcome.{Outcome}
@@ -9,8 +9,9 @@ use Rattle.masked_bytes.specs.Entries.{has_row}
 use Rattle.row_laws.specs.declared.Row.{Row}
 use Rattle.row_laws.specs.Answers.{stored_after, stored_by, read_after, read_by}
 use Rattle.row_laws.specs.Rules.{Rules}
-use Rattle.row_laws.specs.Ticking.{tries, longest, stores_in, reads_in, cuts_to}
+use Rattle.row_laws.specs.Ticking.{tries, writings, longest, stores_in, reads_in, cuts_to}
 use Rattle.bank_shape.specs.declared.BankShape.{BankShape}
+use Rattle.bank_shape.specs.Shape.{controls_of}
 use Rattle.bank_model.specs.declared.answer.WriteAnswer.TheVariants as wrote
 use Rattle.bank_model.specs.declared.answer.ReadAnswer.TheVariants as came
 use Rattle.bank_model.specs.declared.answer.Step.TheVariants as did
@@ -18,8 +19,9 @@ use Rattle.bank_model.specs.Events.{Write, Read, Serve, Begin, Iterate, Cut}
 use Rattle.bank_model.specs.History.{queue, waits, due_after, has_exhausted}
 use Rattle.bank_model.specs.After.{work_after}
 use Rattle.bank_model.specs.Answers.{IsDone}
-use Rattle.bank_model.specs.Timing.{Pacing, Happens, Core, Timed, core, core_of, last_tick}
+use Rattle.bank_model.specs.Timing.{Pacing, Happens, Core, Regs, Timed, core, core_of, last_tick}
 use Rattle.bank_model.specs.Running.{cancels_with, cancels_after}
+use Rattle.bank_model.specs.Changes.{change_after, halted_after, halted_by}
 use Rattle.bank_model.specs.Lawful.{Lawful, MayCome}
 use Rattle.bank_laws.specs.Laws.{rules_of}
 use Rattle.bank_laws.specs.Outcomes.{on_row, outcome_with, outcome_of, ended, row_with, rows_from}
@@ -38,9 +40,10 @@ use Rattle.bank_laws.proofs.Pending.{writes_in, write_rows, queue-asked, last-la
 use Rattle.tick_laws.proofs.Actions.{since-up}
 use Rattle.tick_laws.proofs.Settings.{SetAt, row_set, setting, unset_before, unset_stands}
 use Rattle.tick_laws.proofs.Waits.{work_time}
-use Rattle.tick_laws.proofs.Cancels.{fine_before, tried_few}
+use Rattle.tick_laws.proofs.Cancels.{fine_before, runs_before, tried_few}
+use Rattle.tick_laws.proofs.Causes.{stands, brought, others_few, stood, ends_few, written-runs}
 use Rattle.tick_laws.proofs.Afterwards.{rows_after-append}
-use Rattle.tick_laws.proofs.Tallies.{stores_by, moves_by, retires_by, serves_by, cuts_by, cancelled_by, tally, tally_cuts}
+use Rattle.tick_laws.proofs.Tallies.{stores_by, moves_by, retires_by, others_by, serves_by, cuts_by, cancelled_by, tally, tally_cuts}
 use Rattle.tick_laws.proofs.Moves.{flag, flag-most, moves_few, retires_few}
 use Rattle.tick_laws.proofs.Delays.{gain, Delay, delay_at, step, store_tick}
 use Rattle.tick_laws.proofs.Counts.{Sets, tallied_all, writes-counted, reads-counted, rows-counted, cuts-counted, count-append, among-later}
@@ -63,23 +66,23 @@ spread a r b s m t c k v ss mm tt cc kk vv =
 
 allowed-is : {n m : ℕ} (read work a : ℕ) (mid : List (Timed n m))
     → allowed read work a mid
-    ≡ ((read + work) * (tally stores_by mid + tally moves_by mid + tally retires_by mid + tally_cuts cuts_by mid + tally_cuts cancelled_by mid) + read * (2 * tally serves_by mid + tally_cuts cuts_by mid)) + a
+    ≡ ((read + work) * (tally stores_by mid + tally moves_by mid + tally others_by mid + tally_cuts cuts_by mid + tally_cuts cancelled_by mid) + read * (2 * tally serves_by mid + tally_cuts cuts_by mid)) + a
 allowed-is read work a [] = omega arith
 allowed-is read work a (y ∷ mid) =
     ap (λ k. gain read work y.happens y.cancels + k) (allowed-is read work a mid)
-    ∙ spread (read + work) read a (stores_by y.happens) (moves_by y.happens) (retires_by y.happens) (cuts_by y.happens y.cancels) (cancelled_by y.happens y.cancels) (serves_by y.happens)
-    (tally stores_by mid) (tally moves_by mid) (tally retires_by mid) (tally_cuts cuts_by mid) (tally_cuts cancelled_by mid) (tally serves_by mid)
+    ∙ spread (read + work) read a (stores_by y.happens) (moves_by y.happens) (others_by y.happens) (cuts_by y.happens y.cancels) (cancelled_by y.happens y.cancels) (serves_by y.happens)
+    (tally stores_by mid) (tally moves_by mid) (tally others_by mid) (tally_cuts cuts_by mid) (tally_cuts cancelled_by mid) (tally serves_by mid)
 
 shuffle : (a q x : ℕ) → a * (q * x) ≡ q * a * x
 shuffle a q x = grind arith
 
-bounded : (a r b q s m t c k v w spares cuts reads : ℕ) → s ≤ w → m ≤ s → t ≤ spares → c ≤ cuts → v ≤ reads → (s + m + t + c) + k ≤ q * (s + m + t + c)
-    → (a * (s + m + t + c + k) + r * (2 * v + c)) + b ≤ b + (q * a * (1 * (2 * w + spares) + cuts) + r * (2 * reads + cuts))
-bounded a r b q s m t c k v w spares cuts reads sw ms ts cs vs ks =
-    let more : q * (s + m + t + c) ≤ q * (1 * (2 * w + spares) + cuts) = mul-le-mul_left {m = s + m + t + c} {n = 1 * (2 * w + spares) + cuts} q (omega arith) in
-    let d : a * (s + m + t + c + k) ≤ a * (q * (1 * (2 * w + spares) + cuts)) = mul-le-mul_left {m = s + m + t + c + k} {n = q * (1 * (2 * w + spares) + cuts)} a (omega (arith, ks, more)) in
+bounded : (a r b q top s m t c k v cuts reads : ℕ) → s + m + t ≤ top → c ≤ cuts → v ≤ reads → (s + m + t + c) + k ≤ q * (s + m + t + c)
+    → (a * (s + m + t + c + k) + r * (2 * v + c)) + b ≤ b + (q * a * (top + cuts) + r * (2 * reads + cuts))
+bounded a r b q top s m t c k v cuts reads ends cs vs ks =
+    let more : q * (s + m + t + c) ≤ q * (top + cuts) = mul-le-mul_left {m = s + m + t + c} {n = top + cuts} q (omega (arith, ends, cs)) in
+    let d : a * (s + m + t + c + k) ≤ a * (q * (top + cuts)) = mul-le-mul_left {m = s + m + t + c + k} {n = q * (top + cuts)} a (omega (arith, ks, more)) in
     let f : r * (2 * v + c) ≤ r * (2 * reads + cuts) = mul-le-mul_left {m = 2 * v + c} {n = 2 * reads + cuts} r (omega arith) in
-    let same : a * (q * (1 * (2 * w + spares) + cuts)) ≡ q * a * (1 * (2 * w + spares) + cuts) = shuffle a q (1 * (2 * w + spares) + cuts) in
+    let same : a * (q * (top + cuts)) ≡ q * a * (top + cuts) = shuffle a q (top + cuts) in
     omega (arith, d, f, same)
 
 module _ {n : ℕ} where
@@ -106,20 +109,24 @@ module _ {n : ℕ} where
 module _ {n m : ℕ} (shape : BankShape) (pace : Pacing) (e : ℕ) where
   -- while a write stands the ticks are in time
   delays : (a row : ℕ) (zs : List (Timed n m)) → 1 ≤ pace.read → 1 ≤ pace.iter → has_row (queue shape (core zs)) row ≡ true → Delay shape pace e a zs
-      → (mid : List (Timed n m)) → Lawful shape pace e (mid ++ zs) → outcome_of shape (mid ++ zs) row ≡ out.Unset → has_exhausted (core (mid ++ zs)) ≡ false
+      → (mid : List (Timed n m)) → Lawful shape pace e (mid ++ zs) → outcome_of shape (mid ++ zs) row ≡ out.Unset → has_exhausted (core (mid ++ zs)) ≡ false → halted_after (mid ++ zs) ≡ false
       → Delay shape pace e (allowed pace.read (work_time pace e) a mid) (mid ++ zs)
-  delays a row zs r i there d [] l un fine = d
-  delays a row zs r i there d (y ∷ mid) l un fine =
+  delays a row zs r i there d [] l un fine runs = d
+  delays a row zs r i there d (y ∷ mid) l un fine runs =
       let back = unset_before shape pace e y (mid ++ zs) row l un in
       let before = fine_before y.happens (core (mid ++ zs)) fine in
-      step shape pace e (allowed pace.read (work_time pace e) a mid) (mid ++ zs) y l y.happens l.0 fine
-      (delay_at shape pace e (allowed pace.read (work_time pace e) a mid) (mid ++ zs) y.tick row (last_tick-rises shape pace e (mid ++ zs) y r i l) (unset_stands shape pace e mid zs row l.1 there back) before
-      (delays a row zs r i there d mid l.1 back before))
+      let still = runs_before y.happens (halted_after (mid ++ zs)) runs in
+      step shape pace e (allowed pace.read (work_time pace e) a mid) (mid ++ zs) y l y.happens l.0 fine runs
+      (delay_at shape pace e (allowed pace.read (work_time pace e) a mid) (mid ++ zs) y.tick row (last_tick-rises shape pace e (mid ++ zs) y r i l) (unset_stands shape pace e mid zs row l.1 there back) before still
+      (delays a row zs r i there d mid l.1 back before still))
 
   -- what the event is by which a row is stored
   pub record IsStore (zs : List (Timed n m)) (y : Timed n m) (h : Happens n) (u : ℕ) : Type 0 where
     pub at : u ≡ y.tick
     fine : has_exhausted (core zs) ≡ false
+    written : change_after shape zs ≡ None
+    halts : (old : Bool) → halted_by h old ≡ old
+    no_other : others_by h ≡ 0
     pub one : stores_by h ≡ 1
     moves : moves_by h ≡ 0
     ends : ends_action h ≡ true
@@ -147,10 +154,14 @@ module _ {n m : ℕ} (shape : BankShape) (pace : Pacing) (e : ℕ) where
     store_event (Core (Read at line came.Waiting)) may is = absurd (cc)
     store_event (Core (Read at line came.Busy)) may is = absurd (not_set at (out.Busy y.tick) (λ u p k. absurd (cc)) is)
     store_event (Core (Read at line (came.Forwarded bytes))) may is = absurd (not_set at (out.Forwarded y.tick bytes) (λ u p k. absurd (cc)) is)
+    store_event (Regs event) may is = absurd (cc)
     store_event (Core (Serve answer)) may is = absurd (not_set answer.row (out.Read y.tick answer.place answer.bytes) (λ u p k. absurd (cc)) is)
     store_event (Core (Begin (did.Stored at place))) may is = record {
       at = stored_now at place is;
       fine = of_store at place may.may.1;
+      written = may.on_time.2;
+      halts = λ old. refl;
+      no_other = refl;
       one = refl;
       moves = refl;
       ends = refl;
@@ -164,6 +175,9 @@ module _ {n m : ℕ} (shape : BankShape) (pace : Pacing) (e : ℕ) where
     store_event (Core (Iterate (did.Stored at place))) may is = record {
       at = stored_now at place is;
       fine = of_store at place may.may.1;
+      written = may.on_time.2;
+      halts = λ old. refl;
+      no_other = refl;
       one = refl;
       moves = refl;
       ends = refl;
@@ -224,6 +238,7 @@ module _ {n m : ℕ} (shape : BankShape) (pace : Pacing) (e : ℕ) (all : List (
         by (Core (Write row line bytes given answer)) may lt = inl refl
         by (Core (Read row line answer)) may lt = inl refl
         by (Core (Serve answer)) may lt = inl refl
+        by (Regs event) may lt = inl refl
         by (Core (Begin (did.Stored at place))) may lt = inr (let k = own at place may.may.1 (lt refl) in (refl, k.0, k.1, k.2, k.3))
         by (Core (Begin did.More)) may lt = inl refl
         by (Core (Begin (did.Moved move))) may lt = inl refl
@@ -258,6 +273,7 @@ module _ {n m : ℕ} (shape : BankShape) (pace : Pacing) (e : ℕ) (all : List (
               (opens shape pace e (back ++ zs) l.1).waiting answer.row there,
               ap (read_within a u) (own_row answer.row (out.Read y.tick answer.place answer.bytes) (outcome_of shape (back ++ zs) answer.row)) ∙ and_from _ _ (lt-ltb a y.tick (lt refl)) (le-leb y.tick u le),
             )
+        by (Regs event) may lt = inl refl
         by (Core (Begin answer)) may lt = inl refl
         by (Core (Iterate answer)) may lt = inl refl
         by (Core (Cut tearing)) may lt = inl refl
@@ -305,15 +321,16 @@ module _ {n m : ℕ} (shape : BankShape) (pace : Pacing) (e : ℕ) (all : List (
           let here : Lawful shape pace e (at.event ∷ (at.mid ++ x ∷ ys)) = lawful_before shape pace e at.late (at.event ∷ (at.mid ++ x ∷ ys)) whole in
           let event = store_event shape pace e (at.mid ++ x ∷ ys) at.event row u p at.event.happens here.0 at.sets in
           let now : u ≡ at.event.tick = event.at in
+          let still : halted_after (at.mid ++ x ∷ ys) ≡ false = written-runs shape pace e (at.mid ++ x ∷ ys) here.1 event.written in
           let since : Delay shape pace e x.tick (x ∷ ys) = let up = since-up shape pace e (x ∷ ys) r i before in inl (omega (arith, up)) in
-          let delay = delays shape pace e x.tick row (x ∷ ys) r i there since at.mid here.1 at.unset event.fine in
+          let delay = delays shape pace e x.tick row (x ∷ ys) r i there since at.mid here.1 at.unset event.fine still in
           let ends : at.event.tick ≤ allowed pace.read (work_time pace e) x.tick (at.event ∷ at.mid) =
           store_tick shape pace e (allowed pace.read (work_time pace e) x.tick at.mid) (at.mid ++ x ∷ ys) at.event here at.event.happens here.0 event.one
           (delay_at shape pace e (allowed pace.read (work_time pace e) x.tick at.mid) (at.mid ++ x ∷ ys) at.event.tick row (last_tick-rises shape pace e (at.mid ++ x ∷ ys) at.event r i here)
-          (unset_stands shape pace e at.mid (x ∷ ys) row here.1 there at.unset) event.fine delay) in
+          (unset_stands shape pace e at.mid (x ∷ ys) row here.1 there at.unset) event.fine still delay) in
           let sum : allowed pace.read (work_time pace e) x.tick (at.event ∷ at.mid)
           ≡ ((pace.read + work_time pace e)
-          * (tally stores_by (at.event ∷ at.mid) + tally moves_by (at.event ∷ at.mid) + tally retires_by (at.event ∷ at.mid) + tally_cuts cuts_by (at.event ∷ at.mid) + tally_cuts cancelled_by (at.event ∷ at.mid))
+          * (tally stores_by (at.event ∷ at.mid) + tally moves_by (at.event ∷ at.mid) + tally others_by (at.event ∷ at.mid) + tally_cuts cuts_by (at.event ∷ at.mid) + tally_cuts cancelled_by (at.event ∷ at.mid))
           + pace.read * (2 * tally serves_by (at.event ∷ at.mid) + tally_cuts cuts_by (at.event ∷ at.mid)))
           + x.tick =
           allowed-is pace.read (work_time pace e) x.tick (at.event ∷ at.mid) in
@@ -334,11 +351,16 @@ module _ {n m : ℕ} (shape : BankShape) (pace : Pacing) (e : ℕ) (all : List (
           let more : cuts_to u (rows_after shape all later) ≡ cuts_to u (rows_after shape all (at.event ∷ at.mid)) + cuts_to u (rows_after shape all at.late) =
           ap (λ (xs : List (Timed n m)). cuts_to u (rows_after shape all xs)) at.split ∙ ap (cuts_to u) (rows_after-append shape all at.late (at.event ∷ at.mid))
           ∙ count-append _ (rows_after shape all (at.event ∷ at.mid)) (rows_after shape all at.late) in
-          let tried = tried_few shape pace e (at.event ∷ at.mid) (x ∷ ys) here event.after (event.resets at.event.cancels (cancels_after (at.mid ++ x ∷ ys))) in
-          let all_in = bounded (pace.read + work_time pace e) pace.read x.tick (tries pace.policy)
-          (tally stores_by (at.event ∷ at.mid)) (tally moves_by (at.event ∷ at.mid)) (tally retires_by (at.event ∷ at.mid)) (tally_cuts cuts_by (at.event ∷ at.mid)) (tally_cuts cancelled_by (at.event ∷ at.mid)) (tally serves_by (at.event ∷ at.mid))
-          (stores_in x.tick u (Table later x ys x.happens)) shape.spares (cuts_to u (rows_after shape all later)) (reads_in x.tick u (Table later x ys x.happens))
-          (omega (arith, stores, w)) (omega (arith, moves, most, one, none_moved)) retires (omega (arith, cuts, more)) (omega (arith, serves, v)) tried in
+          let tried = tried_few shape pace e (at.event ∷ at.mid) (x ∷ ys) here event.after (event.halts (halted_after (at.mid ++ x ∷ ys)) ∙ still) (event.resets at.event.cancels (cancels_after (at.mid ++ x ∷ ys))) in
+          let no_other : others_by at.event.happens ≡ 0 = event.no_other in
+          let others : tally others_by at.mid + stands (change_after shape (at.mid ++ x ∷ ys)) ≤ tally retires_by at.mid + stands (change_after shape (x ∷ ys)) + brought shape.home * (tally stores_by at.mid + tally moves_by at.mid + tally retires_by at.mid) =
+          others_few shape pace e at.mid (x ∷ ys) here.1 event.fine in
+          let ended = ends_few shape (change_after shape (x ∷ ys)) (tally stores_by at.mid) (tally moves_by at.mid) (tally retires_by at.mid) (tally others_by at.mid) (stores_in x.tick u (Table later x ys x.happens)) shape.spares
+          (stood shape pace e (x ∷ ys) before) (omega (arith, stores, w, one)) (omega (arith, moves, most)) (omega (arith, retires)) (omega (arith, others)) in
+          let all_in = bounded (pace.read + work_time pace e) pace.read x.tick (tries pace.policy) (writings (nat_lt 0 (controls_of shape)) * (2 * stores_in x.tick u (Table later x ys x.happens) + shape.spares))
+          (tally stores_by (at.event ∷ at.mid)) (tally moves_by (at.event ∷ at.mid)) (tally others_by (at.event ∷ at.mid)) (tally_cuts cuts_by (at.event ∷ at.mid)) (tally_cuts cancelled_by (at.event ∷ at.mid)) (tally serves_by (at.event ∷ at.mid))
+          (cuts_to u (rows_after shape all later)) (reads_in x.tick u (Table later x ys x.happens))
+          (omega (arith, ended, one, none_moved, no_other)) (omega (arith, cuts, more)) (omega (arith, serves, v)) tried in
           record {
             late = let lt = above x.tick u (x ∷ ys) r i (omega arith) at.mid at.event here event.ends in omega (arith, lt, now);
             soon = omega (arith, now, ends, sum, all_in);

@@ -1,8 +1,9 @@
 -- How many line writes ended, reads were served and cuts came, over some events.
 use Rattle.std.proofs.Common.{ℕ, ◌+◌, Bool, true, false, List, [], ◌∷◌}
+use Rattle.bank_model.specs.declared.answer.Keep.TheVariants as keep
 use Rattle.bank_model.specs.declared.answer.Step.TheVariants as did
 use Rattle.bank_model.specs.Events.{Serve, Begin, Iterate, Cut}
-use Rattle.bank_model.specs.Timing.{Happens, Core, Timed}
+use Rattle.bank_model.specs.Timing.{Happens, Core, Regs, KeepBegin, KeepIterate, KeepCut, Timed}
 
 module _ {n : ℕ} where
   -- one for each store, move, retirement or serve
@@ -20,6 +21,13 @@ module _ {n : ℕ} where
   retires_by (Core (Iterate (did.Retired slot line))) = 1
   retires_by _ = 0
 
+  -- one for each retirement, and for each change that is written
+  abbrev pub others_by : Happens n → ℕ
+  others_by (Core (Iterate (did.Retired slot line))) = 1
+  others_by (Regs (KeepBegin keep.Done)) = 1
+  others_by (Regs (KeepIterate keep.Done)) = 1
+  others_by _ = 0
+
   abbrev pub serves_by : Happens n → ℕ
   serves_by (Core (Serve answer)) = 1
   serves_by _ = 0
@@ -31,6 +39,7 @@ module _ {n : ℕ} where
 
   abbrev pub cancelled_by : Happens n → Bool → ℕ
   cancelled_by (Core (Cut tearing)) true = 1
+  cancelled_by (Regs (KeepCut tearing)) true = 1
   cancelled_by _ _ = 0
 
 -- the sum of that over some events

@@ -12,7 +12,7 @@ use Rattle.bank_model.specs.declared.answer.WriteAnswer.{WriteAnswer}
 use Rattle.bank_model.specs.declared.answer.WriteAnswer.TheVariants as wrote
 use Rattle.bank_model.specs.Events.{Write, Read, Serve, Begin, Iterate, Cut}
 use Rattle.bank_model.specs.History.{queue}
-use Rattle.bank_model.specs.Timing.{Pacing, Happens, Core, Timed, core, core_of}
+use Rattle.bank_model.specs.Timing.{Pacing, Happens, Core, Regs, Timed, core, core_of}
 use Rattle.bank_model.specs.Lawful.{Lawful, MayCome}
 use Rattle.bank_laws.specs.Laws.{rules_of}
 use Rattle.bank_laws.specs.Outcomes.{outcome_of, ended, row_with, rows_from}
@@ -67,6 +67,7 @@ module _ {n m : ℕ} (shape : BankShape) (pace : Pacing) (e : ℕ) (all : List (
           (λ u p is. go row u p (stands row line bytes given answer may on u p is) is)
       by (Core (Read row line answer)) cancels may on go = refl
       by (Core (Serve answer)) cancels may on go = tt
+      by (Regs event) cancels may on go = tt
       by (Core (Begin answer)) cancels may on go = tt
       by (Core (Iterate answer)) cancels may on go = tt
       by (Core (Cut tearing)) true may on go = tt
@@ -79,6 +80,7 @@ module _ {n m : ℕ} (shape : BankShape) (pace : Pacing) (e : ℕ) (all : List (
   all_three (Core (Write row line bytes given answer)) tick cancels before after far read store = and_from _ _ store far
   all_three (Core (Read row line answer)) tick cancels before after far read store = and_from _ _ read far
   all_three (Core (Serve answer)) tick cancels before after far read store = tt
+  all_three (Regs event) tick cancels before after far read store = tt
   all_three (Core (Begin answer)) tick cancels before after far read store = tt
   all_three (Core (Iterate answer)) tick cancels before after far read store = tt
   all_three (Core (Cut tearing)) tick true before after far read store = tt

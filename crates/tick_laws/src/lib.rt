@@ -2,7 +2,7 @@
 //! what a function here ensures; the functions do nothing when they run.
 #![tactic(auto)]
 
-ghost use Rattle.tick_laws.specs.TickLaws.{ApartLaw, ReadTimeLaw, StoreTimeLaw, InTimeLaw};
+ghost use Rattle.tick_laws.specs.TickLaws.{ApartLaw, FewCancelsLaw, ReadTimeLaw, StoreTimeLaw, InTimeLaw};
 
 /// Two stored rows lie at least a sense apart, two read rows too and in the order of their rows, and no row is read at the
 /// tick of a stored one.
@@ -19,6 +19,12 @@ pub fn reads_wait_little()
 /// A write that is stored is stored after its arrival, and within the time of the line writes, reads and cuts since.
 pub fn writes_wait_little()
     ensures { StoreTimeLaw }
+{}
+
+/// A read that begins to wait where the present line write may still be cancelled is read by the reads before it and its own, or lost
+/// before.
+pub fn reads_that_may_cancel_wait_little()
+    ensures { FewCancelsLaw }
 {}
 
 /// Each row is read or stored in time, and apart from every row before it.

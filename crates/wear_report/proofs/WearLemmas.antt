@@ -6,7 +6,7 @@ use Rattle.std.specs.Fmt.{decimal}
 use Rattle.pcm_io.proofs.DigitLemmas.{ten_digits, twenty_digits}
 use Rattle.pcm_io.specs.Reserved.{Reserved, appended}
 use Rattle.wear_report.specs.declared.Role.{Role}
-use Rattle.wear_report.specs.declared.Role.TheVariants.{Line, Gap, Free, Retired}
+use Rattle.wear_report.specs.declared.Role.TheVariants.{Line, Gap, Free, Retired, Control}
 use Rattle.wear_report.specs.WearText.{role_text, wear_row_text, wear_rows_text}
 
 -- four fields that were pushed one by one, with commas between and LF at the end
@@ -23,6 +23,7 @@ length-role_text-le (Line line) fits =
 length-role_text-le Gap fits = lit≤ tt
 length-role_text-le Free fits = lit≤ tt
 length-role_text-le Retired fits = lit≤ tt
+length-role_text-le Control fits = lit≤ tt
 
 -- a row is at most 64 bytes
 pub length-wear_row_text-le : (array_line bank pulses : ℕ) (role : Role) → array_line < 2 ^ 32 → bank < 2 ^ 32 → pulses < 2 ^ 64

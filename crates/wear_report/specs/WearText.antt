@@ -2,7 +2,7 @@
 use Rattle.std.specs.Prelude.{ℕ, ◌+◌, List, [], ◌∷◌, ◌++◌, codes, decimal}
 use Rattle.std.specs.List.{join_with_byte}
 use Rattle.wear_report.specs.declared.Role.{Role}
-use Rattle.wear_report.specs.declared.Role.TheVariants.{Line, Gap, Free, Retired}
+use Rattle.wear_report.specs.declared.Role.TheVariants.{Line, Gap, Free, Retired, Control}
 
 -- the first line of the report
 abbrev pub wear_header_text : List ℕ
@@ -14,6 +14,7 @@ role_text (Line line) = codes "line " ++ decimal line
 role_text Gap = codes "gap"
 role_text Free = codes "free"
 role_text Retired = codes "retired"
+role_text Control = codes "control"
 
 -- one row: an array line, its bank, its pulses and its role, with commas between, and LF at the end
 abbrev pub wear_row_text : ℕ → ℕ → ℕ → Role → List ℕ

@@ -22,6 +22,8 @@ pub enum Role {
     Free,
     /// It wore out, and its slot was given another array line.
     Retired,
+    /// It keeps registers of the bank.
+    Control,
 }
 
 /// The first line of the report, with its LF.
@@ -62,5 +64,6 @@ fn push_role(role: Role, text: &mut Text)
         Role::Gap => text.push(b"gap"),
         Role::Free => text.push(b"free"),
         Role::Retired => text.push(b"retired"),
+        Role::Control => text.push(b"control"),
     }
 }

@@ -1,4 +1,4 @@
-use Rattle.clock_laws.proofs.Ending.{cut_ends_law}
+use Rattle.clock_laws.proofs.Tearing.{cut_ends_law}
 use Rattle.clock_laws.proofs.actions.cuts_end_actions.Goals as goal
 
 pub returns : goal.returns

@@ -28,7 +28,7 @@ start_copy-requires g c =
               (
                 (
                     let target : c.array_line-target.result ≡ array_line c.self.inside.kept (slot_at c.self.inside.kept.shape c.args.region c.args.step.to) =
-                    place-so c.self.inside.kept c.shape-2.result c.args.region c.args.step.to c.slot-2.result c.array_line-target.result
+                    place-so c.self.inside.kept c.shape-2.result.now c.args.region c.args.step.to c.slot-2.result c.array_line-target.result
                     c.shape-2.ensures.shape c.slot-2.ensures.exact c.array_line-target.ensures.line in
                     let place : c.array_line-target.result ≡ array_line c.args.self.now.kept (slot_at c.args.self.now.kept.shape c.args.region c.args.step.to) =
                     rw (← c.self.view_is) target in
@@ -58,7 +58,7 @@ start_copy-requires g c =
 pub returns-clause-begins : goal.returns-clause-begins
 returns-clause-begins g c =
     let source : c.array_line-source.result ≡ array_line c.self.inside.kept (slot_at c.self.inside.kept.shape c.args.region c.args.step.from) =
-    place-so c.self.inside.kept c.shape.result c.args.region c.args.step.from c.slot.result c.array_line-source.result
+    place-so c.self.inside.kept c.shape.result.now c.args.region c.args.step.from c.slot.result c.array_line-source.result
     c.shape.ensures.shape c.slot.ensures.exact c.array_line-source.ensures.line in
     let bank : BankState g.row.B g.row.M g.row.E = (record {
       kept = c.self.inside.kept;
@@ -82,10 +82,10 @@ returns-clause-begins g c =
 pub returns-clause-touches : goal.returns-clause-touches
 returns-clause-touches g c =
     let source : c.array_line-source.result ≡ array_line c.self.inside.kept (slot_at c.self.inside.kept.shape c.args.region c.args.step.from) =
-    place-so c.self.inside.kept c.shape.result c.args.region c.args.step.from c.slot.result c.array_line-source.result
+    place-so c.self.inside.kept c.shape.result.now c.args.region c.args.step.from c.slot.result c.array_line-source.result
     c.shape.ensures.shape c.slot.ensures.exact c.array_line-source.ensures.line in
     let target : c.array_line-target.result ≡ array_line c.self.inside.kept (slot_at c.self.inside.kept.shape c.args.region c.args.step.to) =
-    place-so c.self.inside.kept c.shape-2.result c.args.region c.args.step.to c.slot-2.result c.array_line-target.result
+    place-so c.self.inside.kept c.shape-2.result.now c.args.region c.args.step.to c.slot-2.result c.array_line-target.result
     c.shape-2.ensures.shape c.slot-2.ensures.exact c.array_line-target.ensures.line in
     let from : c.array_line-source.result ≡ array_line c.args.self.now.kept (slot_at c.args.self.now.kept.shape c.args.region c.args.step.from) =
     rw (← c.self.view_is) source in

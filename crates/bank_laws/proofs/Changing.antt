@@ -1,0 +1,81 @@
+-- While a change stands the bank's own line write rests, and one that has halted is written no more.
+use Rattle.std.proofs.Common.{◌≡◌, ℕ, ◌||◌, not, Bool, true, false, List, [], ◌∷◌, Option, Some, None, refl, sym, ap, ◌∙◌, subst}
+use Rattle.std.specs.Prelude.{is_some}
+use Rattle.bank_shape.specs.declared.BankShape.{BankShape}
+use Rattle.bank_model.specs.declared.answer.Step.{Step}
+use Rattle.bank_model.specs.declared.answer.Step.TheVariants as did
+use Rattle.bank_model.specs.declared.answer.Keep.TheVariants as keep
+use Rattle.bank_model.specs.Events.{Event, Write, Read, Serve, Begin, Iterate, Cut}
+use Rattle.bank_model.specs.History.{in_progress, iterated, goes_on}
+use Rattle.bank_model.specs.Timing.{Pacing, Happens, Core, Regs, KeepBegin, KeepIterate, KeepCut, Timed, core, core_of}
+use Rattle.bank_model.specs.Changes.{change_after, change_by, changed_by, keeping_after, keeping_by, halted_after, halted_by, rounds_after}
+use Rattle.bank_model.specs.Running.{busy_by, made_by, busy_after, made_after}
+use Rattle.bank_model.specs.Lawful.{Lawful, MayCome}
+
+pub busy-none : (change : Option ℕ) (keeping busy : Bool) → change ≡ None → busy_by change keeping busy ≡ busy
+busy-none None keeping busy is = refl
+busy-none (Some item) keeping busy is = absurd (cc)
+
+pub made-none : (change : Option ℕ) (rounds count : ℕ) → change ≡ None → made_by change rounds count ≡ count
+made-none None rounds count is = refl
+made-none (Some item) rounds count is = absurd (cc)
+
+pub busy-some : (change : Option ℕ) (keeping busy : Bool) → is_some change ≡ true → busy_by change keeping busy ≡ keeping
+busy-some None keeping busy is = absurd (cc)
+busy-some (Some item) keeping busy is = refl
+
+pub made-some : (change : Option ℕ) (rounds count : ℕ) → is_some change ≡ true → made_by change rounds count ≡ rounds
+made-some None rounds count is = absurd (cc)
+made-some (Some item) rounds count is = refl
+
+module _ {n m : ℕ} (shape : BankShape) (pace : Pacing) (e : ℕ) where
+  -- a change comes with the end of a line write, and then none of the bank is in progress
+  pub changed-idle : (xs : List (Timed n m)) → Lawful shape pace e xs → is_some (change_after shape xs) ≡ true → in_progress (core xs) ≡ false
+  changed-idle [] l some = refl
+  changed-idle (x ∷ xs) l some = by x.happens l.0 (changed-idle xs l.1) some
+    where
+      more : (change : Option ℕ) → change ≡ None → is_some change ≡ true → true ≡ false
+      more None is some = absurd (cc)
+      more (Some item) is some = absurd (cc)
+
+      by : (h : Happens n) → MayCome shape pace e xs x h → (is_some (change_after shape xs) ≡ true → in_progress (core xs) ≡ false)
+          → is_some (change_by shape (core xs) h (change_after shape xs)) ≡ true → in_progress (core_of h (core xs)) ≡ false
+      by (Core (Write row line bytes given answer)) may ih some = ih some
+      by (Core (Read row line answer)) may ih some = ih some
+      by (Core (Serve answer)) may ih some = ih some
+      by (Core (Begin did.More)) may ih some = more (change_after shape xs) may.on_time.2 some
+      by (Core (Begin (did.Stored row place))) may ih some = refl
+      by (Core (Begin (did.Moved step))) may ih some = refl
+      by (Core (Begin (did.Retired slot line))) may ih some = refl
+      by (Core (Begin did.Exhausted)) may ih some = refl
+      by (Core (Iterate did.More)) may ih some = more (change_after shape xs) may.on_time.2 some
+      by (Core (Iterate (did.Stored row place))) may ih some = refl
+      by (Core (Iterate (did.Moved step))) may ih some = refl
+      by (Core (Iterate (did.Retired slot line))) may ih some = refl
+      by (Core (Iterate did.Exhausted)) may ih some = refl
+      by (Core (Cut tearing)) may ih some = refl
+      by (Regs (KeepBegin keep.More)) may ih some = ih some
+      by (Regs (KeepBegin keep.Done)) may ih some = absurd (cc)
+      by (Regs (KeepBegin keep.Halted)) may ih some = ih some
+      by (Regs (KeepIterate keep.More)) may ih some = ih some
+      by (Regs (KeepIterate keep.Done)) may ih some = absurd (cc)
+      by (Regs (KeepIterate keep.Halted)) may ih some = ih some
+      by (Regs (KeepCut tearing)) may ih some = ih some
+
+  -- the writing of a change that has halted is not in progress
+  pub halted-stops : (xs : List (Timed n m)) → Lawful shape pace e xs → halted_after xs ≡ true → keeping_after xs ≡ false
+  halted-stops [] l is = refl
+  halted-stops (x ∷ xs) l is = by x.happens l.0 (halted-stops xs l.1) is
+    where
+      by : (h : Happens n) → MayCome shape pace e xs x h → (halted_after xs ≡ true → keeping_after xs ≡ false) → halted_by h (halted_after xs) ≡ true → keeping_by h (keeping_after xs) ≡ false
+      by (Core (Write row line bytes given answer)) may ih is = ih is
+      by (Core (Read row line answer)) may ih is = ih is
+      by (Core (Serve answer)) may ih is = ih is
+      by (Core (Begin answer)) may ih is = refl
+      by (Core (Iterate answer)) may ih is = refl
+      by (Core (Cut tearing)) may ih is = refl
+      by (Regs (KeepBegin answer)) may ih is = absurd (cc (may.may.1, is))
+      by (Regs (KeepIterate keep.More)) may ih is = absurd (cc (may.may.0, ih is))
+      by (Regs (KeepIterate keep.Done)) may ih is = refl
+      by (Regs (KeepIterate keep.Halted)) may ih is = refl
+      by (Regs (KeepCut tearing)) may ih is = refl

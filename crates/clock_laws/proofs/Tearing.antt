@@ -1,0 +1,159 @@
+-- A power cut and a cancel, told by what the bank and the control lines keep.
+use Rattle.std.proofs.Common.{◌≡◌, ◌⊎◌, inl, inr, ℕ, ◌+◌, ◌||◌, not, is_some, Bool, true, false, cond, List, [], ◌∷◌, Option, Some, None, refl, sym, ap, subst, ◌∙◌}
+use Rattle.std.specs.Prelude.{IsTrue}
+use Rattle.pcm_cells.specs.Device.{ArrayState}
+use Rattle.bank_shape.specs.declared.BankShape.{BankShape}
+use Rattle.bank_model.specs.declared.clock.Doing.{Doing}
+use Rattle.bank_model.specs.declared.clock.Doing.TheVariants.{Serving, Beginning, Iterating}
+use Rattle.bank_model.specs.declared.clock.Action.{Action}
+use Rattle.bank_model.specs.Events.{Event, Cut}
+use Rattle.bank_model.specs.History.{in_progress}
+use Rattle.bank_model.specs.Answers.{MayAll, MayHappen}
+use Rattle.bank_model.specs.Changes.{line_of_change, all_controls}
+use Rattle.bank_model.specs.Timing.{KeepCut, Timed, core, same_doing, is_doing}
+use Rattle.bank_model.specs.Running.{busy_by, tears_bank}
+use Rattle.bank_model.specs.Sensing.{most_steps, pulsed_by, torn_control, kept_pulsed}
+use Rattle.bank_model.specs.Touching.{Touches}
+use Rattle.reg_lines.specs.declared.Change.{Change}
+use Rattle.reg_lines.specs.Regs.{RegsState}
+use Rattle.register_laws.specs.Telling.{item_of}
+use Rattle.bank_invariant.specs.State.{BankState, Operation}
+use Rattle.bank_invariant.specs.Holds.{Holds}
+use Rattle.clock_laws.specs.State.{ClockState}
+use Rattle.clock_laws.specs.Leads.{Leads}
+use Rattle.clock_laws.specs.Completing.{line_kept}
+use Rattle.clock_laws.specs.Fitting.{Fits, IsFit}
+use Rattle.clock_laws.specs.Cutting.{tears_now, torn_now, cut, cancel, keep_cancel}
+use Rattle.clock_laws.specs.Actions.{torn_line, CutEndsLaw, CancelEndsLaw, KeepCancelEndsLaw}
+use Rattle.clock_laws.proofs.Ranges.{pulsed-in, torn-in, kept-pulsed-in}
+use Rattle.clock_laws.proofs.Controls.{change-known}
+use Rattle.clock_laws.proofs.Cutting.{power_cut_law, cancel_law, keep_cancel_law}
+use Rattle.clock_laws.proofs.Extending.{one_added_law}
+use Rattle.clock_laws.proofs.Ending.{op-target}
+use Rattle.clock_laws.proofs.Keeping.{line_known}
+
+-- an action that iterates has a line write in progress, of the change or of the bank
+fits_some : {n m e : ℕ} (bank : BankState n m e) (regs : RegsState n m e) (action : Option Action) → IsFit bank regs action → is_doing Iterating action ≡ true
+    → (is_some regs.change ≡ true) ⊎ (is_some bank.running ≡ true)
+fits_some bank regs None fit is = absurd (cc)
+fits_some bank regs (Some action) fit is = by action.doing fit is
+  where
+    own : (change : Option Change) → busy_by (item_of change) (is_some regs.writer) (is_some bank.running) ≡ true → (is_some change ≡ true) ⊎ (is_some bank.running ≡ true)
+    own None busy = inr busy
+    own (Some change) busy = inl refl
+
+    by : (doing : Doing) → Fits bank regs doing → same_doing Iterating doing ≡ true → (is_some regs.change ≡ true) ⊎ (is_some bank.running ≡ true)
+    by Serving fit is = absurd (cc)
+    by Beginning fit is = absurd (cc)
+    by Iterating fit is = own regs.change fit
+
+-- Cuts
+
+module _ {n m e : ℕ} (xs : List (Timed n m)) (clock : ClockState n m e) (old : ArrayState n m) (leads : Leads xs clock old) where
+  -- the line that a cut tears is that of the history
+  torn : (tearing : Bool) (r : Option (Operation n m e)) → clock.bank.running ≡ r → clock.regs.change ≡ None → IsTrue (not tearing || in_progress (core xs))
+      → torn_line tearing clock.regs None r ≡ pulsed_by clock.bank.kept.shape (core xs) None (Cut tearing)
+  torn true (Some op) is none may = ap (λ line. Some line) (op-target xs clock old leads op is)
+  torn true None is none may = let no : in_progress (core xs) ≡ false = sym leads.holds.running ∙ ap (λ (r : Option (Operation n m e)). is_some r) is in absurd (cc)
+  torn false (Some op) is none may = refl
+  torn false None is none may = refl
+
+  torn_change : (tearing : Bool) (change : Change) (r : Option (Operation n m e))
+      → torn_line tearing clock.regs (Some change) r ≡ kept_pulsed (line_of_change clock.bank.kept.shape (item_of (Some change))) (KeepCut tearing)
+  torn_change true change r = ap (λ base. Some (base + change.item)) leads.control.own.base
+  torn_change false change r = refl
+
+  -- where no change stands, and where one does
+  torn_by_change : (change : Option Change) → clock.regs.change ≡ change
+      → MayHappen clock.bank.kept.shape (core xs) (most_steps e) (Cut (tears_bank (item_of change) clock.action))
+      → torn_line (is_doing Iterating clock.action) clock.regs change clock.bank.running
+      ≡ pulsed_by clock.bank.kept.shape (core xs) (torn_control clock.bank.kept.shape (item_of change) clock.action) (Cut (tears_bank (item_of change) clock.action))
+  torn_by_change None is may =
+      torn (is_doing Iterating clock.action) clock.bank.running refl is may
+      ∙ ap (λ torn. pulsed_by clock.bank.kept.shape (core xs) torn (Cut (is_doing Iterating clock.action))) (sym (none_torn (is_doing Iterating clock.action)))
+    where
+      none_torn : (b : Bool) → cond b (line_of_change clock.bank.kept.shape None) None ≡ None
+      none_torn true = refl
+      none_torn false = refl
+  torn_by_change (Some change) is may = by (is_doing Iterating clock.action)
+    where
+      by : (b : Bool) → torn_line b clock.regs (Some change) clock.bank.running ≡ cond b (line_of_change clock.bank.kept.shape (item_of (Some change))) None
+      by true = torn_change true change clock.bank.running
+      by false = refl
+
+-- a cut tears exactly where it pulses a line
+torn_some : {n m e : ℕ} (tearing : Bool) (regs : RegsState n m e) (change : Option Change) (r : Option (Operation n m e))
+    → (tearing ≡ true → (is_some change ≡ true) ⊎ (is_some r ≡ true)) → tearing ≡ is_some (torn_line tearing regs change r)
+torn_some true regs (Some change) r some = refl
+torn_some true regs None (Some op) some = refl
+torn_some true regs None None some = absurd (by (some refl))
+  where
+    by : (false ≡ true) ⊎ (false ≡ true) → ⊥
+    by (inl is) = cc
+    by (inr is) = cc
+torn_some false regs change r some = refl
+
+pub cut_ends_law : CutEndsLaw
+cut_ends_law n m e tearing xs clock bank old new leads fit tears holds shape stopped taken control touches =
+    let event : Event n = Cut (tears_now clock) in
+    let past : MayAll clock.bank.kept.shape (most_steps e) (event ∷ core xs) = subst (λ (shape : BankShape). MayAll shape (most_steps e) (event ∷ core xs)) shape holds.past in
+    let pulsed : torn_line tearing clock.regs clock.regs.change clock.bank.running ≡ torn_now xs clock =
+    ap (λ b. torn_line b clock.regs clock.regs.change clock.bank.running) tears ∙ torn_by_change xs clock old leads clock.regs.change refl past.0 in
+    let touched : Touches clock.tick (all_controls clock.bank.kept.shape) (torn_now xs clock) tearing old new =
+    subst (λ (pulsed : Option ℕ). Touches clock.tick (all_controls clock.bank.kept.shape) pulsed tearing old new) pulsed touches in
+    record {
+      leads = power_cut_law n m e xs clock bank old new leads fit holds shape stopped taken control
+          (subst (λ (tearing : Bool). Touches clock.tick (all_controls clock.bank.kept.shape) (torn_now xs clock) tearing old new) tears touched);
+      adds =
+          one_added_law n m clock.bank.kept.shape (cut xs clock new) (all_controls clock.bank.kept.shape) tearing old new refl
+          (pulsed-in (core xs) clock.bank old leads.holds (torn_control clock.bank.kept.shape (item_of clock.regs.change) clock.action) event
+          (torn-in clock.bank.kept.shape (item_of clock.regs.change) clock.action (change-known clock.bank.kept clock.regs leads.control)))
+          (torn_some tearing clock.regs clock.regs.change clock.bank.running (λ is. fits_some clock.bank clock.regs clock.action fit (sym tears ∙ is)) ∙ ap (λ (line : Option ℕ). is_some line) pulsed) touched;
+    }
+
+pub cancel_ends_law : CancelEndsLaw
+cancel_ends_law n m e line tearing xs clock bank old new leads would none tears holds shape stopped taken control touches =
+    let event : Event n = Cut tearing in
+    let past : MayAll clock.bank.kept.shape (most_steps e) (event ∷ core xs) = subst (λ (shape : BankShape). MayAll shape (most_steps e) (event ∷ core xs)) shape holds.past in
+    let own : Option ℕ = pulsed_by clock.bank.kept.shape (core xs) None event in
+    let pulsed : torn_line tearing clock.regs clock.regs.change clock.bank.running ≡ own =
+    ap (λ (change : Option Change). torn_line tearing clock.regs change clock.bank.running) none ∙ torn xs clock old leads tearing clock.bank.running refl none past.0 in
+    let touched : Touches clock.tick [] own tearing old new = subst (λ (pulsed : Option ℕ). Touches clock.tick [] pulsed tearing old new) pulsed touches in
+    let now : Bool = is_doing Iterating clock.action in
+    record {
+      reaches =
+          cancel_law n m e line xs clock bank old new leads would none (subst (λ (tearing : Bool). Holds (Cut tearing ∷ core xs) bank new) tears holds) shape stopped taken control
+          (subst (λ (b : Bool). Touches clock.tick [] (pulsed_by clock.bank.kept.shape (core xs) None (Cut b)) b old new) tears touched);
+      adds =
+          one_added_law n m clock.bank.kept.shape (cancel xs clock) [] now old new refl
+          (pulsed-in (core xs) clock.bank old leads.holds None (Cut now) tt)
+          (by now) (subst (λ (b : Bool). Touches clock.tick [] (pulsed_by clock.bank.kept.shape (core xs) None (Cut b)) b old new) tears touched);
+    }
+  where
+    by : (b : Bool) → b ≡ is_some (pulsed_by clock.bank.kept.shape (core xs) None (Cut b))
+    by true = refl
+    by false = refl
+
+pub keep_cancel_ends_law : KeepCancelEndsLaw
+keep_cancel_ends_law n m e line tearing xs clock old new leads would stands fit tears control touches =
+    let now : Bool = is_doing Iterating clock.action in
+    let pulsed : torn_line tearing clock.regs clock.regs.change clock.bank.running ≡ kept_pulsed (line_kept clock) (KeepCut tearing) = torn_so clock.regs.change stands in
+    let touched : Touches clock.tick [] (kept_pulsed (line_kept clock) (KeepCut now)) now old new =
+    subst (λ (b : Bool). Touches clock.tick [] (kept_pulsed (line_kept clock) (KeepCut b)) b old new) tears
+    (subst (λ (pulsed : Option ℕ). Touches clock.tick [] pulsed tearing old new) pulsed touches) in
+    record {
+      reaches = keep_cancel_law n m e line xs clock old new leads would stands fit control touched;
+      adds =
+          one_added_law n m clock.bank.kept.shape (keep_cancel clock) [] now old new refl
+          (kept-pulsed-in clock.bank.kept.shape (line_kept clock) (KeepCut now) (line_known xs clock old leads)) (by now clock.regs.change stands) touched;
+    }
+  where
+    torn_so : (change : Option Change) → is_some change ≡ true
+        → torn_line tearing clock.regs change clock.bank.running ≡ kept_pulsed (line_of_change clock.bank.kept.shape (item_of change)) (KeepCut tearing)
+    torn_so None is = absurd (cc)
+    torn_so (Some change) is = torn_change xs clock old leads tearing change clock.bank.running
+
+    by : (b : Bool) (change : Option Change) → is_some change ≡ true → b ≡ is_some (kept_pulsed (line_of_change clock.bank.kept.shape (item_of change)) (KeepCut b))
+    by b None is = absurd (cc)
+    by true (Some change) is = refl
+    by false (Some change) is = refl

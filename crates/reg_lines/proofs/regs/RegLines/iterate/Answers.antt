@@ -1,0 +1,41 @@
+use Rattle.std.proofs.Common.{◌≡◌, ◌≢◌, ℕ, ◌+◌, Some, sym, subst, ◌∙◌}
+use Rattle.line_writer.specs.Writing.{IsWorn}
+use Rattle.reg_lines.specs.Regs.{RegsState}
+use Rattle.reg_lines.proofs.Held.{HasStepped, held-stepped, sound-beside, writing-of, running-going}
+use Rattle.reg_lines.proofs.regs.RegLines.iterate.Given.{Over}
+use Rattle.reg_lines.proofs.regs.RegLines.iterate.Goals.{After-keep}
+use Rattle.reg_lines.proofs.regs.RegLines.iterate.Goals as goal
+
+-- the writing of the change has gone on
+stepped : (g : Over) (c : After-keep g)
+    → HasStepped {n = g.row.B} {m = g.row.M} {e = g.row.E}
+    (record { base = c.self.inside.base; items = c.self.inside.items; change = c.self.inside.change; halted = c.self.inside.halted; writer = c.take.new.self })
+    (g.A.CellArray.state c.step.new.array) c.in-Some.change c.step.new.self
+stepped g c =
+    let held = rw (← c.self.view_is) at c.requires.held in
+    let regs : RegsState g.row.B g.row.M g.row.E = (record {
+      base = c.self.inside.base;
+      items = c.self.inside.items;
+      change = c.self.inside.change;
+      halted = c.self.inside.halted;
+      writer = c.self.inside.writer;
+    }) in
+    let runs : regs.writer ≡ Some c.in-Some-take.writer = sym c.take.ensures.value ∙ c.in-Some-take.is in
+    let writing = writing-of regs (g.A.CellArray.state c.args.array.now) c.in-Some.change c.in-Some-take.writer held c.in-Some.is runs in
+    let round = c.step.ensures.round.1 in
+    let others : (at : ℕ) → at ≢ regs.base + c.in-Some.change.item → (g.A.CellArray.state c.step.new.array).line at ≡ (g.A.CellArray.state c.args.array.now).line at =
+    λ at off. round.sense.line at ∙ round.others.others at off in
+    record {
+      stands = c.in-Some.is;
+      going = running-going regs c.in-Some-take.writer runs c.self.invariant.idle;
+      exist = rw (round.sense.lines ∙ round.others.lines) held.exist;
+      sound = sound-beside regs (g.A.CellArray.state c.args.array.now) (g.A.CellArray.state c.step.new.array) c.in-Some.change.item held others c.step.ensures.sound;
+      bytes = c.step.ensures.bytes ∙ writing.bytes;
+      writes = c.step.ensures.writes;
+      worn = λ worn. c.step.ensures.worn (subst IsWorn (sym c.step.ensures.is) worn);
+    }
+
+pub returns-clause-held : goal.returns-clause-held
+returns-clause-held g c =
+    let step = stepped g (goal.at.returns-clause-held g c).After-keep in
+    rw (c.keep.ensures.regs, c.keep.ensures.answer) (held-stepped _ (g.A.CellArray.state c.step.new.array) c.in-Some.change c.step.new.self step)

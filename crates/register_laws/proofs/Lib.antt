@@ -1,0 +1,9 @@
+pub mod Numbers
+pub mod Items
+pub mod Changing
+pub mod Holding
+pub mod Putting
+pub mod Writing
+pub mod Staying
+pub mod Determining
+pub mod Telling
