@@ -14,7 +14,7 @@ use Rattle.clock_laws.specs.Passing.{at_tick}
 use Rattle.clock_laws.proofs.Passing.{passing_law, ending_later_law}
 use Rattle.bank_timing.specs.Clock.{IsClock}
 
-some-of : {A : Type 0} (P : A → Type 0) (x : Option A) (a : A) → x ≡ Some a → IfSome x P → P a
+pub some-of : {A : Type 0} (P : A → Type 0) (x : Option A) (a : A) → x ≡ Some a → IfSome x P → P a
 some-of P x a is all = subst (λ (x : Option _). IfSome x P) is all
 
 module _ {n m e : ℕ} (clock : ClockState n m e) where
@@ -36,13 +36,14 @@ module _ {n m e : ℕ} (clock : ClockState n m e) where
 
   -- it has begun and has what it needs, also later
   pub passes-clock : (pace : Pace) (places to : ℕ) (action : Option Action) → action ≡ next_action clock → clock.tick < to
-      → IsClock clock.bank pace clock.tick clock.action places → IsClock clock.bank pace to action places
+      → IsClock clock.bank clock.regs pace clock.tick clock.action places → IsClock clock.bank clock.regs pace to action places
   passes-clock pace places to action is later inv = record {
     layout = inv.layout;
     paced = inv.paced;
     room = inv.room;
     begun = subst (λ (a : Option Action). IfSome a (λ a. a.first ≤ to)) (sym is) (longer (next_action clock) (next-begun inv.begun));
-    fit = subst (λ (a : Option Action). IsFit clock.bank a) (sym is) (chosen_law n m e clock inv.fit);
+    idle = inv.idle;
+    fit = subst (λ (a : Option Action). IsFit clock.bank clock.regs a) (sym is) (chosen_law n m e clock inv.fit);
   }
     where
       longer : (a : Option Action) → IfSome a (λ a. a.first ≤ clock.tick) → IfSome a (λ a. a.first ≤ to)
@@ -53,8 +54,8 @@ module _ {n m e : ℕ} (clock : ClockState n m e) where
     pub begun-before : IfSome clock.action (λ a. a.first ≤ clock.tick) → action.first ≤ clock.tick
     begun-before begun = some-of (λ (a : Action). a.first ≤ clock.tick) (next_action clock) action next (next-begun begun)
 
-    pub next-fits : IsFit clock.bank clock.action → Fits clock.bank action.doing
-    next-fits fit = some-of (λ (a : Action). Fits clock.bank a.doing) (next_action clock) action next (chosen_law n m e clock fit)
+    pub next-fits : IsFit clock.bank clock.regs clock.action → Fits clock.bank clock.regs action.doing
+    next-fits fit = some-of (λ (a : Action). Fits clock.bank clock.regs a.doing) (next_action clock) action next (chosen_law n m e clock fit)
 
     pub next-ends : (xs : List (Timed n m)) (array : ArrayState n m) → Leads xs clock array → 1 ≤ clock.pace.read → 1 ≤ clock.pace.iter → clock.tick < ends clock.pace action
     next-ends xs array leads read iter =

@@ -11,7 +11,7 @@ use Rattle.masked_bytes.specs.Entries.{has_row}
 use Rattle.bank_shape.specs.declared.BankShape.{BankShape}
 use Rattle.bank_model.specs.Events.{Event}
 use Rattle.bank_model.specs.History.{queue}
-use Rattle.bank_model.specs.Timing.{Happens, Core, Timed, core, core_of}
+use Rattle.bank_model.specs.Timing.{Happens, Core, Regs, Timed, core, core_of}
 use Rattle.bank_model.specs.Told.{tick_of_row}
 use Rattle.bank_laws.specs.Ticks.{ends_action}
 use Rattle.clock_laws.specs.State.{ClockState, next_action}
@@ -30,6 +30,7 @@ module _ {n : ℕ} where
   out-by : (shape : BankShape) (row : ℕ) (h : Happens n) (past : List (Event n)) → IsTrue (ends_action h)
       → has_row (queue shape past) row ≡ false → has_row (queue shape (core_of h past)) row ≡ false
   out-by shape row (Core event) past quiet none = queue-lacks shape past row none event (end-brings_none (Core event) row quiet)
+  out-by shape row (Regs event) past quiet none = none
 
 stays-out : {n m : ℕ} (shape : BankShape) (row : ℕ) (added xs : List (Timed n m)) → IsQuiet added
     → has_row (queue shape (core xs)) row ≡ false → has_row (queue shape (core (added ++ xs))) row ≡ false
@@ -41,11 +42,11 @@ stays-out {n} {m} shape row (x ∷ added) xs quiet none =
 module _ {n m e : ℕ} where
   -- a clock to which nothing may come any more
   abbrev pub drained : ClockState n m e → ClockState n m e
-  drained clock = record { bank = clock.bank; pace = clock.pace; tick = clock.tick; action = clock.action; arrivals = clock.arrivals; drained = true }
+  drained clock = record { bank = clock.bank; regs = clock.regs; pace = clock.pace; tick = clock.tick; action = clock.action; arrivals = clock.arrivals; cancels = clock.cancels; drained = true }
 
   still-leads : (xs : List (Timed n m)) (clock : ClockState n m e) (array : ArrayState n m) → Leads xs clock array → Leads xs (drained clock) array
   still-leads xs clock array leads =
-      record { lawful = leads.lawful; holds = leads.holds; told = leads.told; pulses = leads.pulses; copying = leads.copying; taken = leads.taken }
+      record { lawful = leads.lawful; holds = leads.holds; told = leads.told; regs = leads.regs; control = leads.control; pulses = leads.pulses; copying = leads.copying; taken = leads.taken }
 
   ticks-are : (xs : List (Timed n m)) (clock : ClockState n m e) (array : ArrayState n m) → Leads xs clock array
       → clock.arrivals ≡ map (λ (entry : Entry n). tick_of_row entry.row xs) clock.bank.kept.entries

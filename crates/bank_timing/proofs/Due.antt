@@ -19,11 +19,18 @@ use Rattle.bank_timing.proofs.Acting.{begun-before}
 pub record IsDue {n m e : ℕ} (clock : ClockState n m e) (action : Action) (kind : Doing) (array : ArrayState n m) (results : List (Outcome n)) : Type 0 where
   pub next : next_action clock ≡ Some action
   pub doing : action.doing ≡ kind
-  pub fit : IsFit clock.bank clock.action
+  pub fit : IsFit clock.bank clock.regs clock.action
   pub led : (xs : List (Timed n m)) × Leads xs clock array
   pub unset : AreOpen clock.bank results
 
-module _ {n m e : ℕ} (t : Inside n m e) {now : ClockState n m e} {action : Action} (same : clock_of t ≡ now) (inv : IsClock t.bank t.pace t.tick t.action t.arrivals.capacity)
+-- the same without rows
+pub record IsDueAlone {n m e : ℕ} (clock : ClockState n m e) (action : Action) (kind : Doing) (array : ArrayState n m) : Type 0 where
+  pub next : next_action clock ≡ Some action
+  pub doing : action.doing ≡ kind
+  pub fit : IsFit clock.bank clock.regs clock.action
+  pub led : (xs : List (Timed n m)) × Leads xs clock array
+
+module _ {n m e : ℕ} (t : Inside n m e) {now : ClockState n m e} {action : Action} (same : clock_of t ≡ now) (inv : IsClock t.bank t.regs t.pace t.tick t.action t.arrivals.capacity)
     (next : next_action now ≡ Some action) where
   -- the action is that which runs from now on, by the fields too
   runs : next_action (clock_of t) ≡ Some action
@@ -42,4 +49,13 @@ module _ {n m e : ℕ} (t : Inside n m e) {now : ClockState n m e} {action : Act
     fit = inv.fit;
     led = subst (λ (clock : ClockState n m e). (xs : List (Timed n m)) × Leads xs clock array) (sym same) led;
     unset = subst (λ (clock : ClockState n m e). AreOpen clock.bank results) (sym same) unset;
+  }
+
+  -- the same where no row is recorded
+  pub due-stands : {doing : Doing} {array : ArrayState n m} → action.doing ≡ doing → (xs : List (Timed n m)) × Leads xs now array → IsDueAlone (clock_of t) action doing array
+  due-stands {array = array} doing led = record {
+    next = runs;
+    doing = doing;
+    fit = inv.fit;
+    led = subst (λ (clock : ClockState n m e). (xs : List (Timed n m)) × Leads xs clock array) (sym same) led;
   }

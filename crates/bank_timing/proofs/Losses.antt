@@ -1,6 +1,6 @@
 -- A power cut: what becomes of the clock, the array and the results.
-use Rattle.std.proofs.Common.{◌≡◌, ℕ, ◌<◌, ◌==◌, ◌||◌, Bool, true, false, List, [], ◌∷◌, length, map, drop, Option, Some, None, is_some, refl, sym, ap, subst, ◌∙◌, arith, eq-eqb}
-use Rattle.std.proofs.lemmas.Bool.{false≢true}
+use Rattle.std.proofs.Common.{◌≡◌, ℕ, ◌+◌, ◌<◌, ◌==◌, ◌||◌, ◌&&◌, not, Bool, true, false, List, [], ◌∷◌, length, map, drop, Option, Some, None, is_some, refl, sym, ap, subst, ◌∙◌, arith, eq-eqb}
+use Rattle.std.proofs.lemmas.Bool.{false≢true, ne_eqb}
 use Rattle.std.specs.Prelude.{unwrap_or, IsTrue, if◌then◌else◌, slice_get}
 use Rattle.pcm_cells.specs.Device.{ArrayState}
 use Rattle.result_rows.specs.declared.Outcome.{Outcome}
@@ -18,13 +18,28 @@ use Rattle.bank_invariant.specs.State.{BankState, Operation}
 use Rattle.bank_invariant.specs.Holds.{Holds}
 use Rattle.bank_invariant.specs.Steps.{cut_off}
 use Rattle.bank_core.specs.Cutting.{torn_line}
+use Rattle.bank_shape.specs.Shape.{controls_from}
+use Rattle.power_recovery.specs.Kept.{KeptState}
+use Rattle.bank_model.specs.Changes.{all_controls}
+use Rattle.bank_model.specs.Running.{tears_bank}
+use Rattle.bank_model.specs.Sensing.{is_at}
+use Rattle.reg_lines.specs.declared.Change.{Change}
+use Rattle.reg_lines.specs.Regs.{RegsState, AreHeld}
+use Rattle.reg_lines.specs.Keeping.{broken_off, torn_line as regs_torn, target_of as regs_target}
+use Rattle.register_laws.specs.Control.{Control, LeavesControls}
+use Rattle.register_laws.specs.Telling.{item_of}
+use Rattle.register_laws.proofs.Staying.{stays_law}
+use Rattle.register_laws.proofs.Writing.{broken_law}
 use Rattle.clock_laws.specs.State.{ClockState}
 use Rattle.clock_laws.specs.Leads.{Leads}
 use Rattle.clock_laws.specs.Fitting.{Fits, IsFit}
 use Rattle.clock_laws.specs.Cutting.{cut, after_cut}
 use Rattle.clock_laws.specs.Actions.{torn_line as line_torn, LeadsOn as CutEnds}
 use Rattle.clock_laws.specs.Standing.{has_waiting, WaitingApart, AreApart}
-use Rattle.clock_laws.proofs.Ending.{cut_ends_law}
+use Rattle.clock_laws.proofs.Tearing.{cut_ends_law}
+use Rattle.clock_laws.proofs.Fitting.{needs_law}
+use Rattle.clock_laws.proofs.Elsewhere.{holds-same}
+use Rattle.clock_laws.proofs.Together.{controls_stay_law, cut_touches_law}
 use Rattle.clock_laws.proofs.Deciding.{or_left, or_right, or_back}
 use Rattle.clock_laws.proofs.Others.{apart_law, same_wait, other_rows_law}
 use Rattle.bank_timing.specs.Extending.{Extends, AreOpen, IsOpen, LeavesOthers, outcome_in}
@@ -99,68 +114,123 @@ lose-none tick [] results none = (refl, refl)
 lose-none tick (at ∷ lost) results none = absurd (cc)
 
 -- a bank with its clock, as contracts see it
-abbrev pub view_by : {n m e : ℕ} → BankState n m e → Pace → ℕ → Option Action → List ℕ → Bool → ClockState n m e
-view_by bank pace tick action arrivals drained = record { bank = bank; pace = pacing_of pace; tick = tick; action = action; arrivals = arrivals; drained = drained }
+abbrev pub view_by : {n m e : ℕ} → BankState n m e → RegsState n m e → Pace → ℕ → Option Action → List ℕ → ℕ → Bool → ClockState n m e
+view_by bank regs pace tick action arrivals cancels drained = record { bank = bank; regs = regs; pace = pacing_of pace; tick = tick; action = action; arrivals = arrivals; cancels = cancels; drained = drained }
 
 -- what the lost rows are doesn't matter to an action
-pub lost-clock : {n m e : ℕ} (rows : List ℕ) (bank : BankState n m e) (pace : Pace) (tick places : ℕ) (action : Option Action) → IsClock bank pace tick action places
-    → IsClock (bank_with_lost rows bank) pace tick action places
-lost-clock rows bank pace tick places action inv = record { layout = inv.layout; paced = inv.paced; room = inv.room; begun = inv.begun; fit = by action inv.fit }
+pub lost-clock : {n m e : ℕ} (rows : List ℕ) (bank : BankState n m e) (regs : RegsState n m e) (pace : Pace) (tick places : ℕ) (action : Option Action) → IsClock bank regs pace tick action places
+    → IsClock (bank_with_lost rows bank) regs pace tick action places
+lost-clock {n} {m} {e} rows bank regs pace tick places action inv = record { layout = inv.layout; paced = inv.paced; room = inv.room; begun = inv.begun; fit = by action inv.fit; idle = inv.idle }
   where
-    same : (d : Doing) → Fits bank d → Fits (bank_with_lost rows bank) d
+    same : (d : Doing) → Fits bank regs d → Fits (bank_with_lost rows bank) regs d
     same Serving own = own
     same Beginning own = own
     same Iterating own = own
 
-    by : (action : Option Action) → IsFit bank action → IsFit (bank_with_lost rows bank) action
+    by : (action : Option Action) → IsFit bank regs action → IsFit (bank_with_lost rows bank) regs action
     by None fit = tt
     by (Some action) fit = same action.doing fit
 
-same_torn : {n m e : ℕ} (tearing : Bool) (running : Option (Operation n m e)) → torn_line tearing running ≡ line_torn tearing running
-same_torn true None = refl
-same_torn true (Some op) = refl
-same_torn false running = refl
+pub same_torn : {n m e : ℕ} (tearing : Bool) (regs : RegsState n m e) (running : Option (Operation n m e)) → torn_line tearing running ≡ line_torn tearing regs None running
+same_torn true regs None = refl
+same_torn true regs (Some op) = refl
+same_torn false regs running = refl
 
--- a cut that tears an iteration or none meets a clock: some history leads there over an array, and the rows that stand have no outcome yet
-pub record MeetsCut {n m e : ℕ} (clock : ClockState n m e) (tearing : Bool) (old : ArrayState n m) (results : List (Outcome n)) : Type 0 where
-  pub same : tearing ≡ is_doing Iterating clock.action
+-- an action that iterates fits only where a line write is in progress
+pub iterating-fits : {n m e : ℕ} (bank : BankState n m e) (regs : RegsState n m e) (a : Option Action) → IsFit bank regs a → is_doing Iterating a ≡ true → Fits bank regs Iterating
+iterating-fits bank regs None fit is = absurd (cc)
+iterating-fits {n} {m} {e} bank regs (Some a) fit is = iterates a.doing fit is
+  where
+    iterates : (d : Doing) → Fits bank regs d → same_doing Iterating d ≡ true → Fits bank regs Iterating
+    iterates Serving fit is = absurd (cc)
+    iterates Beginning fit is = absurd (cc)
+    iterates Iterating fit is = fit
+
+pub both-left : (a b : Bool) → (a && b) ≡ true → a ≡ true
+both-left true b is = refl
+both-left false b is = is
+
+pub both-right : (a b : Bool) → (a && b) ≡ true → b ≡ true
+both-right true b is = is
+both-right false b is = absurd (cc)
+
+pub not-some : {A : Type 0} (x : Option A) → not (is_some x) ≡ true → x ≡ None
+not-some None is = refl
+not-some (Some a) is = absurd (cc)
+
+-- a cut meets a clock whose action has what it needs: some history leads there over an array, and the rows that stand have no outcome yet
+pub record MeetsCut {n m e : ℕ} (clock : ClockState n m e) (old : ArrayState n m) (results : List (Outcome n)) : Type 0 where
+  pub fit : IsFit clock.bank clock.regs clock.action
   pub led : (xs : List (Timed n m)) × Leads xs clock old
   pub unset : AreOpen clock.bank results
 
 -- what a power cut asks for says so
-pub meets : {n m e : ℕ} {clock now : ClockState n m e} {tearing : Bool} {old : ArrayState n m} {results : List (Outcome n)} → clock ≡ now
-    → tearing ≡ is_doing Iterating clock.action → (xs : List (Timed n m)) × Leads xs now old → AreOpen now.bank results → MeetsCut clock tearing old results
-meets {n = n} {m = m} {e = e} {old = old} {results = results} view same led unset = record {
-  same = same;
+pub meets : {n m e : ℕ} {clock now : ClockState n m e} {old : ArrayState n m} {results : List (Outcome n)} → clock ≡ now
+    → IsFit clock.bank clock.regs clock.action → (xs : List (Timed n m)) × Leads xs now old → AreOpen now.bank results → MeetsCut clock old results
+meets {n = n} {m = m} {e = e} {old = old} {results = results} view fit led unset = record {
+  fit = fit;
   led = subst (λ (clock : ClockState n m e). (xs : List (Timed n m)) × Leads xs clock old) (sym view) led;
   unset = subst (λ (clock : ClockState n m e). AreOpen clock.bank results) (sym view) unset;
 }
 
-module _ {n m e : ℕ} {clock : ClockState n m e} {tearing : Bool} {old : ArrayState n m} {results : List (Outcome n)} (c : MeetsCut clock tearing old results) where
+-- what a line write of the bank pulses or tears is no control line
+pub work-leaves : {n m e : ℕ} (xs : List (Timed n m)) (clock : ClockState n m e) (old new : ArrayState n m) (tick : ℕ) (tearing : Bool) → Leads xs clock old
+    → Touches tick [] (torn_line tearing clock.bank.running) tearing old new → LeavesControls clock.regs old new
+work-leaves {n} {m} {e} xs clock old new tick tearing leads touches = record { lines = touches.lines; controls = by tearing clock.bank.running refl touches }
+  where
+    by : (tearing : Bool) (r : Option (Operation n m e)) → clock.bank.running ≡ r → Touches tick [] (torn_line tearing r) tearing old new
+        → (item : ℕ) → item < clock.regs.items → new.line (clock.regs.base + item) ≡ old.line (clock.regs.base + item)
+    by false r is touches item below = touches.others (clock.regs.base + item) refl
+    by true None is touches item below = touches.others (clock.regs.base + item) refl
+    by true (Some op) is touches item below =
+        controls_stay_law n m e tick item [] true op xs clock old new leads is (subst (λ (count : ℕ). item < count) leads.control.own.items below) touches
+
+-- and what a change's pulses or tears is no slot and no spare
+pub change-leaves : {n m e : ℕ} (kept : KeptState n) (regs : RegsState n m e) (old : ArrayState n m) (tearing : Bool) (line : ℕ) → Control kept regs old → line < controls_from kept.shape
+    → is_at (regs_torn tearing regs) line ≡ false
+change-leaves kept regs old false line control below = refl
+change-leaves kept regs old true line control below = by regs.change
+  where
+    by : (change : Option Change) → is_at (regs_target regs change) line ≡ false
+    by None = refl
+    by (Some change) =
+        let base = control.own.base in
+        ne_eqb (regs.base + change.item) line (λ same. apart regs.base (controls_from kept.shape) change.item same base below)
+      where
+        apart : (base from item : ℕ) → base + item ≡ line → base ≡ from → line < from → ⊥
+        apart base from item same is below = omega (arith, same, is, below)
+
+module _ {n m e : ℕ} {clock : ClockState n m e} {old : ArrayState n m} {results : List (Outcome n)} (c : MeetsCut clock old results) where
   apart : AreApart clock.bank.kept.entries clock.bank.waiting clock.bank.rows_below
   apart = apart_law n m e c.led.0 clock old c.led.1
 
+  abbrev iterating : Bool
+  iterating = is_doing Iterating clock.action
+
+  abbrev stands : Bool
+  stands = is_some clock.regs.change
+
   -- an iteration runs only where a line write is in progress
-  pub cut-ready : IsFit clock.bank clock.action → IsTrue tearing → IsTrue (is_some clock.bank.running)
-  cut-ready fit torn = by clock.action fit (sym c.same ∙ torn)
-    where
-      by : (a : Option Action) → IsFit clock.bank a → is_doing Iterating a ≡ true → is_some clock.bank.running ≡ true
-      by None fit is = absurd (cc)
-      by (Some a) fit is = iterates a.doing fit is
-        where
-          iterates : (d : Doing) → Fits clock.bank d → same_doing Iterating d ≡ true → is_some clock.bank.running ≡ true
-          iterates Serving fit is = absurd (cc)
-          iterates Beginning fit is = absurd (cc)
-          iterates Iterating fit is = fit
+  pub cut-ready : (tearing : Bool) → tearing ≡ (iterating && not stands) → IsTrue tearing → IsTrue (is_some clock.bank.running)
+  cut-ready tearing is torn =
+      let both : (iterating && not stands) ≡ true = sym is ∙ torn in
+      (needs_law n m e clock.bank clock.regs).iterates (not-some clock.regs.change (both-right iterating (not stands) both))
+      (iterating-fits clock.bank clock.regs clock.action c.fit (both-left iterating (not stands) both))
+
+  pub cut-change-ready : (tearing : Bool) → tearing ≡ (iterating && stands) → IsTrue tearing → IsTrue (is_some clock.regs.writer)
+  cut-change-ready tearing is torn =
+      let both : (iterating && stands) ≡ true = sym is ∙ torn in
+      (needs_law n m e clock.bank clock.regs).iterates_change (both-right iterating stands both)
+      (iterating-fits clock.bank clock.regs clock.action c.fit (both-left iterating stands both))
 
   -- the reads that the cut takes away have no outcome yet
   pub cut-open : LosesOpen clock.tick (rows_of clock.bank.waiting) results
   cut-open = loses-open clock.tick clock.bank.waiting results apart.waiting_apart c.unset.waiting
 
-  abbrev after : BankState n m e
+  abbrev pub after : BankState n m e
   after = bank_with_lost [] (cut_off clock.bank)
 
-  abbrev recorded : List (Outcome n)
+  abbrev pub recorded : List (Outcome n)
   recorded = lost_recorded clock.tick (rows_of clock.bank.waiting) results
 
   -- nor have the rows that stand in the bank then
@@ -170,13 +240,52 @@ module _ {n m e : ℕ} {clock : ClockState n m e} {tearing : Bool} {old : ArrayS
     waiting = λ row there. absurd (false≢true there);
   }
 
-  module _ {new : ArrayState n m} (holds : (h : List (Event n)) → Holds h clock.bank old → Holds (Cut tearing ∷ h) after new) (touches : Touches clock.tick [] (torn_line tearing clock.bank.running) tearing old new) where
-    -- each history that led to the clock goes on with the cut
-    pub cut-extends : (xs : List (Timed n m)) → Leads xs clock old
-        → Extends xs (cut xs clock (is_doing Iterating clock.action) ∷ []) clock (after_cut clock after) old new results recorded
-    cut-extends xs leads =
-        subst (λ (b : Bool). Extends xs (cut xs clock b ∷ []) clock (after_cut clock after) old new results recorded) c.same
-        (record {
+  -- after the bank's cut the control lines are as they were
+  module _ {between : ArrayState n m} (work : Bool) (work_is : work ≡ (iterating && not stands)) (first : Touches clock.tick [] (torn_line work clock.bank.running) work old between) where
+    pub cut-control : Control clock.bank.kept clock.regs between
+    cut-control = (stays_law n m e clock.bank.kept clock.regs old between c.led.1.control (work-leaves c.led.0 clock old between clock.tick work c.led.1 first)).same
+
+    -- after that of the change they hold what the bank keeps
+    module _ {later : ArrayState n m} (change : Bool) (change_is : change ≡ (iterating && stands)) (second : Touches clock.tick [] (regs_torn change clock.regs) change between later)
+        (held : AreHeld (broken_off clock.regs) later) where
+      pub broken-control : Control clock.bank.kept (broken_off clock.regs) later
+      broken-control = broken_law n m e clock.tick change clock.bank.kept clock.regs between later cut-control second held
+
+      module _ {new : ArrayState n m} (third : Touches clock.tick (all_controls clock.bank.kept.shape) None false later new)
+          (holds : (h : List (Event n)) → Holds h clock.bank old → Holds (Cut work ∷ h) after between) where
+        read-control : Control clock.bank.kept (broken_off clock.regs) new
+        read-control =
+            (stays_law n m e clock.bank.kept (broken_off clock.regs) later new broken-control
+            (record { lines = third.lines; controls = λ item below. third.others (clock.regs.base + item) refl })).same
+
+        holds-then : (h : List (Event n)) → Holds h clock.bank old → Holds (Cut work ∷ h) after new
+        holds-then h was =
+            holds-same (Cut work ∷ h) after between new (holds h was) (third.lines ∙ second.lines)
+            (λ line is. third.others line refl ∙ second.others line (change-leaves clock.bank.kept clock.regs between change line cut-control is.1))
+
+        tears-same : (change : Option Change) → (iterating && not (is_some change)) ≡ tears_bank (item_of change) clock.action
+        tears-same None = by iterating
+          where
+            by : (b : Bool) → (b && true) ≡ b
+            by true = refl
+            by false = refl
+        tears-same (Some change) = by iterating
+          where
+            by : (b : Bool) → (b && false) ≡ false
+            by true = refl
+            by false = refl
+
+        touched : Touches clock.tick (all_controls clock.bank.kept.shape) (line_torn iterating clock.regs clock.regs.change clock.bank.running) iterating old new
+        touched =
+            cut_touches_law n m e clock.tick iterating (all_controls clock.bank.kept.shape) clock.regs clock.bank.running old between later new
+            (subst (λ (b : Bool). Touches clock.tick [] (line_torn b clock.regs None clock.bank.running) b old between) work_is
+            (subst (λ (pulsed : Option ℕ). Touches clock.tick [] pulsed work old between) (same_torn work clock.regs clock.bank.running) first))
+            (subst (λ (b : Bool). Touches clock.tick [] (regs_torn b clock.regs) b between later) change_is second) third
+
+        -- each history that led to the clock goes on with the cut
+        pub cut-extends : (xs : List (Timed n m)) → Leads xs clock old
+            → Extends xs (cut xs clock new ∷ []) clock (after_cut clock after) old new results recorded
+        cut-extends xs leads = record {
           leads = ends.leads;
           shape = refl;
           pace = refl;
@@ -186,21 +295,21 @@ module _ {n m e : ℕ} {clock : ClockState n m e} {tearing : Bool} {old : ArrayS
               lost-in clock.tick clock.bank.waiting results row apart.waiting_apart c.unset.waiting there
               ∙ ap (λ (b : Bool). unwrap_or (if b then Some (out.Lost clock.tick) else None) (outcome_in results row))
               (ap (λ (ws : List (Waiting n)). has_waiting ws row) leads.holds.waiting ∙ same_wait n (waits clock.bank.kept.shape (core xs)) row);
-        })
-      where
-        ends : CutEnds clock.bank.kept.shape xs (cut xs clock tearing) (after_cut clock after) old new
-        ends =
-            cut_ends_law n m e tearing xs clock after old new leads c.same (holds (core xs) leads.holds) refl refl refl
-            (subst (λ (pulsed : Option ℕ). Touches clock.tick [] pulsed tearing old new) (same_torn tearing clock.bank.running) touches)
+        }
+          where
+            ends : CutEnds clock.bank.kept.shape xs (cut xs clock new) (after_cut clock after) old new
+            ends =
+                cut_ends_law n m e iterating xs clock after old new leads c.fit refl
+                (subst (λ (b : Bool). Holds (Cut b ∷ core xs) after new) (work_is ∙ tears-same clock.regs.change) (holds-then (core xs) leads.holds)) refl refl refl read-control touched
 
-    -- each row that neither stood in the queue nor waited keeps its outcome
-    pub cut-others : LeavesOthers clock.bank results recorded
-    cut-others row there unqueued unawaited =
-        let extends = cut-extends c.led.0 c.led.1 in
-        extends.outcomes row there
-        ∙ other_rows_law n m e row (cut c.led.0 clock (is_doing Iterating clock.action) ∷ []) c.led.0 clock old (outcome_in results) c.led.1 extends.leads.lawful unqueued unawaited refl
+        -- each row that neither stood in the queue nor waited keeps its outcome
+        pub cut-others : LeavesOthers clock.bank results recorded
+        cut-others row there unqueued unawaited =
+            let extends = cut-extends c.led.0 c.led.1 in
+            extends.outcomes row there
+            ∙ other_rows_law n m e row (cut c.led.0 clock new ∷ []) c.led.0 clock old (outcome_in results) c.led.1 extends.leads.lawful unqueued unawaited refl
 
 -- what a cut promises of every history that led to the clock
 abbrev pub CutExtends : {n m e : ℕ} → ClockState n m e → ClockState n m e → ArrayState n m → ArrayState n m → List (Outcome n) → List (Outcome n) → Type 0
 CutExtends {n} {m} clock new before after results recorded =
-    (xs : List (Timed n m)) → Leads xs clock before → Extends xs (cut xs clock (is_doing Iterating clock.action) ∷ []) clock new before after results recorded
+    (xs : List (Timed n m)) → Leads xs clock before → Extends xs (cut xs clock after ∷ []) clock new before after results recorded

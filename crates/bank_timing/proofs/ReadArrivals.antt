@@ -8,7 +8,7 @@ use Rattle.result_rows.specs.declared.Outcome.TheVariants as out
 use Rattle.result_rows.specs.Table.{HasRow, with_outcome}
 use Rattle.masked_bytes.specs.Entries.{layer_of}
 use Rattle.bank_shape.specs.declared.BankShape.{BankShape}
-use Rattle.bank_shape.specs.Pausing.{is_cancelling}
+use Rattle.reg_lines.specs.Regs.{RegsState}
 use Rattle.bank_model.specs.declared.answer.ReadAnswer.{ReadAnswer}
 use Rattle.bank_model.specs.declared.answer.ReadAnswer.TheVariants as came
 use Rattle.bank_model.specs.Events.{Event, Read}
@@ -19,7 +19,7 @@ use Rattle.bank_laws.specs.Outcomes.{outcome_by}
 use Rattle.bank_invariant.specs.declared.Waiting.{Waiting}
 use Rattle.bank_invariant.specs.State.{BankState}
 use Rattle.bank_invariant.specs.Holds.{Holds}
-use Rattle.bank_invariant.specs.Serving.{kept_with, read_from}
+use Rattle.bank_invariant.specs.Serving.{kept_with, read_from, waits_too}
 use Rattle.bank_invariant.proofs.Quiet.{RowsBelow-more}
 use Rattle.bank_core.specs.Steps.{after_read as bank_after_read}
 use Rattle.clock_laws.specs.State.{ClockState}
@@ -30,7 +30,7 @@ use Rattle.bank_model.specs.declared.clock.Doing.TheVariants.{Serving, Beginning
 use Rattle.bank_model.specs.declared.clock.Action.{Action}
 use Rattle.clock_laws.specs.Fitting.{Fits, IsFit}
 use Rattle.clock_laws.proofs.Fitting.{fit_read_law}
-use Rattle.clock_laws.specs.Arriving.{arrival, action_after_read, after_read, KeepsWork}
+use Rattle.clock_laws.specs.Arriving.{arrival, cancels_for, action_after_read, after_read, KeepsWork}
 use Rattle.clock_laws.specs.Standing.{has_waiting, AreApart, is_arrival_of}
 use Rattle.clock_laws.proofs.Arriving.{read_law}
 use Rattle.clock_laws.proofs.Extending.{arrival_added_law}
@@ -68,12 +68,12 @@ module _ {n : ℕ} (w : Waiting n) (row : ℕ) where
   has-pushed ws there false is = inr (last-pushed ws there is)
 
 -- a bank with the same queue, line write and waiting reads has what an action needs
-pub fit-same : {n m e : ℕ} (old : BankState n m e) (bound : ℕ) (action : Option Action) → IsFit old action
-    → IsFit (record { kept = old.kept; running = old.running; waiting = old.waiting; lost = old.lost; rows_below = bound }) action
-fit-same old bound None fit = tt
-fit-same old bound (Some action) fit = by action.doing fit
+pub fit-same : {n m e : ℕ} (old : BankState n m e) (regs : RegsState n m e) (bound : ℕ) (action : Option Action) → IsFit old regs action
+    → IsFit (record { kept = old.kept; running = old.running; waiting = old.waiting; lost = old.lost; rows_below = bound }) regs action
+fit-same old regs bound None fit = tt
+fit-same old regs bound (Some action) fit = by action.doing fit
   where
-    by : (d : Doing) → Fits old d → Fits (record { kept = old.kept; running = old.running; waiting = old.waiting; lost = old.lost; rows_below = bound }) d
+    by : (d : Doing) → Fits old regs d → Fits (record { kept = old.kept; running = old.running; waiting = old.waiting; lost = old.lost; rows_below = bound }) regs d
     by Serving own = own
     by Beginning own = own
     by Iterating own = own
@@ -93,7 +93,7 @@ module _ {n m e : ℕ} where
 
 -- a bank takes a read, with an answer: what is true of its clock and of the results before, and what the bank promises
 pub record TakesRead {n m e : ℕ} (row line : ℕ) (clock : ClockState n m e) (results : List (Outcome n)) (answer : ReadAnswer n) (bank : BankState n m e) : Type 0 where
-  pub quiet : is_cancelling clock.pace.policy ≡ false
+  pub quiet : cancels_for clock line ≡ false
   pub led : (xs : List (Timed n m)) × (array : ArrayState n m) × Leads xs clock array
   pub rises : clock.bank.rows_below ≤ row
   pub unset : AreOpen clock.bank results
@@ -116,11 +116,22 @@ module _ {n : ℕ} where
   read-outcomes row line tick results fresh came.Waiting ws at there = refl
   read-outcomes row line tick results fresh came.Busy ws at there = in-set results row (out.Busy tick) at fresh.exists there
 
+-- the rows that stand in a bank where a read begins to wait have no outcome
+pub waits-unset : {n m e : ℕ} (bank : BankState n m e) (row line : ℕ) (results : List (Outcome n)) → AreOpen bank results → IsOpen results row → AreOpen (waits_too bank row line) results
+waits-unset bank row line results unset fresh = record {
+  queued = unset.queued;
+  waiting = λ at there.
+      elim (has-pushed (kept_with row line (layer_of bank.kept.entries line)) at bank.waiting there (has_waiting bank.waiting at) refl) [
+        | inl old ↦ unset.waiting at old
+        | inr own ↦ subst (λ (at : ℕ). IsOpen results at) (sym own) fresh
+      ];
+}
+
 -- a bank that answered a read has the work that it had
-read-keeps : {n m e : ℕ} (bank : BankState n m e) (row line : ℕ) (answer : ReadAnswer n) → KeepsWork bank (bank_after_read bank row line answer)
-read-keeps bank row line (came.Forwarded bytes) = record { shape = refl; running = refl; lost = refl }
-read-keeps bank row line came.Waiting = record { shape = refl; running = refl; lost = refl }
-read-keeps bank row line came.Busy = record { shape = refl; running = refl; lost = refl }
+pub read-keeps : {n m e : ℕ} (bank : BankState n m e) (row line : ℕ) (answer : ReadAnswer n) → KeepsWork bank (bank_after_read bank row line answer)
+read-keeps bank row line (came.Forwarded bytes) = record { shape = refl; items = λ item. refl; running = refl; lost = refl }
+read-keeps bank row line came.Waiting = record { shape = refl; items = λ item. refl; running = refl; lost = refl }
+read-keeps bank row line came.Busy = record { shape = refl; items = λ item. refl; running = refl; lost = refl }
 
 module _ {n m e row line : ℕ} {clock : ClockState n m e} {results : List (Outcome n)} {answer : ReadAnswer n} {bank : BankState n m e} (r : TakesRead row line clock results answer bank) where
   -- each history that led to the clock goes on with the arrival of the read
@@ -129,10 +140,10 @@ module _ {n m e row line : ℕ} {clock : ClockState n m e} {results : List (Outc
   read-extends xs array leads =
       subst (λ (a : ReadAnswer n). Extends xs (arrival clock.tick (Read row line a) ∷ []) clock (after_read clock bank line answer) array array results (read_recorded answer clock.tick row results)) (sym r.answered)
       (record {
-        leads = read_law n m e row line answer xs clock bank array leads r.quiet (RowsBelow-more (core xs) clock.bank.rows_below row r.rises leads.holds.rows) keeps (r.holds (core xs) array leads.holds);
+        leads = read_law n m e row line answer xs clock bank array leads r.quiet (sym r.answered) (RowsBelow-more (core xs) clock.bank.rows_below row r.rises leads.holds.rows) keeps (r.holds (core xs) array leads.holds);
         shape = keeps.shape;
         pace = refl;
-        adds = arrival_added_law n m clock.tick clock.bank.kept.shape (Read row line answer) array refl;
+        adds = arrival_added_law n m clock.tick clock.bank.kept.shape (Read row line answer) array;
         rows = read-rows row clock.tick results answer;
         outcomes = λ at there. read-outcomes row line clock.tick results r.fresh answer (waits clock.bank.kept.shape (core xs)) at there;
       })
@@ -153,33 +164,27 @@ module _ {n m e row line : ℕ} {clock : ClockState n m e} {results : List (Outc
       by : (answer : ReadAnswer n) → AreOpen (bank_after_read clock.bank row line answer) (read_recorded answer clock.tick row results)
       by (came.Forwarded bytes) = stay (out.Forwarded clock.tick bytes)
       by came.Busy = stay (out.Busy clock.tick)
-      by came.Waiting = record {
-        queued = r.unset.queued;
-        waiting = λ at there.
-            elim (has-pushed (kept_with row line (layer_of clock.bank.kept.entries line)) at clock.bank.waiting there (has_waiting clock.bank.waiting at) refl) [
-              | inl old ↦ r.unset.waiting at old
-              | inr own ↦ subst (λ (at : ℕ). IsOpen results at) (sym own) r.fresh
-            ];
-      }
+      by came.Waiting = waits-unset clock.bank row line results r.unset r.fresh
 
   -- the bank and the action that runs then are still those that the clock may have
-  pub read-clock : {pace : Pace} {places : ℕ} → IsClock clock.bank pace clock.tick clock.action places → IsClock bank pace clock.tick (action_after_read clock.bank.kept line answer clock.action) places
-  read-clock {pace} {places} inv = subst (λ (b : BankState n m e). IsClock b pace clock.tick (action_after_read clock.bank.kept line answer clock.action) places) (sym r.left) (by answer)
+  pub read-clock : {pace : Pace} {places : ℕ} → IsClock clock.bank clock.regs pace clock.tick clock.action places → IsClock bank clock.regs pace clock.tick (action_after_read clock.bank.kept clock.regs.change line answer clock.action) places
+  read-clock {pace} {places} inv = subst (λ (b : BankState n m e). IsClock b clock.regs pace clock.tick (action_after_read clock.bank.kept clock.regs.change line answer clock.action) places) (sym r.left) (by answer)
     where
       begun-still : (b : Bool) → IfSome clock.action (λ a. a.first ≤ clock.tick) → IfSome (if b then None else clock.action) (λ a. a.first ≤ clock.tick)
       begun-still true own = tt
       begun-still false own = own
 
-      by : (answer : ReadAnswer n) → IsClock (bank_after_read clock.bank row line answer) pace clock.tick (action_after_read clock.bank.kept line answer clock.action) places
-      by (came.Forwarded bytes) = record { layout = inv.layout; paced = inv.paced; room = inv.room; begun = inv.begun; fit = fit-same clock.bank (row + 1) clock.action inv.fit }
+      by : (answer : ReadAnswer n) → IsClock (bank_after_read clock.bank row line answer) clock.regs pace clock.tick (action_after_read clock.bank.kept clock.regs.change line answer clock.action) places
+      by (came.Forwarded bytes) = record { layout = inv.layout; paced = inv.paced; room = inv.room; begun = inv.begun; fit = fit-same clock.bank clock.regs (row + 1) clock.action inv.fit; idle = inv.idle }
       by came.Waiting = record {
         layout = inv.layout;
         paced = inv.paced;
         room = inv.room;
         begun = begun-still _ inv.begun;
-        fit = fit_read_law n m e row line clock.action clock.bank inv.fit;
+        fit = fit_read_law n m e row line clock.action clock.bank clock.regs inv.fit;
+        idle = inv.idle;
       }
-      by came.Busy = record { layout = inv.layout; paced = inv.paced; room = inv.room; begun = inv.begun; fit = fit-same clock.bank (row + 1) clock.action inv.fit }
+      by came.Busy = record { layout = inv.layout; paced = inv.paced; room = inv.room; begun = inv.begun; fit = fit-same clock.bank clock.regs (row + 1) clock.action inv.fit; idle = inv.idle }
 
   -- each other row that neither stood in the queue nor waited keeps its outcome
   pub read-others : LeavesOthersThan row clock.bank results (read_recorded answer clock.tick row results)

@@ -8,7 +8,7 @@ use Rattle.result_rows.specs.Table.{HasRow}
 use Rattle.bank_shape.specs.declared.BankShape.{BankShape}
 use Rattle.bank_model.specs.declared.clock.Action.{Action}
 use Rattle.bank_model.specs.Events.{Write, Read, Serve, Begin, Iterate, Cut}
-use Rattle.bank_model.specs.Timing.{Happens, Core, Timed, Pacing}
+use Rattle.bank_model.specs.Timing.{Happens, Core, Regs, Timed, Pacing}
 use Rattle.bank_model.specs.Lawful.{Lawful}
 use Rattle.bank_model.specs.Adding.{Adds}
 use Rattle.bank_laws.specs.Outcomes.{outcome_with}
@@ -41,6 +41,7 @@ module _ {n : ℕ} where
   end-brings_none (Core (Begin answer)) row ends = refl
   end-brings_none (Core (Iterate answer)) row ends = refl
   end-brings_none (Core (Cut tearing)) row ends = refl
+  end-brings_none (Regs event) row ends = refl
 
 module _ {n m : ℕ} where
   abbrev Ends : Timed n m → Type 0

@@ -1,5 +1,5 @@
 -- An action ends: what becomes of the clock, the array and the results.
-use Rattle.std.proofs.Common.{◌≡◌, ℕ, ◌<◌, ◌≤◌, true, false, List, [], ◌∷◌, length, drop, Some, None, refl, sym, ap, subst, arith}
+use Rattle.std.proofs.Common.{◌≡◌, ℕ, ◌+◌, ◌<◌, ◌≤◌, true, false, List, [], ◌∷◌, length, drop, Some, None, refl, sym, ap, subst, arith}
 use Rattle.std.specs.Prelude.{unwrap_or, IfSome, slice_get}
 use Rattle.std.proofs.lemmas.List.Elements.{All-nil, All-cons}
 use Rattle.pcm_cells.specs.Device.{ArrayState}
@@ -19,6 +19,8 @@ use Rattle.bank_invariant.specs.declared.Waiting.{Waiting}
 use Rattle.bank_invariant.specs.State.{BankState}
 use Rattle.bank_invariant.specs.Serving.{served, served_from}
 use Rattle.bank_invariant.specs.Holds.{Holds}
+use Rattle.reg_lines.specs.Regs.{RegsState}
+use Rattle.register_laws.proofs.Staying.{stays_law}
 use Rattle.clock_laws.specs.State.{ClockState, next_action}
 use Rattle.clock_laws.specs.Leads.{Leads}
 use Rattle.clock_laws.specs.Fitting.{Fits, IsFit}
@@ -34,12 +36,12 @@ use Rattle.bank_timing.proofs.Rows.{rows-set, in-set}
 use Rattle.bank_timing.proofs.Acting.{next-fits, next-ends}
 use Rattle.bank_timing.proofs.Standing.{waits-head, served-unset}
 
-module _ {n m e : ℕ} (xs : List (Timed n m)) (clock : ClockState n m e) (bank : BankState n m e) (action : Action) (event : Event n) (old new : ArrayState n m) (results recorded : List (Outcome n)) where
+module _ {n m e : ℕ} (xs : List (Timed n m)) (clock : ClockState n m e) (bank : BankState n m e) (regs : RegsState n m e) (action : Action) (event : Event n) (old new : ArrayState n m) (results recorded : List (Outcome n)) where
   -- the event that ends an action, with the outcome that it makes
-  pub end-extends : GoesOn xs clock bank event action old new → bank.kept.shape ≡ clock.bank.kept.shape → length recorded ≡ length results
+  pub end-extends : GoesOn xs clock bank regs event action old new → bank.kept.shape ≡ clock.bank.kept.shape → length recorded ≡ length results
       → ((row : ℕ) → HasRow results row
       → outcome_in recorded row ≡ unwrap_or (outcome_by (waits clock.bank.kept.shape (core xs)) event (ends clock.pace action) row) (outcome_in results row))
-      → Extends xs (completed_event xs clock action event new ∷ []) clock (after_action clock bank action event) old new results recorded
+      → Extends xs (completed_event xs clock action event new ∷ []) clock (after_action clock bank regs action event) old new results recorded
   end-extends goes shape rows outcomes = record { leads = goes.leads; shape = shape; pace = refl; adds = goes.adds; rows = rows; outcomes = outcomes }
 
 -- Serves
@@ -67,7 +69,7 @@ module _ {n m e : ℕ} (clock : ClockState n m e) (action : Action) (old new : A
   pub serve-completes : (first : List (Timed n m)) → Leads first clock old → next_action clock ≡ Some action → action.doing ≡ Serving → clock.tick < ends clock.pace action
       → clock.bank.waiting ≡ w ∷ ws → Touches (ends clock.pace action) (answer_of.place ∷ []) None false old new
       → ((h : List (Event n)) → Holds h clock.bank old → Holds (Serve answer_of ∷ h) (served clock.bank) new) → AreOpen clock.bank results
-      → Completes clock (after_action clock (served clock.bank) action (Serve answer_of)) action old new results (with_outcome results w.row outcome_served)
+      → Completes clock (after_action clock (served clock.bank) clock.regs action (Serve answer_of)) action old new results (with_outcome results w.row outcome_served)
   serve-completes first led next doing later waiting touches holds unset = record {
     now = refl;
     later = later;
@@ -81,7 +83,7 @@ module _ {n m e : ℕ} (clock : ClockState n m e) (action : Action) (old new : A
     );
     unset = served-open first led waiting unset;
     bound = refl;
-    less = (falling_law n m e clock.bank).after_serve (some clock.bank.waiting waiting);
+    less = (falling_law n m e clock.bank clock.regs).after_serve (some clock.bank.waiting waiting);
   }
     where
       some : (all : List (Waiting n)) → all ≡ w ∷ ws → 0 < length all
@@ -92,18 +94,18 @@ module _ {n m e : ℕ} (clock : ClockState n m e) (action : Action) (old new : A
       has = (unset.waiting w.row (subst (λ (all : List (Waiting n)). has_waiting all w.row ≡ true) (sym waiting) (waits-head w ws))).exists
 
       extended : (xs : List (Timed n m)) → Leads xs clock old
-          → Extends xs (completed_event xs clock action (Serve answer_of) new ∷ []) clock (after_action clock (served clock.bank) action (Serve answer_of)) old new results (with_outcome results w.row outcome_served)
+          → Extends xs (completed_event xs clock action (Serve answer_of) new ∷ []) clock (after_action clock (served clock.bank) clock.regs action (Serve answer_of)) old new results (with_outcome results w.row outcome_served)
       extended xs leads =
-          let end : IsCompletion xs clock (served clock.bank) (Serve answer_of) action (answer_of.place ∷ []) None old new =
-          record { next = next; doing = doing; later = later; holds = holds (core xs) leads.holds; shape = refl; taken = leads.taken; touches = touches } in
-          end-extends xs clock (served clock.bank) action (Serve answer_of) old new results (with_outcome results w.row outcome_served)
-          (serve_ends_law n m e answer_of action w ws xs clock (served clock.bank) old new leads waiting end refl refl) refl (rows-set results w.row outcome_served)
+          let end : IsCompletion xs clock (served clock.bank) clock.regs (Serve answer_of) action (answer_of.place ∷ []) None old new =
+          record { next = next; doing = doing; later = later; alone = tt; holds = holds (core xs) leads.holds; shape = refl; taken = leads.taken; touches = touches; put = refl; control = (stays_law n m e clock.bank.kept clock.regs old new leads.control (record { lines = touches.lines; controls = λ item below. touches.others (clock.regs.base + item) refl })).same } in
+          end-extends xs clock (served clock.bank) clock.regs action (Serve answer_of) old new results (with_outcome results w.row outcome_served)
+          (serve_ends_law n m e answer_of action w ws xs clock (served clock.bank) clock.regs old new leads waiting end refl refl) refl (rows-set results w.row outcome_served)
           (λ row there. in-set results w.row outcome_served row has there)
 
-module _ {n m e : ℕ} (clock : ClockState n m e) (action : Action) (next : next_action clock ≡ Some action) (doing : action.doing ≡ Serving) (fit : IsFit clock.bank clock.action) where
+module _ {n m e : ℕ} (clock : ClockState n m e) (action : Action) (next : next_action clock ≡ Some action) (doing : action.doing ≡ Serving) (fit : IsFit clock.bank clock.regs clock.action) where
   -- a read waits where an action that serves runs
   pub serve-ready : 0 < length clock.bank.waiting
-  serve-ready = subst (λ (d : Doing). Fits clock.bank d) doing (next-fits clock action next fit)
+  serve-ready = subst (λ (d : Doing). Fits clock.bank clock.regs d) doing (next-fits clock action next fit)
 
   module _ (old new : ArrayState n m) (results : List (Outcome n)) (answer : Served n) (is : IfSome (slice_get clock.bank.waiting 0) (λ w. answer ≡ served_from clock.bank old w))
       (unset : AreOpen clock.bank results) where
@@ -118,17 +120,17 @@ module _ {n m e : ℕ} (clock : ClockState n m e) (action : Action) (next : next
     pub serve-whole : (bank : BankState n m e) (led : (xs : List (Timed n m)) × Leads xs clock old) → 1 ≤ clock.pace.read → 1 ≤ clock.pace.iter
         → bank ≡ served clock.bank → Touches (ends clock.pace action) (answer.place ∷ []) None false old new
         → ((h : List (Event n)) → Holds h clock.bank old → Holds (Serve answer ∷ h) bank new)
-        → Completes clock (after_action clock bank action (Serve answer)) action old new results (with_outcome results answer.row (out.Read (ends clock.pace action) answer.place answer.bytes))
+        → Completes clock (after_action clock bank clock.regs action (Serve answer)) action old new results (with_outcome results answer.row (out.Read (ends clock.pace action) answer.place answer.bytes))
     serve-whole bank led read iter left touches holds = by clock.bank.waiting refl serve-ready is
       where
         Goal : Served n → BankState n m e → Type 0
         Goal answer bank =
             Touches (ends clock.pace action) (answer.place ∷ []) None false old new
             → ((h : List (Event n)) → Holds h clock.bank old → Holds (Serve answer ∷ h) bank new)
-            → Completes clock (after_action clock bank action (Serve answer)) action old new results (with_outcome results answer.row (out.Read (ends clock.pace action) answer.place answer.bytes))
+            → Completes clock (after_action clock bank clock.regs action (Serve answer)) action old new results (with_outcome results answer.row (out.Read (ends clock.pace action) answer.place answer.bytes))
 
         by : (all : List (Waiting n)) → clock.bank.waiting ≡ all → 0 < length all → IfSome (slice_get all 0) (λ w. answer ≡ served_from clock.bank old w)
-            → Completes clock (after_action clock bank action (Serve answer)) action old new results (with_outcome results answer.row (out.Read (ends clock.pace action) answer.place answer.bytes))
+            → Completes clock (after_action clock bank clock.regs action (Serve answer)) action old new results (with_outcome results answer.row (out.Read (ends clock.pace action) answer.place answer.bytes))
         by [] at some is = absurd (omega arith)
         by (w ∷ ws) at some is =
             subst (λ (b : BankState n m e). Goal answer b) (sym left)

@@ -17,7 +17,10 @@ use Rattle.pace.specs.Policies.{IsPace, pacing_of}
 use Rattle.bank_invariant.specs.State.{Operation}
 use Rattle.clock_laws.specs.State.{ClockState}
 use Rattle.clock_laws.specs.Leads.{Leads}
-use Rattle.clock_laws.specs.Remaining.{actions_left, attempts_left, attempt_left, due_moves, last_attempts}
+use Rattle.clock_laws.specs.Remaining.{actions_left, attempts_left, attempt_left, keeping_left, present_left, due_moves, last_attempts}
+use Rattle.line_writer.specs.declared.writer.LineWriter.{LineWriter}
+use Rattle.bank_model.specs.Changes.{rounds_after}
+use Rattle.register_laws.specs.Telling.{item_of}
 
 few-pointers : (e w m : ℕ) → m ≤ 16 → e * (w + 1) + 1 ≤ 8 * m → e ≤ 127
 few-pointers e w m few room =
@@ -56,18 +59,39 @@ few-attempt {e = e} (Some op) done steps = by (steps_left op.writer) (most_steps
     by : (left most : ℕ) → done + left ≤ most → left ≤ most + 1
     by left most h = omega arith
 
-few-in-all : (waiting most attempts one : ℕ) → waiting ≤ 256 → most ≤ 3064 → attempts ≤ 1538 → one ≤ most + 1 → waiting + (most + 2) * attempts + one ≤ 5000000
-few-in-all waiting most attempts one a b c d =
-    sum ((most + 2) * attempts) (mul-le (most + 2) attempts 3066 1538 (omega (arith, b)) c)
+few-present : {n m e : ℕ} (item : Option ℕ) (halted : Bool) (writer : Option (LineWriter n m e)) (running : Option (Operation n m e)) (done rounds : ℕ)
+    → IfSome running (λ op. done + steps_left op.writer ≤ most_steps e) → IfSome writer (λ writer. rounds + steps_left writer ≤ most_steps e)
+    → present_left item halted writer running ≤ 2 * most_steps e + 3
+few-present {e = e} None halted writer running done rounds steps others = by (attempt_left running) (most_steps e) (few-attempt running done steps)
   where
-    sum : (p : ℕ) → p ≤ 3066 * 1538 → waiting + p + one ≤ 5000000
+    by : (left most : ℕ) → left ≤ most + 1 → left ≤ 2 * most + 3
+    by left most h = omega (arith, h)
+few-present (Some item) true writer running done rounds steps others = omega arith
+few-present {n} {m} {e} (Some item) false writer running done rounds steps others = by (keeping_left writer) (most_steps e) (few-keeping writer others)
+  where
+    few-keeping : (writer : Option (LineWriter n m e)) → IfSome writer (λ writer. rounds + steps_left writer ≤ most_steps e) → keeping_left writer ≤ most_steps e + 1
+    few-keeping None others = omega arith
+    few-keeping (Some writer) others = small (steps_left writer) (most_steps e) others
+      where
+        small : (left most : ℕ) → rounds + left ≤ most → left ≤ most + 1
+        small left most h = omega (arith, h)
+
+    by : (left most : ℕ) → left ≤ most + 1 → most + 2 + left ≤ 2 * most + 3
+    by left most h = omega (arith, h)
+
+few-in-all : (waiting most attempts one : ℕ) → waiting ≤ 256 → most ≤ 3064 → attempts ≤ 1538 → one ≤ 2 * most + 3 → waiting + (most + 2) * (2 * attempts) + one ≤ 10000000
+few-in-all waiting most attempts one a b c d =
+    sum ((most + 2) * (2 * attempts)) (mul-le (most + 2) (2 * attempts) 3066 3076 (omega (arith, b)) (omega (arith, c)))
+  where
+    sum : (p : ℕ) → p ≤ 3066 * 3076 → waiting + p + one ≤ 10000000
     sum p h = omega (arith, a, b, d, h)
 
-pub few-actions : {n m e : ℕ} (xs : List (Timed n m)) (clock : ClockState n m e) (array : ArrayState n m) → IsLayout n m e → Leads xs clock array → actions_left clock.bank ≤ 5000000
+pub few-actions : {n m e : ℕ} (xs : List (Timed n m)) (clock : ClockState n m e) (array : ArrayState n m) → IsLayout n m e → Leads xs clock array → actions_left clock.bank clock.regs ≤ 10000000
 few-actions {n} {m} {e} xs clock array layout leads =
-    few-in-all (length clock.bank.waiting) (most_steps e) (attempts_left clock.bank.kept) (attempt_left clock.bank.running)
+    few-in-all (length clock.bank.waiting) (most_steps e) (attempts_left clock.bank.kept) (present_left (item_of clock.regs.change) clock.regs.halted clock.regs.writer clock.bank.running)
     (waiting leads.holds.few_waiting leads.holds.kept.shape.few_reads) (most e (few-pointers e (width n) m layout.shape.3 layout.room))
-    (few-attempts clock.bank.kept leads.holds.kept) (few-attempt clock.bank.running _ leads.holds.steps)
+    (few-attempts clock.bank.kept leads.holds.kept)
+    (few-present (item_of clock.regs.change) clock.regs.halted clock.regs.writer clock.bank.running _ (rounds_after xs) leads.holds.steps leads.regs.steps)
   where
     waiting : length clock.bank.waiting ≤ clock.bank.kept.shape.reads → clock.bank.kept.shape.reads ≤ 256 → length clock.bank.waiting ≤ 256
     waiting h k = omega arith
@@ -75,7 +99,7 @@ few-actions {n} {m} {e} xs clock array layout leads =
     most : (e : ℕ) → e ≤ 127 → 8 * (3 * e + 2) ≤ 3064
     most e h = omega arith
 
-pub enough : (tick left : ℕ) → tick ≤ 2 ^ 40 → left ≤ 5000000 → tick + 255 * left ≤ 2 ^ 41
+pub enough : (tick left : ℕ) → tick ≤ 2 ^ 40 → left ≤ 10000000 → tick + 255 * left ≤ 2 ^ 41
 enough tick left h k = omega (arith, h, k)
 
 -- an action ends within 255 ticks

@@ -60,12 +60,27 @@ pub bank_fits : (b m e : ℕ) → IsLayout b m e
     → up 8 (up 8 (up 8 (up 8 (152 + up 4 (max 1 (max (4 + up 4 (24 + up 2 (up 2 (up 1 (up 1 (up 1 (0 + up 1 (up 1 (up 1 (up 1 (0 + up 1 (up 1 (0 + (b * 1)) + (m * 1))) + up 1 (up 1 (0 + (b * 1)) + (m * 1))) + up 1 (up 1 (0 + (b * 1)) + (m * 1))) + 1)) + (b * 1)) + 1) + 1) + 6))) 1))) + 32) + 32) + 8) < 9223372036854775808
 bank_fits b m e layout = below _ (bank_size b m e layout)
 
-clock_fits : (s : ℕ) → s ≤ 4000 → up 8 (up 1 (up 8 (up 8 (up 8 (up 4 (0 + s) + 12) + 8) + 24) + 32) + 1) < 9223372036854775808
-clock_fits s h = omega (arith, h)
+held_le : (w : ℕ) → w ≤ 700 → up 4 (30 + up 2 (max 1 (max (2 + w) 1))) ≤ 800
+held_le w h = omega arith
+
+-- the size of its control lines
+pub regs_size : (b m e : ℕ) → IsLayout b m e
+    → up 4 (30 + up 2 (max 1 (max (2 + up 2 (up 2 (up 1 (up 1 (up 1 (0 + up 1 (up 1 (up 1 (up 1 (0 + up 1 (up 1 (0 + (b * 1)) + (m * 1))) + up 1 (up 1 (0 + (b * 1)) + (m * 1))) + up 1 (up 1 (0 + (b * 1)) + (m * 1))) + 1)) + (b * 1)) + 1) + 1) + 6)) 1))) ≤ 800
+regs_size b m e layout = held_le _ (writer_le _ b (prog_le _ (cells_le b m layout.shape.1 layout.shape.3)) layout.shape.1)
+
+small : (a : ℕ) → a ≤ 800 → a < 9223372036854775808
+small a h = omega arith
+
+pub regs_fits : (b m e : ℕ) → IsLayout b m e
+    → up 4 (30 + up 2 (max 1 (max (2 + up 2 (up 2 (up 1 (up 1 (up 1 (0 + up 1 (up 1 (up 1 (up 1 (0 + up 1 (up 1 (0 + (b * 1)) + (m * 1))) + up 1 (up 1 (0 + (b * 1)) + (m * 1))) + up 1 (up 1 (0 + (b * 1)) + (m * 1))) + 1)) + (b * 1)) + 1) + 1) + 6)) 1))) < 9223372036854775808
+regs_fits b m e layout = small _ (regs_size b m e layout)
+
+clock_fits : (s r : ℕ) → s ≤ 4000 → r ≤ 800 → up 8 (up 1 (up 4 (up 8 (up 8 (up 8 (up 4 (up 4 (0 + s) + r) + 12) + 8) + 24) + 32) + 4) + 1) < 9223372036854775808
+clock_fits s r h k = omega (arith, h, k)
 
 pub timed_fits : (b m e : ℕ) → IsLayout b m e
-    → up 8 (up 1 (up 8 (up 8 (up 8 (up 4 (0 + up 8 (up 8 (up 8 (up 8 (152 + up 4 (max 1 (max (4 + up 4 (24 + up 2 (up 2 (up 1 (up 1 (up 1 (0 + up 1 (up 1 (up 1 (up 1 (0 + up 1 (up 1 (0 + (b * 1)) + (m * 1))) + up 1 (up 1 (0 + (b * 1)) + (m * 1))) + up 1 (up 1 (0 + (b * 1)) + (m * 1))) + 1)) + (b * 1)) + 1) + 1) + 6))) 1))) + 32) + 32) + 8)) + 12) + 8) + 24) + 32) + 1) < 9223372036854775808
-timed_fits b m e layout = clock_fits _ (bank_size b m e layout)
+    → up 8 (up 1 (up 4 (up 8 (up 8 (up 8 (up 4 (up 4 (0 + up 8 (up 8 (up 8 (up 8 (152 + up 4 (max 1 (max (4 + up 4 (24 + up 2 (up 2 (up 1 (up 1 (up 1 (0 + up 1 (up 1 (up 1 (up 1 (0 + up 1 (up 1 (0 + (b * 1)) + (m * 1))) + up 1 (up 1 (0 + (b * 1)) + (m * 1))) + up 1 (up 1 (0 + (b * 1)) + (m * 1))) + 1)) + (b * 1)) + 1) + 1) + 6))) 1))) + 32) + 32) + 8)) + up 4 (30 + up 2 (max 1 (max (2 + up 2 (up 2 (up 1 (up 1 (up 1 (0 + up 1 (up 1 (up 1 (up 1 (0 + up 1 (up 1 (0 + (b * 1)) + (m * 1))) + up 1 (up 1 (0 + (b * 1)) + (m * 1))) + up 1 (up 1 (0 + (b * 1)) + (m * 1))) + 1)) + (b * 1)) + 1) + 1) + 6)) 1)))) + 12) + 8) + 24) + 32) + 4) + 1) < 9223372036854775808
+timed_fits b m e layout = clock_fits _ _ (bank_size b m e layout) (regs_size b m e layout)
 
 -- an outcome fits, by the bytes of a line or by its layout
 pub outcome_small : (b : ℕ) → b ≤ 128

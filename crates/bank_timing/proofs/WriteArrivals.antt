@@ -145,10 +145,10 @@ module _ {n m e : ℕ} where
 
   -- a bank that answered a write has the work that it had
   write-keeps : (bank : BankState n m e) (entry : Entry n) (answer : WriteAnswer) → KeepsWork bank (bank_after_write bank entry answer)
-  write-keeps bank entry wrote.Accepted = record { shape = refl; running = refl; lost = refl }
-  write-keeps bank entry (wrote.Merged old) = record { shape = refl; running = refl; lost = refl }
-  write-keeps bank entry wrote.Full = record { shape = refl; running = refl; lost = refl }
-  write-keeps bank entry wrote.Exhausted = record { shape = refl; running = refl; lost = refl }
+  write-keeps bank entry wrote.Accepted = record { shape = refl; items = λ item. refl; running = refl; lost = refl }
+  write-keeps bank entry (wrote.Merged old) = record { shape = refl; items = λ item. refl; running = refl; lost = refl }
+  write-keeps bank entry wrote.Full = record { shape = refl; items = λ item. refl; running = refl; lost = refl }
+  write-keeps bank entry wrote.Exhausted = record { shape = refl; items = λ item. refl; running = refl; lost = refl }
 
 module _ {n m e row line : ℕ} {bytes : List ℕ} {given : List Bool} {clock : ClockState n m e} {results : List (Outcome n)} {answer : WriteAnswer} {bank : BankState n m e}
     (w : TakesWrite row line bytes given clock results answer bank) where
@@ -178,7 +178,7 @@ module _ {n m e row line : ℕ} {bytes : List ℕ} {given : List Bool} {clock : 
         leads = write_law n m e row line place bytes given answer xs clock bank array leads (RowsBelow-more (core xs) clock.bank.rows_below row w.rises leads.holds.rows) keeps (w.holds (core xs) array leads.holds) at;
         shape = keeps.shape;
         pace = refl;
-        adds = arrival_added_law n m clock.tick clock.bank.kept.shape (Write row line bytes given answer) array refl;
+        adds = arrival_added_law n m clock.tick clock.bank.kept.shape (Write row line bytes given answer) array;
         rows = write-rows row clock.tick results answer;
         outcomes = λ at there. write-outcomes row line bytes given clock results w.unset w.fresh answer (stands-by xs array leads) (waits clock.bank.kept.shape (core xs)) at there;
       })
@@ -236,21 +236,22 @@ module _ {n m e row line : ℕ} {bytes : List ℕ} {given : List Bool} {clock : 
       by wrote.Exhausted stands = stay (out.Worn clock.tick)
 
   -- the bank is still one that its clock may have
-  pub write-clock : {pace : Pace} {places : ℕ} → IsClock clock.bank pace clock.tick clock.action places → IsClock bank pace clock.tick clock.action places
+  pub write-clock : {pace : Pace} {places : ℕ} → IsClock clock.bank clock.regs pace clock.tick clock.action places → IsClock bank clock.regs pace clock.tick clock.action places
   write-clock inv =
       record {
         layout = inv.layout;
         paced = inv.paced;
         room = inv.room ∙ ap (λ shape. shape.writes) (sym keeps.shape);
         begun = inv.begun;
-        fit = subst (λ (b : BankState n m e). IsFit b clock.action) (sym w.left) (by answer);
+        idle = inv.idle;
+        fit = subst (λ (b : BankState n m e). IsFit b clock.regs clock.action) (sym w.left) (by answer);
       }
     where
-      by : (answer : WriteAnswer) → IsFit (bank_after_write clock.bank entry_of answer) clock.action
-      by wrote.Accepted = fit_write_law n m e entry_of clock.action clock.bank inv.fit
-      by (wrote.Merged old) = fit_write_law n m e entry_of clock.action clock.bank inv.fit
-      by wrote.Full = fit-same clock.bank (row + 1) clock.action inv.fit
-      by wrote.Exhausted = fit-same clock.bank (row + 1) clock.action inv.fit
+      by : (answer : WriteAnswer) → IsFit (bank_after_write clock.bank entry_of answer) clock.regs clock.action
+      by wrote.Accepted = fit_write_law n m e entry_of clock.action clock.bank clock.regs inv.fit
+      by (wrote.Merged old) = fit_write_law n m e entry_of clock.action clock.bank clock.regs inv.fit
+      by wrote.Full = fit-same clock.bank clock.regs (row + 1) clock.action inv.fit
+      by wrote.Exhausted = fit-same clock.bank clock.regs (row + 1) clock.action inv.fit
 
   -- the bound below which rows came is just above this row
   pub write-bound : bank.rows_below ≡ row + 1

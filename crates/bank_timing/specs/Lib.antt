@@ -5,3 +5,4 @@ pub mod Draining
 pub mod Queueing
 pub mod Losing
 pub mod Laws
+pub mod Cancelling

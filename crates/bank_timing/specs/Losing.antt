@@ -24,4 +24,4 @@ module _ {n m e : ℕ} where
 
   abbrev pub with_lost : List ℕ → ClockState n m e → ClockState n m e
   with_lost rows clock =
-      record { bank = bank_with_lost rows clock.bank; pace = clock.pace; tick = clock.tick; action = clock.action; arrivals = clock.arrivals; drained = clock.drained }
+      record { bank = bank_with_lost rows clock.bank; regs = clock.regs; pace = clock.pace; tick = clock.tick; action = clock.action; arrivals = clock.arrivals; cancels = clock.cancels; drained = clock.drained }

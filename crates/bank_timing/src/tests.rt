@@ -11,7 +11,7 @@ ghost use Rattle.clock_laws.specs.Leads.{Leads};
 ghost use Rattle.bank_timing.specs.Extending.{AreOpen, IsOpen};
 
 use crate::timed::Timed;
-use bank_shape::BankShape;
+use bank_shape::{BankShape, Home};
 use pace::{Pace, Policy};
 use pcm_cells::{Act, CellArray, Script, ScriptArray, Wear};
 use result_rows::{Outcome, Results};
@@ -33,6 +33,7 @@ const SHAPE: BankShape = BankShape {
     writes: 4,
     reads: 4,
     psi: 100,
+    home: Home::Guarded,
 };
 
 const LAST_TICK: u64 = 1_099_511_627_776;
@@ -140,24 +141,24 @@ fn write<A: CellArray<64, 8>>(
 // A read of this row arrives.
 fn read<A: CellArray<64, 8>>(
     timed: &mut Timed<64, 8, 6>,
-    array: &A,
+    array: &mut A,
     results: &mut Results<64>,
     row: u32,
     line: u32,
 ) -> bool
     requires going { timed.old.drained ≡ false }
-    requires led { (xs : List (TimedEvent 64 8)) × Leads xs timed.old (A.state array.now) }
+    requires led { (xs : List (TimedEvent 64 8)) × Leads xs timed.old (A.state array.old) }
     requires unset { AreOpen timed.old.bank results.old }
     requires rises { timed.old.bank.rows_below ≤ row }
     ensures going { timed.new.drained ≡ false }
-    ensures led { (xs : List (TimedEvent 64 8)) × Leads xs timed.new (A.state array.now) }
+    ensures led { (xs : List (TimedEvent 64 8)) × Leads xs timed.new (A.state array.new) }
     ensures unset { AreOpen timed.new.bank results.new }
     ensures rises { timed.new.bank.rows_below ≤ row + 1 }
 {
     if !has_line(timed, line) || !is_open(results, row) {
         return false;
     }
-    timed.arrive_read(row, line, results);
+    timed.arrive_read(array, row, line, results);
     true
 }
 

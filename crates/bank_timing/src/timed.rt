@@ -6,7 +6,8 @@ ghost use Rattle.bank_shape.specs.Shape.{IsBankShape};
 ghost use Rattle.bank_model.specs.Timing.{Timed as TimedEvent, ends};
 ghost use Rattle.bank_core.specs.Steps.{IsFreshFor};
 ghost use Rattle.pace.specs.Policies.{IsPace, pacing_of};
-ghost use Rattle.clock_laws.specs.State.{next_action};
+ghost use Rattle.bank_shape.specs.declared.Home.TheVariants.{Array};
+ghost use Rattle.clock_laws.specs.State.{next_action, is_busy, may_start};
 ghost use Rattle.clock_laws.specs.Leads.{Leads};
 ghost use Rattle.clock_laws.specs.Passing.{at_tick};
 ghost use Rattle.bank_timing.specs.Extending.{Extends, AreOpen, IsQuiet, LeavesOthers, first_clock, last_tick};
@@ -17,6 +18,7 @@ use bank_shape::BankShape;
 use circular_buffer::HeapCircularBuffer;
 use pace::Pace;
 use pcm_cells::CellArray;
+use reg_lines::regs::RegLines;
 use result_rows::Results;
 use std::alloc::{AllocError, Global};
 use std::marker::Model;
@@ -26,11 +28,15 @@ use std::marker::Model;
 #[derive(Drop)]
 pub struct Timed<const B: usize, const M: usize, const E: usize> {
     pub(crate) bank: Bank<B, M, E>,
+    // Its control lines: none, where the bank's registers are guarded.
+    pub(crate) regs: RegLines<B, M, E>,
     pub(crate) pace: Pace,
     pub(crate) tick: u64,
     pub(crate) action: Option<Action>,
     // The arrival tick of each entry of the queue.
     pub(crate) arrivals: HeapCircularBuffer<u64>,
+    // How often the present line write was cancelled.
+    pub(crate) cancels: u32,
     pub(crate) drained: bool,
 }
 
@@ -42,9 +48,9 @@ impl<const B: usize, const M: usize, const E: usize> Model for Timed<B, M, E> {
     ghost use Rattle.bank_timing.specs.Clock.{IsClock};
     ghost use Rattle.pace.specs.Policies.{pacing_of};
 
-    ghost view = { λ t. record { bank = t.bank; pace = pacing_of t.pace; tick = t.tick; action = t.action; arrivals = t.arrivals.items; drained = t.drained } };
+    ghost view = { λ t. record { bank = t.bank; regs = t.regs; pace = pacing_of t.pace; tick = t.tick; action = t.action; arrivals = t.arrivals.items; cancels = t.cancels; drained = t.drained } };
 
-    ghost invariant = { λ t. IsClock t.bank t.pace t.tick t.action t.arrivals.capacity };
+    ghost invariant = { λ t. IsClock t.bank t.regs t.pace t.tick t.action t.arrivals.capacity };
 }
 
 impl<const B: usize, const M: usize, const E: usize> Timed<B, M, E> {
@@ -53,17 +59,21 @@ impl<const B: usize, const M: usize, const E: usize> Timed<B, M, E> {
         requires layout { IsLayout B M E }
         requires limits { IsBankShape shape }
         requires paced { IsPace pace }
+        requires wide { shape.home ≡ Array → 16 ≤ B }
         ensures first { IfOk result (λ timed. timed ≡ first_clock shape (pacing_of pace)) }
         ensures leads { IfOk result (λ timed. (array : ArrayState B M) → IsFreshFor shape array → Leads [] timed array) }
     {
         let bank = Bank::new(alloc, shape)?;
         let arrivals = HeapCircularBuffer::with_capacity(alloc, shape.writes as usize)?;
+        let regs = RegLines::new(shape.first_control(), shape.controls());
         Ok(Timed {
             bank,
+            regs,
             pace,
             tick: 0,
             action: None,
             arrivals,
+            cancels: 0,
             drained: false,
         })
     }
@@ -80,6 +90,20 @@ impl<const B: usize, const M: usize, const E: usize> Timed<B, M, E> {
         ensures { result.now ≡ self.now.bank }
     {
         &self.bank
+    }
+
+    /// Its control lines, with the change that stands.
+    pub fn regs(&self) -> &RegLines<B, M, E>
+        ensures { result.now ≡ self.now.regs }
+    {
+        &self.regs
+    }
+
+    /// How often the present line write was cancelled.
+    pub fn cancels(&self) -> u32
+        ensures { result ≡ self.now.cancels }
+    {
+        self.cancels
     }
 
     /// The clock goes on to a tick: each action that ends by then is completed, and of the rows of that tick none is taken yet.
@@ -122,8 +146,8 @@ impl<const B: usize, const M: usize, const E: usize> Timed<B, M, E> {
         let chosen = choose(
             self.pace.policy.gives_way(),
             self.bank.waiting() > 0,
-            self.bank.running(),
-            self.bank.may_begin(),
+            self.is_busy(),
+            self.may_start(),
         );
         match chosen {
             None => None,
@@ -131,6 +155,26 @@ impl<const B: usize, const M: usize, const E: usize> Timed<B, M, E> {
                 doing,
                 first: self.tick,
             }),
+        }
+    }
+
+    // Whether a line write is in progress: that of the change that stands, or else the bank's.
+    fn is_busy(&self) -> bool
+        ensures { result ≡ is_busy self.now.bank self.now.regs }
+    {
+        match self.regs.change() {
+            Some(_) => self.regs.running(),
+            None => self.bank.running(),
+        }
+    }
+
+    // Whether one may be begun.
+    fn may_start(&self) -> bool
+        ensures { result ≡ may_start self.now.bank self.now.regs }
+    {
+        match self.regs.change() {
+            Some(_) => !(self.regs.running() || self.regs.halted()),
+            None => self.bank.may_begin(),
         }
     }
 

@@ -4,13 +4,14 @@ use Rattle.bank_shape.specs.Pausing.{Pausing}
 use Rattle.bank_shape.specs.Pausing as when
 use Rattle.bank_model.specs.Timing.{Pacing}
 use Rattle.pace.specs.declared.Policy.{Policy}
-use Rattle.pace.specs.declared.Policy.TheVariants.{Pause, Plain}
+use Rattle.pace.specs.declared.Policy.TheVariants.{Pause, Plain, Cancel}
 use Rattle.pace.specs.declared.Pace.{Pace}
 
 -- when a line write gives way under a policy
 abbrev pub pausing_of : Policy → Pausing
 pausing_of Pause = when.Pause
 pausing_of Plain = when.Plain
+pausing_of Cancel = when.Cancel
 
 -- the pacing of a bank's history
 abbrev pub pacing_of : Pace → Pacing

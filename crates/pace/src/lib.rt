@@ -3,6 +3,7 @@
 #![tactic(auto)]
 
 ghost use Rattle.std.specs.Prelude.{◌≡◌};
+ghost use Rattle.bank_shape.specs.Pausing.{is_cancelling};
 ghost use Rattle.bank_model.specs.Running.{gives_way};
 ghost use Rattle.pace.specs.Policies.{pausing_of};
 
@@ -13,6 +14,8 @@ pub enum Policy {
     Pause,
     /// A line write in progress goes on to its end.
     Plain,
+    /// As `Pause`, and a read that comes where none waits ends what runs of a line write, up to four times.
+    Cancel,
 }
 
 /// How fast a bank works, and what goes first.
@@ -27,6 +30,16 @@ pub struct Pace {
 }
 
 impl Policy {
+    /// Whether a read ends what runs of a line write.
+    pub fn cancels(&self) -> bool
+        ensures { result ≡ is_cancelling (pausing_of self.now) }
+    {
+        match self {
+            Policy::Cancel => true,
+            _ => false,
+        }
+    }
+
     /// Whether a line write gives way to a waiting read between two iterations.
     pub fn gives_way(&self) -> bool
         ensures { result ≡ gives_way (pausing_of self.now) }
@@ -34,6 +47,7 @@ impl Policy {
         match self {
             Policy::Pause => true,
             Policy::Plain => false,
+            Policy::Cancel => true,
         }
     }
 }
@@ -46,6 +60,7 @@ mod tests {
     fn a_pausing_write_gives_way(rt: HostRuntime) {
         assert!(rt; Policy::Pause.gives_way());
         assert!(rt; !Policy::Plain.gives_way());
+        assert!(rt; Policy::Cancel.gives_way());
     }
 
     #[test]

@@ -3,4 +3,4 @@ use Rattle.bank_timing.proofs.tests.read.Goals as goal
 pub returns-clause-led : goal.returns-clause-led
 returns-clause-led g c =
     let led = c.requires.led in
-    (_, (c.arrive_read.ensures.extends led.0 (g.A.CellArray.state c.args.array.now) led.1).leads)
+    (_, (c.arrive_read.ensures.extends led.0 led.1).leads)

@@ -1,81 +1,30 @@
-use Rattle.std.proofs.Common.{◌≡◌, sym, ◌∙◌}
-use Rattle.pace.proofs.Cancelling.{never_cancels}
-use Rattle.bank_model.specs.declared.answer.ReadAnswer.{ReadAnswer}
-use Rattle.bank_model.specs.declared.answer.ReadAnswer.TheVariants as came
-use Rattle.bank_timing.proofs.Sizes.{bank_fits, outcome_fits, read_fits, row_fits}
-use Rattle.bank_timing.proofs.Views.{clock_of}
-use Rattle.bank_timing.proofs.ReadArrivals.{TakesRead, read-extends, read-unset, read-others, read-clock, read-bound}
-use Rattle.bank_timing.proofs.timed.Timed.arrive_read.Given.{Over}
-use Rattle.bank_timing.proofs.timed.Timed.arrive_read.Goals.{After-read}
+use Rattle.std.proofs.Common.{rules, ◌≡◌, List, ◌∷◌, true, false, sym, subst, ◌∙◌}
+use Rattle.bank_model.specs.Events.{Read}
+use Rattle.bank_model.specs.Timing.{Timed}
+use Rattle.bank_invariant.specs.Serving.{read_from}
+use Rattle.clock_laws.specs.Arriving.{arrival}
+use Rattle.bank_timing.specs.Extending.{Extends}
+use Rattle.bank_timing.proofs.Sizes.{row_fits}
+use Rattle.bank_timing.proofs.Cancels.{first-then, first-else}
 use Rattle.bank_timing.proofs.timed.Timed.arrive_read.Goals as goal
 
-pub read-requires : goal.read-requires
-read-requires g c =
-    let exists = rw (← c.self.view_is) at c.requires.exists in
-    let rises = rw (← c.self.view_is) at c.requires.rises in
-    (bank_fits g.row.B g.row.M g.row.E c.self.invariant.layout, (read_fits g.row.B g.row.M g.row.E c.self.invariant.layout, (exists, rises)))
+pub take_read-requires : goal.take_read-requires
+take_read-requires g c =
+    (search rules, (row_fits, ((c.requires.led.0, g.A.CellArray.state c.args.array.now, c.requires.led.1), (c.requires.exists, (c.requires.rises, (sym c.cancels_for.ensures ∙ c.if-cancels_for.false, (c.requires.unset, c.requires.fresh)))))))
 
-pub set-requires : goal.set-requires
-set-requires g c = (row_fits, (outcome_fits g.row.B g.row.M g.row.E c.self.invariant.layout, (c.requires.fresh.exists, c.requires.fresh.unset)))
+pub returns-then-cancels_for-clause-extends : goal.returns-then-cancels_for-clause-extends
+returns-then-cancels_for-clause-extends g c =
+    λ xs leads.
+    subst (λ (first : List (Timed g.row.B g.row.M)). Extends xs (arrival c.args.self.now.tick (Read c.args.row c.args.line (read_from c.args.self.now.bank c.args.line)) ∷ first) c.args.self.now c.read_cancelled.new.self
+    (g.A.CellArray.state c.args.array.now) (g.A.CellArray.state c.read_cancelled.new.array) c.args.results.now c.args.results.now) (sym (first-then xs c.args.self.now c.args.line (sym c.cancels_for.ensures ∙ c.if-cancels_for.true)))
+    (c.read_cancelled.ensures.extends c.args.results.now c.requires.unset c.requires.fresh xs leads)
 
-pub set-requires-in-Busy : goal.set-requires-in-Busy
-set-requires-in-Busy g c = (row_fits, (outcome_fits g.row.B g.row.M g.row.E c.self.invariant.layout, (c.requires.fresh.exists, c.requires.fresh.unset)))
+pub returns-then-cancels_for-clause-unset : goal.returns-then-cancels_for-clause-unset
+returns-then-cancels_for-clause-unset g c = c.read_cancelled.ensures.unset c.args.results.now c.requires.unset c.requires.fresh
 
--- the bank takes the read, with the answer that it gives
-taken : (g : Over) (c : After-read g) (answer : ReadAnswer g.row.B) → c.read.result ≡ answer
-    → TakesRead c.args.row c.args.line (clock_of c.self.inside) c.args.results.now answer c.read.new.self
-taken g c answer is = record {
-  quiet = never_cancels c.self.inside.pace.policy;
-  led = rw (← c.self.view_is) at c.requires.led;
-  rises = rw (← c.self.view_is) at c.requires.rises;
-  unset = rw (← c.self.view_is) at c.requires.unset;
-  fresh = c.requires.fresh;
-  answered = sym c.read.ensures.answer ∙ is;
-  left = rw is at c.read.ensures.bank;
-  holds = rw is at c.read.ensures.holds;
-}
-
-pub returns-in-Forwarded-clause-extends : goal.returns-in-Forwarded-clause-extends
-returns-in-Forwarded-clause-extends g c = rw (← c.self.view_is, c.set.ensures) (read-extends (taken g (goal.at.returns-in-Forwarded-clause-extends g c).After-read (came.Forwarded c.in-Forwarded.bytes) c.in-Forwarded.is))
-
-pub returns-in-Forwarded-clause-unset : goal.returns-in-Forwarded-clause-unset
-returns-in-Forwarded-clause-unset g c = rw c.set.ensures (read-unset (taken g (goal.at.returns-in-Forwarded-clause-unset g c).After-read (came.Forwarded c.in-Forwarded.bytes) c.in-Forwarded.is))
-
-pub returns-in-Forwarded-clause-others : goal.returns-in-Forwarded-clause-others
-returns-in-Forwarded-clause-others g c = rw (← c.self.view_is, c.set.ensures) (read-others (taken g (goal.at.returns-in-Forwarded-clause-others g c).After-read (came.Forwarded c.in-Forwarded.bytes) c.in-Forwarded.is))
-
-pub returns-in-Forwarded-clause-rows : goal.returns-in-Forwarded-clause-rows
-returns-in-Forwarded-clause-rows g c = read-bound (taken g (goal.at.returns-in-Forwarded-clause-rows g c).After-read (came.Forwarded c.in-Forwarded.bytes) c.in-Forwarded.is)
-
-pub returns-in-Waiting-clause-extends : goal.returns-in-Waiting-clause-extends
-returns-in-Waiting-clause-extends g c = rw (c.unless-self-inside.ensures, c.begins_store_of-drops.ensures, ← c.self.view_is) (read-extends (taken g (goal.at.returns-in-Waiting-clause-extends g c).After-read came.Waiting c.in-Waiting.is))
-
-pub returns-in-Waiting-clause-unset : goal.returns-in-Waiting-clause-unset
-returns-in-Waiting-clause-unset g c = read-unset (taken g (goal.at.returns-in-Waiting-clause-unset g c).After-read came.Waiting c.in-Waiting.is)
-
-pub returns-in-Waiting-clause-others : goal.returns-in-Waiting-clause-others
-returns-in-Waiting-clause-others g c = rw (← c.self.view_is) (read-others (taken g (goal.at.returns-in-Waiting-clause-others g c).After-read came.Waiting c.in-Waiting.is))
-
-pub returns-in-Waiting-clause-rows : goal.returns-in-Waiting-clause-rows
-returns-in-Waiting-clause-rows g c = read-bound (taken g (goal.at.returns-in-Waiting-clause-rows g c).After-read came.Waiting c.in-Waiting.is)
-
-pub returns-in-Busy-clause-extends : goal.returns-in-Busy-clause-extends
-returns-in-Busy-clause-extends g c = rw (← c.self.view_is, c.set-in-Busy.ensures) (read-extends (taken g (goal.at.returns-in-Busy-clause-extends g c).After-read came.Busy c.in-Busy.is))
-
-pub returns-in-Busy-clause-unset : goal.returns-in-Busy-clause-unset
-returns-in-Busy-clause-unset g c = rw c.set-in-Busy.ensures (read-unset (taken g (goal.at.returns-in-Busy-clause-unset g c).After-read came.Busy c.in-Busy.is))
-
-pub returns-in-Busy-clause-others : goal.returns-in-Busy-clause-others
-returns-in-Busy-clause-others g c = rw (← c.self.view_is, c.set-in-Busy.ensures) (read-others (taken g (goal.at.returns-in-Busy-clause-others g c).After-read came.Busy c.in-Busy.is))
-
-pub returns-in-Busy-clause-rows : goal.returns-in-Busy-clause-rows
-returns-in-Busy-clause-rows g c = read-bound (taken g (goal.at.returns-in-Busy-clause-rows g c).After-read came.Busy c.in-Busy.is)
-
-pub invariant_of-self : goal.invariant_of-self
-invariant_of-self g c = read-clock (taken g (goal.at.invariant_of-self g c).After-read (came.Forwarded c.in-Forwarded.bytes) c.in-Forwarded.is) c.self.invariant
-
-pub invariant_of-self-in-Waiting : goal.invariant_of-self-in-Waiting
-invariant_of-self-in-Waiting g c = rw (c.unless-self-inside.ensures, c.begins_store_of-drops.ensures, ← c.self.view_is) (read-clock (taken g (goal.at.invariant_of-self-in-Waiting g c).After-read came.Waiting c.in-Waiting.is) c.self.invariant)
-
-pub invariant_of-self-in-Busy : goal.invariant_of-self-in-Busy
-invariant_of-self-in-Busy g c = read-clock (taken g (goal.at.invariant_of-self-in-Busy g c).After-read came.Busy c.in-Busy.is) c.self.invariant
+pub returns-else-cancels_for-clause-extends : goal.returns-else-cancels_for-clause-extends
+returns-else-cancels_for-clause-extends g c =
+    λ xs leads.
+    subst (λ (first : List (Timed g.row.B g.row.M)). Extends xs (arrival c.args.self.now.tick (Read c.args.row c.args.line (read_from c.args.self.now.bank c.args.line)) ∷ first) c.args.self.now c.take_read.new.self
+    (g.A.CellArray.state c.args.array.now) (g.A.CellArray.state c.args.array.now) c.args.results.now c.take_read.new.results) (sym (first-else xs c.args.self.now c.args.line (sym c.cancels_for.ensures ∙ c.if-cancels_for.false)))
+    (c.take_read.ensures.extends xs (g.A.CellArray.state c.args.array.now) leads)

@@ -13,7 +13,7 @@ pub leave_queued-requires : goal.leave_queued-requires
 leave_queued-requires g c =
     let t = c.self.inside in
     let clock : ClockState g.row.B g.row.M g.row.E =
-    record { bank = t.bank; pace = pacing_of t.pace; tick = t.tick; action = t.action; arrivals = t.arrivals.items; drained = t.drained } in
+    record { bank = t.bank; regs = t.regs; pace = pacing_of t.pace; tick = t.tick; action = t.action; arrivals = t.arrivals.items; cancels = t.cancels; drained = t.drained } in
     let ran = rw (← c.self.view_is) at c.settle.ensures.ran in (
       kept_fits,
       (
@@ -34,7 +34,7 @@ pub returns-clause-drains : goal.returns-clause-drains
 returns-clause-drains g c =
     let t = c.self.inside in
     let clock : ClockState g.row.B g.row.M g.row.E =
-    record { bank = t.bank; pace = pacing_of t.pace; tick = t.tick; action = t.action; arrivals = t.arrivals.items; drained = t.drained } in
+    record { bank = t.bank; regs = t.regs; pace = pacing_of t.pace; tick = t.tick; action = t.action; arrivals = t.arrivals.items; cancels = t.cancels; drained = t.drained } in
     let ran = rw (← c.self.view_is) at c.settle.ensures.ran in
     let rests = rw (← c.self.view_is) at c.settle.ensures.rests in
     let queued = rw c.kept.ensures.kept at c.leave_queued.ensures in
@@ -44,7 +44,7 @@ pub returns-clause-others : goal.returns-clause-others
 returns-clause-others g c =
     let t = c.self.inside in
     let clock : ClockState g.row.B g.row.M g.row.E =
-    record { bank = t.bank; pace = pacing_of t.pace; tick = t.tick; action = t.action; arrivals = t.arrivals.items; drained = t.drained } in
+    record { bank = t.bank; regs = t.regs; pace = pacing_of t.pace; tick = t.tick; action = t.action; arrivals = t.arrivals.items; cancels = t.cancels; drained = t.drained } in
     let ran = rw (← c.self.view_is) at c.settle.ensures.ran in
     let queued = rw c.kept.ensures.kept at c.leave_queued.ensures in
     drain-others c.args.self.now clock (g.A.CellArray.state c.args.array.now) (g.A.CellArray.state c.settle.new.array) c.args.results.now c.settle.new.results ran c.leave_queued.new.results queued c.requires.led
@@ -53,7 +53,7 @@ pub returns-clause-laws : goal.returns-clause-laws
 returns-clause-laws g c =
     let t = c.self.inside in
     let clock : ClockState g.row.B g.row.M g.row.E =
-    record { bank = t.bank; pace = pacing_of t.pace; tick = t.tick; action = t.action; arrivals = t.arrivals.items; drained = true } in
+    record { bank = t.bank; regs = t.regs; pace = pacing_of t.pace; tick = t.tick; action = t.action; arrivals = t.arrivals.items; cancels = t.cancels; drained = true } in
     let rests = rw (← c.self.view_is) at c.settle.ensures.rests in
     λ xs leads.
     keeps-laws g.row.B g.row.M g.row.E

@@ -45,18 +45,18 @@ pub invariant_of-self : goal.invariant_of-self
 invariant_of-self g c =
     let t = c.loop-row.self-inside in
     rw c.take_lost.ensures.bank
-    (subst (λ (t : Inside g.row.B g.row.M g.row.E). IsClock (lost_taken t.bank) t.pace t.tick t.action t.arrivals.capacity) (sym c.loop-row.invariant.2)
-    (lost-clock (drop 1 t.bank.lost) c.self.inside.bank c.self.inside.pace c.self.inside.tick c.self.inside.arrivals.capacity c.self.inside.action c.self.invariant))
+    (subst (λ (t : Inside g.row.B g.row.M g.row.E). IsClock (lost_taken t.bank) t.regs t.pace t.tick t.action t.arrivals.capacity) (sym c.loop-row.invariant.2)
+    (lost-clock (drop 1 t.bank.lost) c.self.inside.bank c.self.inside.regs c.self.inside.pace c.self.inside.tick c.self.inside.arrivals.capacity c.self.inside.action c.self.invariant))
 
 pub returns : goal.returns
 returns g c =
     let t = c.loop-row.self-inside in
     let t0 = c.self.inside in
     let clock : ClockState g.row.B g.row.M g.row.E =
-    record { bank = t0.bank; pace = pacing_of t0.pace; tick = t0.tick; action = t0.action; arrivals = t0.arrivals.items; drained = t0.drained } in
+    record { bank = t0.bank; regs = t0.regs; pace = pacing_of t0.pace; tick = t0.tick; action = t0.action; arrivals = t0.arrivals.items; cancels = t0.cancels; drained = t0.drained } in
     let taken : slice_get t.bank.lost 0 ≡ None = sym c.take_lost.ensures.row ∙ c.in_default.is in
     let none = lose-none t0.tick t.bank.lost c.loop-row.results taken in
-    let moved = ap (λ (t : Inside g.row.B g.row.M g.row.E). view_by (lost_taken t.bank) t.pace t.tick t.action t.arrivals.items t.drained) c.loop-row.invariant.2 in
+    let moved = ap (λ (t : Inside g.row.B g.row.M g.row.E). view_by (lost_taken t.bank) t.regs t.pace t.tick t.action t.arrivals.items t.cancels t.drained) c.loop-row.invariant.2 in
     let last = ap (λ (rows : List ℕ). with_lost (drop 1 rows) clock) none.0 in
     let holds = rw c.take_lost.ensures.bank at c.take_lost.ensures.holds in
     record {

@@ -19,6 +19,10 @@ set-requires g c =
     let own = serve-unset (clock_of c.self.inside) c.args.action d.next d.doing d.fit (g.A.CellArray.state c.args.array.now) (g.A.CellArray.state c.serve-row.new.array) c.args.results.now c.serve-row.result c.serve-row.ensures.answer d.unset in
     (row_fits, (outcome_fits g.row.B g.row.M g.row.E c.self.invariant.layout, (own.exists, own.unset)))
 
+pub invariant_of-self : goal.invariant_of-self
+invariant_of-self g c =
+    rw c.serve-row.ensures.bank (record { layout = c.self.invariant.layout; paced = c.self.invariant.paced; room = c.self.invariant.room; begun = tt; fit = tt; idle = c.self.invariant.idle })
+
 pub returns : goal.returns
 returns g c =
     let d = due c.self.inside c.self.view_is c.self.invariant c.requires.next c.requires.doing c.requires.led c.requires.unset in

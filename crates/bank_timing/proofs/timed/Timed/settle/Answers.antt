@@ -11,7 +11,7 @@ use Rattle.bank_timing.proofs.timed.Timed.settle.Goals as goal
 pub loop-action-init : goal.loop-action-init
 loop-action-init g c = (
   ran-none c.args.self.now (g.A.CellArray.state c.args.array.now) c.args.results.now c.requires.led c.requires.unset,
-  enough c.args.self.now.tick (actions_left c.args.self.now.bank) c.requires.within (few-actions c.requires.led.0 c.args.self.now (g.A.CellArray.state c.args.array.now) c.self.invariant.layout c.requires.led.1),
+  enough c.args.self.now.tick (actions_left c.args.self.now.bank c.args.self.now.regs) c.requires.within (few-actions c.requires.led.0 c.args.self.now (g.A.CellArray.state c.args.array.now) c.self.invariant.layout c.requires.led.1),
 )
 
 pub complete-requires : goal.complete-requires
@@ -24,7 +24,7 @@ complete-requires g c =
           kept.0.led,
           (
             sym c.next_action.ensures ∙ c.in-Some.is,
-            (within-of c.loop-action.self.tick (actions_left c.loop-action.self.bank) kept.1, kept.0.unset),
+            (within-of c.loop-action.self.tick (actions_left c.loop-action.self.bank c.loop-action.self.regs) kept.1, kept.0.unset),
           ),
         ),
       ),
@@ -35,13 +35,13 @@ loop-action-preserved g c =
     let kept = c.loop-action.invariant in
     let t = c.self-in-loop-action.inside in
     let clock : ClockState g.row.B g.row.M g.row.E =
-    record { bank = t.bank; pace = pacing_of t.pace; tick = t.tick; action = t.action; arrivals = t.arrivals.items; drained = t.drained } in
+    record { bank = t.bank; regs = t.regs; pace = pacing_of t.pace; tick = t.tick; action = t.action; arrivals = t.arrivals.items; cancels = t.cancels; drained = t.drained } in
     let next = rw (← c.self-in-loop-action.view_is) at (sym c.next_action.ensures ∙ c.in-Some.is) in
     let now = rw (← c.self-in-loop-action.view_is) at c.complete.ensures.now in
     let less = rw (← c.self-in-loop-action.view_is) at c.complete.ensures.less in
     let within = rw (← c.self-in-loop-action.view_is) at kept.1 in (
       ran-more c.in-Some.action c.args.self.now c.loop-action.self c.complete.new.self (g.A.CellArray.state c.args.array.now) (g.A.CellArray.state c.loop-action.array) (g.A.CellArray.state c.complete.new.array) c.args.results.now c.loop-action.results c.complete.new.results kept.0 c.complete.ensures,
-      spent t.tick c.complete.new.self.tick _ (actions_left t.bank) (actions_left c.complete.new.self.bank) now
+      spent t.tick c.complete.new.self.tick _ (actions_left t.bank t.regs) (actions_left c.complete.new.self.bank c.complete.new.self.regs) now
           (ends-soon clock t.pace c.in-Some.action refl c.self-in-loop-action.invariant.paced (begun-before clock c.in-Some.action next c.self-in-loop-action.invariant.begun)) less within,
     )
 

@@ -6,7 +6,7 @@ use Rattle.bank_timing.proofs.timed.Timed.settle.Given as goal
 abbrev pub invariant-loop-action : goal.invariant-loop-action
 invariant-loop-action g l =
     RunsOn l.fn.self l.self (g.A.CellArray.state l.fn.array) (g.A.CellArray.state l.array) l.fn.results l.results
-    × (l.self.tick + 255 * actions_left l.self.bank ≤ 2 ^ 41)
+    × (l.self.tick + 255 * actions_left l.self.bank l.self.regs ≤ 2 ^ 41)
 
 abbrev pub decreases-loop-action : goal.decreases-loop-action
-decreases-loop-action g l = actions_left l.self.bank
+decreases-loop-action g l = actions_left l.self.bank l.self.regs

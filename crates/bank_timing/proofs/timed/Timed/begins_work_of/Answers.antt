@@ -1,0 +1,5 @@
+use Rattle.bank_timing.proofs.Sizes.{bank_fits, kept_fits}
+use Rattle.bank_timing.proofs.timed.Timed.begins_work_of.Goals as goal
+
+pub kept-requires : goal.kept-requires
+kept-requires g c = (bank_fits g.row.B g.row.M g.row.E c.self.invariant.layout, kept_fits)
