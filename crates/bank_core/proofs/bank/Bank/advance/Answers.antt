@@ -1,5 +1,5 @@
 use Rattle.ecp_line.specs.Layout.{IsLayout}
-use Rattle.std.proofs.Common.{rules, ◌≡◌, ◌<◌, ◌≤◌, Some, sym, ap, subst, ◌∙◌}
+use Rattle.std.proofs.Common.{arith, rules, ◌≡◌, ◌<◌, ◌≤◌, Some, sym, ap, subst, ◌∙◌}
 use Rattle.bank_shape.specs.Shape.{slots_of}
 use Rattle.power_recovery.specs.Kept.{target_slot}
 use Rattle.bank_shape.specs.declared.Work.{Work}
@@ -45,3 +45,38 @@ worn-requires g c =
       subst (λ (s : ℕ). s < slots_of view.kept.shape)
           (sym (c.slot_written-slot.ensures ∙ ap (λ w. target_slot view.kept w) c.step.ensures.step.work)) start.slot,
     )
+
+
+pub invariant_of-self : goal.invariant_of-self
+invariant_of-self g c = grind arith
+
+pub invariant_of-self-in-Stored : goal.invariant_of-self-in-Stored
+invariant_of-self-in-Stored g c = grind arith
+
+pub invariant_of-self-in-Worn : goal.invariant_of-self-in-Worn
+invariant_of-self-in-Worn g c = grind arith
+
+
+pub unreachable-requires : goal.unreachable-requires
+unreachable-requires g c = grind arith
+
+pub unreachable-unreachable : goal.unreachable-unreachable
+unreachable-unreachable g c = grind arith
+
+pub returns-in-More-clause-in_range : goal.returns-in-More-clause-in_range
+returns-in-More-clause-in_range g c = grind arith
+
+pub returns-in-More-clause-step : goal.returns-in-More-clause-step
+returns-in-More-clause-step g c = grind arith
+
+pub returns-in-Stored-clause-in_range : goal.returns-in-Stored-clause-in_range
+returns-in-Stored-clause-in_range g c = grind arith
+
+pub returns-in-Stored-clause-step : goal.returns-in-Stored-clause-step
+returns-in-Stored-clause-step g c = grind arith
+
+pub returns-in-Worn-clause-in_range : goal.returns-in-Worn-clause-in_range
+returns-in-Worn-clause-in_range g c = grind arith
+
+pub returns-in-Worn-clause-step : goal.returns-in-Worn-clause-step
+returns-in-Worn-clause-step g c = grind arith

@@ -18,3 +18,15 @@ returns g c =
     rw (← c.self.view_is)
     (none_at_all c.args.line c.self.inside.waiting.items c.loop-place.place
     (omega (arith, c.len-place-end.ensures.len, c.loop-place-test.false)) c.loop-place.invariant)
+
+
+pub loop-place-init : goal.loop-place-init
+loop-place-init g c = grind arith
+
+
+
+pub unreachable-unreachable : goal.unreachable-unreachable
+unreachable-unreachable g c = grind arith
+
+pub loop-place-smaller : goal.loop-place-smaller
+loop-place-smaller g c = grind arith

@@ -1,4 +1,4 @@
-use Rattle.std.proofs.Common.{refl}
+use Rattle.std.proofs.Common.{arith, refl}
 use Rattle.bank_core.proofs.Begun.{begin-holds, begin-tied}
 use Rattle.bank_core.proofs.bank.Bank.begin.Goals as goal
 
@@ -11,3 +11,12 @@ pub returns-clause-holds : goal.returns-clause-holds
 returns-clause-holds g c =
     begin-holds c.args.self.now c.begin_next.new.self c.begin_next.result (g.A.CellArray.state c.args.array.now) (g.A.CellArray.state c.begin_next.new.array)
     c.requires.ready c.begin_next.ensures.begins c.begin_next.ensures.touches.lines (λ at. c.begin_next.ensures.touches.others at refl)
+
+pub begin_next-requires : goal.begin_next-requires
+begin_next-requires g c = grind arith
+
+pub returns-clause-begins : goal.returns-clause-begins
+returns-clause-begins g c = grind arith
+
+pub returns-clause-touches : goal.returns-clause-touches
+returns-clause-touches g c = grind arith

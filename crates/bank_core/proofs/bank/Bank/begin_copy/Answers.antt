@@ -1,4 +1,4 @@
-use Rattle.std.proofs.Common.{rules, ◌≡◌, ℕ, ◌∷◌, [], ◌≤◌, ◌<◌, None, false, sym, ap, subst, ◌∙◌}
+use Rattle.std.proofs.Common.{arith, rules, ◌≡◌, ℕ, ◌∷◌, [], ◌≤◌, ◌<◌, None, false, sym, ap, subst, ◌∙◌}
 use Rattle.pcm_cells.specs.Device.{ArrayState, LineState}
 use Rattle.bank_shape.specs.declared.BankShape.{BankShape}
 use Rattle.bank_shape.specs.Shape.{slots_of, slot_at}
@@ -97,3 +97,39 @@ returns-clause-touches g c =
     (subst (λ (at : ℕ). Touches c.args.tick (at ∷ c.array_line-target.result ∷ []) None false old new) from
     (touches-senses c.args.tick c.array_line-source.result c.array_line-target.result old (g.A.CellArray.state c.sense-copied.new.self) new
     c.sense-copied.ensures.step c.sense-seen.ensures.step))
+
+pub shape-requires : goal.shape-requires
+shape-requires g c = grind arith
+
+pub slot-requires-clause-shape : goal.slot-requires-clause-shape
+slot-requires-clause-shape g c = grind arith
+
+pub slot-requires-clause-region_exists : goal.slot-requires-clause-region_exists
+slot-requires-clause-region_exists g c = grind arith
+
+pub slot-requires-clause-place_exists : goal.slot-requires-clause-place_exists
+slot-requires-clause-place_exists g c = grind arith
+
+pub array_line-source-requires : goal.array_line-source-requires
+array_line-source-requires g c = grind arith
+
+pub shape-requires-2 : goal.shape-requires-2
+shape-requires-2 g c = grind arith
+
+pub slot-requires-2-clause-shape : goal.slot-requires-2-clause-shape
+slot-requires-2-clause-shape g c = grind arith
+
+pub slot-requires-2-clause-region_exists : goal.slot-requires-2-clause-region_exists
+slot-requires-2-clause-region_exists g c = grind arith
+
+pub slot-requires-2-clause-place_exists : goal.slot-requires-2-clause-place_exists
+slot-requires-2-clause-place_exists g c = grind arith
+
+pub array_line-target-requires : goal.array_line-target-requires
+array_line-target-requires g c = grind arith
+
+pub sense-copied-requires : goal.sense-copied-requires
+sense-copied-requires g c = grind arith
+
+pub sense-seen-requires : goal.sense-seen-requires
+sense-seen-requires g c = grind arith

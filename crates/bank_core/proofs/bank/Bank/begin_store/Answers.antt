@@ -1,4 +1,4 @@
-use Rattle.std.proofs.Common.{rules, ◌≡◌, ℕ, ◌∷◌, [], ◌≤◌, None, false, sym, subst}
+use Rattle.std.proofs.Common.{arith, rules, ◌≡◌, ℕ, ◌∷◌, [], ◌≤◌, None, false, sym, subst}
 use Rattle.power_recovery.specs.Kept.{array_line}
 use Rattle.bank_model.specs.Touching.{Touches}
 use Rattle.bank_invariant.specs.State.{BankState}
@@ -52,3 +52,6 @@ returns-clause-touches g c =
     let place : c.array_line-target.result ≡ array_line c.args.self.now.kept c.args.slot = rw (← c.self.view_is) c.array_line-target.ensures.line in
     subst (λ (at : ℕ). Touches c.args.tick (at ∷ []) None false (g.A.CellArray.state c.args.array.now) (g.A.CellArray.state c.sense-seen.new.self)) place
     (touches-sense c.args.tick c.array_line-target.result (g.A.CellArray.state c.args.array.now) (g.A.CellArray.state c.sense-seen.new.self) c.sense-seen.ensures.step)
+
+pub sense-seen-requires : goal.sense-seen-requires
+sense-seen-requires g c = grind arith

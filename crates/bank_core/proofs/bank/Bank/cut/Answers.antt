@@ -1,4 +1,4 @@
-use Rattle.std.proofs.Common.{◌≡◌, ◌∷◌, ap, sym, subst, ◌∙◌}
+use Rattle.std.proofs.Common.{arith, ◌≡◌, ◌∷◌, ap, sym, subst, ◌∙◌}
 use Rattle.bank_model.specs.Events.{Cut}
 use Rattle.bank_invariant.specs.State.{BankState}
 use Rattle.bank_invariant.specs.Holds.{Holds}
@@ -26,3 +26,16 @@ pub returns-clause-touches : goal.returns-clause-touches
 returns-clause-touches g c =
     touches-cut (g.A.CellArray.state c.args.array.now) (g.A.CellArray.state c.stop.new.array) c.args.tick c.args.tearing c.args.self.now.running
     c.requires.runs c.stop.ensures.quiet c.stop.ensures.torn
+
+pub stop-requires : goal.stop-requires
+stop-requires g c = grind arith
+
+pub lose_reads-requires : goal.lose_reads-requires
+lose_reads-requires g c = grind arith
+
+
+pub returns-clause-quiet : goal.returns-clause-quiet
+returns-clause-quiet g c = grind arith
+
+pub returns-clause-torn : goal.returns-clause-torn
+returns-clause-torn g c = grind arith

@@ -1,3 +1,4 @@
+use Rattle.std.proofs.Common.{arith}
 use Rattle.bank_core.proofs.Keeping.{stepped-tied, stepped-holds}
 use Rattle.bank_core.proofs.Touched.{touches-iteration}
 use Rattle.bank_core.proofs.bank.Bank.iterate.Goals as goal
@@ -16,3 +17,9 @@ pub returns-clause-touches : goal.returns-clause-touches
 returns-clause-touches g c =
     touches-iteration (g.A.CellArray.state c.args.array.now) (g.A.CellArray.state c.advance.new.array) c.args.tick c.args.self.now c.advance.new.self c.advance.result
     c.args.self.now.running c.advance.ensures.step
+
+pub advance-requires : goal.advance-requires
+advance-requires g c = grind arith
+
+pub returns-clause-step : goal.returns-clause-step
+returns-clause-step g c = grind arith

@@ -38,3 +38,22 @@ loop-preserved g c =
             rows = ap (λ ws. rows_with lost ws) same ∙ inv.rows;
           })
     ]
+
+
+pub loop-init : goal.loop-init
+loop-init g c = grind arith
+
+pub invariant_of-self : goal.invariant_of-self
+invariant_of-self g c = grind arith
+
+
+
+pub unreachable-requires : goal.unreachable-requires
+unreachable-requires g c = grind arith
+
+pub unreachable-unreachable : goal.unreachable-unreachable
+unreachable-unreachable g c = grind arith
+
+pub loop-smaller : goal.loop-smaller
+loop-smaller g c = grind arith
+

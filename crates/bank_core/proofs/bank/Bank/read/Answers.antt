@@ -84,3 +84,31 @@ returns-clause-holds g c =
           (λ h array holds. read_law c.args.row c.args.line h bank array came.Busy
           (to_refuse bank c.args.line none c.self.invariant.few_waiting c.self.inside.waiting.capacity c.self.invariant.room w.in-Err.ensures.variant.1) exists rises holds)
     ])
+
+pub newest-kept-requires : goal.newest-kept-requires
+newest-kept-requires g c = grind arith
+
+pub overflow_add-self : goal.overflow_add-self
+overflow_add-self g c = grind arith
+
+pub has_all-requires : goal.has_all-requires
+has_all-requires g c = grind arith
+
+pub invariant_of-self : goal.invariant_of-self
+invariant_of-self g c = grind arith
+
+pub returns-then-has_all-clause-answer : goal.returns-then-has_all-clause-answer
+returns-then-has_all-clause-answer g c = grind arith
+
+pub returns-then-has_all-clause-bank : goal.returns-then-has_all-clause-bank
+returns-then-has_all-clause-bank g c = grind arith
+
+pub returns-then-has_all-clause-tied : goal.returns-then-has_all-clause-tied
+returns-then-has_all-clause-tied g c = grind arith
+
+
+pub returns-clause-answer : goal.returns-clause-answer
+returns-clause-answer g c = grind arith
+
+pub returns-clause-bank : goal.returns-clause-bank
+returns-clause-bank g c = grind arith

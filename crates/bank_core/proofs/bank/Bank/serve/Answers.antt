@@ -1,4 +1,4 @@
-use Rattle.std.proofs.Common.{rules, ◌≡◌, ℕ, ◌≤◌, List, drop, slice_get, Some, ap, ◌∙◌}
+use Rattle.std.proofs.Common.{arith, rules, ◌≡◌, ℕ, ◌≤◌, List, drop, slice_get, Some, ap, ◌∙◌}
 use Rattle.masked_bytes.specs.Masked.{laid}
 use Rattle.pcm_cells.specs.declared.row.Cells.{Cells}
 use Rattle.pcm_cells.specs.Device.{ArrayState}
@@ -57,3 +57,26 @@ read_as-bytes-requires g c =
     let few : g.row.B ≤ 128 = c.self.invariant.few_bytes in
     let few_check : g.row.M ≤ 16 = c.self.invariant.layout.shape.3 in
     (search rules, (search rules, c.self.invariant.layout))
+
+
+pub unreachable-requires : goal.unreachable-requires
+unreachable-requires g c = grind arith
+
+pub unreachable-unreachable : goal.unreachable-unreachable
+unreachable-unreachable g c = grind arith
+
+
+pub array_line-place-requires : goal.array_line-place-requires
+array_line-place-requires g c = grind arith
+
+pub sense-requires : goal.sense-requires
+sense-requires g c = grind arith
+
+pub lay_over-requires : goal.lay_over-requires
+lay_over-requires g c = grind arith
+
+pub returns-clause-answer : goal.returns-clause-answer
+returns-clause-answer g c = grind arith
+
+pub returns-clause-bank : goal.returns-clause-bank
+returns-clause-bank g c = grind arith

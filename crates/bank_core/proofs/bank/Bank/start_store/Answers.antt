@@ -1,4 +1,4 @@
-use Rattle.std.proofs.Common.{rules, ◌≡◌, ◌≤◌, refl, sym, ap, ◌∙◌}
+use Rattle.std.proofs.Common.{arith, rules, ◌≡◌, ◌≤◌, refl, sym, ap, ◌∙◌}
 use Rattle.power_recovery.specs.Kept.{KeptState, next_work}
 use Rattle.power_recovery.proofs.Frames.{next_work-completed}
 use Rattle.bank_core.specs.Running.{operation_of}
@@ -50,3 +50,7 @@ start-requires g c =
     let still : next_work c.complete.new.self ≡ next_work c.self.inside.kept =
     ap (λ (k : KeptState g.row.B). next_work k) c.complete.ensures.kept ∙ next_work-completed c.self.inside.kept c.decode-under.result in
     (search rules, (search rules, (idle, (refl, (sym next ∙ sym still, begun)))))
+
+pub complete-requires : goal.complete-requires
+complete-requires g c = grind arith
+

@@ -1,4 +1,4 @@
-use Rattle.std.proofs.Common.{rules, ◌≡◌, Option, None, Some, ap, sym, subst}
+use Rattle.std.proofs.Common.{arith, rules, ◌≡◌, Option, None, Some, ap, sym, subst}
 use Rattle.ecp_line.specs.Layout.{IsLayout}
 use Rattle.bank_invariant.specs.State.{BankState, Operation}
 use Rattle.bank_core.specs.Running.{operation_of}
@@ -36,3 +36,19 @@ returns-clause-torn g c =
           let value : c.self.inside.running ≡ None = cc in
           subst P (sym (ap (λ r. operation_of r) value)) tt
     ])
+
+
+pub invariant_of-self : goal.invariant_of-self
+invariant_of-self g c = grind arith
+
+pub returns-clause-bank : goal.returns-clause-bank
+returns-clause-bank g c = grind arith
+
+pub returns-clause-in_range : goal.returns-clause-in_range
+returns-clause-in_range g c = grind arith
+
+pub returns-clause-room : goal.returns-clause-room
+returns-clause-room g c = grind arith
+
+pub returns-clause-quiet : goal.returns-clause-quiet
+returns-clause-quiet g c = grind arith

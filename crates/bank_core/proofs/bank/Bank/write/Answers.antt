@@ -1,4 +1,4 @@
-use Rattle.std.proofs.Common.{◌≡◌, true, false}
+use Rattle.std.proofs.Common.{arith, ◌≡◌, true, false}
 use Rattle.masked_bytes.specs.declared.entry.Entry.{Entry}
 use Rattle.bank_model.specs.declared.answer.WriteAnswer.TheVariants as wrote
 use Rattle.bank_invariant.specs.State.{BankState}
@@ -67,3 +67,37 @@ returns-clause-holds g c =
     let going : c.self.inside.kept.exhausted ≡ false = cc in
     rw (← c.self.view_is, c.answer_to.ensures, c.accept.ensures.answer, c.accept.ensures.kept, c.storing-busy.ensures)
     (λ h array holds. taken_holds entry h bank array going exists rises c.requires.masked holds)
+
+pub overflow_add-self : goal.overflow_add-self
+overflow_add-self g c = grind arith
+
+pub exhausted-requires : goal.exhausted-requires
+exhausted-requires g c = grind arith
+
+pub invariant_of-self : goal.invariant_of-self
+invariant_of-self g c = grind arith
+
+pub returns-then-exhausted-clause-answer : goal.returns-then-exhausted-clause-answer
+returns-then-exhausted-clause-answer g c = grind arith
+
+pub returns-then-exhausted-clause-bank : goal.returns-then-exhausted-clause-bank
+returns-then-exhausted-clause-bank g c = grind arith
+
+pub returns-then-exhausted-clause-tied : goal.returns-then-exhausted-clause-tied
+returns-then-exhausted-clause-tied g c = grind arith
+
+pub invariant_of-self-2 : goal.invariant_of-self-2
+invariant_of-self-2 g c = grind arith
+
+
+pub accept-requires : goal.accept-requires
+accept-requires g c = grind arith
+
+pub answer_to-requires : goal.answer_to-requires
+answer_to-requires g c = grind arith
+
+pub invariant_of-self-3 : goal.invariant_of-self-3
+invariant_of-self-3 g c = grind arith
+
+pub returns-clause-answer : goal.returns-clause-answer
+returns-clause-answer g c = grind arith

@@ -1,4 +1,4 @@
-use Rattle.std.proofs.Common.{sym, ◌∙◌}
+use Rattle.std.proofs.Common.{arith, sym, ◌∙◌}
 use Rattle.pcm_cells.specs.Rows.{cell}
 use Rattle.line_writer.proofs.Settling.{pointed}
 use Rattle.line_writer.proofs.Going.{going-on, done, none-wrong, wrong-held, point-phase}
@@ -35,3 +35,57 @@ returns-in-Point-clause-line g c line h status left =
 pub returns-in-Switch-clause-line : goal.returns-in-Switch-clause-line
 returns-in-Switch-clause-line g c line h status left =
     let (all, mask) = done c.args.self.now line c.args.turn.now c.in-Settled.wrong c.in-Settled.is h status left in c.switched.ensures.line line all
+
+pub returns-in_default-clause-bytes : goal.returns-in_default-clause-bytes
+returns-in_default-clause-bytes g c = grind arith
+
+pub returns-in_default-clause-begun : goal.returns-in_default-clause-begun
+returns-in_default-clause-begun g c = grind arith
+
+pub returns-in_default-clause-steps : goal.returns-in_default-clause-steps
+returns-in_default-clause-steps g c = grind arith
+
+pub cleared-requires : goal.cleared-requires
+cleared-requires g c = grind arith
+
+pub filled-requires : goal.filled-requires
+filled-requires g c = grind arith
+
+pub switch-requires : goal.switch-requires
+switch-requires g c = grind arith
+
+pub switched-requires : goal.switched-requires
+switched-requires g c = grind arith
+
+pub returns-in-Clear-clause-bytes : goal.returns-in-Clear-clause-bytes
+returns-in-Clear-clause-bytes g c = grind arith
+
+pub returns-in-Clear-clause-steps : goal.returns-in-Clear-clause-steps
+returns-in-Clear-clause-steps g c = grind arith
+
+pub returns-in-Fill-clause-bytes : goal.returns-in-Fill-clause-bytes
+returns-in-Fill-clause-bytes g c = grind arith
+
+pub returns-in-Fill-clause-begun : goal.returns-in-Fill-clause-begun
+returns-in-Fill-clause-begun g c = grind arith
+
+pub returns-in-Fill-clause-steps : goal.returns-in-Fill-clause-steps
+returns-in-Fill-clause-steps g c = grind arith
+
+pub returns-in-Point-clause-bytes : goal.returns-in-Point-clause-bytes
+returns-in-Point-clause-bytes g c = grind arith
+
+pub returns-in-Point-clause-begun : goal.returns-in-Point-clause-begun
+returns-in-Point-clause-begun g c = grind arith
+
+pub returns-in-Point-clause-steps : goal.returns-in-Point-clause-steps
+returns-in-Point-clause-steps g c = grind arith
+
+pub returns-in-Switch-clause-bytes : goal.returns-in-Switch-clause-bytes
+returns-in-Switch-clause-bytes g c = grind arith
+
+pub returns-in-Switch-clause-begun : goal.returns-in-Switch-clause-begun
+returns-in-Switch-clause-begun g c = grind arith
+
+pub returns-in-Switch-clause-steps : goal.returns-in-Switch-clause-steps
+returns-in-Switch-clause-steps g c = grind arith

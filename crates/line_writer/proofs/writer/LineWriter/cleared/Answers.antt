@@ -1,4 +1,4 @@
-use Rattle.std.proofs.Common.{sym, ◌∙◌}
+use Rattle.std.proofs.Common.{arith, sym, ◌∙◌}
 use Rattle.std.proofs.lemmas.Bool.{and_parts}
 use Rattle.pcm_cells.specs.Rows.{cell}
 use Rattle.line_writer.proofs.Settling.{cleared-all, cleared-worn}
@@ -47,3 +47,24 @@ returns-in-None-clause-begun g c line h mask none =
           (λ n. wrong-held self.prog line h.round.prog n ∙ none n);
     }) in
     all.2
+
+pub lowest-requires : goal.lowest-requires
+lowest-requires g c = grind arith
+
+pub fill-requires : goal.fill-requires
+fill-requires g c = grind arith
+
+pub returns-in-Some-clause-begun : goal.returns-in-Some-clause-begun
+returns-in-Some-clause-begun g c = grind arith
+
+pub returns-in-Some-clause-bytes : goal.returns-in-Some-clause-bytes
+returns-in-Some-clause-bytes g c = grind arith
+
+pub returns-in-Some-clause-steps : goal.returns-in-Some-clause-steps
+returns-in-Some-clause-steps g c = grind arith
+
+pub returns-in-None-clause-bytes : goal.returns-in-None-clause-bytes
+returns-in-None-clause-bytes g c = grind arith
+
+pub returns-in-None-clause-steps : goal.returns-in-None-clause-steps
+returns-in-None-clause-steps g c = grind arith

@@ -1,4 +1,4 @@
-use Rattle.std.proofs.Common.{sym, ap, ◌∙◌, subst, inr}
+use Rattle.std.proofs.Common.{arith, sym, ap, ◌∙◌, subst, inr}
 use Rattle.std.proofs.lemmas.Bool.{both_ways}
 use Rattle.pcm_cells.specs.Rows.{cell}
 use Rattle.program_verify.specs.declared.prog.Prog.{Prog}
@@ -27,3 +27,36 @@ returns-in-Settled-clause-line g c line h =
       stuck = λ n q. absurd (both_ways _ (none n) q);
     }) none in
     (all.0, all.1, subst (λ (p : Progress). HasBegun p) (sym stored) tt)
+
+pub seen-requires : goal.seen-requires
+seen-requires g c = grind arith
+
+pub wanted-want-requires : goal.wanted-want-requires
+wanted-want-requires g c = grind arith
+
+pub seen-requires-2 : goal.seen-requires-2
+seen-requires-2 g c = grind arith
+
+pub new-self-requires : goal.new-self-requires
+new-self-requires g c = grind arith
+
+pub status-requires : goal.status-requires
+status-requires g c = grind arith
+
+pub filled-requires : goal.filled-requires
+filled-requires g c = grind arith
+
+pub returns-in-Going-clause-line : goal.returns-in-Going-clause-line
+returns-in-Going-clause-line g c = grind arith
+
+pub returns-in-Going-clause-bytes : goal.returns-in-Going-clause-bytes
+returns-in-Going-clause-bytes g c = grind arith
+
+pub returns-in-Going-clause-steps : goal.returns-in-Going-clause-steps
+returns-in-Going-clause-steps g c = grind arith
+
+pub returns-in-Settled-clause-bytes : goal.returns-in-Settled-clause-bytes
+returns-in-Settled-clause-bytes g c = grind arith
+
+pub returns-in-Settled-clause-steps : goal.returns-in-Settled-clause-steps
+returns-in-Settled-clause-steps g c = grind arith

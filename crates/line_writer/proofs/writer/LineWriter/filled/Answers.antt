@@ -39,3 +39,42 @@ returns-in-Some-2-clause-line g c line h =
       stuck = h.stuck (source_below g.row.B f x self.entries) (sym (wrong-held self.prog line h.round.prog (source_below g.row.B f x self.entries))
           ∙ filled-wrong g.row.B g.row.E self.entries self.bytes (cell self.prog.want) (cell self.prog.which) f x phase (c.in-Some.ensures.some.0) low.is);
     })
+
+pub seen-requires : goal.seen-requires
+seen-requires g c = grind arith
+
+pub wrong-requires : goal.wrong-requires
+wrong-requires g c = grind arith
+
+pub point-requires : goal.point-requires
+point-requires g c = grind arith
+
+pub returns-in-None-clause-line : goal.returns-in-None-clause-line
+returns-in-None-clause-line g c = grind arith
+
+pub returns-in-None-clause-stored : goal.returns-in-None-clause-stored
+returns-in-None-clause-stored g c = grind arith
+
+pub returns-in-None-clause-bytes : goal.returns-in-None-clause-bytes
+returns-in-None-clause-bytes g c = grind arith
+
+pub returns-in-None-clause-steps : goal.returns-in-None-clause-steps
+returns-in-None-clause-steps g c = grind arith
+
+pub returns-in-Some-clause-stored : goal.returns-in-Some-clause-stored
+returns-in-Some-clause-stored g c = grind arith
+
+pub returns-in-Some-clause-bytes : goal.returns-in-Some-clause-bytes
+returns-in-Some-clause-bytes g c = grind arith
+
+pub returns-in-Some-clause-steps : goal.returns-in-Some-clause-steps
+returns-in-Some-clause-steps g c = grind arith
+
+pub returns-in-Some-2-clause-stored : goal.returns-in-Some-2-clause-stored
+returns-in-Some-2-clause-stored g c = grind arith
+
+pub returns-in-Some-2-clause-bytes : goal.returns-in-Some-2-clause-bytes
+returns-in-Some-2-clause-bytes g c = grind arith
+
+pub returns-in-Some-2-clause-steps : goal.returns-in-Some-2-clause-steps
+returns-in-Some-2-clause-steps g c = grind arith

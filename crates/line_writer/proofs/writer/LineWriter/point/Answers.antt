@@ -1,4 +1,4 @@
-use Rattle.std.proofs.Common.{sym, ◌∙◌, subst}
+use Rattle.std.proofs.Common.{arith, sym, ◌∙◌, subst}
 use Rattle.pcm_cells.specs.Rows.{cell}
 use Rattle.program_verify.specs.declared.prog.Prog.{Prog}
 use Rattle.line_writer.specs.Phases.{IsPointing}
@@ -20,3 +20,36 @@ returns-in-Settled-clause-line g c line h =
           (λ n q. c.in-Settled.ensures.stuck line programs n (c.in-Settled.ensures.status.0 n ∙ sym (wrong-held c.new-self.result line programs n) ∙ q)) h.charged;
       ready = h.ready;
     })
+
+pub seen-requires : goal.seen-requires
+seen-requires g c = grind arith
+
+pub pointer-want-requires : goal.pointer-want-requires
+pointer-want-requires g c = grind arith
+
+pub seen-requires-2 : goal.seen-requires-2
+seen-requires-2 g c = grind arith
+
+pub new-self-requires : goal.new-self-requires
+new-self-requires g c = grind arith
+
+pub status-requires : goal.status-requires
+status-requires g c = grind arith
+
+pub switch-requires : goal.switch-requires
+switch-requires g c = grind arith
+
+pub returns-in-Going-clause-line : goal.returns-in-Going-clause-line
+returns-in-Going-clause-line g c = grind arith
+
+pub returns-in-Going-clause-bytes : goal.returns-in-Going-clause-bytes
+returns-in-Going-clause-bytes g c = grind arith
+
+pub returns-in-Going-clause-steps : goal.returns-in-Going-clause-steps
+returns-in-Going-clause-steps g c = grind arith
+
+pub returns-in-Settled-clause-bytes : goal.returns-in-Settled-clause-bytes
+returns-in-Settled-clause-bytes g c = grind arith
+
+pub returns-in-Settled-clause-steps : goal.returns-in-Settled-clause-steps
+returns-in-Settled-clause-steps g c = grind arith

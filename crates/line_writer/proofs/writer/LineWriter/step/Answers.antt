@@ -1,3 +1,4 @@
+use Rattle.std.proofs.Common.{arith}
 use Rattle.line_writer.specs.Writing.{IsWriting, IsProgress}
 use Rattle.line_writer.proofs.Rounds.{round-made, sound-writing, unused, worn, writing-with, progress-with}
 use Rattle.line_writer.proofs.writer.LineWriter.step.Goals as goal
@@ -31,3 +32,21 @@ returns-clause-unused g c = unused c.args.self.now ((g.A.CellArray.state c.args.
 
 pub returns-clause-worn : goal.returns-clause-worn
 returns-clause-worn g c = worn c.advance-self.new.self ((g.A.CellArray.state c.step-turn.new.array).line c.args.line) c.advance-self.result ((advanced g c).1)
+
+pub step-turn-requires : goal.step-turn-requires
+step-turn-requires g c = grind arith
+
+pub advance-self-requires : goal.advance-self-requires
+advance-self-requires g c = grind arith
+
+pub returns-clause-is : goal.returns-clause-is
+returns-clause-is g c = grind arith
+
+pub returns-clause-round : goal.returns-clause-round
+returns-clause-round g c = grind arith
+
+pub returns-clause-bytes : goal.returns-clause-bytes
+returns-clause-bytes g c = grind arith
+
+pub returns-clause-steps : goal.returns-clause-steps
+returns-clause-steps g c = grind arith

@@ -23,3 +23,33 @@ returns-clause-line g c line h =
       },
       both.1,
     )
+
+pub switch-cell-requires-clause-layout : goal.switch-cell-requires-clause-layout
+switch-cell-requires-clause-layout g c = grind arith
+
+pub switch-cell-requires-clause-exists : goal.switch-cell-requires-clause-exists
+switch-cell-requires-clause-exists g c = grind arith
+
+pub seen-requires : goal.seen-requires
+seen-requires g c = grind arith
+
+pub set-requires : goal.set-requires
+set-requires g c = grind arith
+
+pub zero-which-requires : goal.zero-which-requires
+zero-which-requires g c = grind arith
+
+pub set-requires-2 : goal.set-requires-2
+set-requires-2 g c = grind arith
+
+pub seen-requires-2 : goal.seen-requires-2
+seen-requires-2 g c = grind arith
+
+pub new-self-requires : goal.new-self-requires
+new-self-requires g c = grind arith
+
+pub returns-clause-bytes : goal.returns-clause-bytes
+returns-clause-bytes g c = grind arith
+
+pub returns-clause-steps : goal.returns-clause-steps
+returns-clause-steps g c = grind arith

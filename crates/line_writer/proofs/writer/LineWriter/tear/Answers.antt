@@ -1,3 +1,4 @@
+use Rattle.std.proofs.Common.{arith}
 use Rattle.line_writer.proofs.Rounds.{sound-torn, unused}
 use Rattle.line_writer.proofs.writer.LineWriter.tear.Goals as goal
 
@@ -7,3 +8,9 @@ returns-clause-sound g c =
 
 pub returns-clause-unused : goal.returns-clause-unused
 returns-clause-unused g c = unused c.args.self ((g.A.CellArray.state c.args.array.now).line c.args.line) c.requires.layout c.requires.writes.writing
+
+pub tear-requires : goal.tear-requires
+tear-requires g c = grind arith
+
+pub returns-clause-tear : goal.returns-clause-tear
+returns-clause-tear g c = grind arith
