@@ -1,5 +1,5 @@
 -- Numbers of cells by their binary digits.
-use Rattle.std.proofs.Common.{◌≡◌, ℕ, ◌+◌, ◌*◌, ◌/◌, ◌%◌, ◌<◌, ◌≤◌, ◌&&◌, Bool, true, false, not, cond, eqb, ltb, refl, sym, ◌∙◌, ap, inl, inr, arith}
+use Rattle.std.proofs.Common.{◌≡◌, ℕ, ◌+◌, ◌*◌, ◌/◌, ◌%◌, ◌<◌, ◌≤◌, ◌&&◌, Bool, true, false, not, cond, eqb, ltb, refl, sym, ◌∙◌, ap, inl, inr, arith, true≢false}
 use Rattle.std.proofs.lemmas.Bool.{cases_eq, cases_lt, lt-ltb, le-ltb}
 use Rattle.pcm_cells.specs.declared.digits.Digits.{Digits}
 use Rattle.pcm_cells.specs.Rows.{cell, xor}
@@ -22,6 +22,28 @@ few_high false = omega arith
 
 pub number_few : (low middle high : Bool) → number_of low middle high ≤ 7
 number_few low middle high = omega (arith, few_low low middle, few_high high)
+
+-- a number whose digits aren't all 1
+pub number_not_full : (low middle high : Bool) → ((low && middle) && high) ≡ false → number_of low middle high < 7
+number_not_full true true true e = absurd (true≢false e)
+number_not_full true true false e = omega arith
+number_not_full true false true e = omega arith
+number_not_full true false false e = omega arith
+number_not_full false true true e = omega arith
+number_not_full false true false e = omega arith
+number_not_full false false true e = omega arith
+number_not_full false false false e = omega arith
+
+-- a number as the sum of its digits
+pub number_of_places : (low middle high : Bool) → cond low 1 0 + 2 * cond middle 1 0 + 4 * cond high 1 0 ≡ number_of low middle high
+number_of_places true true true = refl
+number_of_places true true false = refl
+number_of_places true false true = refl
+number_of_places true false false = refl
+number_of_places false true true = refl
+number_of_places false true false = refl
+number_of_places false false true = refl
+number_of_places false false false = refl
 
 -- no number is above 7
 pub digit_few : {B M : ℕ} (digits : Digits B M) (n : ℕ) → digit digits n ≤ 7

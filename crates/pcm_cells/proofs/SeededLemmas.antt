@@ -1,6 +1,6 @@
 -- A seeded array keeps what every array keeps.
-use Rattle.std.proofs.Common.{◌≡◌, ℕ, ◌+◌, ◌-◌, ◌%◌, ◌≤◌, ◌&&◌, ◌<◌, Bool, true, false, not, true≢false, cond, eqb, slice_index, refl, sym, subst, ◌∙◌, ap, inl, inr, arith}
-use Rattle.std.proofs.lemmas.Bool.{ltb-true, leb-true}
+use Rattle.std.proofs.Common.{◌≡◌, ℕ, ◌+◌, ◌-◌, ◌%◌, ◌≤◌, ◌&&◌, ◌<◌, Bool, true, false, not, true≢false, cond, eqb, slice_index, refl, sym, subst, ◌∙◌, ap, inl, inr, arith, List, [], ◌∷◌, zero, suc, ◌*◌, ◌/◌, ◌≢◌, length, replicate, get_or, set, get_or-set_same, get_or-set_other}
+use Rattle.std.proofs.lemmas.Bool.{ltb-true, leb-true, lt-leb, cases_eq}
 use Rattle.std.specs.Prelude.{nat_lt, nat_le}
 use Rattle.pcm_cells.specs.declared.row.Cells.{Cells}
 use Rattle.pcm_cells.specs.declared.line.CellState.{CellState}
@@ -12,7 +12,7 @@ use Rattle.pcm_cells.specs.Device.{DeviceStep, TornStep, IsBlank, counted}
 use Rattle.pcm_cells.specs.Cell.{cell_state}
 use Rattle.pcm_cells.specs.Planes.{PlaneLine, plane_state, digit}
 use Rattle.pcm_cells.specs.Follows.{Follows}
-use Rattle.pcm_cells.specs.Seeded.{LifeLine, IsDrawn, changed, pulsed, seeded, seeded_cell}
+use Rattle.pcm_cells.specs.Seeded.{LifeLine, left_of, IsDrawn, changed, pulsed, seeded, seeded_cell}
 use Rattle.pcm_cells.proofs.RowLemmas.{cell-zeros}
 use Rattle.pcm_cells.proofs.PlaneLemmas.{digit_few, digit-zeros}
 use Rattle.pcm_cells.proofs.LineLemmas.{IsPulsed, device_step, torn_step}
@@ -162,3 +162,86 @@ pub missing_few : {B M : ℕ} (misses limits : Digits B M) (n : ℕ) (live missi
     → missing ≡ true → digit misses n < 7
 missing_few misses limits n live missing is h =
     omega (arith, ltb-true _ _ (and_second live _ (sym is ∙ h)), digit_few limits n)
+
+pub left_at : {B M : ℕ} (first : ℕ) (spent : Digits B M) (counts : List ℕ) (n : ℕ) → slice_index (left_of first spent counts) n ≡ slice_index counts n - digit spent (first + n)
+unfolding left_of
+left_at first spent [] zero = omega arith
+left_at first spent [] (suc n) = omega arith
+left_at first spent (count ∷ counts) zero = let here : first ≡ first + 0 = omega arith in ap (λ k. count - digit spent k) here
+left_at first spent (count ∷ counts) (suc n) =
+    let next : suc first + n ≡ first + suc n = omega arith in
+    left_at (suc first) spent counts n ∙ ap (λ k. slice_index counts n - digit spent k) next
+
+-- what is left of the count of a cell
+pub left_is : {B M : ℕ} (spent : Digits B M) (counts : List ℕ) (n : ℕ) → slice_index (left_of 0 spent counts) n ≡ slice_index counts n - digit spent n
+left_is spent counts n =
+    let from : 0 + n ≡ n = omega arith in
+    left_at 0 spent counts n ∙ ap (λ k. slice_index counts n - digit spent k) from
+
+many_left : (x : ℕ) → 2 ≤ x → nat_le x 1 ≡ false
+many_left x h = lt-leb x 1 (omega (arith, h))
+
+-- in a calm block no cell is at its last change
+pub calm_last : (changing : Bool) (count spent : ℕ) → (changing ≡ true → 8 ≤ count) → (changing ≡ true → spent < 7)
+    → false ≡ (changing && nat_le (count - spent) 1)
+calm_last true count spent many few = sym (many_left (count - spent) (omega (arith, many refl, few refl)))
+calm_last false count spent many few = refl
+
+-- and one more change is kept in the digits
+pub calm_here : (changing : Bool) (count spent new : ℕ) → new ≡ cond changing (spent + 1) spent
+    → count - new ≡ cond changing (count - spent - 1) (count - spent)
+calm_here true count spent new is = omega (arith, is)
+calm_here false count spent new is = omega (arith, is)
+
+-- what is left after the counts were brought up to date, and one taken of those that change
+pub level_here : (changing : Bool) (count levelled final spent new : ℕ) → levelled ≡ count - spent
+    → final ≡ cond changing (levelled - 1) levelled → new ≡ 0 → final - new ≡ cond changing (count - spent - 1) (count - spent)
+level_here true count levelled final spent new before after none = omega (arith, before, after, none)
+level_here false count levelled final spent new before after none = omega (arith, before, after, none)
+
+-- a block's word of calm is right where its counts are looked at again, and the others stay
+pub calm_kept : (calm : List Bool) (stuck : ℕ → Bool) (old new : List ℕ) (block : ℕ) (many : Bool) → block < length calm
+    → ((n : ℕ) → get_or calm (n / 64) false ≡ true → stuck n ≡ false → 8 ≤ slice_index old n)
+    → (many ≡ true → (i : ℕ) → i < 64 → stuck (64 * block + i) ≡ false → 8 ≤ slice_index new (64 * block + i))
+    → ((n : ℕ) → n / 64 ≢ block → slice_index new n ≡ slice_index old n)
+    → (n : ℕ) → get_or (set calm block many) (n / 64) false ≡ true → stuck n ≡ false → 8 ≤ slice_index new n
+calm_kept calm stuck old new block many within before here others n is live =
+    elim (cases_eq (n / 64) block) as (λ _. 8 ≤ slice_index new n) [
+      | inl same ↦
+          let number : 64 * block + (n - 64 * block) ≡ n = omega arith in
+          let yes : many ≡ true = sym (get_or-set_same calm block many false within) ∙ ap (λ k. get_or (set calm block many) k false) (sym same) ∙ is in
+          subst (λ k. 8 ≤ slice_index new k) number (here yes (n - 64 * block) (omega arith) (ap stuck number ∙ live))
+      | inr apart ↦
+          let kept = get_or-set_other calm block (n / 64) many false (λ e. apart (omega arith)) in
+          rw (others n apart) (before n (sym kept ∙ is) live)
+    ]
+
+-- of two that aren't both true, the first is false where the second is true
+pub both_false : (a b : Bool) → (a && b) ≡ false → b ≡ true → a ≡ false
+both_false true b none more = absurd (true≢false (sym more ∙ none))
+both_false false b none more = refl
+
+not_calm : (k n : ℕ) → get_or (replicate k false) n false ≡ false
+not_calm zero zero = refl
+not_calm zero (suc n) = refl
+not_calm (suc k) zero = refl
+not_calm (suc k) (suc n) = not_calm k n
+
+-- of a line that was just drawn no block is calm
+pub never_calm : (k n : ℕ) (count : ℕ) → get_or (replicate k false) n false ≡ true → 8 ≤ count
+never_calm k n count is = absurd (true≢false (sym is ∙ not_calm k n))
+
+pub or_false : (a b : Bool) → cond a true b ≡ false → b ≡ false
+or_false true b h = absurd (true≢false h)
+or_false false b h = h
+
+-- a cell that isn't stuck after a block was written was not stuck before
+pub stuck_before : (block : ℕ) (old new : ℕ → Bool) → ((i : ℕ) → i < 64 → new (64 * block + i) ≡ false → old (64 * block + i) ≡ false)
+    → ((n : ℕ) → n / 64 ≢ block → new n ≡ old n) → (n : ℕ) → new n ≡ false → old n ≡ false
+stuck_before block old new here others n live =
+    elim (cases_eq (n / 64) block) as (λ _. old n ≡ false) [
+      | inl same ↦
+          let number : 64 * block + (n - 64 * block) ≡ n = omega arith in
+          ap old (sym number) ∙ here (n - 64 * block) (omega arith) (ap new number ∙ live)
+      | inr apart ↦ sym (others n apart) ∙ live
+    ]

@@ -1,5 +1,5 @@
 -- The array whose cells wear out as a seed says.
-use Rattle.std.specs.Prelude.{ℕ, ◌≡◌, ◌≢◌, ◌+◌, ◌-◌, ◌*◌, ◌/◌, ◌%◌, ◌^◌, ◌<◌, min, Bool, true, false, ◌&&◌, nat_eq, nat_lt, nat_le, bit_xor, if◌then◌else◌, List, [], length, slice_index, slice_index_or, Option, None, Some, Vec}
+use Rattle.std.specs.Prelude.{ℕ, ◌≡◌, ◌≢◌, ◌+◌, ◌≤◌, ◌-◌, ◌*◌, ◌/◌, ◌%◌, ◌^◌, ◌<◌, min, Bool, true, false, ◌&&◌, nat_eq, nat_lt, nat_le, bit_xor, if◌then◌else◌, List, [], ◌∷◌, suc, length, slice_index, slice_index_or, Option, None, Some, Vec}
 use Rattle.std.specs.Int.{bit_at}
 use Rattle.std.specs.declared.alloc.Global.{Global}
 use Rattle.pcm_cells.specs.declared.row.Cells.{Cells}
@@ -58,6 +58,15 @@ pub record LifeLine (B M : ℕ) : Type 0 where
   pub left : List ℕ
   pub limits : Digits B M
   pub ends : Cells B M
+
+-- what is left of each count from cell `first` on, where a cell changed so often since its count was brought up to date
+unfoldable pub left_of : {B M : ℕ} → ℕ → Digits B M → List ℕ → List ℕ
+left_of first spent [] = []
+left_of first spent (count ∷ counts) = (count - digit spent first) ∷ left_of (suc first) spent counts
+
+-- each live cell of a calm block has a count of at least eight
+abbrev pub IsCalm : {B M : ℕ} → List Bool → Cells B M → List ℕ → Type 0
+IsCalm calm stuck counts = (n : ℕ) → slice_index_or calm (n / 64) false ≡ true → cell stuck n ≡ false → 8 ≤ slice_index counts n
 
 abbrev pub seeded_cell : {B M : ℕ} → LifeLine B M → ℕ → SeededCell
 seeded_cell row number = record {

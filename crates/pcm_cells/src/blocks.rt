@@ -1,7 +1,7 @@
 // Blocks of 64 cells, each as the bits of a number, the lowest bit first.
-ghost use Rattle.std.specs.Prelude.{◌≡◌, ◌≢◌, ℕ, ◌+◌, ◌-◌, ◌*◌, ◌/◌, ◌%◌, ◌<◌, ◌≤◌, ◌&&◌, true, false, not, bit_and, bit_xor, length, nat_eq, nat_le, if◌then◌else◌, slice_index};
+ghost use Rattle.std.specs.Prelude.{◌≡◌, ◌≢◌, ℕ, ◌+◌, ◌-◌, ◌*◌, ◌/◌, ◌%◌, ◌<◌, ◌≤◌, ◌&&◌, true, false, not, bit_and, bit_xor, length, nat_eq, nat_le, IsTrue, if◌then◌else◌, slice_index};
 ghost use Rattle.pcm_cells.specs.Rows.{bit_of};
-ghost use Rattle.pcm_cells.specs.Planes.{bit_in};
+ghost use Rattle.pcm_cells.specs.Planes.{bit_in, number_of};
 
 // Eight bytes of the list, the first of them lowest.
 pub(crate) fn read_block(bytes: &[u8], block: usize) -> u64
@@ -88,4 +88,39 @@ pub(crate) fn spend(left: &mut [u32], block: usize, mask: u64) -> u64
         rest = cleared(rest, place);
     }
     last
+}
+
+// The digit that a number has at a place.
+fn digit_at(bits: u64, place: u32) -> u32
+    requires { place < 64 }
+    ensures is { result ≡ (if bit_in bits place then 1 else 0) }
+    ensures few { result ≤ 1 }
+{
+    if bits >> place & 1 == 1 { 1 } else { 0 }
+}
+
+// Takes from each count of a block the number whose binary digits these are, the lowest first.
+pub(crate) fn level(left: &mut [u32], block: usize, low: u64, middle: u64, high: u64)
+    requires { 64 * block + 64 ≤ length left.old }
+    ensures here { (i : ℕ) → i < 64 → slice_index left.new (64 * block + i) ≡ slice_index left.old (64 * block + i) - number_of (bit_in low i) (bit_in middle i) (bit_in high i) }
+    ensures others { (n : ℕ) → n / 64 ≢ block → slice_index left.new n ≡ slice_index left.old n }
+{
+    for place in 0..64 {
+        let less = digit_at(low, place) + 2 * digit_at(middle, place) + 4 * digit_at(high, place);
+        let count = &mut left[64 * block + place as usize];
+        *count = count.saturating_sub(less);
+    }
+}
+
+// Whether each count of a block is at least eight that isn't in the mask.
+pub(crate) fn are_many(left: &[u32], block: usize, mask: u64) -> bool
+    requires { 64 * block + 64 ≤ length left.now }
+    ensures { IsTrue result → (i : ℕ) → i < 64 → bit_in mask i ≡ false → 8 ≤ slice_index left.now (64 * block + i) }
+{
+    for place in 0..64 {
+        if left[64 * block + place as usize] < 8 && digit_at(mask, place) == 0 {
+            return false;
+        }
+    }
+    true
 }

@@ -52,10 +52,9 @@ pub(crate) fn is_zero(bytes: &[u8]) -> bool
     ensures none { IsTrue result → (n : ℕ) → bit_of bytes.now n ≡ false }
     ensures some { IsFalse result → (n : ℕ) × (n < 8 * length bytes.now) × (bit_of bytes.now n ≡ true) }
 {
+    let mut all = 0;
     for byte in bytes {
-        if *byte != 0 {
-            return false;
-        }
+        all |= *byte;
     }
-    true
+    all == 0
 }

@@ -1,6 +1,6 @@
 // Small numbers of a row's cells, as planes of their binary digits.
-ghost use Rattle.std.specs.Prelude.{◌≡◌, ◌≢◌, ℕ, ◌+◌, ◌*◌, ◌/◌, ◌<◌, ◌≤◌, true, nat_eq, nat_lt, if◌then◌else◌};
-ghost use Rattle.pcm_cells.specs.Planes.{bit_in, digit, zero_digits};
+ghost use Rattle.std.specs.Prelude.{◌≡◌, ◌≢◌, ℕ, ◌+◌, ◌*◌, ◌/◌, ◌<◌, ◌≤◌, true, false, nat_eq, nat_lt, if◌then◌else◌};
+ghost use Rattle.pcm_cells.specs.Planes.{bit_in, digit, number_of, zero_digits};
 ghost use Rattle.pcm_cells.specs.Shape.{IsWhole};
 
 use crate::Cells;
@@ -66,5 +66,39 @@ impl<const B: usize, const M: usize> Digits<B, M> {
         self.middle.set_block(block, without(carry ^ middle, none));
         self.high
             .set_block(block, without((carry & middle) ^ high, none));
+    }
+
+    // As a mask over a block: the cells whose number is 7.
+    pub(crate) fn full(&self, block: usize) -> u64
+        requires whole { IsWhole B M }
+        requires exists { 8 * block < B + M }
+        ensures { (i : ℕ) → i < 64 → bit_in result i ≡ false → digit self.now (64 * block + i) < 7 }
+    {
+        self.low.block(block) & self.middle.block(block) & self.high.block(block)
+    }
+
+    // The binary digits of a block's numbers, the lowest first.
+    pub(crate) fn planes(&self, block: usize) -> (u64, u64, u64)
+        requires whole { IsWhole B M }
+        requires exists { 8 * block < B + M }
+        ensures { (i : ℕ) → i < 64 → number_of (bit_in result.0 i) (bit_in result.1 i) (bit_in result.2 i) ≡ digit self.now (64 * block + i) }
+    {
+        (
+            self.low.block(block),
+            self.middle.block(block),
+            self.high.block(block),
+        )
+    }
+
+    // Lets the numbers of a block be 0.
+    pub(crate) fn clear(&mut self, block: usize)
+        requires whole { IsWhole B M }
+        requires exists { 8 * block < B + M }
+        ensures here { (i : ℕ) → i < 64 → digit self.new (64 * block + i) ≡ 0 }
+        ensures others { (n : ℕ) → n / 64 ≢ block → digit self.new n ≡ digit self.old n }
+    {
+        self.low.set_block(block, 0);
+        self.middle.set_block(block, 0);
+        self.high.set_block(block, 0);
     }
 }

@@ -1,7 +1,7 @@
 // The array whose cells wear out as a seed says.
 ghost use Rattle.std.specs.Prelude.{◌≡◌, ◌≢◌, ℕ, ◌+◌, ◌-◌, ◌*◌, ◌%◌, ◌<◌, ◌≤◌, true, false, length, IfOk, OnOk, OnErr, slice_index, bit_xor};
 
-use crate::blocks::{chosen, reached, spend, without};
+use crate::blocks::{are_many, chosen, level, reached, spend, without};
 use crate::digits::Digits;
 use crate::{CellArray, CellState, Cells, Wear};
 use rand_core::{Rng, SeedableRng};
@@ -49,23 +49,27 @@ struct SeededLine<const B: usize, const M: usize> {
     left: Vec<u32>,
     limits: Digits<B, M>,
     ends: Cells<B, M>,
+    // How often each cell changed since its count in `left` was last brought up to date.
+    spent: Digits<B, M>,
+    // Of each block, whether each live cell's count in `left` is at least eight.
+    calm: [bool; B],
 }
 
 impl<const B: usize, const M: usize> Model for SeededLine<B, M> {
     ghost use Rattle.std.specs.Prelude.{◌≡◌, ℕ, ◌+◌, ◌*◌, ◌≤◌, slice_index, vec_len};
-    ghost use Rattle.pcm_cells.specs.Seeded.{LifeLine};
+    ghost use Rattle.pcm_cells.specs.Seeded.{LifeLine, left_of, IsCalm};
     ghost use Rattle.pcm_cells.specs.Shape.{IsShape};
 
     ghost Value = { LifeLine B M };
 
     ghost view = { λ l. record {
       line = record { held = l.held; stuck = l.stuck; misses = l.misses; pulses = l.pulses };
-      left = l.left.items;
+      left = left_of 0 l.spent l.left.items;
       limits = l.limits;
       ends = l.ends;
     } };
 
-    ghost invariant = { λ l. (vec_len l.left ≡ 8 * (B + M)) × IsShape B M };
+    ghost invariant = { λ l. (vec_len l.left ≡ 8 * (B + M)) × IsShape B M × IsCalm l.calm l.stuck l.left.items };
 }
 
 ghost use Rattle.pcm_cells.specs.Rows.{cell};
@@ -73,6 +77,8 @@ ghost use Rattle.pcm_cells.specs.Shape.{IsShape, IsWhole};
 ghost use Rattle.pcm_cells.specs.Device.{counted};
 ghost use Rattle.pcm_cells.specs.Follows.{Follows, FollowsIn};
 ghost use Rattle.pcm_cells.specs.Seeded.{seeded_cell, IsDrawn};
+ghost use Rattle.pcm_cells.specs.Planes.{bit_in};
+ghost use Rattle.std.specs.Prelude.{◌/◌, ◌&&◌, nat_le, if◌then◌else◌};
 
 impl<const B: usize, const M: usize> SeededLine<B, M> {
     // Word n of the generator belongs to cell n.
@@ -99,7 +105,36 @@ impl<const B: usize, const M: usize> SeededLine<B, M> {
             left,
             limits,
             ends,
+            spent: Digits::zero(),
+            calm: [false; B],
         })
+    }
+
+    // Takes one from each count of a block that is in the mask, and answers those of them that were at most one.
+    // The counts themselves are brought up to date only where a digit is full, or a count low.
+    fn spend(&mut self, block: usize, changing: u64) -> u64
+        requires exists { 8 * block < B + M }
+        requires shape { IsShape B M }
+        requires whole { IsWhole B M }
+        requires live { (i : ℕ) → i < 64 → bit_in changing i ≡ true → cell self.old.line.stuck (64 * block + i) ≡ false }
+        ensures last { (i : ℕ) → i < 64 → bit_in result i ≡ bit_in changing i && nat_le (slice_index self.old.left (64 * block + i)) 1 }
+        ensures here { (i : ℕ) → i < 64 → slice_index self.new.left (64 * block + i) ≡ (if bit_in changing i then slice_index self.old.left (64 * block + i) - 1 else slice_index self.old.left (64 * block + i)) }
+        ensures others { (n : ℕ) → n / 64 ≢ block → slice_index self.new.left n ≡ slice_index self.old.left n }
+        ensures line { self.new.line ≡ self.old.line }
+        ensures limits { self.new.limits ≡ self.old.limits }
+        ensures ends { self.new.ends ≡ self.old.ends }
+    {
+        if self.calm[block] && self.spent.full(block) & changing == 0 {
+            self.spent.advance(block, changing, 0);
+            return 0;
+        }
+        let stuck = self.stuck.block(block);
+        let (low, middle, high) = self.spent.planes(block);
+        level(self.left.as_mut_slice(), block, low, middle, high);
+        self.spent.clear(block);
+        let last = spend(self.left.as_mut_slice(), block, changing);
+        self.calm[block] = are_many(self.left.as_slice(), block, stuck);
+        last
     }
 
     // The masked cells of one block in a pulse or in a tear.
@@ -114,7 +149,7 @@ impl<const B: usize, const M: usize> SeededLine<B, M> {
         let live = without(reached(tearing, mask.block(block)), stuck);
         let missing = live & self.misses.below(&self.limits, block);
         let changing = without(live, missing);
-        let last = spend(self.left.as_mut_slice(), block, changing);
+        let last = self.spend(block, changing);
         let value = chosen(want.block(block), last, self.ends.block(block));
         let held = chosen(self.held.block(block), changing, value);
         self.held.set_block(block, held);

@@ -11,7 +11,7 @@ use crate::source::Source;
 use std::alloc::Global;
 
 // Bytes that one call of a source is asked for.
-const PIECE: usize = 4096;
+const PIECE: usize = 65_536;
 
 /// Reads a source to its end. Reading stops at the first byte past the limit, and at the first fault.
 pub fn read_all<S: Source>(

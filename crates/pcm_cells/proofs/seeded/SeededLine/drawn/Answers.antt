@@ -1,12 +1,13 @@
-use Rattle.std.proofs.Common.{◌≡◌, ◌<◌, ◌∙◌, ap, sym, refl, arith, bit_xor, length, length-set, rules}
+use Rattle.std.proofs.Common.{slice_index, ◌/◌, ◌≡◌, ◌<◌, ◌∙◌, ap, sym, refl, arith, bit_xor, length, length-set, rules}
 use Rattle.rand_core.specs.Stream.{next_u64}
 use Rattle.rand_core.specs.Steps.{stream_of, steps_u64_high}
 use Rattle.rand_xoshiro.specs.Xoshiro256.{plus_plus}
 use Rattle.pcm_cells.specs.Rows.{cell}
 use Rattle.pcm_cells.specs.Planes.{digit}
 use Rattle.pcm_cells.specs.Words.{xoshiro_of, word_at}
-use Rattle.pcm_cells.specs.Seeded.{endurance, miss_limit, stuck_value}
+use Rattle.pcm_cells.specs.Seeded.{left_of, endurance, miss_limit, stuck_value}
 use Rattle.pcm_cells.proofs.PlaneLemmas.{digit-zeros}
+use Rattle.pcm_cells.proofs.SeededLemmas.{left_is, never_calm}
 use Rattle.pcm_cells.proofs.WordLemmas.{stream_after-zero, stream_after-more, word_at-is, filled_more, cells_more, highest_bit}
 use Rattle.pcm_cells.proofs.seeded.SeededLine.drawn.Goals as goal
 
@@ -47,5 +48,11 @@ returns g c =
       cells = λ n h.
           let within : n < c.loop-cell.cell = omega arith in
           let none : digit c.zero-3.result n ≡ 0 = rw c.zero-3.ensures (digit-zeros g.row.B g.row.M n) in
-          rw (c.zero.ensures.cells n, c.zero-2.ensures.cells n, none, i.left n within, i.limits n within, i.ends n within) refl;
+          let fresh : digit c.zero-4.result n ≡ 0 = rw c.zero-4.ensures (digit-zeros g.row.B g.row.M n) in
+          let whole : slice_index (left_of 0 c.zero-4.result c.loop-cell.left.items) n ≡ endurance c.args.wear (word_at n (xoshiro_of (bit_xor c.args.wear.seed c.args.number))) =
+          omega (arith, left_is c.zero-4.result c.loop-cell.left.items n, fresh, i.left n within) in
+          rw (c.zero.ensures.cells n, c.zero-2.ensures.cells n, none, whole, i.limits n within, i.ends n within) refl;
     }
+
+pub invariant_of-result : goal.invariant_of-result
+invariant_of-result g c = (search rules, search rules, λ n is live. never_calm g.row.B (n / 64) _ is)

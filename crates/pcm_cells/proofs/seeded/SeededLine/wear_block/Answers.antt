@@ -1,19 +1,19 @@
-use Rattle.std.proofs.Common.{◌≡◌, ℕ, ◌+◌, ◌*◌, ◌%◌, ◌≤◌, ◌&&◌, rules, length, slice_index, true, cond, refl, ◌∙◌, ap, arith}
+use Rattle.std.proofs.Common.{◌≡◌, ℕ, ◌+◌, ◌*◌, ◌%◌, ◌≤◌, ◌&&◌, rules, length, slice_index, true, cond, refl, sym, ◌∙◌, ap, arith}
 use Rattle.pcm_cells.specs.Rows.{cell}
-use Rattle.pcm_cells.specs.Planes.{bit_in}
-use Rattle.pcm_cells.specs.Seeded.{LifeLine, seeded, seeded_cell}
+use Rattle.pcm_cells.specs.Planes.{bit_in, digit}
+use Rattle.pcm_cells.specs.Seeded.{LifeLine, left_of, seeded, seeded_cell}
 use Rattle.std.proofs.Common.{bit_and}
-use Rattle.std.specs.Vec.{with_items}
-use Rattle.std.proofs.lemmas.List.{with_items_is}
 use Rattle.pcm_cells.proofs.ByteLemmas.{digit_and, digit_or}
 use Rattle.pcm_cells.proofs.FollowsLemmas.{followed_block}
-use Rattle.pcm_cells.proofs.SeededLemmas.{worn_follows, worn_kept, missing_few}
+use Rattle.pcm_cells.proofs.SeededLemmas.{worn_follows, worn_kept, missing_few, or_false, stuck_before}
 use Rattle.pcm_cells.proofs.seeded.SeededLine.wear_block.Goals as goal
 
 pub advance-requires : goal.advance-requires
 advance-requires g c =
     let few_bytes : g.row.B ≤ 128 = c.requires.shape.1 in
     let few_check : g.row.M ≤ 16 = c.requires.shape.3 in
+    let misses : c.self-2.inside.misses ≡ c.self.inside.misses =
+    ap (λ s. s.line.misses) c.self-2.view_is ∙ ap (λ l. l.misses) c.spend-last.ensures.line ∙ sym (ap (λ s. s.line.misses) c.self.view_is) in
     let live = bit_in c.without-live.result in (
       search rules,
       (
@@ -21,8 +21,8 @@ advance-requires g c =
         (
           c.requires.exists,
           λ i low h.
-              missing_few c.self.inside.misses c.self.inside.limits (64 * c.args.block + i) (live i) (bit_in (bit_and c.without-live.result c.below.result) i)
-              (digit_and c.without-live.result c.below.result i ∙ ap (λ b. live i && b) (c.below.ensures i low)) h,
+              rw misses (missing_few c.self.inside.misses c.self.inside.limits (64 * c.args.block + i) (live i) (bit_in (bit_and c.without-live.result c.below.result) i)
+              (digit_and c.without-live.result c.below.result i ∙ ap (λ b. live i && b) (c.below.ensures i low)) h),
         ),
       ),
     )
@@ -30,37 +30,51 @@ advance-requires g c =
 pub returns-clause-cells : goal.returns-clause-cells
 returns-clause-cells g c =
     let block = c.args.block in
-    let old : LifeLine g.row.B g.row.M =
-    record {
-      line = record { held = c.self.inside.held; stuck = c.self.inside.stuck; misses = c.self.inside.misses; pulses = c.self.inside.pulses };
-      left = c.self.inside.left.items;
-      limits = c.self.inside.limits;
-      ends = c.self.inside.ends;
-    } in
+    let now = c.spend-last.new.self in
     let new : LifeLine g.row.B g.row.M =
     record {
-      line = record { held = c.set_block.new.self; stuck = c.set_block-2.new.self; misses = c.advance.new.self; pulses = c.self.inside.pulses };
-      left = (with_items c.self.inside.left c.spend-last.new.left).items;
-      limits = c.self.inside.limits;
-      ends = c.self.inside.ends;
+      line = record { held = c.set_block.new.self; stuck = c.set_block-2.new.self; misses = c.advance.new.self; pulses = c.self-2.inside.pulses };
+      left = left_of 0 c.self-2.inside.spent c.self-2.inside.left.items;
+      limits = c.self-2.inside.limits;
+      ends = c.self-2.inside.ends;
     } in
-    let same : c.as_mut_slice.result.now ≡ c.self.inside.left.items = c.as_mut_slice.ensures.value in
-    let size : length c.spend-last.new.left ≡ c.self.inside.left.len = search rules in
-    let written = with_items_is c.self.inside.left c.spend-last.new.left size in
-    rw (← c.self.view_is)
-    (followed_block block (cell c.args.mask.now) (seeded c.args.tearing (cell c.args.want.now)) (seeded_cell old) (seeded_cell new)
+    let old : LifeLine g.row.B g.row.M = c.args.self.now in
+    let held : c.self-2.inside.held ≡ old.line.held = ap (λ s. s.line.held) c.self-2.view_is ∙ ap (λ l. l.held) c.spend-last.ensures.line in
+    let stuck : c.self.inside.stuck ≡ old.line.stuck = ap (λ s. s.line.stuck) c.self.view_is in
+    let stuck_2 : c.self-2.inside.stuck ≡ old.line.stuck = ap (λ s. s.line.stuck) c.self-2.view_is ∙ ap (λ l. l.stuck) c.spend-last.ensures.line in
+    let misses : c.self.inside.misses ≡ old.line.misses = ap (λ s. s.line.misses) c.self.view_is in
+    let misses_2 : c.self-2.inside.misses ≡ old.line.misses = ap (λ s. s.line.misses) c.self-2.view_is ∙ ap (λ l. l.misses) c.spend-last.ensures.line in
+    let limits : c.self.inside.limits ≡ old.limits = ap (λ s. s.limits) c.self.view_is in
+    let limits_2 : c.self-2.inside.limits ≡ old.limits = ap (λ s. s.limits) c.self-2.view_is ∙ c.spend-last.ensures.limits in
+    let ends_2 : c.self-2.inside.ends ≡ old.ends = ap (λ s. s.ends) c.self-2.view_is ∙ c.spend-last.ensures.ends in
+    let left : left_of 0 c.self-2.inside.spent c.self-2.inside.left.items ≡ now.left = ap (λ s. s.left) c.self-2.view_is in
+    followed_block block (cell c.args.mask.now) (seeded c.args.tearing (cell c.args.want.now)) (seeded_cell old) (seeded_cell new)
     (λ i low.
     let n : ℕ = 64 * block + i in
     let parity : n % 2 ≡ i % 2 = omega arith in
     worn_follows c.args.mask.now c.args.want.now c.args.tearing old new n
     (bit_in c.without-live.result i) (bit_in (bit_and c.without-live.result c.below.result) i) (bit_in c.without-changing.result i) (bit_in c.spend-last.result i)
-    (c.without-live.ensures i ∙ rw (c.block-stuck.ensures i low, c.reached.ensures i low, c.block.ensures i low, parity) refl)
-    (digit_and c.without-live.result c.below.result i ∙ ap (λ b. bit_in c.without-live.result i && b) (c.below.ensures i low))
+    (c.without-live.ensures i ∙ rw (c.block-stuck.ensures i low, c.reached.ensures i low, c.block.ensures i low, parity, stuck) refl)
+    (digit_and c.without-live.result c.below.result i ∙ ap (λ b. bit_in c.without-live.result i && b) (c.below.ensures i low ∙ rw (misses, limits) refl))
     (c.without-changing.ensures i)
-    (rw same at c.spend-last.ensures.last i low)
-    (c.set_block.ensures.here i low ∙ c.chosen-held.ensures.bits i ∙ rw (c.chosen-value.ensures.bits i, c.block-2.ensures i low, c.block-3.ensures i low, c.block-4.ensures i low) refl)
-    (c.set_block-2.ensures.here i low ∙ digit_or c.spend-last.result c.block-stuck.result i ∙ ap (λ b. cond (bit_in c.spend-last.result i) true b) (c.block-stuck.ensures i low))
-    (c.advance.ensures.here i low)
-    (ap (λ xs. slice_index xs n) written ∙ (rw same at c.spend-last.ensures.here i low))
-    refl refl)
-    (λ n apart. worn_kept old new n (c.set_block.ensures.others n apart) (c.set_block-2.ensures.others n apart) (c.advance.ensures.others n apart) (ap (λ xs. slice_index xs n) written ∙ (rw same at c.spend-last.ensures.others n apart)) refl refl))
+    (c.spend-last.ensures.last i low)
+    (c.set_block.ensures.here i low ∙ c.chosen-held.ensures.bits i ∙ rw (c.chosen-value.ensures.bits i, c.block-2.ensures i low, c.block-3.ensures i low, c.block-4.ensures i low, held, ends_2) refl)
+    (c.set_block-2.ensures.here i low ∙ digit_or c.spend-last.result c.block-stuck.result i ∙ ap (λ b. cond (bit_in c.spend-last.result i) true b) (c.block-stuck.ensures i low ∙ ap (λ s. cell s n) stuck))
+    (c.advance.ensures.here i low ∙ rw misses_2 refl)
+    (ap (λ xs. slice_index xs n) left ∙ c.spend-last.ensures.here i low)
+    limits_2 ends_2)
+    (λ n apart. worn_kept old new n (c.set_block.ensures.others n apart ∙ ap (λ s. cell s n) held) (c.set_block-2.ensures.others n apart ∙ ap (λ s. cell s n) stuck_2)
+    (c.advance.ensures.others n apart ∙ ap (λ d. digit d n) misses_2) (ap (λ xs. slice_index xs n) left ∙ c.spend-last.ensures.others n apart) limits_2 ends_2)
+
+pub invariant_of-self : goal.invariant_of-self
+invariant_of-self g c =
+    let block = c.args.block in
+    let stuck : c.self-2.inside.stuck ≡ c.self.inside.stuck =
+    ap (λ s. s.line.stuck) c.self-2.view_is ∙ ap (λ l. l.stuck) c.spend-last.ensures.line ∙ sym (ap (λ s. s.line.stuck) c.self.view_is) in
+    (c.self-2.invariant.0, c.self-2.invariant.1, λ n is live.
+    c.self-2.invariant.2 n is
+    (stuck_before block (cell c.self-2.inside.stuck) (cell c.set_block-2.new.self)
+    (λ i low h. ap (λ s. cell s (64 * block + i)) stuck ∙ sym (c.block-stuck.ensures i low)
+    ∙ or_false (bit_in c.spend-last.result i) (bit_in c.block-stuck.result i)
+    (sym (c.set_block-2.ensures.here i low ∙ digit_or c.spend-last.result c.block-stuck.result i) ∙ h))
+    c.set_block-2.ensures.others n live))
