@@ -10,5 +10,3 @@ mod restoring;
 mod sensing;
 mod serving;
 mod stepping;
-#[cfg(test)]
-mod tests;

@@ -6,6 +6,6 @@ mod arriving;
 mod completing;
 mod cutting;
 mod draining;
-#[cfg(test)]
-mod tests;
 pub mod timed;
+
+pub use register_recovery::recover;

@@ -1,6 +1,6 @@
 use Rattle.std.proofs.Common.{◌+◌, ◌≤◌, sym, subst, arith}
 use Rattle.bank_shape.specs.Shape.{lines_in}
-use Rattle.bank_timing.proofs.tests.powered.Goals as goal
+use Rattle.bank_rows.proofs.rows.powered.Goals as goal
 
 pub returns-clause-leads : goal.returns-clause-leads
 returns-clause-leads g c =

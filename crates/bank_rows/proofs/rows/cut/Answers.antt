@@ -1,4 +1,4 @@
-use Rattle.bank_timing.proofs.tests.cut.Goals as goal
+use Rattle.bank_rows.proofs.rows.cut.Goals as goal
 
 pub returns-clause-led : goal.returns-clause-led
 returns-clause-led g c =

@@ -1,13 +1,13 @@
 //! Rows of events of a bank of four lines, over cells that miss and stick as a script says.
 #![tactic(auto, using(ecp_line::proofs::Sizes::layout_64))]
 
-ghost use Rattle.std.specs.Prelude.{◌≡◌, ◌<◌, ◌≤◌, length, IfOk, IsTrue, is_some};
+ghost use Rattle.std.specs.Prelude.{◌≡◌, ◌+◌, ◌<◌, ◌≤◌, IfOk, IsTrue};
 ghost use Rattle.masked_bytes.specs.Masked.{IsMasked};
 ghost use Rattle.pcm_cells.specs.Device.{ArrayState};
 ghost use Rattle.power_recovery.specs.Slots.{bank_lines};
 ghost use Rattle.bank_invariant.specs.Tied.{IsTied};
 
-use crate::bank::Bank;
+use bank_core::bank::Bank;
 use bank_model::answer::{ReadAnswer, Step, WriteAnswer};
 use bank_shape::{BankShape, Home};
 use pcm_cells::{Act, CellArray, Script, ScriptArray, Wear};
@@ -90,7 +90,8 @@ fn powered<A: CellArray<64, 8>>(
 ) -> Result<Bank<64, 8, 6>, AllocError>
     requires some { 1 ≤ psi }
     requires few { psi ≤ 65535 }
-    ensures { IfOk result (λ bank. IsTied bank (A.state array.new)) }
+    ensures tied { IfOk result (λ bank. IsTied bank (A.state array.new)) }
+    ensures rows { IfOk result (λ bank. bank.rows_below ≡ 0) }
 {
     array.power_up(alloc, 7, WEAR)?;
     let shape = BankShape {
@@ -107,20 +108,21 @@ fn powered<A: CellArray<64, 8>>(
     Ok(bank)
 }
 
-// Whether a row of this number may come, for a line of the bank.
-fn may_come(bank: &Bank<64, 8, 6>, row: u32, line: u32) -> bool
-    ensures rises { IsTrue result → bank.now.rows_below ≤ row }
-    ensures exists { IsTrue result → line < bank_lines bank.now.kept.shape }
+// Whether the bank has this line.
+fn has_line(bank: &Bank<64, 8, 6>, line: u32) -> bool
+    ensures { IsTrue result → line < bank_lines bank.now.kept.shape }
 {
     let shape = bank.kept().shape();
-    bank.rows_below <= row as u64 && line < shape.lines
+    line < shape.lines
 }
 
 fn write(bank: &mut Bank<64, 8, 6>, row: u32, line: u32, bytes: [u8; 64], given: [bool; 64]) -> Saw
-    requires { IsMasked 64 bytes given }
-    ensures { (array : ArrayState 64 8) → IsTied bank.old array → IsTied bank.new array }
+    requires masked { IsMasked 64 bytes given }
+    requires rises { bank.old.rows_below ≤ row }
+    ensures rows { bank.new.rows_below ≤ row + 1 }
+    ensures tied { (array : ArrayState 64 8) → IsTied bank.old array → IsTied bank.new array }
 {
-    if may_come(bank, row, line) {
+    if has_line(bank, line) {
         wrote(bank.write(row, line, bytes, given))
     } else {
         Saw::Refused
@@ -129,14 +131,18 @@ fn write(bank: &mut Bank<64, 8, 6>, row: u32, line: u32, bytes: [u8; 64], given:
 
 // A write that gives every byte, each the same.
 fn write_all(bank: &mut Bank<64, 8, 6>, row: u32, line: u32, byte: u8) -> Saw
-    ensures { (array : ArrayState 64 8) → IsTied bank.old array → IsTied bank.new array }
+    requires rises { bank.old.rows_below ≤ row }
+    ensures rows { bank.new.rows_below ≤ row + 1 }
+    ensures tied { (array : ArrayState 64 8) → IsTied bank.old array → IsTied bank.new array }
 {
     write(bank, row, line, [byte; 64], [true; 64])
 }
 
 // A write that gives the first byte alone.
 fn write_first(bank: &mut Bank<64, 8, 6>, row: u32, line: u32, byte: u8) -> Saw
-    ensures { (array : ArrayState 64 8) → IsTied bank.old array → IsTied bank.new array }
+    requires rises { bank.old.rows_below ≤ row }
+    ensures rows { bank.new.rows_below ≤ row + 1 }
+    ensures tied { (array : ArrayState 64 8) → IsTied bank.old array → IsTied bank.new array }
 {
     let mut bytes = [0; 64];
     let mut given = [false; 64];
@@ -146,9 +152,11 @@ fn write_first(bank: &mut Bank<64, 8, 6>, row: u32, line: u32, byte: u8) -> Saw
 }
 
 fn read(bank: &mut Bank<64, 8, 6>, row: u32, line: u32) -> Saw
-    ensures { (array : ArrayState 64 8) → IsTied bank.old array → IsTied bank.new array }
+    requires rises { bank.old.rows_below ≤ row }
+    ensures rows { bank.new.rows_below ≤ row + 1 }
+    ensures tied { (array : ArrayState 64 8) → IsTied bank.old array → IsTied bank.new array }
 {
-    if may_come(bank, row, line) {
+    if has_line(bank, line) {
         came(bank.read(row, line))
     } else {
         Saw::Refused
@@ -157,7 +165,8 @@ fn read(bank: &mut Bank<64, 8, 6>, row: u32, line: u32) -> Saw
 
 fn serve<A: CellArray<64, 8>>(bank: &mut Bank<64, 8, 6>, array: &mut A) -> Saw
     requires { IsTied bank.old (A.state array.old) }
-    ensures { IsTied bank.new (A.state array.new) }
+    ensures rows { bank.new.rows_below ≡ bank.old.rows_below }
+    ensures tied { IsTied bank.new (A.state array.new) }
 {
     if bank.waiting() == 0 {
         return Saw::Refused;
@@ -168,7 +177,8 @@ fn serve<A: CellArray<64, 8>>(bank: &mut Bank<64, 8, 6>, array: &mut A) -> Saw
 
 fn begin<A: CellArray<64, 8>>(bank: &mut Bank<64, 8, 6>, array: &mut A) -> Saw
     requires { IsTied bank.old (A.state array.old) }
-    ensures { IsTied bank.new (A.state array.new) }
+    ensures rows { bank.new.rows_below ≡ bank.old.rows_below }
+    ensures tied { IsTied bank.new (A.state array.new) }
 {
     if bank.may_begin() {
         did(bank.begin(array, 0))
@@ -179,7 +189,8 @@ fn begin<A: CellArray<64, 8>>(bank: &mut Bank<64, 8, 6>, array: &mut A) -> Saw
 
 fn iterate<A: CellArray<64, 8>>(bank: &mut Bank<64, 8, 6>, array: &mut A) -> Saw
     requires { IsTied bank.old (A.state array.old) }
-    ensures { IsTied bank.new (A.state array.new) }
+    ensures rows { bank.new.rows_below ≡ bank.old.rows_below }
+    ensures tied { IsTied bank.new (A.state array.new) }
 {
     if bank.running() {
         did(bank.iterate(array, 0))
@@ -191,7 +202,8 @@ fn iterate<A: CellArray<64, 8>>(bank: &mut Bank<64, 8, 6>, array: &mut A) -> Saw
 // So many iterations, of which all but the last are to answer `More`: what the last answered.
 fn iterate_all<A: CellArray<64, 8>>(bank: &mut Bank<64, 8, 6>, array: &mut A, times: u32) -> Saw
     requires { IsTied bank.old (A.state array.old) }
-    ensures { IsTied bank.new (A.state array.new) }
+    ensures rows { bank.new.rows_below ≡ bank.old.rows_below }
+    ensures tied { IsTied bank.new (A.state array.new) }
 {
     let mut saw = Saw::More;
     for _ in 0..times {
@@ -203,19 +215,15 @@ fn iterate_all<A: CellArray<64, 8>>(bank: &mut Bank<64, 8, 6>, array: &mut A, ti
     saw
 }
 
-// Whether a cut may come: each lost row was taken, and one that tears falls in a line write.
-fn may_cut(bank: &Bank<64, 8, 6>, tearing: bool) -> bool
-    ensures taken { IsTrue result → length bank.now.lost ≡ 0 }
-    ensures runs { IsTrue result → IsTrue tearing → IsTrue (is_some bank.now.running) }
-{
-    bank.lost.len() == 0 && (!tearing || bank.running())
-}
-
 fn cut<A: CellArray<64, 8>>(bank: &mut Bank<64, 8, 6>, array: &mut A, tearing: bool) -> Saw
     requires { IsTied bank.old (A.state array.old) }
-    ensures { IsTied bank.new (A.state array.new) }
+    ensures rows { bank.new.rows_below ≡ bank.old.rows_below }
+    ensures tied { IsTied bank.new (A.state array.new) }
 {
-    if !may_cut(bank, tearing) {
+    if tearing && !bank.running() {
+        return Saw::Refused;
+    }
+    if bank.take_lost().is_some() {
         return Saw::Refused;
     }
     bank.cut(array, tearing, 0);
@@ -223,7 +231,8 @@ fn cut<A: CellArray<64, 8>>(bank: &mut Bank<64, 8, 6>, array: &mut A, tearing: b
 }
 
 fn take_lost(bank: &mut Bank<64, 8, 6>) -> Saw
-    ensures { (array : ArrayState 64 8) → IsTied bank.old array → IsTied bank.new array }
+    ensures rows { bank.new.rows_below ≡ bank.old.rows_below }
+    ensures tied { (array : ArrayState 64 8) → IsTied bank.old array → IsTied bank.new array }
 {
     match bank.take_lost() {
         Some(row) => Saw::Lost(row),
@@ -233,8 +242,10 @@ fn take_lost(bank: &mut Bank<64, 8, 6>) -> Saw
 
 // One event of this row.
 fn play<A: CellArray<64, 8>>(bank: &mut Bank<64, 8, 6>, array: &mut A, row: u32, call: Call) -> Saw
-    requires { IsTied bank.old (A.state array.old) }
-    ensures { IsTied bank.new (A.state array.new) }
+    requires rises { bank.old.rows_below ≤ row }
+    requires tied { IsTied bank.old (A.state array.old) }
+    ensures rows { bank.new.rows_below ≤ row + 1 }
+    ensures tied { IsTied bank.new (A.state array.new) }
 {
     match call {
         Call::Write(line, byte) => write_all(bank, row, line, byte),
@@ -261,7 +272,10 @@ fn differs<A: CellArray<64, 8>>(
     let mut bank = powered(alloc, array, psi)?;
     let mut row = 0u32;
     for (call, saw) in table {
-        row = row.saturating_add(1);
+        if row >= 100 {
+            return Ok(Some(row));
+        }
+        row += 1;
         if play(&mut bank, array, row, *call) != *saw {
             return Ok(Some(row));
         }

@@ -10,8 +10,8 @@ ghost use Rattle.bank_invariant.specs.State.{first_bank};
 ghost use Rattle.clock_laws.specs.Leads.{Leads};
 ghost use Rattle.bank_timing.specs.Extending.{AreOpen, IsOpen};
 
-use crate::timed::Timed;
 use bank_shape::{BankShape, Home};
+use bank_timing::timed::Timed;
 use pace::{Pace, Policy};
 use pcm_cells::{Act, CellArray, Script, ScriptArray, Wear};
 use result_rows::{Outcome, Results};
@@ -163,7 +163,7 @@ fn read<A: CellArray<64, 8>>(
 }
 
 // A write of this row that gives every byte, each the same.
-fn write_all<A: CellArray<64, 8>>(
+pub(crate) fn write_all<A: CellArray<64, 8>>(
     timed: &mut Timed<64, 8, 6>,
     array: &A,
     results: &mut Results<64>,
@@ -295,7 +295,7 @@ fn play<A: CellArray<64, 8>>(
 }
 
 // The clock goes on to the end.
-fn end<A: CellArray<64, 8>>(
+pub(crate) fn end<A: CellArray<64, 8>>(
     timed: &mut Timed<64, 8, 6>,
     array: &mut A,
     results: &mut Results<64>,
@@ -303,6 +303,7 @@ fn end<A: CellArray<64, 8>>(
     requires going { timed.old.drained ≡ false }
     requires led { (xs : List (TimedEvent 64 8)) × Leads xs timed.old (A.state array.old) }
     requires unset { AreOpen timed.old.bank results.old }
+    ensures { (xs : List (TimedEvent 64 8)) × Leads xs timed.new (A.state array.new) }
 {
     if timed.now() > LAST_TICK {
         return false;
@@ -312,19 +313,19 @@ fn end<A: CellArray<64, 8>>(
 }
 
 // A bank with its clock, over array lines that are powered up for it.
-fn powered<A: CellArray<64, 8>>(
+pub(crate) fn powered<A: CellArray<64, 8>>(
     alloc: Global,
     array: &mut A,
     shape: BankShape,
     policy: Policy,
 ) -> Result<Timed<64, 8, 6>, AllocError>
     requires limits { IsBankShape shape }
-    requires room { shape.base + lines_in shape ≤ 7 }
+    requires room { shape.base + lines_in shape ≤ 11 }
     ensures going { IfOk result (λ timed. timed.drained ≡ false) }
     ensures leads { IfOk result (λ timed. Leads [] timed (A.state array.new)) }
     ensures rows { IfOk result (λ timed. timed.bank ≡ first_bank shape) }
 {
-    array.power_up(alloc, 7, WEAR)?;
+    array.power_up(alloc, 11, WEAR)?;
     let pace = Pace {
         read: 5,
         iter: 10,
@@ -383,7 +384,7 @@ fn differs<A: CellArray<64, 8>>(
     table: &[(u64, Call, Saw)],
 ) -> Result<Option<u32>, AllocError>
     requires limits { IsBankShape shape }
-    requires room { shape.base + lines_in shape ≤ 7 }
+    requires room { shape.base + lines_in shape ≤ 11 }
 {
     let mut timed = powered(alloc, array, shape, policy)?;
     let mut results = Results::new(alloc, 100)?;

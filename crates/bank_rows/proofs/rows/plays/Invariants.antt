@@ -2,7 +2,7 @@ use Rattle.std.proofs.Common.{◌≡◌, ◌+◌, ◌≤◌, false, List}
 use Rattle.bank_model.specs.Timing.{Timed}
 use Rattle.clock_laws.specs.Leads.{Leads}
 use Rattle.bank_timing.specs.Extending.{AreOpen}
-use Rattle.bank_timing.proofs.tests.plays.Given as goal
+use Rattle.bank_rows.proofs.rows.plays.Given as goal
 
 -- the bank may take the next row
 abbrev pub invariant-loop-tick : goal.invariant-loop-tick

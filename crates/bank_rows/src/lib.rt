@@ -1,0 +1,12 @@
+//! A bank and what it is made of, event by event and row by row: over lines whose cells do as a script says. What each table must
+//! answer was worked out by hand from the rules of the device.
+#![tactic(auto)]
+
+#[cfg(test)]
+mod control_lines;
+#[cfg(test)]
+mod events;
+#[cfg(test)]
+mod recovering;
+#[cfg(test)]
+mod rows;
