@@ -41,6 +41,7 @@ fn registers_in_the_array_take_lines(rt: HostRuntime) {
     let Ok(shape) = Shape::new(array) else {
         panic!(rt; "refused");
     };
+    assert_eq!(rt; shape.banks(), 2);
     assert_eq!(rt; shape.array_lines(), 94);
     assert_eq!(rt; shape.bank_shape(1).base, 47);
     assert!(rt; shape.bank_shape(1).home == Home::Array);

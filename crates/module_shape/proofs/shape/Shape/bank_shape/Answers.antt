@@ -1,4 +1,4 @@
-use Rattle.std.proofs.Common.{◌≡◌, ◌+◌, ◌*◌, ap}
+use Rattle.std.proofs.Common.{◌≡◌, ap}
 use Rattle.bank_shape.specs.Shape.{lines_in}
 use Rattle.module_shape.specs.Addresses.{array_lines_of, module_of}
 use Rattle.module_shape.proofs.Bounds.{banks_apart}
