@@ -53,21 +53,19 @@ impl<const B: usize, const M: usize, const E: usize> Bank<B, M, E> {
         ensures in_range { IsKept self.old.kept }
         ensures step { IfSome self.old.running (λ op. IsIteration tick op self.old self.new result (A.state array.old) (A.state array.new)) }
     {
-        let Some(running) = &mut self.running else {
-            unreachable!()
-        };
-        let (work, target) = (running.work, running.target);
-        match running.step(array, tick) {
-            Progress::More => Step::More,
-            Progress::Stored => {
-                self.running = None;
-                self.done(work, target)
-            }
-            Progress::Worn(_) => {
-                self.running = None;
-                let slot = self.slot_written(work);
-                self.worn(slot)
-            }
+        match self.running.take() {
+            Some(mut running) => match running.step(array, tick) {
+                Progress::More => {
+                    self.running = Some(running);
+                    Step::More
+                }
+                Progress::Stored => self.done(running.work, running.target),
+                Progress::Worn(_) => {
+                    let slot = self.slot_written(running.work);
+                    self.worn(slot)
+                }
+            },
+            None => unreachable!(),
         }
     }
 

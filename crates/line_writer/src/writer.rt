@@ -61,23 +61,8 @@ impl<const B: usize, const M: usize, const E: usize> LineWriter<B, M, E> {
         ensures bytes { result.bytes ≡ bytes.entry }
         ensures steps { steps_left result ≤ most_steps E }
     {
-        let entries = Ecp::<B, M, E>::active(&seen);
         let (want, which) = Ecp::<B, M, E>::later(&seen);
-        if which.meet(&seen).is_none() {
-            let (want, which) = Ecp::<B, M, E>::wanted(&seen, &bytes);
-            let mut writer = LineWriter {
-                prog: Prog::new(seen, want, which),
-                bytes,
-                phase: Phase::Fill,
-                entries,
-                progress: Progress::More,
-            };
-            match writer.prog.status() {
-                Turn::Going => {}
-                Turn::Settled { .. } => writer.progress = writer.filled(),
-            }
-            return writer;
-        }
+        let entries = Ecp::<B, M, E>::active(&seen);
         let mut writer = LineWriter {
             prog: Prog::new(seen, want, which),
             bytes,
