@@ -7,7 +7,7 @@ trace=$(mktemp) && trap 'rm -f "$trace"' EXIT
 "$pcm" gen $options >"$trace"
 printf 'policy,misses,reads,mean,most\n'
 for misses in 0 3 7; do
-    for policy in pause plain; do
+    for policy in pause plain cancel; do
         "$pcm" run --policy $policy --misses $misses --input drawn $options |
             awk -F, -v policy=$policy -v misses=$misses '
                 FNR == NR { came[FNR - 1] = $1; next }
