@@ -1,4 +1,4 @@
-#!/usr/bin/env bash
+#!/bin/sh
 # What it costs to keep the controller's registers in the array, beside a guarded memory of their own, over psi: the mean ticks of
 # reads and of writes, all pulses of lines and of control lines, and the pulses of the line and of the control line that has most.
 #
@@ -11,7 +11,7 @@ rows=10000
 [ "$2" = --full ] && rows=200000
 came=$(mktemp) && trap 'rm -f "$came"' EXIT
 drawn="--seed 3 --rows $rows --write-percent 50 --step 40"
-# shellcheck disable=SC2086 -- the words of the options
+# shellcheck disable=SC2086  # the words of the options
 "$pcm" gen $drawn | cut -d, -f1 >"$came"
 printf 'psi,registers,stored,read_mean,write_mean,line_pulses,control_pulses,line_most,control_most\n'
 for psi in 1 10 100; do
@@ -20,7 +20,7 @@ for psi in 1 10 100; do
         # shellcheck disable=SC2086
         { "$pcm" $words && "$pcm" $words --print wear; } |
             awk -F, -v psi=$psi -v registers=$registers '
-                FILENAME != "-" { came[FNR - 1] = $1; next }
+                FILENAME == ARGV[1] { came[FNR - 1] = $1; next }
                 $4 == "read" { reads++; waits += $5 - came[$1] }
                 $4 == "stored" { stored++; lasts += $5 - came[$1] }
                 NF == 4 && $3 ~ /^[0-9]/ {

@@ -1,4 +1,4 @@
-#!/usr/bin/env bash
+#!/bin/sh
 # How long a module lasts under Start-Gap, beside one whose wear is spread perfectly, over psi (stores before a gap moves; 65535: no
 # moves at this size): for writes that all go to one line, to a set of four lines, and to all lines in turn (each line is written
 # once before); then for the hot line, where four times as many lines stand in one region or in more. most and mean are pulses of an
@@ -12,7 +12,7 @@ pcm=${1:-./pcm}
 lines=16
 rows=16384
 [ "$2" = --full ] && lines=64 rows=400000
-here=$(dirname "${BASH_SOURCE[0]}")
+here=$(dirname "$0")
 trace=$(mktemp) && trap 'rm -f "$trace"' EXIT
 
 # wears PATTERN REGIONS LINES PSI: runs the trace, and prints a row

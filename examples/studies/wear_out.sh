@@ -1,4 +1,4 @@
-#!/usr/bin/env bash
+#!/bin/sh
 # How long lines live with six error-correcting pointers, over how far the endurance of cells is spread around its mean of 200
 # changes: the share of lines that needed no pointer so far (intact; without correction no other line would live), the share that
 # is not retired yet (alive), and the spares that are used, after so many writes of each line. Rows that say nothing new are left out.
@@ -14,7 +14,7 @@ mean=200
 writes=330
 step=2
 [ "$2" = --full ] && lines=64 mean=2000 writes=3300 step=20
-here=$(dirname "${BASH_SOURCE[0]}")
+here=$(dirname "$0")
 trace=$(mktemp) && trap 'rm -f "$trace"' EXIT
 awk -v rows=$((lines * writes)) -v lines=$lines -v step=4000 -f "$here/writes.awk" >"$trace"
 printf 'spread,writes,intact,alive,spares\n'
