@@ -6,14 +6,14 @@
 # The shape is that of Schechter et al., ISCA 2010, blocks alive over writes: with pointers lines live longer, the more so the wider
 # endurance is spread, and then fall steeply. Scaled down: 32 lines, and cells that last 200 changes in the place of 10^8; each
 # write changes about half of a line's cells. Endurance is spread evenly from mean - spread to mean + spread (percent), where the
-# paper has a normal distribution, so the weakest cells are not as far apart. With --full 64 lines of cells with 2,000 changes.
+# paper has a normal distribution, so the weakest cells are not as far apart. With --full cells that last 1,000 changes.
 # usage: wear_out.sh [PROGRAM [--full]]
 pcm=${1:-./pcm}
 lines=32
 mean=200
 writes=330
 step=2
-[ "$2" = --full ] && lines=64 mean=2000 writes=3300 step=20
+[ "$2" = --full ] && mean=1000 writes=1650 step=10
 here=$(dirname "$0")
 trace=$(mktemp) && trap 'rm -f "$trace"' EXIT
 awk -v rows=$((lines * writes)) -v lines=$lines -v step=4000 -f "$here/writes.awk" >"$trace"
