@@ -5,8 +5,7 @@ use pcm_cells::{Act, Script};
 use std::alloc::{AllocError, Global};
 
 // A run of a module of one region of four lines, with two spares and room for four writes and four reads.
-const SMALL: &str =
-    "run --banks 1 --regions 1 --lines 4 --spares 2 --write-queue 4 --read-queue 4";
+const SMALL: &str = "run --banks 1 --regions 1 --lines 4 --spares 2 --write-queue 4 --read-queue 4";
 
 const TRACE_HEADER: &str = "tick,op,arg,data\n";
 
@@ -156,5 +155,10 @@ fn script_item(text: &str) -> Option<Script> {
         "stick1" => Act::Stick(true),
         _ => return None,
     };
-    Some(Script { line, cell, turn, act })
+    Some(Script {
+        line,
+        cell,
+        turn,
+        act,
+    })
 }

@@ -46,7 +46,12 @@ pub fn in_short(alloc: Global, field: &str, line_bytes: usize) -> Result<String,
             if others.chunks(2).any(|digits| digits != pair.as_slice()) {
                 return String::from_str(alloc, field);
             }
-            let (a, b, c, d) = (char::from(*a), char::from(*b), char::from(*c), char::from(*d));
+            let (a, b, c, d) = (
+                char::from(*a),
+                char::from(*b),
+                char::from(*c),
+                char::from(*d),
+            );
             if (a, b) == (c, d) {
                 format!(in alloc; "[{a}{b}]")
             } else {

@@ -41,7 +41,13 @@ pub fn played(alloc: Global, case: &Case) -> Result<String, AllocError> {
 
 fn answer_of(alloc: Global, case: &Case, trace: &[u8]) -> Result<Answer, AllocError> {
     if case.seeded {
-        return answer_over(alloc, case, trace, &mut MemArray::new(), &mut MemArray::new());
+        return answer_over(
+            alloc,
+            case,
+            trace,
+            &mut MemArray::new(),
+            &mut MemArray::new(),
+        );
     }
     let script = Vec::from_slice(alloc, case.script.as_slice())?;
     let wide_script = Vec::from_slice(alloc, case.script.as_slice())?;
@@ -115,7 +121,10 @@ fn push_lines<const B: usize, const M: usize, A: CellArray<B, M>>(
         let bits = digits(alloc, &cells.bits)?;
         let bits = in_short(alloc, bits.as_str(), B)?;
         let check = digits(alloc, &cells.meta)?;
-        writeln!(text, "line {line} pulses {pulses} bits {bits} check {check}")?;
+        writeln!(
+            text,
+            "line {line} pulses {pulses} bits {bits} check {check}"
+        )?;
     }
     Ok(())
 }
@@ -217,7 +226,10 @@ fn with_cut(alloc: Global, trace: &str, cut: u32) -> Result<String, AllocError> 
     let mut text = String::new(alloc);
     let mut is_cut = false;
     for row in trace.lines() {
-        let tick = row.split(',').next().and_then(|tick| tick.parse::<u64>().ok());
+        let tick = row
+            .split(',')
+            .next()
+            .and_then(|tick| tick.parse::<u64>().ok());
         if !is_cut && tick.is_some_and(|tick| tick > u64::from(cut)) {
             writeln!(text, "{cut},C,,")?;
             is_cut = true;
