@@ -32,8 +32,10 @@ returns-in-Settled-clause-line g c line h =
       round = record { prog = programs; most = h.most; charged = h.charged; phase = phase };
       settled = inr none;
       stuck = λ n q. absurd (both_ways _ (none n) q);
-    }) none in
-    (record {
-      writing = writing-with c.filled-writer.new.self line c.filled-writer.result (all.0);
-      answer = progress-with c.filled-writer.new.self line c.filled-writer.result c.filled-writer.result (all.1);
-    }, subst (λ (p : Progress). HasBegun p) (sym stored) tt)
+    }) none in (
+      record {
+        writing = writing-with c.filled-writer.new.self line c.filled-writer.result (all.0);
+        answer = progress-with c.filled-writer.new.self line c.filled-writer.result c.filled-writer.result (all.1);
+      },
+      subst (λ (p : Progress). HasBegun p) (sym stored) tt,
+    )
