@@ -5,8 +5,8 @@ ghost use Rattle.trace_reader.specs.Events.{AreEventsFor};
 ghost use Rattle.trace_reader.specs.Trace.{is_header, trace_of};
 
 use crate::event::Event;
-use crate::payload::Values;
 use crate::fault::{Kind, ParseFault, TraceFault};
+use crate::payload::Values;
 use crate::records::{next_row, open};
 use crate::row::{field, read_event};
 use csv::ByteRecord;
