@@ -5,6 +5,8 @@ use Rattle.clap.specs.Words.{Row, Text, first_of}
 use Rattle.trace_reader.specs.Number.{number_of}
 use Rattle.trace_gen.specs.declared.mix.Mix.{Mix}
 use Rattle.pcm_cells.specs.declared.array.Wear.{Wear}
+use Rattle.bank_shape.specs.declared.Home.{Home}
+use Rattle.bank_shape.specs.declared.Home.TheVariants as home
 use Rattle.pace.specs.declared.Policy.{Policy}
 use Rattle.pace.specs.declared.Policy.TheVariants as policy
 use Rattle.module_shape.specs.declared.raw.Field.{Field}
@@ -42,9 +44,17 @@ one_of_two first x second y None = Some x
 one_of_two first x second y (Some text) =
     if bytes_eq text first then Some x else (if bytes_eq text second then Some y else None)
 
--- when a line write gives way, how long a line is, and where a run takes its trace from
+-- when a line write gives way
 abbrev pub policy_of : Option Text → Option Policy
-policy_of text = one_of_two (codes "pause") policy.Pause (codes "plain") policy.Plain text
+policy_of None = Some policy.Pause
+policy_of (Some text) =
+    if bytes_eq text (codes "pause") then Some policy.Pause
+    else (if bytes_eq text (codes "plain") then Some policy.Plain
+    else (if bytes_eq text (codes "cancel") then Some policy.Cancel else None))
+
+-- where registers are kept, how long a line is, and where a run takes its trace from
+abbrev pub home_of : Option Text → Option Home
+home_of text = one_of_two (codes "guarded") home.Guarded (codes "array") home.Array text
 
 abbrev pub line_of : Option Text → Option LineSize
 line_of text = one_of_two (codes "64") Bytes64 (codes "128") Bytes128 text
@@ -73,6 +83,7 @@ raw_of rows =
     with_some (size_option (codes "read-ticks") 5 rows) (λ read_ticks.
     with_some (size_option (codes "iter-ticks") 10 rows) (λ iter_ticks.
     with_some (policy_of (first_of (codes "policy") rows)) (λ policy.
+    with_some (home_of (first_of (codes "registers") rows)) (λ home.
     Some (record {
       banks = banks;
       regions = regions;
@@ -84,7 +95,8 @@ raw_of rows =
       read_ticks = read_ticks;
       iter_ticks = iter_ticks;
       policy = policy;
-    })))))))))))
+      home = home;
+    }))))))))))))
 
 -- sizes with which something is wrong are none
 abbrev pub faultless : RawShape → Option Field → Option RawShape

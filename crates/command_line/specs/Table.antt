@@ -20,7 +20,7 @@ leaf_app name options = with_options (new_app name) options
 abbrev pub run_options : List Text
 run_options =
     codes "banks" ∷ codes "regions" ∷ codes "lines" ∷ codes "line" ∷ codes "spares" ∷ codes "write-queue"
-    ∷ codes "read-queue" ∷ codes "psi" ∷ codes "read-ticks" ∷ codes "iter-ticks" ∷ codes "policy" ∷ codes "seed"
+    ∷ codes "read-queue" ∷ codes "psi" ∷ codes "read-ticks" ∷ codes "iter-ticks" ∷ codes "policy" ∷ codes "registers" ∷ codes "seed"
     ∷ codes "lo" ∷ codes "hi" ∷ codes "misses" ∷ codes "print" ∷ codes "input" ∷ codes "rows"
     ∷ codes "write-percent" ∷ codes "cuts" ∷ codes "step" ∷ codes "hot" ∷ []
 
@@ -31,7 +31,7 @@ gen_options =
 
 abbrev pub map_options : List Text
 map_options =
-    codes "banks" ∷ codes "regions" ∷ codes "lines" ∷ codes "spares" ∷ codes "seed" ∷ codes "from" ∷ []
+    codes "banks" ∷ codes "regions" ∷ codes "lines" ∷ codes "spares" ∷ codes "registers" ∷ codes "seed" ∷ codes "from" ∷ []
 
 abbrev pub moves_options : List Text
 moves_options = codes "lines" ∷ codes "from" ∷ []

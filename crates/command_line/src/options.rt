@@ -4,12 +4,12 @@ ghost use Rattle.clap.specs.Words.{found_of, first_of, rows_of};
 ghost use Rattle.module_shape.specs.Limits.{IsShape};
 ghost use Rattle.pcm_cells.specs.Device.{IsWear};
 ghost use Rattle.trace_gen.specs.Generated.{IsMix};
-ghost use Rattle.command_line.specs.Options.{number_or, number_option, size_option, policy_of, line_of, print_of, input_of, raw_of, shape_of, seed_of, wear_of, mix_of, from_of};
+ghost use Rattle.command_line.specs.Options.{number_or, number_option, size_option, policy_of, home_of, line_of, print_of, input_of, raw_of, shape_of, seed_of, wear_of, mix_of, from_of};
 ghost use Rattle.command_line.specs.Jobs.{IsInput};
 
 use crate::job::{Input, LineSize, Print};
 use clap::ArgMatches;
-use module_shape::{Policy, RawShape, Shape};
+use module_shape::{Home, Policy, RawShape, Shape};
 use pcm_cells::Wear;
 use trace_gen::Mix;
 use trace_reader::number;
@@ -69,6 +69,18 @@ fn policy(text: Option<&str>) -> Option<Policy>
         None => Some(Policy::Pause),
         Some("pause") => Some(Policy::Pause),
         Some("plain") => Some(Policy::Plain),
+        Some("cancel") => Some(Policy::Cancel),
+        Some(_) => None,
+    }
+}
+
+fn home(text: Option<&str>) -> Option<Home>
+    ensures { result ≡ home_of (option_map (λ s. s.now) text.entry) }
+{
+    match text {
+        None => Some(Home::Guarded),
+        Some("guarded") => Some(Home::Guarded),
+        Some("array") => Some(Home::Array),
         Some(_) => None,
     }
 }
@@ -128,6 +140,7 @@ fn raw(matches: &ArgMatches<'_>) -> Option<RawShape>
         read_ticks: size_of(matches, "read-ticks", 5)?,
         iter_ticks: size_of(matches, "iter-ticks", 10)?,
         policy: policy(value(matches, "policy"))?,
+        home: home(value(matches, "registers"))?,
     })
 }
 

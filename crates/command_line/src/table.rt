@@ -7,7 +7,7 @@ ghost use Rattle.command_line.specs.Table.{leaf_app, option_rule, pcm_app, top_a
 use clap::{Arg, ArgAction, Command};
 use std::alloc::{AllocError, Global};
 
-static RUN_OPTIONS: [&str; 22] = [
+static RUN_OPTIONS: [&str; 23] = [
     "banks",
     "regions",
     "lines",
@@ -19,6 +19,7 @@ static RUN_OPTIONS: [&str; 22] = [
     "read-ticks",
     "iter-ticks",
     "policy",
+    "registers",
     "seed",
     "lo",
     "hi",
@@ -45,7 +46,15 @@ static GEN_OPTIONS: [&str; 10] = [
     "hot",
 ];
 
-static MAP_OPTIONS: [&str; 6] = ["banks", "regions", "lines", "spares", "seed", "from"];
+static MAP_OPTIONS: [&str; 7] = [
+    "banks",
+    "regions",
+    "lines",
+    "spares",
+    "registers",
+    "seed",
+    "from",
+];
 
 static MOVES_OPTIONS: [&str; 2] = ["lines", "from"];
 

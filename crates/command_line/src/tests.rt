@@ -1,5 +1,5 @@
 use crate::{Input, Job, LineSize, Print, Refusal, read_job};
-use module_shape::Policy;
+use module_shape::{Home, Policy};
 use std::alloc::{AllocError, Global};
 use std::test::Fail;
 use trace_gen::Mix;
@@ -26,6 +26,7 @@ fn a_run_has_defaults(rt: HostRuntime) -> Result<(), Fail> {
         (100, 5, 10)
     );
     assert!(rt; shape.policy == Policy::Pause);
+    assert!(rt; shape.home == Home::Guarded);
     assert!(rt; job.line == LineSize::Bytes64);
     assert_eq!(rt; job.seed, 0);
     assert_eq!(rt; (job.wear.lo, job.wear.hi), (100_000_000, 100_000_000));
@@ -38,7 +39,7 @@ fn a_run_has_defaults(rt: HostRuntime) -> Result<(), Fail> {
 #[test]
 fn the_sizes_of_a_run_are_options(rt: HostRuntime) -> Result<(), Fail> {
     let line =
-        "run --banks 2 --regions 1 --lines=16 --line=128 --spares 3 --write-queue 7 --read-queue 6 --psi 9 --read-ticks 4 --iter-ticks 8 --policy plain";
+        "run --banks 2 --regions 1 --lines=16 --line=128 --spares 3 --write-queue 7 --read-queue 6 --psi 9 --read-ticks 4 --iter-ticks 8 --policy plain --registers=array";
     let Ok(Job::Run(job)) = read(rt.alloc(), line)? else {
         panic!(rt; "no run");
     };
@@ -47,6 +48,7 @@ fn the_sizes_of_a_run_are_options(rt: HostRuntime) -> Result<(), Fail> {
     assert_eq!(rt; (shape.spares, shape.writes, shape.reads), (3, 7, 6));
     assert_eq!(rt; (shape.psi, shape.read_ticks, shape.iter_ticks), (9, 4, 8));
     assert!(rt; shape.policy == Policy::Plain);
+    assert!(rt; shape.home == Home::Array);
     assert!(rt; job.line == LineSize::Bytes128);
     Ok(())
 }
@@ -118,7 +120,26 @@ fn a_map_and_moves_are_told(rt: HostRuntime) -> Result<(), Fail> {
     Ok(())
 }
 
-static REFUSED: [&str; 26] = [
+#[test]
+fn policies_and_homes_are_named(rt: HostRuntime) -> Result<(), Fail> {
+    let Ok(Job::Run(job)) = read(
+        rt.alloc(),
+        "run --policy cancel --registers guarded --spares 2",
+    )?
+    else {
+        panic!(rt; "no run");
+    };
+    assert!(rt; job.shape.raw().policy == Policy::Cancel);
+    assert!(rt; job.shape.raw().home == Home::Guarded);
+    let Ok(Job::Map(job)) = read(rt.alloc(), "map --spares 2 --registers array")? else {
+        panic!(rt; "no map");
+    };
+    assert!(rt; job.shape.raw().home == Home::Array);
+    assert_eq!(rt; job.shape.array_lines(), 548);
+    Ok(())
+}
+
+static REFUSED: [&str; 32] = [
     "",
     "walk",
     "ru",
@@ -136,7 +157,13 @@ static REFUSED: [&str; 26] = [
     "run --seed -1",
     "run --seed 000000000000000000001",
     "run --line 064",
-    "run --policy cancel",
+    "run --policy cancels",
+    "run --registers both",
+    "run --registers",
+    "run --registers array --registers array",
+    "map --registers Array",
+    "gen --registers array",
+    "moves --registers array",
     "run --hi 99999999",
     "run --lo 100000001",
     "run --cuts 1001",

@@ -5,7 +5,7 @@ use Rattle.spare_pool.specs.Table.{IsOwner, line_by, used_by}
 use Rattle.spare_pool.specs.declared.Owner.TheVariants as owned
 use Rattle.wear_report.specs.declared.Role.TheVariants.{Line, Gap, Free, Retired}
 use Rattle.start_gap.specs.Rotation.{Rotation, StandsFor, place_after, gap_after}
-use Rattle.bank_shape.specs.Shape.{slots_of, slot_at, slot_moved}
+use Rattle.bank_shape.specs.Shape.{slots_of, slot_at, slot_moved, controls_from}
 use Rattle.power_recovery.specs.Kept.{KeptState, IsKept, region_at, array_line}
 use Rattle.end_laws.specs.Ends.{BankEnd}
 use Rattle.end_laws.specs.EndLaws.{IsEndOf}
@@ -78,11 +78,11 @@ module _ {n : ℕ} (kept : KeptState n) (range : IsKept kept) where
 
   -- ---- what an array line is used for that no slot has
 
-  pub free-role : (line at : ℕ) → kept.shape.base ≤ line → at ≡ line - kept.shape.base → IsOwner kept.table at owned.Free
+  pub free-role : (line at : ℕ) → kept.shape.base ≤ line → line < controls_from kept.shape → at ≡ line - kept.shape.base → IsOwner kept.table at owned.Free
       → (end : BankEnd) → IsEndOf kept end → IsRole kept.shape (λ own. own) end line Free
-  free-role line at begun same has end is =
+  free-role line at begun below same has end is =
       let used : used_by kept.table ≡ used_spares kept.shape end.table = used-same kept range end.table is.table in
-      omega (arith, begun, same, has, used, range.slots)
+      (omega (arith, begun, same, has, used, range.slots), below)
 
   pub retired-role : (line at : ℕ) → kept.shape.base ≤ line → at ≡ line - kept.shape.base → IsOwner kept.table at owned.Retired
       → (end : BankEnd) → IsEndOf kept end → IsRole kept.shape (λ own. own) end line Retired

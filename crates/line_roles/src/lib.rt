@@ -27,6 +27,9 @@ pub fn role_in<const B: usize>(kept: &Kept<B>, array_line: u32) -> Role
     ensures { (end : BankEnd) → IsEndOf kept.now end → IsRole kept.now.shape (λ own. own) end array_line result }
 {
     let shape = kept.shape();
+    if array_line >= shape.first_control() {
+        return Role::Control;
+    }
     match kept.remap().owner(array_line - shape.base) {
         Owner::Slot(slot) => role_of_slot(kept, slot),
         Owner::Free => Role::Free,

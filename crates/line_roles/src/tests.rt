@@ -1,5 +1,5 @@
 use super::*;
-use bank_shape::BankShape;
+use bank_shape::{BankShape, Home};
 use masked_bytes::entry::Entry;
 use std::test::*;
 
@@ -12,6 +12,7 @@ const SHAPE: BankShape = BankShape {
     writes: 1,
     reads: 4,
     psi: 1,
+    home: Home::Guarded,
 };
 
 #[test]
@@ -39,5 +40,19 @@ fn each_array_line_has_its_role(rt: HostRuntime) -> Result<(), Fail> {
         assert_eq!(rt; role_in(&kept, 20 + i as u32), *role);
     }
     assert_eq!(rt; used_in(&kept), 2);
+    Ok(())
+}
+
+/// Behind the six slots and three spares come the control lines of two regions, three spares and the mark.
+#[test]
+fn control_lines_are_behind_the_spares(rt: HostRuntime) -> Result<(), Fail> {
+    let shape = BankShape {
+        home: Home::Array,
+        ..SHAPE
+    };
+    let kept: Kept<8> = Kept::new(rt.alloc(), shape)?;
+    assert_eq!(rt; role_in(&kept, 28), Role::Free);
+    assert_eq!(rt; role_in(&kept, 29), Role::Control);
+    assert_eq!(rt; role_in(&kept, 34), Role::Control);
     Ok(())
 }

@@ -2,7 +2,7 @@
 use Rattle.std.proofs.Common.{◌≡◌, ℕ, zero, suc, ◌+◌, ◌-◌, ◌*◌, ◌<◌, ◌≤◌, ◌⊎◌, ◌&&◌, Bool, true, false, List, refl, sym, ap, ◌∙◌, inl, inr, arith}
 use Rattle.std.proofs.lemmas.Bool.{cases_Bool, both_ways, and_from, and_left, lt-ltb, eq-eqb, ne_eqb, le-leb, false_from_ne_true, true≢false}
 use Rattle.pcm_cells.specs.Rows.{bit_of, xor, members}
-use Rattle.ecp_line.specs.Layout.{source_below, pointer, number, width, pointer_cell, replacement_cell, full_cell, activity_cell, switch_cell, Prefix, IsLayout, IsLowest}
+use Rattle.ecp_line.specs.Layout.{active, is_later, source_below, pointer, number, width, pointer_cell, replacement_cell, full_cell, activity_cell, switch_cell, Prefix, IsLayout, IsLowest}
 use Rattle.ecp_line.proofs.Activity.{active-full}
 use Rattle.ecp_line.proofs.Digits.{number-none, number-one, number-zero}
 use Rattle.ecp_line.proofs.Places.{full-lt, pointer-lt, entry-order}
@@ -29,6 +29,12 @@ cleared-all B E w want which f phase none n low high =
     let count = phase.entries in
     let on : which n ≡ true = phase.cells n ∙ and_from _ _ (lt-ltb _ _ (omega arith)) (lt-ltb _ _ high) in
     right which want f n on (none n) ∙ phase.zero n on
+
+-- where none of those cells holds 1, there is nothing to clear
+pub cleared-already : (B E w : ℕ) (which f : ℕ → Bool) → active B E f ≡ w → ((n : ℕ) → which n ≡ is_later B E f n) → ((n : ℕ) → (which n && f n) ≡ false) → IsCleared B E f w
+cleared-already B E w which f count cells none n low high =
+    let on : which n ≡ true = cells n ∙ and_from _ _ (lt-ltb _ _ (omega arith)) (lt-ltb _ _ high) in
+    false_from_ne_true _ (λ e. both_ways _ (none n) (and_from (which n) _ on e))
 
 pub cleared-worn : (B E w : ℕ) (want which f stuck : ℕ → Bool) (c : ℕ) → IsClearing B E w want which f → which c ≡ true → stuck c ≡ true → IsStuckActivity B E f stuck c
 cleared-worn B E w want which f stuck c phase on at =

@@ -1,6 +1,7 @@
 -- What a write in progress has settled of its line, and how many steps it has left.
 use Rattle.std.specs.Prelude.{ℕ, List, ◌≡◌, ◌+◌, ◌-◌, ◌*◌, ◌<◌, ◌≤◌, ◌⊎◌, Bool, true, false}
 use Rattle.pcm_cells.specs.Rows.{cell, members, bit_of, xor}
+use Rattle.pcm_cells.specs.declared.row.Cells.{Cells}
 use Rattle.pcm_cells.specs.Device.{LineState}
 use Rattle.program_verify.specs.declared.prog.Prog.{Prog}
 use Rattle.program_verify.specs.Programming.{Programs, IsGoing, is_wrong}
@@ -68,13 +69,17 @@ pub record IsDone {B M E : ℕ} (writer : LineWriter B M E) (line : LineState B 
   pub settled : IsSettled writer.prog
   pub stuck : (n : ℕ) → is_wrong writer.prog n ≡ true → line.stuck n ≡ true
 
--- the line's activity cells are in order, so that its sources can be filled
-pub record IsFillable {B M E : ℕ} (writer : LineWriter B M E) (line : LineState B M) : Type 0 where
-  pub seen : line.held ≡ writer.prog.seen
-  pub most : writer.entries ≤ E
-  pub charged : Prefix B M (cell line.held) line.stuck writer.entries
-  pub entries : active B E (cell line.held) ≡ writer.entries
-  pub cleared : IsCleared B E (cell line.held) writer.entries
+-- the line holds these cells, its activity cells are in order, and a stuck cell pays for each of its w active entries
+pub record IsInOrder {B M : ℕ} (E : ℕ) (held : Cells B M) (w : ℕ) (line : LineState B M) : Type 0 where
+  pub seen : line.held ≡ held
+  pub most : w ≤ E
+  pub charged : Prefix B M (cell line.held) line.stuck w
+  pub entries : active B E (cell line.held) ≡ w
+  pub cleared : IsCleared B E (cell line.held) w
+
+-- the line's sources can be filled
+abbrev pub IsFillable : {B M E : ℕ} → LineWriter B M E → LineState B M → Type 0
+IsFillable {E = E} writer line = IsInOrder E writer.prog.seen writer.entries line
 
 -- the next entry can be pointed at this bit, the lowest that is wrong
 pub record IsPointable {B M E : ℕ} (writer : LineWriter B M E) (bit : ℕ) (line : LineState B M) : Type 0 where

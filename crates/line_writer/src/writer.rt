@@ -5,7 +5,7 @@ ghost use Rattle.pcm_cells.specs.Rows.{cell};
 ghost use Rattle.program_verify.specs.Programming.{is_wrong, IsRound, IsTear, IsStatus, IsStuckWhereWrong};
 ghost use Rattle.ecp_line.specs.Layout.{IsLayout, Sound, full_cell};
 ghost use Rattle.ecp_line.specs.Reading.{is_worn_line};
-ghost use Rattle.line_writer.specs.Writing.{IsWriting, HasRound, IsDone, Writes, IsFillable, IsPointable, IsSwitchable, IsProgress, HasBegun, IsWorn, steps_left, most_steps, most_entries};
+ghost use Rattle.line_writer.specs.Writing.{IsWriting, HasRound, IsDone, Writes, IsFillable, IsInOrder, IsPointable, IsSwitchable, IsProgress, HasBegun, IsWorn, steps_left, most_steps, most_entries};
 
 use ecp_line::{Ecp, lowest};
 use pcm_cells::{CellArray, Cells};
@@ -63,6 +63,9 @@ impl<const B: usize, const M: usize, const E: usize> LineWriter<B, M, E> {
     {
         let (want, which) = Ecp::<B, M, E>::later(&seen);
         let entries = Ecp::<B, M, E>::active(&seen);
+        if which.meet(&seen).is_none() {
+            return LineWriter::filling(seen, bytes, entries);
+        }
         let mut writer = LineWriter {
             prog: Prog::new(seen, want, which),
             bytes,
@@ -154,6 +157,31 @@ impl<const B: usize, const M: usize, const E: usize> LineWriter<B, M, E> {
         }
     }
 
+    // A write of a line whose activity cells are in order: the sources of all bits are to be filled.
+    fn filling(seen: Cells<B, M>, bytes: [u8; B], entries: u8) -> LineWriter<B, M, E>
+        requires layout { IsLayout B M E }
+        requires most { entries ≤ E }
+        ensures line { (line : LineState B M) → IsInOrder E seen.entry entries line → Writes result line × HasBegun result.progress }
+        ensures bytes { result.bytes ≡ bytes.entry }
+        ensures steps { steps_left result ≤ 8 + 24 * (E - entries) }
+    {
+        let (want, which) = Ecp::<B, M, E>::wanted(&seen, &bytes);
+        let mut writer = LineWriter {
+            prog: Prog::new(seen, want, which),
+            bytes,
+            phase: Phase::Fill,
+            entries,
+            progress: Progress::More,
+        };
+        match writer.prog.status() {
+            Turn::Going => writer,
+            Turn::Settled { .. } => {
+                writer.progress = writer.filled();
+                writer
+            }
+        }
+    }
+
     // Fills the sources of all bits.
     fn fill(&mut self) -> Progress
         requires layout { IsLayout B M E }
@@ -162,13 +190,8 @@ impl<const B: usize, const M: usize, const E: usize> LineWriter<B, M, E> {
         ensures bytes { self.new.bytes ≡ self.old.bytes }
         ensures steps { steps_left self.new ≤ 8 + 24 * (E - self.old.entries) }
     {
-        let (want, which) = Ecp::<B, M, E>::wanted(self.prog.seen(), &self.bytes);
-        self.prog = Prog::new(*self.prog.seen(), want, which);
-        self.phase = Phase::Fill;
-        match self.prog.status() {
-            Turn::Going => Progress::More,
-            Turn::Settled { .. } => self.filled(),
-        }
+        *self = LineWriter::filling(*self.prog.seen(), self.bytes, self.entries);
+        self.progress
     }
 
     // After the rounds of `Fill`.

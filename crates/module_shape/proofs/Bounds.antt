@@ -89,9 +89,9 @@ within_limits raw h =
     }
 
 -- the array lines of all banks
-pub array_lines_few : (banks regions lines spares : ℕ) → banks ≤ 16 → regions ≤ 16 → spares ≤ 1024 → banks * regions * lines ≤ 65536
+slots_few : (banks regions lines spares : ℕ) → banks ≤ 16 → regions ≤ 16 → spares ≤ 1024 → banks * regions * lines ≤ 65536
     → banks * (regions * (lines + 1) + spares) ≤ 82176
-array_lines_few banks regions lines spares few also low total =
+slots_few banks regions lines spares few also low total =
     let gaps = mul-le banks regions 16 16 few also in
     let behind = mul-le banks spares 16 1024 few low in
     let slots = mul-add regions lines 1 in
@@ -100,6 +100,12 @@ array_lines_few banks regions lines spares few also low total =
     = ap (λ n. banks * n) slots ∙ mul-add banks (regions * lines) (regions * 1) in
     let places : banks * (regions * 1) ≡ banks * regions = ap (λ n. banks * n) (omega arith) in
     omega (arith, mul_assoc banks regions lines)
+
+pub array_lines_few : (banks regions lines spares controls : ℕ) → banks ≤ 16 → regions ≤ 16 → spares ≤ 1024 → banks * regions * lines ≤ 65536
+    → controls ≤ regions + spares + 1 → banks * (regions * (lines + 1) + spares + controls) ≤ 98832
+array_lines_few banks regions lines spares controls few also low total most =
+    let behind = mul-le banks controls 16 1041 few (omega arith) in
+    omega (arith, behind, slots_few banks regions lines spares few also low total, mul-add banks (regions * (lines + 1) + spares) controls)
 
 -- the array lines of a bank end before those of the next bank begin
 pub banks_apart : (bank next array_lines : ℕ) → bank < next → bank * array_lines + array_lines ≤ next * array_lines

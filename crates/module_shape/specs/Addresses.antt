@@ -22,6 +22,7 @@ module_of raw = record {
     writes = raw.writes;
     reads = raw.reads;
     psi = raw.psi;
+    home = raw.home;
   };
 }
 

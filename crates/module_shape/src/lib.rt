@@ -5,6 +5,7 @@
 mod raw;
 mod shape;
 
+pub use bank_shape::Home;
 pub use pace::{Pace, Policy};
 pub use raw::{BadShape, Field, RawShape};
 pub use shape::{BankLine, Shape};

@@ -2,6 +2,7 @@
 ghost use Rattle.std.specs.Prelude.{◌≡◌, ◌*◌, ◌≤◌};
 ghost use Rattle.module_shape.specs.Limits.{is_between, is_power_between, shape_fault};
 
+use bank_shape::Home;
 use pace::Policy;
 
 /// The sizes of a module, in range or not.
@@ -27,6 +28,8 @@ pub struct RawShape {
     pub iter_ticks: u32,
     /// When a line write gives way to a read.
     pub policy: Policy,
+    /// Where the banks keep their registers.
+    pub home: Home,
 }
 
 /// A size of a module; `Total` is the number of its lines.

@@ -1,13 +1,13 @@
 // The sizes of a module that it can have.
 ghost use Rattle.std.specs.Prelude.{◌≡◌, ◌+◌, ◌*◌, ◌^◌, ◌<◌, ◌≤◌, IfOk};
 ghost use Rattle.feistel_map.specs.Log2.{log2};
-ghost use Rattle.bank_shape.specs.Shape.{IsBankShape, lines_in};
+ghost use Rattle.bank_shape.specs.Shape.{IsBankShape, controls_of, lines_in};
 ghost use Rattle.pace.specs.Policies.{IsPace};
 ghost use Rattle.module_shape.specs.Limits.{IsShape, accepted, total_of};
 ghost use Rattle.module_shape.specs.Addresses.{module_of, pace_of, lines_of, array_lines_of, bank_shape, bank_of, bank_line_of};
 
 use crate::raw::{BadShape, RawShape, fault};
-use bank_shape::BankShape;
+use bank_shape::{BankShape, Home};
 use feistel_map::Address;
 use pace::Pace;
 use std::marker::Model;
@@ -77,7 +77,7 @@ impl Shape {
     /// How many array lines the module has: those of all its banks.
     pub fn array_lines(&self) -> u32
         ensures number { result ≡ self.now.banks * array_lines_of (module_of self.now) }
-        ensures few { result ≤ 82176 }
+        ensures few { result ≤ 98832 }
         ensures in_range { IsShape self.now }
     {
         self.raw.banks * self.bank_lines()
@@ -86,10 +86,22 @@ impl Shape {
     // How many array lines a bank has.
     fn bank_lines(&self) -> u32
         ensures number { result ≡ array_lines_of (module_of self.now) }
-        ensures few { self.now.banks * result ≤ 82176 }
+        ensures few { self.now.banks * result ≤ 98832 }
         ensures in_range { IsShape self.now }
     {
-        self.raw.regions * (self.raw.lines + 1) + self.raw.spares
+        self.raw.regions * (self.raw.lines + 1) + self.raw.spares + self.control_lines()
+    }
+
+    // How many of them are control lines, which keep the bank's registers.
+    fn control_lines(&self) -> u32
+        ensures number { result ≡ controls_of (module_of self.now).bank }
+        ensures few { result ≤ self.now.regions + self.now.spares + 1 }
+        ensures in_range { IsShape self.now }
+    {
+        match self.raw.home {
+            Home::Guarded => 0,
+            Home::Array => self.raw.regions + self.raw.spares + 1,
+        }
     }
 
     /// How many bits the number of a line has: the module has a power of two of lines.
@@ -119,6 +131,7 @@ impl Shape {
             writes: self.raw.writes,
             reads: self.raw.reads,
             psi: self.raw.psi,
+            home: self.raw.home,
         }
     }
 

@@ -1,4 +1,4 @@
-use crate::{BadShape, BankLine, Field, Policy, RawShape, Shape};
+use crate::{BadShape, BankLine, Field, Home, Policy, RawShape, Shape};
 
 fn raw() -> RawShape {
     RawShape {
@@ -12,6 +12,7 @@ fn raw() -> RawShape {
         read_ticks: 5,
         iter_ticks: 10,
         policy: Policy::Pause,
+        home: Home::Guarded,
     }
 }
 
@@ -28,6 +29,22 @@ fn a_shape_has_its_sizes(rt: HostRuntime) {
     assert_eq!(rt; shape.bank_shape(1).base, 39);
     assert_eq!(rt; shape.bank_shape(1).slots(), 36);
     assert_eq!(rt; shape.pace().iter, 10);
+}
+
+/// Each bank has a control line for each of its four regions and three spares, and one for the mark.
+#[test]
+fn registers_in_the_array_take_lines(rt: HostRuntime) {
+    let array = RawShape {
+        home: Home::Array,
+        ..raw()
+    };
+    let Ok(shape) = Shape::new(array) else {
+        panic!(rt; "refused");
+    };
+    assert_eq!(rt; shape.banks(), 2);
+    assert_eq!(rt; shape.array_lines(), 94);
+    assert_eq!(rt; shape.bank_shape(1).base, 47);
+    assert!(rt; shape.bank_shape(1).home == Home::Array);
 }
 
 #[test]
@@ -53,11 +70,12 @@ fn the_largest_shape_is_accepted(rt: HostRuntime) {
         read_ticks: 255,
         iter_ticks: 255,
         policy: Policy::Plain,
+        home: Home::Array,
     };
     let Ok(shape) = Shape::new(largest) else {
         panic!(rt; "refused");
     };
-    assert_eq!(rt; shape.array_lines(), 82_176);
+    assert_eq!(rt; shape.array_lines(), 98_832);
     assert_eq!(rt; shape.address_bits(), 16);
 }
 

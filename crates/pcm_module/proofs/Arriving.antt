@@ -1,5 +1,5 @@
 -- A bank runs on to a tick, and then a row arrives: both calls together are one step.
-use Rattle.std.proofs.Common.{◌≡◌, ◌≢◌, ℕ, ◌≤◌, ◌==◌, ◌||◌, false, List, [], ◌∷◌, ◌++◌, refl, sym, ap, subst, ◌∙◌, arith}
+use Rattle.std.proofs.Common.{◌≡◌, ◌≢◌, ℕ, ◌≤◌, ◌==◌, ◌||◌, Bool, true, false, if◌then◌else◌, List, [], ◌∷◌, ◌++◌, Option, Some, None, append_assoc, refl, sym, ap, subst, ◌∙◌, arith}
 use Rattle.std.specs.Prelude.{IsTrue}
 use Rattle.std.proofs.lemmas.Bool.{ne_eqb}
 use Rattle.std.proofs.lemmas.List.Elements.{All-head, All-tail}
@@ -7,7 +7,7 @@ use Rattle.pcm_cells.specs.Device.{ArrayState}
 use Rattle.result_rows.specs.declared.Outcome.{Outcome}
 use Rattle.bank_shape.specs.declared.BankShape.{BankShape}
 use Rattle.bank_model.specs.Events.{Write, Read, Serve, Begin, Iterate, Cut, RowsBelow}
-use Rattle.bank_model.specs.Timing.{Happens, Core, Timed, core, core_of}
+use Rattle.bank_model.specs.Timing.{Happens, Core, Regs, Timed, core, core_of}
 use Rattle.bank_model.specs.Adding.{Adds}
 use Rattle.clock_laws.specs.State.{ClockState}
 use Rattle.clock_laws.specs.Leads.{Leads}
@@ -16,6 +16,9 @@ use Rattle.clock_laws.specs.Standing.{is_arrival_of, arrives_with}
 use Rattle.clock_laws.proofs.Recording.{both_recorded_law}
 use Rattle.clock_laws.proofs.Extending.{both_added_law}
 use Rattle.module_laws.specs.Asking.{Asked, AreAsked, IsAsked}
+use Rattle.reg_lines.specs.declared.Change.{Change}
+use Rattle.clock_laws.specs.Arriving.{cancels_for}
+use Rattle.bank_timing.specs.Cancelling.{cancel_by, cancel_first}
 use Rattle.bank_timing.specs.Extending.{Extends, IsOpen, IsQuiet, EndsAction, outcome_in}
 use Rattle.bank_laws.specs.Ticks.{ends_action}
 use Rattle.clock_laws.proofs.Deciding.{or_none, or_left, or_right}
@@ -32,13 +35,14 @@ module _ {n m : ℕ} where
   own_asked (x ∷ added) xs own by_itself is =
       by x.happens (All-head Ends x added by_itself) (own_asked added xs own (All-tail Ends x added by_itself) is)
     where
-      by : (h : Happens n) → IsTrue (ends_action h) → AreAsked (added ++ xs) own → IsAsked h x.tick (AreAsked (added ++ xs)) own
+      by : (h : Happens n) → IsTrue (ends_action h) → AreAsked (added ++ xs) own → IsAsked h x.cancels x.tick (AreAsked (added ++ xs)) own
       by (Core (Write row line bytes given answer)) own is = absurd (cc)
       by (Core (Read row line answer)) own is = absurd (cc)
       by (Core (Serve answer)) own is = is
       by (Core (Begin answer)) own is = is
       by (Core (Iterate answer)) own is = is
       by (Core (Cut tearing)) own is = absurd (cc)
+      by (Regs event) own is = is
 
   -- none of them is the arrival of a row
   pub own_off : (added : List (Timed n m)) (row : ℕ) → IsQuiet added → arrives_with added row ≡ false
@@ -53,6 +57,7 @@ module _ {n m : ℕ} where
       by (Core (Begin answer)) own = refl
       by (Core (Iterate answer)) own = refl
       by (Core (Cut tearing)) own = refl
+      by (Regs event) own = refl
 
   -- a row above those of a history didn't arrive there
   pub below_off : (xs : List (Timed n m)) (bound row : ℕ) → RowsBelow (core xs) bound → bound ≤ row → arrives_with xs row ≡ false
@@ -67,11 +72,37 @@ module _ {n m : ℕ} where
       by (Core (Begin answer)) is rec = rec bound is le
       by (Core (Iterate answer)) is rec = rec bound is le
       by (Core (Cut tearing)) is rec = rec bound is le
+      by (Regs event) is rec = rec bound is le
 
   off_append : (added xs : List (Timed n m)) (row : ℕ) → arrives_with added row ≡ false → arrives_with xs row ≡ false → arrives_with (added ++ xs) row ≡ false
   off_append [] xs row off rest = rest
   off_append (x ∷ added) xs row off rest =
       or_none (is_arrival_of x.happens row) _ (or_left (is_arrival_of x.happens row) _ off) (off_append added xs row (or_right (is_arrival_of x.happens row) _ off) rest)
+
+module _ {n m e : ℕ} (xs : List (Timed n m)) (clock : ClockState n m e) where
+  -- a cancel is asked for by no row
+  cancel_asked : (change : Option Change) (asked : List (Asked n)) → AreAsked xs asked → AreAsked (cancel_by change xs clock ∷ xs) asked
+  cancel_asked None asked is = is
+  cancel_asked (Some change) asked is = is
+
+  cancel_off : (change : Option Change) (row : ℕ) → is_arrival_of (cancel_by change xs clock).happens row ≡ false
+  cancel_off None row = refl
+  cancel_off (Some change) row = refl
+
+  -- nor is what comes before a read
+  pub first_asked : (line : ℕ) (asked : List (Asked n)) → AreAsked xs asked → AreAsked (cancel_first xs clock line ++ xs) asked
+  first_asked line asked is = by (cancels_for clock line)
+    where
+      by : (cancels : Bool) → AreAsked ((if cancels then cancel_by clock.regs.change xs clock ∷ [] else []) ++ xs) asked
+      by true = cancel_asked clock.regs.change asked is
+      by false = is
+
+  pub first_off : (line row : ℕ) → arrives_with (cancel_first xs clock line) row ≡ false
+  first_off line row = by (cancels_for clock line)
+    where
+      by : (cancels : Bool) → arrives_with (if cancels then cancel_by clock.regs.change xs clock ∷ [] else []) row ≡ false
+      by true = or_none (is_arrival_of (cancel_by clock.regs.change xs clock).happens row) false (cancel_off clock.regs.change row) refl
+      by false = refl
 
 module _ {n m e : ℕ} (xs added : List (Timed n m)) (first between last : ClockState n m e) (a0 a1 a2 : ArrayState n m) (r0 r1 r2 : List (Outcome n))
     (leads : Leads xs first a0) (own : IsQuiet added) (ext : Extends xs added first between a0 a1 r0 r1) where
@@ -82,28 +113,29 @@ module _ {n m e : ℕ} (xs added : List (Timed n m)) (first between last : Clock
       (untouched xs first a0 leads added between a1 r0 r1 ext row is.exists
       (off_append added xs row (own_off added row own) (below_off xs first.bank.rows_below row leads.holds.rows fresh))) is
 
-  -- one more event behind them
-  pub extends_one : (x : Timed n m) → Extends (added ++ xs) (x ∷ []) between last a1 a2 r1 r2 → Extends xs (x ∷ added) first last a0 a2 r0 r2
-  extends_one x next = record {
-    leads = next.leads;
+  -- the events of an arrival behind them
+  pub extends_on : (arrived : List (Timed n m)) → Extends (added ++ xs) arrived between last a1 a2 r1 r2 → Extends xs (arrived ++ added) first last a0 a2 r0 r2
+  extends_on arrived next = record {
+    leads = subst (λ (ys : List (Timed n m)). Leads ys last a2) (sym (append_assoc arrived added xs)) next.leads;
     shape = next.shape ∙ ext.shape;
     pace = next.pace ∙ ext.pace;
-    adds = both_added_law n m first.bank.kept.shape (x ∷ []) added a0 a1 a2 ext.adds (subst (λ (s : BankShape). Adds s (x ∷ []) a1 a2) ext.shape next.adds);
+    adds = both_added_law n m first.bank.kept.shape arrived added a0 a1 a2 ext.adds (subst (λ (s : BankShape). Adds s arrived a1 a2) ext.shape next.adds);
     rows = next.rows ∙ ext.rows;
     outcomes = λ row has.
         next.outcomes row (record { above = has.above; within = subst (λ k. row ≤ k) (sym ext.rows) has.within })
-        ∙ ap (λ (s : BankShape). outcome_on s (x ∷ []) (added ++ xs) (outcome_in r1) row) ext.shape
-        ∙ outcome_at_row first.bank.kept.shape (x ∷ []) (added ++ xs) (outcome_in r1) (outcome_on first.bank.kept.shape added xs (outcome_in r0)) row (ext.outcomes row has)
-        ∙ sym (both_recorded_law n m first.bank.kept.shape (x ∷ []) added xs (outcome_in r0) row);
+        ∙ ap (λ (s : BankShape). outcome_on s arrived (added ++ xs) (outcome_in r1) row) ext.shape
+        ∙ outcome_at_row first.bank.kept.shape arrived (added ++ xs) (outcome_in r1) (outcome_on first.bank.kept.shape added xs (outcome_in r0)) row (ext.outcomes row has)
+        ∙ sym (both_recorded_law n m first.bank.kept.shape arrived added xs (outcome_in r0) row);
   }
 
-  -- with it a row arrives, and no other
-  pub step_on : (x : Timed n m) (a : Asked n) → Extends (added ++ xs) (x ∷ []) between last a1 a2 r1 r2
-      → ((asked : List (Asked n)) → AreAsked (added ++ xs) asked → IsAsked x.happens x.tick (AreAsked (added ++ xs)) (a ∷ asked))
-      → ((row : ℕ) → row ≢ a.row → is_arrival_of x.happens row ≡ false)
-      → IsStep xs (x ∷ added) a first last a0 a2 r0 r2
-  step_on x a next arrives alone = record {
-    extends = extends_one x next;
-    arrives = λ asked is. arrives asked (own_asked added xs asked own is);
-    alone = λ row other. or_none (is_arrival_of x.happens row) _ (alone row other) (own_off added row own);
+  -- with them a row arrives, and no other
+  pub step_on : (arrived : List (Timed n m)) (a : Asked n) → Extends (added ++ xs) arrived between last a1 a2 r1 r2
+      → ((asked : List (Asked n)) → AreAsked (added ++ xs) asked → AreAsked (arrived ++ (added ++ xs)) (a ∷ asked))
+      → ((row : ℕ) → row ≢ a.row → arrives_with arrived row ≡ false)
+      → IsStep xs (arrived ++ added) a first last a0 a2 r0 r2
+  step_on arrived a next arrives alone = record {
+    extends = extends_on arrived next;
+    arrives = λ asked is.
+        subst (λ (ys : List (Timed n m)). AreAsked ys (a ∷ asked)) (sym (append_assoc arrived added xs)) (arrives asked (own_asked added xs asked own is));
+    alone = λ row other. off_append arrived added row (alone row other) (own_off added row own);
   }

@@ -13,7 +13,7 @@ use Rattle.bank_shape.specs.declared.BankShape.{BankShape}
 use Rattle.bank_model.specs.declared.answer.WriteAnswer.{WriteAnswer}
 use Rattle.bank_model.specs.Events.{Write, Read, Serve, Begin, Iterate, Cut}
 use Rattle.bank_model.specs.History.{queue}
-use Rattle.bank_model.specs.Timing.{Happens, Core, Timed, core, core_of}
+use Rattle.bank_model.specs.Timing.{Happens, Core, Regs, Timed, core, core_of}
 use Rattle.bank_model.specs.Told.{tick_by, tick_of_row}
 use Rattle.bank_laws.specs.Outcomes.{ended}
 use Rattle.clock_laws.specs.Standing.{is_arrival_of, arrives_with}
@@ -65,6 +65,7 @@ module _ {n : ℕ} where
   tick_off (Core (Begin answer)) tick older row off = refl
   tick_off (Core (Iterate answer)) tick older row off = refl
   tick_off (Core (Cut tearing)) tick older row off = refl
+  tick_off (Regs event) tick older row off = refl
 
 module _ {n m : ℕ} (shape : BankShape) where
   -- what has become of a row that asks this, by one event after others: a write has arrived, at its tick; a read doesn't stand in the queue
@@ -83,6 +84,7 @@ module _ {n m : ℕ} (shape : BankShape) where
   lacks_step : (xs : List (Timed n m)) (h : Happens n) (row : ℕ) → is_arrival_of h row ≡ false → has_row (queue shape (core xs)) row ≡ false
       → has_row (queue shape (core_of h (core xs))) row ≡ false
   lacks_step xs (Core event) row off none = queue-lacks shape (core xs) row none event off
+  lacks_step xs (Regs event) row off none = none
 
   -- an event that isn't the row's arrival
   becomes_step : (xs : List (Timed n m)) (x : Timed n m) (c : Asked n) → is_arrival_of x.happens c.row ≡ false
@@ -105,38 +107,42 @@ module _ {n m : ℕ} (shape : BankShape) where
   pub all_become : (xs : List (Timed n m)) (own : List (Asked n)) → AreAsked xs own → RowsFall own → All (λ c. Becomes xs c c.asks) own
   all_become [] own are falls = subst (λ (own : List (Asked n)). All (λ c. Becomes [] c c.asks) own) (sym are) (All-nil (λ (c : Asked n). Becomes [] c c.asks))
   all_become (x ∷ xs) own are falls =
-      by x.happens (becomes_step xs x) own are falls (λ rest is rest_falls. all_become xs rest is rest_falls)
+      by x.happens x.cancels (becomes_step xs x) own are falls (λ rest is rest_falls. all_become xs rest is rest_falls)
     where
       Was : Asked n → Type 0
       Was c = Becomes xs c c.asks
 
-      by : (h : Happens n) → ((c : Asked n) → is_arrival_of h c.row ≡ false → Becomes xs c c.asks → BecomesBy xs h x.tick c c.asks)
-          → (own : List (Asked n)) → IsAsked h x.tick (AreAsked xs) own → RowsFall own
+      by : (h : Happens n) (cancels : Bool) → ((c : Asked n) → is_arrival_of h c.row ≡ false → Becomes xs c c.asks → BecomesBy xs h x.tick c c.asks)
+          → (own : List (Asked n)) → IsAsked h cancels x.tick (AreAsked xs) own → RowsFall own
           → ((rest : List (Asked n)) → AreAsked xs rest → RowsFall rest → All Was rest)
           → All (λ c. BecomesBy xs h x.tick c c.asks) own
-      by (Core (Write at line bytes given answer)) step [] are falls rec = absurd are
-      by (Core (Write at line bytes given answer)) step (a ∷ own) are falls rec =
+      by (Core (Write at line bytes given answer)) cancels step [] are falls rec = absurd are
+      by (Core (Write at line bytes given answer)) cancels step (a ∷ own) are falls rec =
           let at_row : a.row ≡ at = ap (λ (a : Asked n). a.row) are.0 in
           All-cons (λ (c : Asked n). BecomesBy xs (Core (Write at line bytes given answer)) x.tick c c.asks) a own
           (subst (λ (c : Asked n). BecomesBy xs (Core (Write at line bytes given answer)) x.tick c c.asks) (sym are.0) (written xs x.tick at line bytes given answer))
           (All-both (λ (c : Asked n). c.row < a.row) Was (λ (c : Asked n). BecomesBy xs (Core (Write at line bytes given answer)) x.tick c c.asks)
           (λ c lower was. step c (ne_eqb at c.row (λ e. absurd (omega (arith, lower, at_row, e)))) was) own falls.0 (rec own are.1 falls.1))
-      by (Core (Read at line answer)) step [] are falls rec = absurd are
-      by (Core (Read at line answer)) step (a ∷ own) are falls rec =
+      by (Core (Read at line answer)) cancels step [] are falls rec = absurd are
+      by (Core (Read at line answer)) cancels step (a ∷ own) are falls rec =
           let at_row : a.row ≡ at = ap (λ (a : Asked n). a.row) are.0 in
           All-cons (λ (c : Asked n). BecomesBy xs (Core (Read at line answer)) x.tick c c.asks) a own
           (subst (λ (c : Asked n). BecomesBy xs (Core (Read at line answer)) x.tick c c.asks) (sym are.0)
           (let none = stands_not shape at xs (not_named at xs own are.1 (names_above at own (subst (λ r. All (λ (b : Asked n). b.row < r) own) at_row falls.0))) in none.queued))
           (All-both (λ (c : Asked n). c.row < a.row) Was (λ (c : Asked n). BecomesBy xs (Core (Read at line answer)) x.tick c c.asks)
           (λ c lower was. step c (ne_eqb at c.row (λ e. absurd (omega (arith, lower, at_row, e)))) was) own falls.0 (rec own are.1 falls.1))
-      by (Core (Serve answer)) step own are falls rec =
+      by (Core (Serve answer)) cancels step own are falls rec =
           All-weaker Was (λ (c : Asked n). BecomesBy xs (Core (Serve answer)) x.tick c c.asks) (λ c was. step c refl was) own (rec own are falls)
-      by (Core (Begin answer)) step own are falls rec =
+      by (Core (Begin answer)) cancels step own are falls rec =
           All-weaker Was (λ (c : Asked n). BecomesBy xs (Core (Begin answer)) x.tick c c.asks) (λ c was. step c refl was) own (rec own are falls)
-      by (Core (Iterate answer)) step own are falls rec =
+      by (Core (Iterate answer)) cancels step own are falls rec =
           All-weaker Was (λ (c : Asked n). BecomesBy xs (Core (Iterate answer)) x.tick c c.asks) (λ c was. step c refl was) own (rec own are falls)
-      by (Core (Cut tearing)) step [] are falls rec = absurd are
-      by (Core (Cut tearing)) step (a ∷ own) are falls rec =
+      by (Core (Cut tearing)) true step own are falls rec =
+          All-weaker Was (λ (c : Asked n). BecomesBy xs (Core (Cut tearing)) x.tick c c.asks) (λ c was. step c refl was) own (rec own are falls)
+      by (Core (Cut tearing)) false step [] are falls rec = absurd are
+      by (Core (Cut tearing)) false step (a ∷ own) are falls rec =
           All-cons (λ (c : Asked n). BecomesBy xs (Core (Cut tearing)) x.tick c c.asks) a own
           (subst (λ (asks : Asks n). BecomesBy xs (Core (Cut tearing)) x.tick a asks) (sym are.1) tt)
           (All-weaker Was (λ (c : Asked n). BecomesBy xs (Core (Cut tearing)) x.tick c c.asks) (λ c was. step c refl was) own (rec own are.2 falls.1))
+      by (Regs event) cancels step own are falls rec =
+          All-weaker Was (λ (c : Asked n). BecomesBy xs (Regs event) x.tick c c.asks) (λ c was. step c refl was) own (rec own are falls)

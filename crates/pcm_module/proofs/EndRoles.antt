@@ -3,7 +3,7 @@ use Rattle.std.proofs.Common.{◌≡◌, ℕ, ◌+◌, ◌-◌, ◌*◌, ◌%◌
 use Rattle.std.proofs.lemmas.Nat.{mul-add-lt, mod-mul-add}
 use Rattle.std.proofs.Math.Nat.{mul_comm}
 use Rattle.wear_report.specs.declared.Role.{Role}
-use Rattle.wear_report.specs.declared.Role.TheVariants.{Line, Gap, Free, Retired}
+use Rattle.wear_report.specs.declared.Role.TheVariants.{Line, Gap, Free, Retired, Control}
 use Rattle.start_gap.specs.Rotation.{Rotation, IsRotation, StandsFor, turn}
 use Rattle.bank_shape.specs.declared.BankShape.{BankShape}
 use Rattle.power_recovery.specs.Kept.{KeptState, IsKept, region_at, array_line}
@@ -56,6 +56,7 @@ same_role shape named end at (Line own) none is = absurd (none own refl)
 same_role shape named end at Gap none is = is
 same_role shape named end at Free none is = is
 same_role shape named end at Retired none is = is
+same_role shape named end at Control none is = is
 
 -- one that holds a line holds it by its name
 pub line_role : (raw : RawShape) (seed bank own at line : ℕ) (end : BankEnd) → IsRole (bank_shape (module_of raw) bank) (λ own. own) end at (Line own)

@@ -7,7 +7,7 @@ use Rattle.row_laws.specs.declared.Asks.{Asks}
 use Rattle.row_laws.specs.declared.Asks.TheVariants.{Reads, Writes, Cuts}
 use Rattle.row_laws.specs.Table.{is_of}
 use Rattle.bank_model.specs.Events.{Write, Read, Serve, Begin, Iterate, Cut}
-use Rattle.bank_model.specs.Timing.{Happens, Core, Timed}
+use Rattle.bank_model.specs.Timing.{Happens, Core, Regs, Timed}
 use Rattle.module_laws.specs.Asking.{Asked, asked_in, asked_of, AreAsked, IsAsked}
 use Rattle.clock_laws.specs.Standing.{is_arrival_of, arrives_with}
 use Rattle.clock_laws.proofs.Deciding.{or_left, or_right, or_none}
@@ -38,26 +38,28 @@ module _ {n m : ℕ} (row : ℕ) where
   -- a row that isn't among those that were asked for didn't arrive
   pub not_named : (xs : List (Timed n m)) (own : List (Asked n)) → AreAsked xs own → names own row ≡ false → arrives_with xs row ≡ false
   not_named [] own is off = refl
-  not_named (x ∷ xs) own is off = by x.happens own is off (λ rest are none. not_named xs rest are none)
+  not_named (x ∷ xs) own is off = by x.happens x.cancels own is off (λ rest are none. not_named xs rest are none)
     where
-      by : (h : Happens n) (own : List (Asked n)) → IsAsked h x.tick (AreAsked xs) own → names own row ≡ false
+      by : (h : Happens n) (cancels : Bool) (own : List (Asked n)) → IsAsked h cancels x.tick (AreAsked xs) own → names own row ≡ false
           → ((rest : List (Asked n)) → AreAsked xs rest → names rest row ≡ false → arrives_with xs row ≡ false)
           → (is_arrival_of h row || arrives_with xs row) ≡ false
-      by (Core (Write at line bytes given answer)) [] is off rec = absurd is
-      by (Core (Write at line bytes given answer)) (a ∷ own) is off rec =
+      by (Core (Write at line bytes given answer)) cancels [] is off rec = absurd is
+      by (Core (Write at line bytes given answer)) cancels (a ∷ own) is off rec =
           or_none (at == row) _
           (sym (ap (λ (a : Asked n). is_numbered a.asks && a.row == row) is.0) ∙ or_left (is_numbered a.asks && a.row == row) _ off)
           (rec own is.1 (or_right (is_numbered a.asks && a.row == row) _ off))
-      by (Core (Read at line answer)) [] is off rec = absurd is
-      by (Core (Read at line answer)) (a ∷ own) is off rec =
+      by (Core (Read at line answer)) cancels [] is off rec = absurd is
+      by (Core (Read at line answer)) cancels (a ∷ own) is off rec =
           or_none (at == row) _
           (sym (ap (λ (a : Asked n). is_numbered a.asks && a.row == row) is.0) ∙ or_left (is_numbered a.asks && a.row == row) _ off)
           (rec own is.1 (or_right (is_numbered a.asks && a.row == row) _ off))
-      by (Core (Serve answer)) own is off rec = rec own is off
-      by (Core (Begin answer)) own is off rec = rec own is off
-      by (Core (Iterate answer)) own is off rec = rec own is off
-      by (Core (Cut tearing)) [] is off rec = absurd is
-      by (Core (Cut tearing)) (a ∷ own) is off rec = rec own is.2 (or_right (is_numbered a.asks && a.row == row) _ off)
+      by (Core (Serve answer)) cancels own is off rec = rec own is off
+      by (Core (Begin answer)) cancels own is off rec = rec own is off
+      by (Core (Iterate answer)) cancels own is off rec = rec own is off
+      by (Core (Cut tearing)) true own is off rec = rec own is off
+      by (Core (Cut tearing)) false [] is off rec = absurd is
+      by (Core (Cut tearing)) false (a ∷ own) is off rec = rec own is.2 (or_right (is_numbered a.asks && a.row == row) _ off)
+      by (Regs event) cancels own is off rec = rec own is off
 
 module _ {n : ℕ} where
   -- what holds of the rows that were asked for holds of one that arrived

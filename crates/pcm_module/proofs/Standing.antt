@@ -3,7 +3,7 @@ use Rattle.std.proofs.Common.{◌≡◌, ℕ, false, List, [], ◌∷◌, map, r
 use Rattle.masked_bytes.specs.Entries.{has_row}
 use Rattle.bank_shape.specs.declared.BankShape.{BankShape}
 use Rattle.bank_model.specs.History.{queue, waits}
-use Rattle.bank_model.specs.Timing.{Happens, Core, Timed, core, core_of}
+use Rattle.bank_model.specs.Timing.{Happens, Core, Regs, Timed, core, core_of}
 use Rattle.bank_laws.specs.Standing.{has_wait}
 use Rattle.bank_invariant.specs.Holds.{waiting_of}
 use Rattle.clock_laws.specs.Standing.{has_waiting, is_arrival_of, arrives_with}
@@ -26,6 +26,7 @@ module _ {n m : ℕ} (shape : BankShape) (row : ℕ) where
     where
       by : (h : Happens n) → is_arrival_of h row ≡ false → has_row (queue shape (core xs)) row ≡ false → has_wait (waits shape (core xs)) row ≡ false
           → (has_row (queue shape (core_of h (core xs))) row ≡ false) × (has_wait (waits shape (core_of h (core xs))) row ≡ false)
+      by (Regs event) off none waits_not = (none, waits_not)
       by (Core event) off none waits_not = (queue-lacks shape (core xs) row none event off, waits-lack shape (core xs) row waits_not event off)
 
   -- it is one that didn't arrive

@@ -37,7 +37,7 @@ pub fn read_at<const B: usize, const M: usize, const E: usize, A: CellArray<B, M
         → (added : List (TimedEvent B M)) × IsStep xs added (record { row = row; tick = tick; asks = Reads line }) timed.old timed.new (A.state array.old) (A.state array.new) results.old results.new }
 {
     timed.advance(array, tick, results);
-    timed.arrive_read(row, line, results);
+    timed.arrive_read(array, row, line, results);
 }
 
 /// A write of a bank line arrives at a tick.

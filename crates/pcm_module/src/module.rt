@@ -2,6 +2,7 @@
 ghost use Rattle.std.specs.Prelude.{◌≡◌, ◌*◌, ◌+◌, ◌<◌, ◌≤◌, ℕ, List, [], IfOk, Some, slice_get, false};
 ghost use Rattle.pcm_cells.specs.Device.{ArrayState, IsFresh};
 ghost use Rattle.ecp_line.specs.Layout.{IsLayout};
+ghost use Rattle.bank_shape.specs.declared.Home.TheVariants.{Array};
 ghost use Rattle.result_rows.specs.declared.Outcome.{Outcome};
 ghost use Rattle.power_recovery.specs.Kept.{IsKept};
 ghost use Rattle.module_shape.specs.Limits.{IsShape, total_of};
@@ -46,9 +47,11 @@ impl<const B: usize, const M: usize, const E: usize> Model for Module<B, M, E> {
 }
 
 impl<const B: usize, const M: usize, const E: usize> Module<B, M, E> {
-    /// A module at tick 0, for an array that was just powered up, with the randomiser of a seed.
+    /// A module at tick 0, for an array that was just powered up, with the randomiser of a seed. A line has room for what a
+    /// control line keeps, where registers are kept in the array.
     pub fn new(alloc: Global, shape: Shape, seed: u64) -> Result<Module<B, M, E>, AllocError>
         requires layout { IsLayout B M E }
+        requires wide { shape.home ≡ Array → 16 ≤ B }
         ensures shape { IfOk result (λ m. (m.shape ≡ shape) × (m.seed ≡ seed) × (m.tick ≡ 0) × (m.rows_below ≡ 0) × (m.finished ≡ false)) }
         ensures banks { IfOk result (λ m. m.banks ≡ banks_from shape shape.banks 0) }
         ensures begins { IfOk result (λ m. (array : ArrayState B M) (results : List (Outcome B)) → IsFresh (shape.banks * array_lines_of (module_of shape)) array

@@ -8,7 +8,7 @@ ghost use Rattle.bank_timing.specs.Extending.{IsOpen};
 ghost use Rattle.pcm_module.specs.Replaying.{IsReplayed};
 
 use crate::module::Module;
-use module_shape::{Policy, RawShape, Shape};
+use module_shape::{Home, Policy, RawShape, Shape};
 use pcm_cells::{Act, CellArray, MemArray, Script, ScriptArray, Wear};
 use result_rows::{Outcome, Results};
 use std::alloc::{AllocError, Global};
@@ -34,6 +34,7 @@ const SIZES: RawShape = RawShape {
     read_ticks: 5,
     iter_ticks: 10,
     policy: Policy::Pause,
+    home: Home::Guarded,
 };
 
 // Without spares the array lines of bank 1 begin at 10.
@@ -48,6 +49,7 @@ const NO_SPARES: RawShape = RawShape {
     read_ticks: 5,
     iter_ticks: 10,
     policy: Policy::Pause,
+    home: Home::Guarded,
 };
 
 const LAST_TICK: u64 = 1_099_511_627_776;
@@ -296,5 +298,51 @@ fn a_worn_line_gets_a_spare_of_its_own_bank(rt: HostRuntime) -> Result<(), Fail>
     assert_eq!(rt; memory.role(17), Role::Retired);
     assert_eq!(rt; memory.role(21), Role::Line(8));
     assert_eq!(rt; memory.retired(), 1);
+    Ok(())
+}
+
+#[test]
+fn registers_in_the_array_outlast_a_cut(rt: HostRuntime) -> Result<(), Fail> {
+    let shape = Shape::new(RawShape {
+        psi: 1,
+        home: Home::Array,
+        ..SIZES
+    })?;
+    let mut array: MemArray<64, 8> = MemArray::new();
+    // Each bank has four control lines behind its spare, so that line 8, of bank 1, stands at array line 21. The cut tears the
+    // writing of both banks' changes.
+    let table = [
+        (0, Call::Write(0, 0xff), Saw::Stored(15, 6)),
+        (0, Call::Write(8, 0x11), Saw::Stored(15, 21)),
+        (22, Call::Cut, Saw::Cut(22)),
+        (30, Call::Read(0), Saw::Read(37, 6, 0xff)),
+        (60, Call::Read(8), Saw::Read(65, 21, 0x11)),
+    ];
+    let (memory, other) = played(rt.alloc(), &mut array, shape, &table)?;
+    assert_eq!(rt; other, None);
+    let lines = memory.shape().array_lines();
+    assert_eq!(rt; lines, 30);
+    assert_eq!(rt; memory.role(8), Role::Gap);
+    assert_eq!(rt; memory.role(10), Role::Free);
+    assert_eq!(rt; memory.role(11), Role::Control);
+    assert_eq!(rt; memory.role(29), Role::Control);
+    Ok(())
+}
+
+#[test]
+fn a_read_cancels_a_write_of_its_own_bank(rt: HostRuntime) -> Result<(), Fail> {
+    let shape = Shape::new(RawShape {
+        policy: Policy::Cancel,
+        ..SIZES
+    })?;
+    let mut array: MemArray<64, 8> = MemArray::new();
+    // Lines 0 and 1 are in bank 0, line 8 in bank 1.
+    let table = [
+        (0, Call::Write(0, 0xff), Saw::Stored(27, 6)),
+        (0, Call::Write(8, 0x11), Saw::Stored(15, 17)),
+        (7, Call::Read(1), Saw::Read(12, 1, 0)),
+    ];
+    let (_, other) = played(rt.alloc(), &mut array, shape, &table)?;
+    assert_eq!(rt; other, None);
     Ok(())
 }

@@ -9,7 +9,7 @@ use Rattle.trace_gen.specs.EventText.{trace_text}
 use Rattle.trace_gen.specs.Generated.{generated}
 use Rattle.rotation_reports.specs.declared.line_rows.MapOptions.{MapOptions}
 
--- the sizes, the seed and the moves of a map
+-- the sizes, the seed and the moves of a map, and where its banks keep their registers
 abbrev pub map_options : MapJob → MapOptions
 map_options job = record {
   banks = job.shape.banks;
@@ -18,6 +18,7 @@ map_options job = record {
   spares = job.shape.spares;
   seed = job.seed;
   moves = job.from;
+  home = job.shape.home;
 }
 
 -- the bytes of a line of this size

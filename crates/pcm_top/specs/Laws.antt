@@ -39,8 +39,8 @@ PrintableLaw =
     → IsShape raw → AreEventsFor (total_of raw) 0 events → length outcomes ≡ length events
     → RunsRight e raw seed (rows_of events outcomes) array ends → CanBePrinted raw seed events outcomes ends
 
--- what a run leaves of whichever trace: without a power cut no read is lost; a write that finds room in a bank that isn't worn out is
--- accepted and leaves the queue; and where no power cut comes and each row finds what it needs, the run is done wholly
+-- what a run leaves of whichever trace: without a power cut no read is lost; a write that finds room in a bank that isn't worn out and
+-- has no worn control line is accepted and leaves the queue; and where no power cut comes and each row finds what it needs, the run is done wholly
 pub record IsComplete {n m : ℕ} (e : ℕ) (raw : RawShape) (seed : ℕ) (array : ArrayState n m) (rows : List (Row n)) (done : Done) : Type 0 where
   pub none_lost : NoCuts rows → All (λ r. IsFalse (is_lost r.outcome)) rows
   pub room_taken : (later before : List (Row n)) (r : Row n) (line : ℕ) (bytes : List ℕ) (given : List Bool)

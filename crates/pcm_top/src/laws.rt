@@ -17,8 +17,9 @@ pub fn right_runs_can_be_printed()
     array_lines_have_one_role();
 }
 
-/// Of whichever trace: without a power cut no read is lost; a write that finds room in a bank that isn't worn out is accepted
-/// and leaves the queue; and where no power cut comes and each row finds what it needs, the run is done wholly.
+/// Of whichever trace: without a power cut no read is lost; a write that finds room in a bank that isn't worn out and has no
+/// worn control line is accepted and leaves the queue; and where no power cut comes and each row finds what it needs, the run
+/// is done wholly.
 pub fn runs_are_complete()
     ensures { CompletenessLaw }
 {

@@ -14,7 +14,8 @@ use run_text::TEXT_ROOM;
 use std::alloc::{AllocError, Global};
 
 /// Takes all the memory of a run of so many rows: that of the array, of the module, of the table of outcomes and of the
-/// text that is written. Neither the run nor the printing takes memory afterwards.
+/// text that is written. Neither the run nor the printing takes memory afterwards. A line has room for what a control line
+/// keeps.
 pub fn take_memory<const B: usize, const M: usize, const E: usize, A: CellArray<B, M>>(
     alloc: Global,
     job: &RunJob,
@@ -22,6 +23,7 @@ pub fn take_memory<const B: usize, const M: usize, const E: usize, A: CellArray<
     rows: u32,
 ) -> Result<(Module<B, M, E>, Results<B>, Text), AllocError>
     requires layout { IsLayout B M E }
+    requires wide { 16 ≤ B }
     requires job { IsRun job.now }
     ensures ready { IfOk result (λ taken. IsReady job.now.shape job.now.seed rows taken.0 (A.state array.new) taken.1) }
     ensures text { IfOk result (λ taken. taken.2 ≡ reserved TEXT_ROOM) }

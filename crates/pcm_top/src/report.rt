@@ -29,6 +29,7 @@ fn options_of(job: &MapJob) -> MapOptions
         spares: sizes.spares,
         seed: job.seed,
         moves: job.from,
+        home: sizes.home,
     }
 }
 

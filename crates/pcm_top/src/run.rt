@@ -41,7 +41,8 @@ fn ending<const B: usize>(results: &Results<B>) -> Done
     }
 }
 
-/// Replays the events of a job on the array, and writes what the job asks to see of it.
+/// Replays the events of a job on the array, and writes what the job asks to see of it. A line has room for what a control
+/// line keeps.
 pub fn run<const B: usize, const M: usize, const E: usize, A: CellArray<B, M>, S: Source, K: Sink>(
     alloc: Global,
     job: &RunJob,
@@ -50,6 +51,7 @@ pub fn run<const B: usize, const M: usize, const E: usize, A: CellArray<B, M>, S
     out: &mut K,
 ) -> Result<Done, Fault>
     requires layout { IsLayout B M E }
+    requires wide { 16 ≤ B }
     requires job { IsRun job.now }
     ensures done { IfOk result (RunIsWritten B M E job.now (source_change S.left S.taken S.faults source.old source.new) (A.state array.new)
         (K.written out.old) (K.written out.new)) }

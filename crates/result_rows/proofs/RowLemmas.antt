@@ -63,7 +63,7 @@ length-hex_or_empty-le (Some bs) most short =
 
 -- a row within the limits is at most 64 bytes and two for each byte of a line
 pub length-row_text-le : {n : ℕ} (row : ℕ) (asked : Op) (line : ℕ) (outcome : Outcome n) → row ≤ 400000 → line ≤ 65535
-    → ForSome (tick_of outcome) (λ tick. tick < 2 ^ 64) → ForSome (place_of outcome) (λ place. place ≤ 82175)
+    → ForSome (tick_of outcome) (λ tick. tick < 2 ^ 64) → ForSome (place_of outcome) (λ place. place ≤ 98831)
     → ForSome (bytes_of outcome) (λ bytes. length bytes ≤ n) → length (row_text row asked line outcome) ≤ 64 + 2 * n
 length-row_text-le {n = n} row asked line outcome row_fits line_fits tick_fits place_fits bytes_fit =
     let letter : length (op_letter asked) ≡ 1 = length-op_letter asked in
@@ -73,7 +73,7 @@ length-row_text-le {n = n} row asked line outcome row_fits line_fits tick_fits p
     let ticks : length (decimal_or_empty (tick_of outcome)) ≤ 20 =
     length-decimal_or_empty-le (tick_of outcome) 20 (λ tick is. twenty_digits tick (tick_fits tick is)) in
     let places : length (decimal_or_empty (place_of outcome)) ≤ 5 =
-    length-decimal_or_empty-le (place_of outcome) 5 (λ place is. five_digits place (let fits : place ≤ 82175 = place_fits place is in omega arith)) in
+    length-decimal_or_empty-le (place_of outcome) 5 (λ place is. five_digits place (let fits : place ≤ 98831 = place_fits place is in omega arith)) in
     let digits : length (hex_or_empty (bytes_of outcome)) ≤ 2 * n = length-hex_or_empty-le (bytes_of outcome) n bytes_fit in
     simp length-append (omega arith)
 

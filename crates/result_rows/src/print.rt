@@ -24,7 +24,7 @@ pub fn print_row<const B: usize>(row: u32, op: Op, line: u32, outcome: &Outcome<
     requires belongs { op_of outcome.now ≡ Some op }
     requires row { row ≤ 400000 }
     requires line { line ≤ 65535 }
-    requires place { ForSome (place_of outcome.now) (λ place. place ≤ 82175) }
+    requires place { ForSome (place_of outcome.now) (λ place. place ≤ 98831) }
     ensures after { text.new ≡ appended text.old (row_text row op line outcome.now) }
     ensures room { room_in text.old ≤ room_in text.new + (64 + 2 * B) }
 {
@@ -108,7 +108,7 @@ fn tick<const B: usize>(outcome: &Outcome<B>) -> Option<u64>
 
 #[tactic(auto, using(pcm_io::proofs::DigitLemmas::five_digits))]
 fn place<const B: usize>(outcome: &Outcome<B>) -> Option<u64>
-    requires { ForSome (place_of outcome.now) (λ place. place ≤ 82175) }
+    requires { ForSome (place_of outcome.now) (λ place. place ≤ 98831) }
     ensures place { result ≡ place_of outcome.now }
     ensures short { length (decimal_or_empty result) ≤ 5 }
 {

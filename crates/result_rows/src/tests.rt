@@ -18,7 +18,7 @@ fn printed<const B: usize>(
     requires belongs { op_of outcome.now ≡ Some op }
     requires row { row ≤ 400000 }
     requires line { line ≤ 65535 }
-    requires place { ForSome (place_of outcome.now) (λ place. place ≤ 82175) }
+    requires place { ForSome (place_of outcome.now) (λ place. place ≤ 98831) }
 {
     let mut text = Text::new(alloc, 64 + 2 * B)?;
     print_row(row, op, line, outcome, &mut text);
@@ -80,14 +80,14 @@ fn a_row_of_each_outcome_of_a_read_and_of_a_cut(rt: HostRuntime) -> Result<(), F
 fn the_longest_rows_of_both_sizes(rt: HostRuntime) -> Result<(), Fail> {
     let small = Outcome::Read {
         tick: u64::MAX,
-        place: 82_175,
+        place: 98_831,
         bytes: [0xff; 64],
     };
     let text = printed(rt.alloc(), 400_000, Op::Read, 65_535, &small)?;
     assert_eq!(rt; text.bytes().len(), 48 + 128);
     let wide = Outcome::Read {
         tick: u64::MAX,
-        place: 82_175,
+        place: 98_831,
         bytes: [0x0a; 128],
     };
     let text = printed(rt.alloc(), 400_000, Op::Read, 65_535, &wide)?;

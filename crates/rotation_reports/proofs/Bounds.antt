@@ -14,15 +14,15 @@ use Rattle.rotation_reports.specs.MapText.{map_address, map_row, array_lines_of}
 use Rattle.rotation_reports.specs.MovesText.{move_row}
 use Rattle.std.proofs.lemmas.Nat.{mul-le}
 
--- the slots of a bank, those of a region's lines, and the array lines of the banks before
+-- the slots of a bank, those of the regions before, and the array lines of the banks before
 pub slots_few : (regions lines : ℕ) → regions ≤ 16 → lines ≤ 4096 → regions * (lines + 1) ≤ 65552
 slots_few regions lines p q = mul-le regions (lines + 1) 16 4097 p (omega arith)
 
 pub region_few : (region lines : ℕ) → region < 16 → lines ≤ 4096 → region * (lines + 1) ≤ 61455
 region_few region lines p q = mul-le region (lines + 1) 15 4097 (omega arith) (omega arith)
 
-pub bank_few : (bank array_lines : ℕ) → bank < 16 → array_lines ≤ 66576 → bank * array_lines ≤ 998640
-bank_few bank array_lines p q = mul-le bank array_lines 15 66576 (omega arith) q
+pub bank_few : (bank array_lines : ℕ) → bank < 16 → array_lines ≤ 67617 → bank * array_lines ≤ 1014255
+bank_few bank array_lines p q = mul-le bank array_lines 15 67617 (omega arith) q
 
 -- the bits of the numbers of a module's lines
 pub bits_some : (r n : ℕ) → 4 ≤ n → n < 2 * 2 ^ r → 2 ≤ r

@@ -2,6 +2,7 @@
 use Rattle.std.specs.Prelude.{◌≡◌, ℕ, ◌+◌, ◌*◌, ◌^◌, ◌≤◌, List, [], ◌∷◌, ◌++◌, codes, decimal}
 use Rattle.start_gap.specs.Rotation.{Rotation, StandsFor, place_after}
 use Rattle.start_gap.specs.Slots.{slots_of, slot_at}
+use Rattle.bank_shape.specs.Shape.{if_array}
 use Rattle.feistel_map.specs.declared.address.Address.{Address}
 use Rattle.feistel_map.specs.Addresses.{address_of}
 use Rattle.feistel_map.specs.Log2.{log2}
@@ -12,12 +13,12 @@ use Rattle.rotation_reports.specs.Rows.{row_of, rows_from}
 abbrev pub map_header : List ℕ
 map_header = codes "line,bank,region,offset,place,array\n"
 
--- how many lines the module has, and how many array lines a bank
+-- how many lines the module has, and how many array lines a bank, with those that keep its registers
 abbrev pub lines_of : MapOptions → ℕ
 lines_of o = o.banks * o.regions * o.lines
 
 abbrev pub array_lines_of : MapOptions → ℕ
-array_lines_of o = slots_of o.regions o.lines + o.spares
+array_lines_of o = slots_of o.regions o.lines + o.spares + if_array o.home (o.regions + o.spares + 1)
 
 -- the options are in range, and there are a power of two of lines
 pub record IsMapOptions (o : MapOptions) : Type 0 where

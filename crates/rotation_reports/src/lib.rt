@@ -55,6 +55,7 @@ fn push_number(number: u64, end: &[u8], text: &mut Text)
 #[cfg(test)]
 mod tests {
     use super::*;
+    use bank_shape::Home;
     use std::test::Fail;
 
     #[test]
@@ -67,6 +68,7 @@ mod tests {
             spares: 2,
             seed: 0,
             moves: 5,
+            home: Home::Guarded,
         });
         print_map_header(&mut text);
         map.print_row(0, &mut text);
@@ -90,6 +92,7 @@ mod tests {
             spares: 1,
             seed: 0,
             moves: 0,
+            home: Home::Guarded,
         });
         map.print_row(0, &mut text);
         map.print_row(8, &mut text);
@@ -97,6 +100,30 @@ mod tests {
         assert_eq!(rt;
             text.bytes(),
             b"0,0,1,1,1,6\n8,1,1,1,1,17\n15,1,0,2,2,13\n".as_slice()
+        );
+        Ok(())
+    }
+
+    #[test]
+    fn registers_in_the_array_take_four_lines_more_of_each_bank(
+        rt: HostRuntime,
+    ) -> Result<(), Fail> {
+        let mut text = Text::new(rt.alloc(), 192)?;
+        let map = Map::new(MapOptions {
+            banks: 2,
+            regions: 2,
+            lines: 4,
+            spares: 1,
+            seed: 0,
+            moves: 0,
+            home: Home::Array,
+        });
+        map.print_row(0, &mut text);
+        map.print_row(8, &mut text);
+        map.print_row(15, &mut text);
+        assert_eq!(rt;
+            text.bytes(),
+            b"0,0,1,1,1,6\n8,1,1,1,1,21\n15,1,0,2,2,17\n".as_slice()
         );
         Ok(())
     }

@@ -3,15 +3,18 @@ ghost use Rattle.std.specs.Prelude.{◌≡◌, ℕ, ◌+◌, ◌*◌, ◌<◌, �
 ghost use Rattle.pcm_io.specs.Reserved.{room_in, appended};
 ghost use Rattle.feistel_map.specs.Log2.{log2};
 ghost use Rattle.start_gap.specs.Slots.{slot_at};
+ghost use Rattle.bank_shape.specs.Shape.{if_array};
 ghost use Rattle.rotation_reports.specs.MapText.{IsMapOptions, map_header, map_row, map_address, lines_of, array_lines_of};
 
 use crate::{push_number, push_short, registers_after};
+use bank_shape::Home;
 use feistel_map::{Address, Feistel};
 use pcm_io::Text;
 use start_gap::Registers;
 use std::marker::Model;
 
-/// The options of `map`: the sizes of the module, the seed of the network, and how many gap moves every region made.
+/// The options of `map`: the sizes of the module, the seed of the network, how many gap moves every region made, and where
+/// the banks keep their registers.
 #[derive(Clone, Copy, Debug, PartialEq, Eq)]
 pub struct MapOptions {
     pub banks: u32,
@@ -20,6 +23,7 @@ pub struct MapOptions {
     pub spares: u32,
     pub seed: u64,
     pub moves: u64,
+    pub home: Home,
 }
 
 /// Where every line of a module stands, while no slot has a spare line.
@@ -99,8 +103,30 @@ pub fn print_map_header(text: &mut Text)
     text.push(b"line,bank,region,offset,place,array\n");
 }
 
+// How many lines of a bank keep its registers.
+fn control_lines(options: &MapOptions) -> u32
+    requires { IsMapOptions options.now }
+    ensures number { result ≡ if_array options.now.home (options.now.regions + options.now.spares + 1) }
+    ensures few { result ≤ 1041 }
+{
+    match options.home {
+        Home::Guarded => 0,
+        Home::Array => options.regions + options.spares + 1,
+    }
+}
+
+// How many array lines a bank has.
+#[tactic(auto, using(crate::proofs::Bounds::slots_few))]
+fn array_lines(options: &MapOptions) -> u32
+    requires { IsMapOptions options.now }
+    ensures number { result ≡ array_lines_of options.now }
+    ensures few { result ≤ 67617 }
+{
+    options.regions * (options.lines + 1) + options.spares + control_lines(options)
+}
+
 // The array line of a place of a region of a bank.
-#[tactic(auto, using(crate::proofs::Bounds::slots_few, crate::proofs::Bounds::region_few, crate::proofs::Bounds::bank_few))]
+#[tactic(auto, using(crate::proofs::Bounds::region_few, crate::proofs::Bounds::bank_few))]
 fn array_line(options: &MapOptions, address: Address, place: u32) -> u32
     requires options { IsMapOptions options.now }
     requires bank { address.bank < options.now.banks }
@@ -108,8 +134,7 @@ fn array_line(options: &MapOptions, address: Address, place: u32) -> u32
     requires place { place ≤ options.now.lines }
     ensures { result ≡ address.bank * array_lines_of options.now + slot_at options.now.lines address.region place }
 {
-    let array_lines = options.regions * (options.lines + 1) + options.spares;
-    address.bank * array_lines + (address.region * (options.lines + 1) + place)
+    address.bank * array_lines(options) + (address.region * (options.lines + 1) + place)
 }
 
 // How many bits the numbers of so many lines have.

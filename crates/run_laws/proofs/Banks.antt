@@ -14,7 +14,7 @@ use Rattle.clock_laws.specs.Ending.{LeavingLaw}
 use Rattle.clock_laws.specs.State.{ClockState}
 use Rattle.clock_laws.specs.Leads.{Leads}
 use Rattle.end_laws.specs.Ends.{EndsWith}
-use Rattle.end_laws.specs.EndLaws.{IsEndOf, RemappedLaw, GapsLaw, KeptLaw, QueuedLaw, StillThereLaw, end_of, whole_head}
+use Rattle.end_laws.specs.EndLaws.{IsHaltedWorn, IsEndOf, RemappedLaw, GapsLaw, KeptLaw, QueuedLaw, StillThereLaw, end_of, whole_head}
 
 -- an excepted line is the head's, which gives every byte
 excepted-whole : {n : ℕ} (es : List (Entry n)) → IfSome (whole_head es) (λ line. IsSomeAnd (slice_get es 0) (λ head. (head.line ≡ line) × IsTrue (gives_all head.given)))
@@ -44,16 +44,16 @@ module _ {n m e : ℕ} (xs : List (Timed n m)) (clock : ClockState n m e) (array
     pub leaves : LeavingLaw → LeavesArray e shape xs array
     leaves law = subst (λ (s : BankShape). LeavesArray e s xs array) same (law n m e xs clock array leads)
 
-    pub ends_right : RemappedLaw → GapsLaw → KeptLaw → QueuedLaw → StillThereLaw → IsSized shape pace → IsIdle shape pace xs
+    pub ends_right : LeavingLaw → RemappedLaw → GapsLaw → KeptLaw → QueuedLaw → StillThereLaw → IsSized shape pace → IsIdle shape pace xs
         → EndsWith shape (is_worn_at e array) (decoded e array) (table_of shape xs) (end_of clock.bank.kept (core xs))
-    ends_right remapped gaps kept queued still sized idle =
+    ends_right leaving remapped gaps kept queued still sized idle =
         subst (λ (s : BankShape). EndsWith s (is_worn_at e array) (decoded e array) (table_of s xs) (end_of clock.bank.kept (core xs))) same
         (record {
           lines = remapped n m e (core xs) clock.bank array leads.holds;
-          moved = λ region exists. gaps n m e pace xs clock.bank array region sized' lawful' idle' leads.holds;
+          moved = λ region exists. gaps n m e pace xs clock.bank array region sized' lawful' idle' leads.holds halted;
           kept = λ line exists. kept n m e pace xs clock.bank array line sized' lawful' leads.holds exists;
           queued = queued n m e pace xs clock.bank array lawful' leads.holds;
-          stored = still n m e pace xs clock.bank array sized' lawful' leads.holds;
+          stored = still n m e pace xs clock.bank array sized' lawful' leads.holds halted;
         })
       where
         sized' : IsSized clock.bank.kept.shape pace
@@ -61,6 +61,10 @@ module _ {n m e : ℕ} (xs : List (Timed n m)) (clock : ClockState n m e) (array
 
         lawful' : Lawful clock.bank.kept.shape pace e xs
         lawful' = subst (λ (p : Pacing). Lawful clock.bank.kept.shape p e xs) paced leads.lawful
+
+        -- where the writing of a change has halted, its control line is worn
+        halted : IsHaltedWorn e clock.bank.kept.shape xs array
+        halted = (leaving n m e xs clock array leads).halted
 
         idle' : IsIdle clock.bank.kept.shape pace xs
         idle' = subst (λ (s : BankShape). IsIdle s pace xs) (sym same) idle

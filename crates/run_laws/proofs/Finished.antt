@@ -1,6 +1,6 @@
 -- A finished run is right, by the laws of its banks.
 use Rattle.std.proofs.Common.{◌≡◌, ℕ, ◌<◌, List, [], map, Some, sym, ◌∙◌, subst, arith}
-use Rattle.std.specs.Prelude.{IsFalse, All}
+use Rattle.std.specs.Prelude.{All}
 use Rattle.std.proofs.lemmas.List.{append-nil}
 use Rattle.std.proofs.lemmas.List.Elements.{All-nil, All-map}
 use Rattle.pcm_cells.specs.Device.{ArrayState}
@@ -14,7 +14,6 @@ use Rattle.bank_model.specs.Timing.{Timed}
 use Rattle.bank_model.specs.Lawful.{Lawful}
 use Rattle.bank_laws.specs.Laws.{IsSized, LeavesArray, KeepsPlaces, KeepsLog, is_worn_at}
 use Rattle.bank_laws.specs.Outcomes.{table_of}
-use Rattle.pace.proofs.Cancelling.{never_cancels}
 use Rattle.module_shape.specs.declared.raw.RawShape.{RawShape}
 use Rattle.module_shape.specs.Limits.{IsShape, total_of}
 use Rattle.module_shape.specs.Addresses.{module_of, bank_shape}
@@ -30,7 +29,6 @@ use Rattle.run_laws.specs.Runs.{bank_of_line, line_in_bank, pacing_in, rules_in,
 use Rattle.run_laws.specs.Finishing.{IsFinished}
 use Rattle.run_laws.specs.FinishedLaws.{FinishedLaw, ends_of}
 use Rattle.run_laws.proofs.Mixing.{lines_law}
-use Rattle.run_laws.proofs.Uncancelled.{uncancelled}
 use Rattle.run_laws.proofs.Banks.{is_end, is_lawful, leaves, ends_right}
 
 -- the laws of a bank
@@ -77,14 +75,11 @@ module _ {n m e : ℕ} (laws : BankLaws) (raw : RawShape) (seed : ℕ) (h : ℕ 
     left : LeavesArray e (shape_of bank) (h bank) array
     left = leaves (h bank) (banks bank) array (done.leads bank exists) (shape_of bank) (pacing_in raw) (done.shapes bank exists) (done.paces bank exists) laws.leaving
 
-    calm : All (λ x. IsFalse x.cancels) (h bank)
-    calm = uncancelled (shape_of bank) (pacing_in raw) e (never_cancels raw.policy) (h bank) lawful
-
     -- its rows are the table of its history
     table : table_in raw seed bank rows ≡ table_of (shape_of bank) (h bank)
     table =
         laws.by_bank n m (shape_of bank) (bank_of_line raw seed) (line_in_bank raw seed) bank (h bank) trace outcome (done.asked bank exists)
-        (done.recorded bank exists) calm
+        (done.recorded bank exists)
 
     keeps_rows : KeepsRows (rules_in e raw bank) (table_in raw seed bank rows)
     keeps_rows =
@@ -106,7 +101,7 @@ module _ {n m e : ℕ} (laws : BankLaws) (raw : RawShape) (seed : ℕ) (h : ℕ 
     ends =
         subst (λ (rs : List (Row n)). EndsWith (shape_of bank) (is_worn_at e array) (decoded e array) rs (ends_of h banks bank)) (sym table)
         (ends_right (h bank) (banks bank) array (done.leads bank exists) (shape_of bank) (pacing_in raw) (done.shapes bank exists) (done.paces bank exists)
-        laws.remapped laws.gaps laws.kept laws.queued laws.still (sized raw bank is) (done.idle bank exists))
+        laws.leaving laws.remapped laws.gaps laws.kept laws.queued laws.still (sized raw bank is) (done.idle bank exists))
 
   -- of the whole module
   exist : All (λ r. IsOfLines (total_of raw) r.asks) rows
@@ -120,7 +115,7 @@ module _ {n m e : ℕ} (laws : BankLaws) (raw : RawShape) (seed : ℕ) (h : ℕ 
     banks = keeps_rows;
     room = λ bank few.
         laws.finds n m e (shape_of bank) (pacing_in raw) (bank_of_line raw seed) (line_in_bank raw seed) bank (h bank) trace outcome (laws.room n m)
-        (sized raw bank is) (lawful bank few) (done.idle bank few) (calm bank few) done.ticks (done.asked bank few) (done.recorded bank few);
+        (sized raw bank is) (lawful bank few) (done.idle bank few) done.ticks (done.asked bank few) (done.recorded bank few);
     places = keeps_places;
   }
 

@@ -1,5 +1,4 @@
 pub mod Mixing
-pub mod Uncancelled
 mod Banks
 mod Finished
 pub mod Lifting

@@ -1,10 +1,13 @@
 -- Each array line of a bank has one role after a right run.
-use Rattle.std.proofs.Common.{ℕ, ◌+◌, ◌*◌, ◌^◌, ◌<◌, arith}
-use Rattle.bank_shape.specs.Shape.{IsBankShape}
+use Rattle.std.proofs.Common.{ℕ, ◌+◌, ◌*◌, ◌^◌, ◌<◌, Bool, inl, inr, arith}
+use Rattle.bank_shape.specs.declared.BankShape.{BankShape}
+use Rattle.bank_shape.specs.Shape.{slots_of, controls_from, IsBankShape}
 use Rattle.module_shape.specs.declared.raw.RawShape.{RawShape}
 use Rattle.module_shape.specs.Limits.{IsShape}
 use Rattle.module_shape.specs.Addresses.{module_of, array_lines_of, bank_shape}
 use Rattle.module_shape.proofs.Bounds.{banks_apart}
+use Rattle.bank_laws.specs.Laws.{is_worn_at}
+use Rattle.end_laws.specs.Ends.{IsRemapped}
 use Rattle.end_laws.specs.Roles.{RoleLaw}
 use Rattle.run_laws.specs.Runs.{line_named}
 use Rattle.run_laws.specs.FinishedLaws.{RolesLaw}
@@ -30,6 +33,16 @@ is_bank_shape raw bank is few = record {
     fits : bank * array_lines_of (module_of raw) + array_lines_of (module_of raw) < 2 ^ 32
     fits = omega (arith, banks_apart bank raw.banks (array_lines_of (module_of raw)) few, few_array_lines_law raw is)
 
+-- no slot has a control line
+below_controls : (shape : BankShape) (worn : ℕ → Bool) (table : ℕ → ℕ) → IsRemapped shape worn table
+    → (slot : ℕ) → slot < slots_of shape → table slot < controls_from shape
+below_controls shape worn table remapped slot exists =
+    elim (remapped.lines slot exists) [
+      | inl own ↦ omega (arith, own, exists)
+      | inr spare ↦ spare.1
+    ]
+
 pub roles_law : RoleLaw → RolesLaw
 roles_law law n m e raw seed rows array ends bank at is right few =
     law (bank_shape (module_of raw) bank) (line_named raw seed bank) (ends bank) at (is_bank_shape raw bank is few) (right.end bank few).lines.apart
+    (below_controls (bank_shape (module_of raw) bank) (is_worn_at e array) (ends bank).table (right.end bank few).lines)

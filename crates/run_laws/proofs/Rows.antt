@@ -17,6 +17,9 @@ use Rattle.row_laws.specs.Queueing.{pending, has_room, is_queue_fair}
 use Rattle.row_laws.specs.Serving.{is_served, owed}
 use Rattle.bank_laws.specs.Laws.{is_worn_at}
 use Rattle.bank_laws.specs.Places.{is_placed, is_taken, may_leave}
+use Rattle.bank_shape.specs.declared.Home.{Home}
+use Rattle.bank_shape.specs.declared.Home.TheVariants.{Guarded, Array}
+use Rattle.bank_shape.specs.Shape.{if_array, controls_of}
 use Rattle.module_shape.specs.declared.raw.RawShape.{RawShape}
 use Rattle.module_shape.specs.Limits.{IsShape, total_of}
 use Rattle.module_shape.specs.Addresses.{module_of, array_lines_of, bank_shape}
@@ -43,11 +46,15 @@ own_outcomes_law n m e raw seed rows array ends right =
     (each-passes (λ before r. IsOwn r) is_served
     (λ before r after h. own_outcome r.tick r.asks (owed before r.asks) r.outcome h) rows [] right.serves.served)
 
+-- wherever registers are kept
+few_controls : (home : Home) (count : ℕ) → if_array home count ≤ count
+few_controls Guarded count = omega arith
+few_controls Array count = omega arith
+
 pub few_array_lines_law : FewArrayLinesLaw
 few_array_lines_law raw is =
-    let no_controls : raw.regions * (raw.lines + 1) + raw.spares ≡ array_lines_of (module_of raw) = omega arith in
-    subst (λ (lines : ℕ). raw.banks * lines ≤ 82176) no_controls
-    (array_lines_few raw.banks raw.regions raw.lines raw.spares is.few_banks is.few_regions is.few_spares is.few_in_all)
+    array_lines_few raw.banks raw.regions raw.lines raw.spares (controls_of (module_of raw).bank) is.few_banks is.few_regions is.few_spares is.few_in_all
+    (few_controls raw.home (raw.regions + raw.spares + 1))
 
 module _ {n m : ℕ} (e : ℕ) (raw : RawShape) (seed : ℕ) (rows : List (Row n)) (array : ArrayState n m) (ends : ℕ → BankEnd)
     (is : IsShape raw) (exist : LinesExist raw rows) (right : RunsRight e raw seed rows array ends) where

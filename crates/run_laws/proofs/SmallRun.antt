@@ -81,11 +81,11 @@ shows bank rs line =
 
 first_log : KeepsLog 1 (bank_shape (module_of small) 0) ended (rules_in 1 small 0) (first_bank 0) senses
 unfolding decode layout.number layout.source_below layout.active layout.width layout.leading layout.some_below cells.cell cells.members lib.Count.count_trailing_zeros
-first_log = record { sensed = refl; lines = λ line low high. each-from (shows 0 (first_bank 0)) 11 0 line refl low high }
+first_log = record { sensed = refl; lines = λ line low high. each-from (shows 0 (first_bank 0)) 11 0 line refl low high; controls = refl }
 
 second_log : KeepsLog 1 (bank_shape (module_of small) 1) ended (rules_in 1 small 1) (second_bank 0x11) senses
 unfolding decode layout.number layout.source_below layout.active layout.width layout.leading layout.some_below cells.cell cells.members lib.Count.count_trailing_zeros
-second_log = record { sensed = refl; lines = λ line low high. each-from (shows 1 (second_bank 0x11)) 11 11 line refl low high }
+second_log = record { sensed = refl; lines = λ line low high. each-from (shows 1 (second_bank 0x11)) 11 11 line refl low high; controls = refl }
 
 -- a line's newest bytes are there
 abbrev is_there : ℕ → List (Row 2) → ℕ → Bool

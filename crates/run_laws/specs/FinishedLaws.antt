@@ -43,7 +43,8 @@ pub record AreNamed (raw : RawShape) (seed : ℕ) : Type 0 where
 abbrev pub NamedLaw : Type 0
 NamedLaw = (raw : RawShape) (seed : ℕ) → IsShape raw → AreNamed raw seed
 
--- after a right run each array line of a bank has one role: it holds one line of the module, or is a gap, a free spare or retired
+-- after a right run each array line of a bank has one role: it holds one line of the module, or is a gap, a free spare,
+-- retired or a control line
 abbrev pub RolesLaw : Type 0
 RolesLaw =
     (n m e : ℕ) (raw : RawShape) (seed : ℕ) (rows : List (Row n)) (array : ArrayState n m) (ends : ℕ → BankEnd) (bank at : ℕ)

@@ -36,13 +36,14 @@ abbrev pub NoCuts : {n : ℕ} → List (Row n) → Type 0
 NoCuts rows = All (λ r. IsFalse (is_cut r)) rows
 
 module _ {n m : ℕ} (e : ℕ) (raw : RawShape) (seed : ℕ) (array : ArrayState n m) where
-  -- behind these rows and at this tick the queue of a line's bank has room for a write, and that bank isn't worn out in the end
+  -- behind these rows and at this tick the queue of a line's bank has room for a write, and in the end that bank isn't worn out and has
+  -- no worn control line
   pub record HasRoom (before : List (Row n)) (tick line : ℕ) : Type 0 where
     pub free : length (pending tick [] (table_in raw seed (bank_of_line raw seed line) before)) < raw.writes
     pub unworn : IsFalse (may_leave (bank_shape (module_of raw) (bank_of_line raw seed line)) (is_worn_at e array))
 
-  -- behind these rows a row finds what it needs: a write room in its bank, which isn't worn out in the end, and a read fewer
-  -- waiting reads in its bank than may wait there
+  -- behind these rows a row finds what it needs: a write room in its bank, which in the end isn't worn out and has no worn control line, and
+  -- a read fewer waiting reads in its bank than may wait there
   abbrev pub FindsPlace : List (Row n) → ℕ → Asks n → Type 0
   FindsPlace before tick (Reads line) = length (waiting tick [] (table_in raw seed (bank_of_line raw seed line) before)) < raw.reads
   FindsPlace before tick (Writes line bytes given) = HasRoom before tick line
@@ -61,9 +62,9 @@ PlacesExistLaw =
     → IsShape raw → LinesExist raw rows → RunsRight e raw seed rows array ends
     → All (λ r. ForSome (place_of r.outcome) (λ place. place < raw.banks * array_lines_of (module_of raw))) rows
 
--- a module has at most 82,176 array lines
+-- a module has at most 98,832 array lines
 abbrev pub FewArrayLinesLaw : Type 0
-FewArrayLinesLaw = (raw : RawShape) → IsShape raw → raw.banks * array_lines_of (module_of raw) ≤ 82176
+FewArrayLinesLaw = (raw : RawShape) → IsShape raw → raw.banks * array_lines_of (module_of raw) ≤ 98832
 
 -- without power cuts no read is lost
 abbrev pub NoneLostLaw : Type 0
@@ -72,7 +73,7 @@ NoneLostLaw =
     → IsShape raw → LinesExist raw rows → NoCuts rows → RunsRight e raw seed rows array ends
     → All (λ r. IsFalse (is_lost r.outcome)) rows
 
--- a write that finds room in a bank that isn't worn out is accepted, and leaves the queue again
+-- a write that finds room in a bank that isn't worn out and has no worn control line is accepted, and leaves the queue again
 abbrev pub RoomIsTakenLaw : Type 0
 RoomIsTakenLaw =
     (n m e : ℕ) (raw : RawShape) (seed : ℕ) (rows : List (Row n)) (array : ArrayState n m) (ends : ℕ → BankEnd)

@@ -8,6 +8,7 @@ use Rattle.row_laws.specs.declared.Row.{Row}
 use Rattle.row_laws.specs.Worked.{W, R, whole}
 use Rattle.bank_model.specs.Worked.{holds}
 use Rattle.pace.specs.declared.Policy.TheVariants.{Pause}
+use Rattle.bank_shape.specs.declared.Home.TheVariants.{Guarded}
 use Rattle.module_shape.specs.declared.raw.RawShape.{RawShape}
 use Rattle.end_laws.specs.Ends.{BankEnd}
 use Rattle.run_laws.specs.Runs.{RunsRight}
@@ -24,6 +25,7 @@ small = record {
   read_ticks = 5;
   iter_ticks = 10;
   policy = Pause;
+  home = Guarded;
 }
 
 -- line 8 is written; then it and line 0 are read with these bytes, the newest row first

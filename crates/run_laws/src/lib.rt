@@ -49,7 +49,8 @@ pub fn finished_runs_are_right()
     stored_rows_are_still_there();
 }
 
-/// After a right run each array line has one role: it holds one line of the module, or is a gap, a free spare or retired.
+/// After a right run each array line has one role: it holds one line of the module, or is a gap, a free spare, retired or
+/// a control line.
 pub fn array_lines_have_one_role()
     ensures { RolesLaw }
 {
@@ -66,7 +67,7 @@ pub fn places_are_array_lines()
     ensures { PlacesExistLaw }
 {}
 
-/// A module has at most 82,176 array lines.
+/// A module has at most 98,832 array lines.
 pub fn array_lines_are_few()
     ensures { FewArrayLinesLaw }
 {}
@@ -76,7 +77,7 @@ pub fn reads_are_not_lost_without_cuts()
     ensures { NoneLostLaw }
 {}
 
-/// A write that finds room in a bank that isn't worn out is accepted, and leaves the queue again.
+/// A write that finds room in a bank that isn't worn out and has no worn control line is accepted, and leaves the queue again.
 pub fn room_is_taken()
     ensures { RoomIsTakenLaw }
 {}

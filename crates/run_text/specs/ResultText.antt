@@ -40,7 +40,7 @@ module _ {n : ℕ} where
   pub record IsPrintable (event : Event n) (outcome : Outcome n) : Type 0 where
     pub belongs : op_of outcome ≡ Some (asked event.op)
     pub line : named_line event.op ≤ 65535
-    pub place : ForSome (place_of outcome) (λ place. place ≤ 82175)
+    pub place : ForSome (place_of outcome) (λ place. place ≤ 98831)
 
   -- each row has an outcome with which it can be printed
   pub record ArePrintable (events : List (Event n)) (outcomes : List (Outcome n)) : Type 0 where

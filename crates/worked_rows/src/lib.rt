@@ -1,11 +1,7 @@
-//! Whole runs of the program by its one call: over arrays whose cells do as a script says, over seeded arrays, and over
-//! arrays that keep a log. What each run must answer was worked out by hand from the rules of the device.
+//! Whole runs of the program that can't stand as data: a log of senses is read, a generated trace is read back, an output
+//! breaks off, a source is long. What each run must answer was worked out by hand from the rules of the device.
 #![tactic(auto)]
 
-#[cfg(test)]
-mod cuts;
-#[cfg(test)]
-mod cuts_at_each_tick;
 #[cfg(test)]
 mod drawn;
 #[cfg(test)]
@@ -14,17 +10,3 @@ mod faults;
 mod harness;
 #[cfg(test)]
 mod logged;
-#[cfg(test)]
-mod masked;
-#[cfg(test)]
-mod pausing;
-#[cfg(test)]
-mod reports;
-#[cfg(test)]
-mod stores;
-#[cfg(test)]
-mod wearing;
-#[cfg(test)]
-mod wide;
-#[cfg(test)]
-mod words;

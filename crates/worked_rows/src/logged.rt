@@ -1,24 +1,17 @@
 // What a run over an array that keeps a log shows of its senses.
-use crate::harness::{CASE, Case, check_over, scripted};
-use pcm_cells::{Cells, LoggedArray};
+use crate::harness::{SMALL, run, source_of};
+use pcm_cells::{Cells, LoggedArray, MemArray, ScriptArray};
 use std::test::Fail;
 
 #[test]
 fn each_sense_of_a_run_is_logged(rt: HostRuntime) -> Result<(), Fail> {
-    let mut array = LoggedArray::new(rt.alloc(), scripted(rt.alloc(), &[])?, 16)?;
-    let mut wide = scripted(rt.alloc(), &[])?;
-    let case = Case {
-        trace: "
-            0,W,0,[ff]
-            100,R,0,
-        ",
-        out: "
-            1,W,0,stored,15,3,
-            2,R,0,read,105,3,[ff]
-        ",
-        ..CASE
-    };
-    check_over(&rt, rt.alloc(), case, &mut array, &mut wide)?;
+    let alloc = rt.alloc();
+    let ff = "ff".repeat(alloc, 64)?;
+    let trace = format!(in alloc; "tick,op,arg,data\n0,W,0,{}\n100,R,0,\n", ff.as_str())?;
+    let source = source_of(alloc, trace.as_bytes())?;
+    let mut array = LoggedArray::new(alloc, ScriptArray::new(Vec::new(alloc)), 16)?;
+    let answer = run(alloc, SMALL, &mut array, &mut MemArray::new(), source, &[])?;
+    assert_eq!(rt; answer.status, 0);
     let zeros = Cells {
         bits: [0; 64],
         meta: [0; 8],

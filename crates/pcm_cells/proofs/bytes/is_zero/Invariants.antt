@@ -1,4 +1,4 @@
-use Rattle.std.proofs.Common.{◌≡◌, ◌≢◌, ℕ, ◌<◌, ◌≤◌, slice_index}
+use Rattle.std.proofs.Common.{◌≢◌, ℕ, ◌<◌, ◌≤◌, slice_index}
 use Rattle.pcm_cells.proofs.bytes.is_zero.Given as goal
 
 -- no byte so far is above `all`, and where this isn't 0 some byte isn't

@@ -1,4 +1,4 @@
-use Rattle.std.proofs.Common.{ℕ, ◌<◌, ◌∷◌, ◌++◌, sym, ap, subst, arith}
+use Rattle.std.proofs.Common.{ℕ, ◌<◌, ◌==◌, List, ◌∷◌, ◌++◌, sym, ap, subst, ◌∙◌, arith}
 use Rattle.std.proofs.lemmas.Bool.{ne_eqb}
 use Rattle.row_laws.specs.declared.Asks.TheVariants.{Reads}
 use Rattle.bank_shape.specs.declared.BankShape.{BankShape}
@@ -9,7 +9,9 @@ use Rattle.power_recovery.specs.Slots.{bank_lines}
 use Rattle.clock_laws.specs.Arriving.{arrival}
 use Rattle.module_laws.specs.Asking.{Asked}
 use Rattle.bank_timing.proofs.Sizes.{timed_fits, row_fits}
-use Rattle.pcm_module.proofs.Arriving.{open_on, step_on}
+use Rattle.clock_laws.proofs.Deciding.{or_none}
+use Rattle.bank_timing.specs.Cancelling.{cancel_first}
+use Rattle.pcm_module.proofs.Arriving.{open_on, step_on, first_asked, first_off}
 use Rattle.pcm_module.proofs.bank.read_at.Goals as goal
 
 pub arrive_read-requires : goal.arrive_read-requires
@@ -25,7 +27,7 @@ arrive_read-requires g c =
         (
           c.advance.ensures.going,
           (
-            (run.0 ++ c.requires.led.0, after, run.1.leads),
+            (run.0 ++ c.requires.led.0, run.1.leads),
             (
               stays,
               (
@@ -38,16 +40,31 @@ arrive_read-requires g c =
       ),
     )
 
+pub returns-clause-at : goal.returns-clause-at
+returns-clause-at g c = record {
+  now = c.arrive_read.ensures.now ∙ c.advance.ensures.now;
+  going = c.arrive_read.ensures.going;
+  below = omega (arith, c.arrive_read.ensures.rows);
+  open_rows = c.arrive_read.ensures.unset;
+}
+
 pub returns-clause-step : goal.returns-clause-step
 returns-clause-step g c xs leads =
     let run = c.advance.ensures.extends xs leads in
     let before = g.A.CellArray.state c.args.array.now in
-    let after = g.A.CellArray.state c.advance.new.array in
-    let next = c.arrive_read.ensures.extends (run.0 ++ xs) after run.1.leads in
-    let event : Timed g.row.B g.row.M = arrival c.advance.new.self.tick (Read c.args.row c.args.line (read_from c.advance.new.self.bank c.args.line)) in
+    let between = g.A.CellArray.state c.advance.new.array in
+    let after = g.A.CellArray.state c.arrive_read.new.array in
+    let clock = c.advance.new.self in
+    let next = c.arrive_read.ensures.extends (run.0 ++ xs) run.1.leads in
+    let event : Timed g.row.B g.row.M = arrival clock.tick (Read c.args.row c.args.line (read_from clock.bank c.args.line)) in
+    let extra : List (Timed g.row.B g.row.M) = cancel_first (run.0 ++ xs) clock c.args.line in
     let a : Asked g.row.B = record { row = c.args.row; tick = c.args.tick; asks = Reads c.args.line } in (
-      event ∷ run.0,
-      step_on xs run.0 c.args.timed.now c.advance.new.self c.arrive_read.new.self before after after c.args.results.now c.advance.new.results c.arrive_read.new.results leads run.2 run.1 event a next
-          (λ asked is. (ap (λ (t : ℕ). let b : Asked g.row.B = record { row = c.args.row; tick = t; asks = Reads c.args.line } in b) (sym c.advance.ensures.now), is))
-          (λ other off. ne_eqb c.args.row other (λ e. off (sym e))),
+      (event ∷ extra) ++ run.0,
+      step_on xs run.0 c.args.timed.now clock c.arrive_read.new.self before between after c.args.results.now c.advance.new.results c.arrive_read.new.results leads run.2 run.1
+          (event ∷ extra) a next
+          (λ asked is. (
+            ap (λ (t : ℕ). let b : Asked g.row.B = record { row = c.args.row; tick = t; asks = Reads c.args.line } in b) (sym c.advance.ensures.now),
+            first_asked (run.0 ++ xs) clock c.args.line asked is,
+          ))
+          (λ other off. or_none (c.args.row == other) _ (ne_eqb c.args.row other (λ e. off (sym e))) (first_off (run.0 ++ xs) clock c.args.line other)),
     )

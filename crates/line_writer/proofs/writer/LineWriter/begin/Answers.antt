@@ -1,5 +1,35 @@
-use Rattle.std.proofs.Common.{arith}
+use Rattle.std.proofs.Common.{◌≡◌, ℕ, arith, sym, subst, ◌∙◌}
+use Rattle.pcm_cells.specs.declared.row.Cells.{Cells}
+use Rattle.pcm_cells.specs.Rows.{cell}
+use Rattle.pcm_cells.specs.Device.{LineState}
+use Rattle.ecp_line.specs.Layout.{active, Sound, Prefix}
+use Rattle.line_writer.specs.Phases.{IsCleared}
+use Rattle.line_writer.specs.Writing.{IsInOrder}
+use Rattle.line_writer.proofs.Settling.{cleared-already}
 use Rattle.line_writer.proofs.writer.LineWriter.begin.Goals as goal
+
+in_order : (g : _) (c : goal.After-filling g) (line : LineState g.row.B g.row.M) → line.held ≡ c.args.seen → Sound g.row.B g.row.M g.row.E (cell line.held) line.stuck
+    → IsInOrder g.row.E c.args.seen c.active-entries.result line
+in_order g c line held sound =
+    let w : ℕ = c.active-entries.result in
+    let count : active g.row.B g.row.E (cell c.args.seen) ≡ w = sym c.active-entries.ensures.count in
+    let none = c.is_none.ensures.none c.if-is_none.true in
+    let cleared : IsCleared g.row.B g.row.E (cell c.args.seen) w =
+    cleared-already g.row.B g.row.E w (cell c.later-want.result.1) (cell c.args.seen) count c.later-want.ensures.cells (λ n. sym (c.meet.ensures n) ∙ none n) in
+    let count_held : active g.row.B g.row.E (cell line.held) ≡ w = subst (λ (h : Cells g.row.B g.row.M). active g.row.B g.row.E (cell h) ≡ w) (sym held) count in
+    record {
+      seen = held;
+      most = c.active-entries.ensures.within;
+      charged = subst (λ (k : ℕ). Prefix g.row.B g.row.M (cell line.held) line.stuck k) count_held sound;
+      entries = count_held;
+      cleared = subst (λ (h : Cells g.row.B g.row.M). IsCleared g.row.B g.row.E (cell h) w) (sym held) cleared;
+    }
+
+pub returns-then-is_none-clause-writes : goal.returns-then-is_none-clause-writes
+returns-then-is_none-clause-writes g c line held sound = (c.filling.ensures.line line (in_order g c line held sound)).0
+
+pub returns-then-is_none-clause-begun : goal.returns-then-is_none-clause-begun
+returns-then-is_none-clause-begun g c line held sound = (c.filling.ensures.line line (in_order g c line held sound)).1
 
 pub later-want-requires : goal.later-want-requires
 later-want-requires g c = grind arith

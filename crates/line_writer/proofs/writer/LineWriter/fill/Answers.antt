@@ -1,62 +1,7 @@
-use Rattle.std.proofs.Common.{arith, sym, ap, ◌∙◌, subst, inr}
-use Rattle.std.proofs.lemmas.Bool.{both_ways}
-use Rattle.pcm_cells.specs.Rows.{cell}
-use Rattle.program_verify.specs.declared.prog.Prog.{Prog}
-use Rattle.line_writer.specs.Phases.{IsFilling}
-use Rattle.line_writer.specs.Writing.{HasBegun}
-use Rattle.line_writer.specs.declared.writer.Progress.{Progress}
-use Rattle.line_writer.proofs.Making.{filling-made}
-use Rattle.line_writer.proofs.Going.{none-wrong}
+use Rattle.std.proofs.Common.{sym, ◌∙◌}
 use Rattle.line_writer.proofs.writer.LineWriter.fill.Goals as goal
 
-pub returns-in-Settled-clause-line : goal.returns-in-Settled-clause-line
-returns-in-Settled-clause-line g c line h =
-    let w = c.args.self.now.entries in
-    let programs = c.new-self.ensures.programs line (h.seen ∙ sym c.seen-2.ensures) in
-    let phase = subst (λ (p : Prog g.row.B g.row.M). IsFilling g.row.B g.row.E w c.args.self.now.bytes (cell p.want) (cell p.which) (cell line.held)) (sym c.new-self.ensures.made)
-    (filling-made g.row.E w c.args.self.now.bytes line.held c.seen.result.now c.wanted-want.result.0 c.wanted-want.result.1 (h.seen ∙ sym c.seen.ensures) h.entries h.cleared c.wanted-want.ensures) in
-    let none = none-wrong c.new-self.result (ap (λ (p : Prog g.row.B g.row.M). p.rounds) c.new-self.ensures.made) (c.in-Settled.ensures.status.1) in
-    let all = c.filled.ensures.line line (record {
-      round = record { prog = programs; most = h.most; charged = h.charged; phase = phase };
-      settled = inr none;
-      stuck = λ n q. absurd (both_ways _ (none n) q);
-    }) in
-    let stored = c.filled.ensures.stored line (record {
-      round = record { prog = programs; most = h.most; charged = h.charged; phase = phase };
-      settled = inr none;
-      stuck = λ n q. absurd (both_ways _ (none n) q);
-    }) none in
-    (all.0, all.1, subst (λ (p : Progress). HasBegun p) (sym stored) tt)
-
-pub seen-requires : goal.seen-requires
-seen-requires g c = grind arith
-
-pub wanted-want-requires : goal.wanted-want-requires
-wanted-want-requires g c = grind arith
-
-pub seen-requires-2 : goal.seen-requires-2
-seen-requires-2 g c = grind arith
-
-pub new-self-requires : goal.new-self-requires
-new-self-requires g c = grind arith
-
-pub status-requires : goal.status-requires
-status-requires g c = grind arith
-
-pub filled-requires : goal.filled-requires
-filled-requires g c = grind arith
-
-pub returns-in-Going-clause-line : goal.returns-in-Going-clause-line
-returns-in-Going-clause-line g c = grind arith
-
-pub returns-in-Going-clause-bytes : goal.returns-in-Going-clause-bytes
-returns-in-Going-clause-bytes g c = grind arith
-
-pub returns-in-Going-clause-steps : goal.returns-in-Going-clause-steps
-returns-in-Going-clause-steps g c = grind arith
-
-pub returns-in-Settled-clause-bytes : goal.returns-in-Settled-clause-bytes
-returns-in-Settled-clause-bytes g c = grind arith
-
-pub returns-in-Settled-clause-steps : goal.returns-in-Settled-clause-steps
-returns-in-Settled-clause-steps g c = grind arith
+pub returns-clause-line : goal.returns-clause-line
+returns-clause-line g c line h =
+    let all = c.filling.ensures.line line (record { seen = h.seen ∙ sym c.seen.ensures; most = h.most; charged = h.charged; entries = h.entries; cleared = h.cleared }) in
+    (all.0.writing, all.0.answer, all.1)

@@ -1,4 +1,4 @@
-use Rattle.std.proofs.Common.{◌≡◌, ◌+◌, ◌*◌, sym}
+use Rattle.std.proofs.Common.{◌+◌, ◌*◌, sym}
 use Rattle.pcm_cells.proofs.PlaneLemmas.{digit-is}
 use Rattle.pcm_cells.proofs.digits.Digits.planes.Goals as goal
 

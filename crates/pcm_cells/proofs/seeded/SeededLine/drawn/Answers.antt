@@ -56,3 +56,66 @@ returns g c =
 
 pub invariant_of-result : goal.invariant_of-result
 invariant_of-result g c = (search rules, search rules, λ n is live. never_calm g.row.B (n / 64) _ is)
+
+pub seed_from_u64-words-requires : goal.seed_from_u64-words-requires
+seed_from_u64-words-requires g c = grind arith
+
+pub overflow_add-vec : goal.overflow_add-vec
+overflow_add-vec g c = grind arith
+
+pub overflow_mul-vec : goal.overflow_mul-vec
+overflow_mul-vec g c = grind arith
+
+pub returns-in_err-left : goal.returns-in_err-left
+returns-in_err-left g c = grind arith
+
+pub zero-limits-requires : goal.zero-limits-requires
+zero-limits-requires g c = grind arith
+
+pub zero-ends-requires : goal.zero-ends-requires
+zero-ends-requires g c = grind arith
+
+pub overflow_add-cell-end : goal.overflow_add-cell-end
+overflow_add-cell-end g c = grind arith
+
+pub overflow_mul-cell-end : goal.overflow_mul-cell-end
+overflow_mul-cell-end g c = grind arith
+
+pub next_u64-word-requires : goal.next_u64-word-requires
+next_u64-word-requires g c = grind arith
+
+pub endurance-requires : goal.endurance-requires
+endurance-requires g c = grind arith
+
+pub index_mut-requires : goal.index_mut-requires
+index_mut-requires g c = grind arith
+
+pub overflow_cast-cell : goal.overflow_cast-cell
+overflow_cast-cell g c = grind arith
+
+pub miss_limit-requires : goal.miss_limit-requires
+miss_limit-requires g c = grind arith
+
+pub set-requires : goal.set-requires
+set-requires g c = grind arith
+
+pub overflow_cast-cell-in-loop-cell : goal.overflow_cast-cell-in-loop-cell
+overflow_cast-cell-in-loop-cell g c = grind arith
+
+pub set-requires-in-loop-cell : goal.set-requires-in-loop-cell
+set-requires-in-loop-cell g c = grind arith
+
+pub loop-cell-smaller : goal.loop-cell-smaller
+loop-cell-smaller g c = grind arith
+
+pub zero-requires : goal.zero-requires
+zero-requires g c = grind arith
+
+pub zero-requires-2 : goal.zero-requires-2
+zero-requires-2 g c = grind arith
+
+pub zero-requires-3 : goal.zero-requires-3
+zero-requires-3 g c = grind arith
+
+pub zero-requires-4 : goal.zero-requires-4
+zero-requires-4 g c = grind arith

@@ -1,10 +1,10 @@
-use Rattle.std.proofs.Common.{◌≡◌, ◌≢◌, ℕ, ◌+◌, ◌-◌, ◌*◌, ◌&&◌, ◌/◌, ◌<◌, ◌≤◌, true, false, cond, eqb, rules, length, slice_index, refl, sym, ◌∙◌, ap, arith, bit_and, List}
+use Rattle.std.proofs.Common.{◌≡◌, ℕ, ◌+◌, ◌-◌, ◌*◌, ◌&&◌, ◌/◌, ◌≤◌, false, cond, eqb, rules, length, slice_index, refl, sym, ◌∙◌, ap, arith}
 use Rattle.std.specs.Prelude.{nat_le}
 use Rattle.std.specs.Vec.{with_items}
 use Rattle.std.proofs.lemmas.List.{with_items_is}
 use Rattle.std.proofs.lemmas.Nat.Bits.{bit_at-zero}
 use Rattle.pcm_cells.specs.Rows.{cell}
-use Rattle.pcm_cells.specs.Planes.{bit_in, digit, number_of}
+use Rattle.pcm_cells.specs.Planes.{bit_in, digit}
 use Rattle.pcm_cells.proofs.ByteLemmas.{digit_and}
 use Rattle.pcm_cells.proofs.SeededLemmas.{left_is, calm_last, calm_here, level_here, calm_kept, both_false}
 use Rattle.pcm_cells.proofs.seeded.SeededLine.spend.Goals as goal
@@ -12,11 +12,19 @@ use Rattle.pcm_cells.proofs.seeded.SeededLine.spend.Goals as goal
 pub advance-requires : goal.advance-requires
 advance-requires g c =
     let few_bytes : g.row.B ≤ 128 = c.requires.shape.1 in
-    let few_check : g.row.M ≤ 16 = c.requires.shape.3 in
-    (search rules, (c.requires.whole, (c.requires.exists, λ i low more.
-    let none : (bit_in c.full.result i && bit_in c.args.changing i) ≡ false =
-    sym (digit_and c.full.result c.args.changing i) ∙ ap (λ x. bit_in x i) c.if-full-changing-eq0.true ∙ ap (λ x. eqb x 1) (bit_at-zero i) in
-    c.full.ensures i low (both_false _ _ none more))))
+    let few_check : g.row.M ≤ 16 = c.requires.shape.3 in (
+      search rules,
+      (
+        c.requires.whole,
+        (
+          c.requires.exists,
+          λ i low more.
+              let none : (bit_in c.full.result i && bit_in c.args.changing i) ≡ false =
+              sym (digit_and c.full.result c.args.changing i) ∙ ap (λ x. bit_in x i) c.if-full-changing-eq0.true ∙ ap (λ x. eqb x 1) (bit_at-zero i) in
+              c.full.ensures i low (both_false _ _ none more),
+        ),
+      ),
+    )
 
 pub returns-then-full-changing-eq0-clause-last : goal.returns-then-full-changing-eq0-clause-last
 returns-then-full-changing-eq0-clause-last g c i low =
@@ -58,13 +66,15 @@ invariant_of-self-2 g c =
     let is_2 = with_items_is first c.spend-last.new.left size_2 in
     let same_1 : c.as_mut_slice.result.now ≡ c.self.inside.left.items = c.as_mut_slice.ensures.value in
     let same_2 : c.as_mut_slice-2.result.now ≡ first.items = c.as_mut_slice-2.ensures.value in
-    let same_3 : c.as_slice.result.now ≡ (with_items first c.spend-last.new.left).items = c.as_slice.ensures.value in
-    (c.self.invariant.0, c.self.invariant.1,
-    calm_kept c.self.inside.calm (cell c.self.inside.stuck) c.self.inside.left.items (with_items first c.spend-last.new.left).items c.args.block c.are_many.result
-    (search rules) c.self.invariant.2
-    (λ many i low live. rw (← same_3) (c.are_many.ensures many i low (c.block-stuck.ensures i low ∙ live)))
-    (λ n apart. ap (λ xs. slice_index xs n) is_2 ∙ c.spend-last.ensures.others n apart ∙ ap (λ xs. slice_index xs n) (same_2 ∙ is_1)
-    ∙ c.level.ensures.others n apart ∙ ap (λ xs. slice_index xs n) same_1))
+    let same_3 : c.as_slice.result.now ≡ (with_items first c.spend-last.new.left).items = c.as_slice.ensures.value in (
+      c.self.invariant.0,
+      c.self.invariant.1,
+      calm_kept c.self.inside.calm (cell c.self.inside.stuck) c.self.inside.left.items (with_items first c.spend-last.new.left).items c.args.block c.are_many.result
+          (search rules) c.self.invariant.2
+          (λ many i low live. rw (← same_3) (c.are_many.ensures many i low (c.block-stuck.ensures i low ∙ live)))
+          (λ n apart. ap (λ xs. slice_index xs n) is_2 ∙ c.spend-last.ensures.others n apart ∙ ap (λ xs. slice_index xs n) (same_2 ∙ is_1)
+          ∙ c.level.ensures.others n apart ∙ ap (λ xs. slice_index xs n) same_1),
+    )
 
 pub returns-clause-last : goal.returns-clause-last
 returns-clause-last g c i low =

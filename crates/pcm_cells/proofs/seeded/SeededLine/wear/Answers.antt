@@ -41,3 +41,27 @@ loop-block-preserved g c =
             pulses = ap (λ line. line.line.pulses) w.self-is ∙ invariant.pulses;
           }
     ]
+
+pub overflow_add-block-end : goal.overflow_add-block-end
+overflow_add-block-end g c = grind arith
+
+pub loop-block-init : goal.loop-block-init
+loop-block-init g c = grind arith
+
+pub block-requires : goal.block-requires
+block-requires g c = grind arith
+
+pub wear_block-requires : goal.wear_block-requires
+wear_block-requires g c = grind arith
+
+pub loop-block-smaller : goal.loop-block-smaller
+loop-block-smaller g c = grind arith
+
+pub saturating_add-self-inside-requires : goal.saturating_add-self-inside-requires
+saturating_add-self-inside-requires g c = grind arith
+
+pub invariant_of-self : goal.invariant_of-self
+invariant_of-self g c = grind arith
+
+pub returns-clause-pulses : goal.returns-clause-pulses
+returns-clause-pulses g c = grind arith

@@ -1,4 +1,4 @@
-use Rattle.std.proofs.Common.{◌≡◌, ℕ, ◌+◌, ◌*◌, ◌%◌, ◌≤◌, ◌&&◌, rules, length, slice_index, true, cond, refl, sym, ◌∙◌, ap, arith}
+use Rattle.std.proofs.Common.{◌≡◌, ℕ, ◌+◌, ◌*◌, ◌%◌, ◌≤◌, ◌&&◌, rules, slice_index, true, cond, refl, sym, ◌∙◌, ap, arith}
 use Rattle.pcm_cells.specs.Rows.{cell}
 use Rattle.pcm_cells.specs.Planes.{bit_in, digit}
 use Rattle.pcm_cells.specs.Seeded.{LifeLine, left_of, seeded, seeded_cell}
@@ -70,11 +70,56 @@ pub invariant_of-self : goal.invariant_of-self
 invariant_of-self g c =
     let block = c.args.block in
     let stuck : c.self-2.inside.stuck ≡ c.self.inside.stuck =
-    ap (λ s. s.line.stuck) c.self-2.view_is ∙ ap (λ l. l.stuck) c.spend-last.ensures.line ∙ sym (ap (λ s. s.line.stuck) c.self.view_is) in
-    (c.self-2.invariant.0, c.self-2.invariant.1, λ n is live.
-    c.self-2.invariant.2 n is
-    (stuck_before block (cell c.self-2.inside.stuck) (cell c.set_block-2.new.self)
-    (λ i low h. ap (λ s. cell s (64 * block + i)) stuck ∙ sym (c.block-stuck.ensures i low)
-    ∙ or_false (bit_in c.spend-last.result i) (bit_in c.block-stuck.result i)
-    (sym (c.set_block-2.ensures.here i low ∙ digit_or c.spend-last.result c.block-stuck.result i) ∙ h))
-    c.set_block-2.ensures.others n live))
+    ap (λ s. s.line.stuck) c.self-2.view_is ∙ ap (λ l. l.stuck) c.spend-last.ensures.line ∙ sym (ap (λ s. s.line.stuck) c.self.view_is) in (
+      c.self-2.invariant.0,
+      c.self-2.invariant.1,
+      λ n is live.
+          c.self-2.invariant.2 n is
+          (stuck_before block (cell c.self-2.inside.stuck) (cell c.set_block-2.new.self)
+          (λ i low h. ap (λ s. cell s (64 * block + i)) stuck ∙ sym (c.block-stuck.ensures i low)
+          ∙ or_false (bit_in c.spend-last.result i) (bit_in c.block-stuck.result i)
+          (sym (c.set_block-2.ensures.here i low ∙ digit_or c.spend-last.result c.block-stuck.result i) ∙ h))
+          c.set_block-2.ensures.others n live),
+    )
+
+pub block-stuck-requires : goal.block-stuck-requires
+block-stuck-requires g c = grind arith
+
+pub block-requires : goal.block-requires
+block-requires g c = grind arith
+
+pub reached-requires : goal.reached-requires
+reached-requires g c = grind arith
+
+pub without-live-requires : goal.without-live-requires
+without-live-requires g c = grind arith
+
+pub below-requires : goal.below-requires
+below-requires g c = grind arith
+
+pub without-changing-requires : goal.without-changing-requires
+without-changing-requires g c = grind arith
+
+pub block-requires-2 : goal.block-requires-2
+block-requires-2 g c = grind arith
+
+pub block-requires-3 : goal.block-requires-3
+block-requires-3 g c = grind arith
+
+pub chosen-value-requires : goal.chosen-value-requires
+chosen-value-requires g c = grind arith
+
+pub block-requires-4 : goal.block-requires-4
+block-requires-4 g c = grind arith
+
+pub chosen-held-requires : goal.chosen-held-requires
+chosen-held-requires g c = grind arith
+
+pub set_block-requires : goal.set_block-requires
+set_block-requires g c = grind arith
+
+pub set_block-requires-2 : goal.set_block-requires-2
+set_block-requires-2 g c = grind arith
+
+pub returns-clause-pulses : goal.returns-clause-pulses
+returns-clause-pulses g c = grind arith

@@ -1,4 +1,5 @@
-use Rattle.std.proofs.Common.{ℕ, ◌∙◌, ap, subst}
+use Rattle.std.proofs.Common.{ℕ, ◌∙◌, sym, ap, subst}
+use Rattle.bank_shape.specs.declared.BankShape.{BankShape}
 use Rattle.pace.specs.Policies.{pacing_of}
 use Rattle.feistel_map.specs.Network.{network_of}
 use Rattle.bank_timing.proofs.Sizes.{timed_fits}
@@ -9,7 +10,7 @@ pub loop-bank-init : goal.loop-bank-init
 loop-bank-init g c = rw c.new-banks.ensures.items (made_none g.row.B g.row.M g.row.E c.args.shape)
 
 pub new-requires : goal.new-requires
-new-requires g c = (timed_fits g.row.B g.row.M g.row.E c.requires.layout, (c.requires.layout, (c.bank_shape.ensures.shape, c.pace.ensures.pace)))
+new-requires g c = (timed_fits g.row.B g.row.M g.row.E c.requires.layout, (c.requires.layout, (c.bank_shape.ensures.shape, (c.pace.ensures.pace, λ home. c.requires.wide (sym (ap (λ (s : BankShape). s.home) c.bank_shape.ensures.exact) ∙ home)))))
 
 pub drop-banks-requires-room-T-Destruct : goal.drop-banks-requires-room-T-Destruct
 drop-banks-requires-room-T-Destruct g c κs = timed_fits g.row.B g.row.M g.row.E c.requires.layout

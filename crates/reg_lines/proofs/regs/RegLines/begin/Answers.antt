@@ -1,4 +1,4 @@
-use Rattle.std.proofs.Common.{ℕ, ◌+◌, ◌<◌, Option, IfSome, ap, sym, subst, ◌∙◌}
+use Rattle.std.proofs.Common.{arith, ℕ, ◌+◌, ◌<◌, Option, IfSome, ap, sym, subst, ◌∙◌}
 use Rattle.pcm_cells.specs.Device.{LineState}
 use Rattle.line_writer.specs.Writing.{HasBegun}
 use Rattle.reg_lines.specs.declared.Change.{Change}
@@ -46,3 +46,30 @@ pub returns-clause-held : goal.returns-clause-held
 returns-clause-held g c =
     let step = stepped g (goal.at.returns-clause-held g c).After-keep in
     rw (c.keep.ensures.regs, c.keep.ensures.answer) (held-stepped c.args.self.now (g.A.CellArray.state c.sense-seen.new.self) c.in-Some.change c.begin-writer.result step)
+
+pub unreachable-requires : goal.unreachable-requires
+unreachable-requires g c = grind arith
+
+pub unreachable-unreachable : goal.unreachable-unreachable
+unreachable-unreachable g c = grind arith
+
+pub overflow_add-self-inside : goal.overflow_add-self-inside
+overflow_add-self-inside g c = grind arith
+
+pub sense-seen-requires : goal.sense-seen-requires
+sense-seen-requires g c = grind arith
+
+pub encode-requires : goal.encode-requires
+encode-requires g c = grind arith
+
+pub begin-writer-requires : goal.begin-writer-requires
+begin-writer-requires g c = grind arith
+
+pub keep-requires : goal.keep-requires
+keep-requires g c = grind arith
+
+pub returns-clause-keeps : goal.returns-clause-keeps
+returns-clause-keeps g c = grind arith
+
+pub returns-clause-touches : goal.returns-clause-touches
+returns-clause-touches g c = grind arith

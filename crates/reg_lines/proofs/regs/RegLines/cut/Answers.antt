@@ -1,4 +1,4 @@
-use Rattle.std.proofs.Common.{◌≡◌, ◌+◌, [], Some, None, false, ap, sym, ◌∙◌}
+use Rattle.std.proofs.Common.{arith, ◌≡◌, ◌+◌, [], Some, None, false, ap, sym, ◌∙◌}
 use Rattle.bank_model.specs.Touching.{Touches}
 use Rattle.reg_lines.specs.Regs.{RegsState, AreHeld}
 use Rattle.reg_lines.specs.Keeping.{broken_off, torn_line}
@@ -44,3 +44,15 @@ returns-clause-held g c =
       | in-Some+in_default-change w ↦ quiet w.array-is
       | in_default w ↦ quiet w.array-is
     ])
+
+pub overflow_add-self-inside : goal.overflow_add-self-inside
+overflow_add-self-inside g c = grind arith
+
+pub tear-requires : goal.tear-requires
+tear-requires g c = grind arith
+
+pub invariant_of-self : goal.invariant_of-self
+invariant_of-self g c = grind arith
+
+pub returns-clause-regs : goal.returns-clause-regs
+returns-clause-regs g c = grind arith

@@ -1,4 +1,4 @@
-use Rattle.std.proofs.Common.{◌≡◌, ◌≢◌, ℕ, ◌+◌, Some, sym, subst, ◌∙◌}
+use Rattle.std.proofs.Common.{arith, ◌≡◌, ◌≢◌, ℕ, ◌+◌, Some, sym, subst, ◌∙◌}
 use Rattle.line_writer.specs.Writing.{IsWorn}
 use Rattle.reg_lines.specs.Regs.{RegsState}
 use Rattle.reg_lines.proofs.Held.{HasStepped, held-stepped, sound-beside, writing-of, running-going}
@@ -39,3 +39,36 @@ pub returns-clause-held : goal.returns-clause-held
 returns-clause-held g c =
     let step = stepped g (goal.at.returns-clause-held g c).After-keep in
     rw (c.keep.ensures.regs, c.keep.ensures.answer) (held-stepped _ (g.A.CellArray.state c.step.new.array) c.in-Some.change c.step.new.self step)
+
+pub unreachable-requires : goal.unreachable-requires
+unreachable-requires g c = grind arith
+
+pub unreachable-unreachable : goal.unreachable-unreachable
+unreachable-unreachable g c = grind arith
+
+pub overflow_add-self-inside : goal.overflow_add-self-inside
+overflow_add-self-inside g c = grind arith
+
+pub step-requires : goal.step-requires
+step-requires g c = grind arith
+
+pub invariant_of-self : goal.invariant_of-self
+invariant_of-self g c = grind arith
+
+pub keep-requires : goal.keep-requires
+keep-requires g c = grind arith
+
+pub unreachable-requires-in-None : goal.unreachable-requires-in-None
+unreachable-requires-in-None g c = grind arith
+
+pub unreachable-unreachable-in-None : goal.unreachable-unreachable-in-None
+unreachable-unreachable-in-None g c = grind arith
+
+pub returns-clause-keeps : goal.returns-clause-keeps
+returns-clause-keeps g c = grind arith
+
+pub returns-clause-touches : goal.returns-clause-touches
+returns-clause-touches g c = grind arith
+
+pub returns-clause-done : goal.returns-clause-done
+returns-clause-done g c = grind arith

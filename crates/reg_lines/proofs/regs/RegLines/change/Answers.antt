@@ -1,0 +1,5 @@
+use Rattle.std.proofs.Common.{arith}
+use Rattle.reg_lines.proofs.regs.RegLines.change.Goals as goal
+
+pub returns : goal.returns
+returns g c = grind arith
