@@ -1,6 +1,6 @@
 -- New control lines, over array lines that another bank wrote.
-use Rattle.std.proofs.Common.{◌≡◌, ℕ, ◌+◌, Bool, true, false, [], Option, Some, None, refl, ap, sym, ◌∙◌}
-use Rattle.std.specs.Prelude.{is_some, not}
+use Rattle.std.proofs.Common.{◌≡◌, ℕ, ◌+◌, false, [], Option, Some, None, refl, ap, sym, ◌∙◌}
+use Rattle.std.specs.Prelude.{is_some}
 use Rattle.pcm_cells.specs.Device.{ArrayState}
 use Rattle.ecp_line.specs.Reading.{decode}
 use Rattle.bank_shape.specs.declared.BankShape.{BankShape}
@@ -17,16 +17,12 @@ use Rattle.register_laws.specs.Recovering.{IsReadable}
 use Rattle.bank_timing.specs.Extending.{first_regs}
 
 pub none-stands : (change : Option Change) → is_some change ≡ false → change ≡ None
-none-stands None no = refl
-none-stands (Some change) no = cc
-
-pub is-empty : (empty : Bool) → not empty ≡ false → empty ≡ true
-is-empty true no = refl
-is-empty false no = cc
+none-stands None same = refl
+none-stands (Some change) same = cc
 
 pub is-array : (home : Home) → (home ≡ Guarded → ⊥) → home ≡ Array
-is-array Guarded no = absurd (no refl)
-is-array Array no = refl
+is-array Guarded other = absurd (other refl)
+is-array Array other = refl
 
 -- control lines that were just made for a shape
 pub regs-first : {n m e : ℕ} (shape same : BankShape) (base items : ℕ) (regs : RegsState n m e)

@@ -1,4 +1,4 @@
-use Rattle.std.proofs.Common.{◌≡◌, ap, sym, subst, ◌∙◌, arith, [], None}
+use Rattle.std.proofs.Common.{◌≡◌, ap, sym, subst, ◌∙◌, arith, refl, [], None, is_some}
 use Rattle.ecp_line.proofs.Sizes.{layout_64}
 use Rattle.bank_shape.specs.declared.BankShape.{BankShape}
 use Rattle.bank_shape.specs.declared.Home.TheVariants.{Array}
@@ -6,7 +6,7 @@ use Rattle.power_recovery.specs.Kept.{KeptState, IsKept}
 use Rattle.reg_lines.specs.Regs.{RegsState}
 use Rattle.bank_invariant.specs.State.{BankState, first_bank}
 use Rattle.bank_timing.specs.Extending.{first_regs}
-use Rattle.bank_rows.proofs.Rereading.{readable, regs-first, none-stands, is-empty, is-array}
+use Rattle.bank_rows.proofs.Rereading.{readable, regs-first, none-stands, is-array}
 use Rattle.bank_rows.proofs.recovering.reread.Goals as goal
 
 pub recover-requires : goal.recover-requires
@@ -20,7 +20,7 @@ recover-requires g c =
     let none : timed.regs.change ≡ None = none-stands timed.regs.change
         (ap (λ (r : RegsState 64 8 6). is_some r.change) (sym c.regs.ensures) ∙ ap (λ o. is_some o) (sym c.change.ensures) ∙ sym c.is_some.ensures ∙ c.if-is_some.false) in
     let else_is : c.kept-else-is_some.result.now ≡ timed.bank.kept = c.kept-else-is_some.ensures.kept ∙ ap (λ (b : BankState 64 8 6). b.kept) c.bank-else-is_some.ensures in
-    let empty : timed.bank.kept.entries ≡ [] = subst (λ (k : KeptState 64). k.entries ≡ []) else_is (c.is_empty.ensures.0 (is-empty c.is_empty.result c.if-not-is_empty.false)) in
+    let empty : timed.bank.kept.entries ≡ [] = subst (λ (k : KeptState 64). k.entries ≡ []) else_is (c.is_empty.ensures.0 c.if-not-is_empty.false) in
     let regs_is : c.new-regs.result ≡ first_regs {n = 64} {m = 8} {e = 6} timed.bank.kept.shape =
         regs-first timed.bank.kept.shape c.shape.result.now c.first_control.result c.controls.result c.new-regs.result c.new-regs.ensures c.first_control.ensures c.controls.ensures shape_is in
     let new_is : c.in_ok-bank.bank ≡ first_bank {n = 64} {m = 8} {e = 6} timed.bank.kept.shape = c.in_ok-bank.ensures.first ∙ ap (λ (s : BankShape). first_bank {n = 64} {m = 8} {e = 6} s) shape_is in
