@@ -1,4 +1,4 @@
-#!/usr/bin/env bash
+#!/bin/sh
 # What power cuts cost: of 20,000 rows, the reads that were lost with the power, the reads that were answered, and the pulses that
 # torn and repeated writes took. No accepted write is ever lost.
 pcm=${1:-./pcm}

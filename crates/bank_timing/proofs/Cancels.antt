@@ -1,13 +1,11 @@
 -- A read cancels what runs of a line write, and then waits: what becomes of the clock and of the array.
-use Rattle.std.proofs.Common.{◌≡◌, ℕ, ◌+◌, ◌<◌, ◌≤◌, ◌&&◌, ◌||◌, ◌==◌, not, nat_lt, Bool, true, false, List, [], ◌∷◌, ◌++◌, length, map, Option, Some, None, is_some, refl, sym, ap, subst, ◌∙◌, arith, ltb-true}
+use Rattle.std.proofs.Common.{◌≡◌, ℕ, ◌+◌, ◌<◌, ◌≤◌, ◌&&◌, ◌==◌, not, nat_lt, Bool, true, false, List, [], ◌∷◌, length, map, Option, Some, None, is_some, refl, sym, ap, subst, ◌∙◌, arith, ltb-true}
 use Rattle.std.proofs.lemmas.Bool.{false≢true, ne_eqb, lt-ltb}
-use Rattle.std.specs.Prelude.{unwrap_or, IfSome, IsTrue, if◌then◌else◌}
+use Rattle.std.specs.Prelude.{unwrap_or, IsTrue, if◌then◌else◌}
 use Rattle.pcm_cells.specs.Device.{ArrayState}
 use Rattle.masked_bytes.specs.Masked.{gives_all}
 use Rattle.masked_bytes.specs.Entries.{layer_of, has_row}
 use Rattle.result_rows.specs.declared.Outcome.{Outcome}
-use Rattle.result_rows.specs.Table.{HasRow}
-use Rattle.bank_shape.specs.declared.BankShape.{BankShape}
 use Rattle.bank_shape.specs.Pausing.{is_cancelling, most_cancels}
 use Rattle.bank_model.specs.declared.answer.ReadAnswer.{ReadAnswer}
 use Rattle.bank_model.specs.declared.answer.ReadAnswer.TheVariants as came
@@ -15,19 +13,17 @@ use Rattle.bank_model.specs.declared.clock.Doing.TheVariants.{Iterating}
 use Rattle.bank_model.specs.Events.{Event, Read, Cut}
 use Rattle.bank_model.specs.History.{Awaited, waits}
 use Rattle.bank_model.specs.declared.clock.Action.{Action}
-use Rattle.bank_model.specs.Timing.{Timed, Pacing, Core, core, is_doing, is_writing}
+use Rattle.bank_model.specs.Timing.{Timed, core, is_doing, is_writing}
 use Rattle.bank_laws.specs.Outcomes.{outcome_with}
 use Rattle.bank_model.specs.Touching.{Touches}
-use Rattle.bank_model.specs.Lawful.{Lawful}
 use Rattle.reg_lines.specs.declared.Change.{Change}
-use Rattle.reg_lines.specs.Regs.{RegsState, AreHeld}
+use Rattle.reg_lines.specs.Regs.{AreHeld}
 use Rattle.reg_lines.specs.Keeping.{broken_off, torn_line as regs_torn}
-use Rattle.register_laws.specs.Control.{Control}
 use Rattle.register_laws.proofs.Staying.{stays_law}
 use Rattle.register_laws.proofs.Writing.{broken_law}
 use Rattle.power_recovery.specs.Kept.{KeptState}
 use Rattle.bank_invariant.specs.declared.Waiting.{Waiting}
-use Rattle.bank_invariant.specs.State.{BankState, Operation}
+use Rattle.bank_invariant.specs.State.{BankState}
 use Rattle.bank_invariant.specs.Holds.{Holds, waiting_of}
 use Rattle.bank_invariant.specs.Steps.{cut_off}
 use Rattle.bank_invariant.specs.Serving.{read_from, waits_too}
@@ -35,21 +31,20 @@ use Rattle.bank_invariant.proofs.Quiet.{RowsBelow-more}
 use Rattle.bank_core.specs.Cutting.{torn_line}
 use Rattle.bank_core.specs.Steps.{after_read as bank_after_read}
 use Rattle.clock_laws.specs.State.{ClockState}
-use Rattle.clock_laws.specs.Leads.{Leads, Reaches}
+use Rattle.clock_laws.specs.Leads.{Leads}
 use Rattle.clock_laws.specs.Arriving.{cancels_for, arrival, after_read, action_after_read, drops, KeepsWork}
 use Rattle.clock_laws.specs.Fitting.{IsFit}
 use Rattle.clock_laws.specs.Cutting.{after_cancel}
 use Rattle.clock_laws.specs.Actions.{ReachesBy, torn_line as line_torn}
-use Rattle.clock_laws.specs.Standing.{has_waiting, arrives_with}
+use Rattle.clock_laws.specs.Standing.{has_waiting}
 use Rattle.clock_laws.proofs.Tearing.{cancel_ends_law, keep_cancel_ends_law}
 use Rattle.clock_laws.proofs.Cutting.{cancelled_read_law}
 use Rattle.clock_laws.proofs.Extending.{arrival_added_law, both_added_law}
 use Rattle.clock_laws.proofs.Fitting.{needs_law}
-use Rattle.clock_laws.proofs.Others.{other_rows_law}
-use Rattle.bank_timing.specs.Extending.{Extends, AreOpen, IsOpen, LeavesOthersThan, outcome_in}
+use Rattle.bank_timing.specs.Extending.{Extends, AreOpen, IsOpen, outcome_in}
 use Rattle.bank_timing.specs.Cancelling.{cancel_by, cancelled_by, cancel_first}
 use Rattle.bank_timing.proofs.Losses.{both-left, both-right, iterating-fits, work-leaves, same_torn}
-use Rattle.bank_timing.proofs.ReadArrivals.{read-keeps, waits-unset, no-other}
+use Rattle.bank_timing.proofs.ReadArrivals.{read-keeps, waits-unset}
 
 module _ {n m e : ℕ} (clock : ClockState n m e) (line : ℕ) (would : IsTrue (cancels_for clock line)) where
   -- what a read that cancels finds: a begin or an iteration runs, no read waits, the count is below the most, and the queue lacks a byte

@@ -1,9 +1,8 @@
 -- The change that a step of the bank's line write brings, and that the control lines go on to hold what the bank keeps.
-use Rattle.std.proofs.Common.{◌≡◌, ◌≢◌, ℕ, ◌+◌, ◌/◌, ◌<◌, ◌≤◌, nat_lt, if◌then◌else◌, Bool, true, false, List, [], ◌∷◌, length, Option, Some, None, refl, sym, ap, subst, ◌∙◌, arith, ltb-true}
-use Rattle.std.proofs.lemmas.Bool.{false≢true}
+use Rattle.std.proofs.Common.{◌≡◌, ℕ, ◌+◌, ◌/◌, ◌<◌, ◌≤◌, nat_lt, if◌then◌else◌, Bool, true, false, List, [], ◌∷◌, Option, Some, None, refl, sym, ap, subst, ◌∙◌, arith, ltb-true}
 use Rattle.std.specs.Prelude.{IfSome}
 use Rattle.masked_bytes.specs.declared.entry.Entry.{Entry}
-use Rattle.masked_bytes.specs.Entries.{head_line, completed}
+use Rattle.masked_bytes.specs.Entries.{head_line}
 use Rattle.pcm_cells.specs.Device.{ArrayState}
 use Rattle.spare_pool.specs.Table.{used_by}
 use Rattle.bank_shape.specs.declared.BankShape.{BankShape}
@@ -35,7 +34,7 @@ use Rattle.bank_model.specs.Events.{Begin, Iterate}
 use Rattle.bank_model.specs.Timing.{ends}
 use Rattle.clock_laws.specs.State.{ClockState}
 use Rattle.clock_laws.specs.Completing.{after_action}
-use Rattle.bank_core.specs.Stepping.{step_from, done_kept, worn_kept}
+use Rattle.bank_core.specs.Stepping.{step_from}
 use Rattle.clock_laws.specs.Putting.{item_by, put_if, region_due}
 use Rattle.clock_laws.proofs.Controls.{control-kept}
 use Rattle.bank_timing.specs.Completing.{region_of, item_from, with_regs, recorded_clock}

@@ -1,10 +1,9 @@
 -- A step of the writing of a change ends: what becomes of the clock and the array.
-use Rattle.std.proofs.Common.{◌≡◌, ◌≢◌, ℕ, ◌+◌, ◌<◌, ◌≤◌, Bool, true, false, List, [], ◌∷◌, Option, Some, None, is_some, refl, sym, ap, subst, ◌∙◌}
+use Rattle.std.proofs.Common.{◌≡◌, ◌≢◌, ℕ, ◌<◌, ◌≤◌, Bool, true, false, List, [], Option, Some, None, is_some, refl, sym, subst, ◌∙◌}
 use Rattle.std.proofs.lemmas.Bool.{false≢true}
-use Rattle.std.specs.Prelude.{IfSome, IsTrue}
+use Rattle.std.specs.Prelude.{IsTrue}
 use Rattle.std.proofs.lemmas.List.Elements.{All-nil, All-cons}
 use Rattle.pcm_cells.specs.Device.{ArrayState}
-use Rattle.ecp_line.specs.Reading.{decode}
 use Rattle.result_rows.specs.declared.Outcome.{Outcome}
 use Rattle.line_writer.specs.declared.writer.LineWriter.{LineWriter}
 use Rattle.line_writer.specs.Writing.{steps_left, most_steps}
@@ -17,17 +16,15 @@ use Rattle.bank_model.specs.Timing.{Timed, Keeping, KeepBegin, KeepIterate, Regs
 use Rattle.bank_model.specs.Touching.{Touches}
 use Rattle.bank_model.specs.Running.{cancels_with}
 use Rattle.bank_laws.specs.Ticks.{ends_action}
-use Rattle.reg_lines.specs.Values.{encoded}
 use Rattle.reg_lines.specs.Regs.{RegsState, AreHeld}
 use Rattle.reg_lines.specs.Keeping.{line_of, target_of, kept_on, HasFewer, IsKeep}
-use Rattle.register_laws.specs.Control.{Control}
 use Rattle.register_laws.specs.Writing.{IsWrittenWhole}
 use Rattle.register_laws.proofs.Writing.{begun_law, iterated_law}
 use Rattle.clock_laws.specs.State.{ClockState, next_action}
 use Rattle.clock_laws.specs.Leads.{Leads}
 use Rattle.clock_laws.specs.Fitting.{Fits, IsFit}
 use Rattle.clock_laws.specs.Completing.{after_keep, keep_completed}
-use Rattle.clock_laws.specs.Actions.{LeadsOn, IsKeepStep}
+use Rattle.clock_laws.specs.Actions.{LeadsOn}
 use Rattle.clock_laws.specs.Remaining.{actions_left}
 use Rattle.clock_laws.proofs.Fitting.{needs_law}
 use Rattle.clock_laws.proofs.Keeping.{keep_begin_ends_law, keep_iterate_ends_law}
@@ -104,17 +101,17 @@ module _ {n m e : ℕ} (clock : ClockState n m e) (action : Action) (next : next
         keep-completes clock action regs old new results (KeepBegin answer) refl later unset
         (subst (λ (r : RegsState n m e). actions_left clock.bank r < actions_left clock.bank clock.regs) (sym step.leaves) (less answer going))
         (λ xs leads.
-          keep_begin_ends_law n m e answer action step.writer xs clock regs old new leads ready.0 ready.1
-          (record {
-            next = next;
-            doing = doing;
-            later = later;
-            stands = stands;
-            touches = touches;
-            leaves = step.leaves;
-            control = begun_law n m e (ends clock.pace action) clock.bank.kept clock.regs regs old new answer leads.holds.kept leads.control step touches whole held;
-          })
-          going few)
+        keep_begin_ends_law n m e answer action step.writer xs clock regs old new leads ready.0 ready.1
+        (record {
+          next = next;
+          doing = doing;
+          later = later;
+          stands = stands;
+          touches = touches;
+          leaves = step.leaves;
+          control = begun_law n m e (ends clock.pace action) clock.bank.kept clock.regs regs old new answer leads.holds.kept leads.control step touches whole held;
+        })
+        going few)
       where
         ready : (clock.regs.writer ≡ None) × (clock.regs.halted ≡ false)
         ready = keep-begin-ready doing
@@ -138,17 +135,17 @@ module _ {n m e : ℕ} (clock : ClockState n m e) (action : Action) (next : next
             keep-completes clock action regs old new results (KeepIterate answer) refl later unset
             (subst (λ (r : RegsState n m e). actions_left clock.bank r < actions_left clock.bank clock.regs) (sym step.leaves) (less answer))
             (λ xs leads.
-              keep_iterate_ends_law n m e answer action before step.writer xs clock regs old new leads is
-              (record {
-                next = next;
-                doing = doing;
-                later = later;
-                stands = stands;
-                touches = touches;
-                leaves = step.leaves;
-                control = iterated_law n m e (ends clock.pace action) clock.bank.kept clock.regs regs old new answer leads.holds.kept leads.control step touches whole held;
-              })
-              fewer)
+            keep_iterate_ends_law n m e answer action before step.writer xs clock regs old new leads is
+            (record {
+              next = next;
+              doing = doing;
+              later = later;
+              stands = stands;
+              touches = touches;
+              leaves = step.leaves;
+              control = iterated_law n m e (ends clock.pace action) clock.bank.kept clock.regs regs old new answer leads.holds.kept leads.control step touches whole held;
+            })
+            fewer)
           where
             fewer : steps_left step.writer < steps_left before
             fewer = subst (λ (w : Option (LineWriter n m e)). HasFewer w step.writer) is step.steps

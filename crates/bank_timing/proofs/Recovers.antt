@@ -1,6 +1,5 @@
 -- A bank is stripped, and read back from its control lines.
-use Rattle.std.proofs.Common.{◌≡◌, refl, ap, ◌∙◌}
-use Rattle.power_recovery.specs.Kept.{KeptState}
+use Rattle.std.proofs.Common.{◌≡◌, ap, ◌∙◌}
 use Rattle.power_recovery.specs.Restoring.{stripped_kept}
 use Rattle.bank_invariant.specs.State.{BankState}
 use Rattle.bank_core.specs.Stepping.{with_kept}

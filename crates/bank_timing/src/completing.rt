@@ -21,8 +21,8 @@ use pcm_cells::CellArray;
 use power_recovery::kept::Kept;
 use reg_lines::Change;
 use region_regs::Region;
-use spare_pool::Remap;
 use result_rows::{Outcome, Results};
+use spare_pool::Remap;
 
 impl<const B: usize, const M: usize, const E: usize> Timed<B, M, E> {
     // Completes the action that runs from now on, at its end: its event happens, and sets what outcome it makes.
@@ -291,11 +291,7 @@ fn region_values(region: &Region, lines: u32) -> [u32; 3]
     ensures { result ≡ region_values region.now }
 {
     let registers = region.registers();
-    [
-        registers.start(),
-        lines - registers.gap(),
-        region.counter(),
-    ]
+    [registers.start(), lines - registers.gap(), region.counter()]
 }
 
 // Those of a spare.

@@ -7,6 +7,4 @@ pub mod actions;
 pub mod arrivals;
 pub mod events;
 pub mod outcomes;
-#[cfg(test)]
-mod tests;
 pub mod time;

@@ -30,6 +30,9 @@ pub fn lowest<const B: usize, const M: usize>(row: &Cells<B, M>) -> Option<u16>
     ensures found { IfSome result (λ n. (n < 8 * (B + M)) × IsLowest (cell row.now) n) }
     ensures none { IfNone result ((n : ℕ) → cell row.now n ≡ false) }
 {
+    if row.is_none() {
+        return None;
+    }
     let Some(place) = lowest_bit(&row.bits) else {
         return match lowest_bit(&row.meta) {
             Some(place) => Some(8 * B as u16 + place),

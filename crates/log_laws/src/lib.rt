@@ -29,18 +29,3 @@ pub fn senses_are_of_the_bank()
 pub fn logs_are_fair()
     ensures { WholeLogLaw }
 {}
-
-/// The laws are facts, and cost nothing to ask for.
-#[cfg(test)]
-mod tests {
-    use crate::{cuts_read_the_controls, logs_are_fair, pulses_are_sensed, rows_are_sensed, senses_are_of_the_bank};
-
-    #[test]
-    fn laws_hold_of_every_history() {
-        pulses_are_sensed();
-        rows_are_sensed();
-        cuts_read_the_controls();
-        senses_are_of_the_bank();
-        logs_are_fair();
-    }
-}

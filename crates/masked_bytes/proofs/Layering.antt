@@ -1,5 +1,7 @@
 -- Laying bytes over others: lengths, single bytes, and what is laid over what is laid.
-use Rattle.std.proofs.Common.{◌≡◌, ℕ, ◌<◌, List, [], ◌∷◌, Bool, true, false, ◌||◌, ◌&&◌, ◌==◌, if◌then◌else◌, zero, suc, length, get_or, take, replicate, refl, ap, ◌∙◌, arith, slice_set, eqb-true}
+use Rattle.std.proofs.Common.{◌≡◌, ℕ, ◌<◌, List, [], ◌∷◌, Bool, true, false, ◌||◌, ◌&&◌, ◌==◌, if◌then◌else◌, zero, suc, length, get_or, take, replicate, refl, ap, ◌∙◌, arith, slice_set, eqb-true, bit_and, bit_xor, ◌+◌, ◌-◌, ◌%◌, ◌^◌, sym}
+use Rattle.std.specs.Int.Bits.{xor_self, xor_assoc, xor_zero_l, xor_zero_r, and_zero_r}
+use Rattle.std.proofs.lemmas.Nat.{and_mask, xor_lt}
 use Rattle.std.proofs.lemmas.List.{length-replicate}
 use Rattle.masked_bytes.specs.Masked.{laid, joined, none_given, all_given, gives_all, gives_some, zero_elsewhere, IsMasked}
 
@@ -182,44 +184,35 @@ IsMasked-all_given (suc n) bytes some e =
 
 -- Loops over the places
 
--- one more byte that is given
-pub laid-take_given : (bytes : List ℕ) (given : List Bool) (under : List ℕ) (i : ℕ) → length given ≡ length bytes → length under ≡ length bytes → i < length bytes
-    → get_or given i false ≡ true
-    → slice_set (laid (take i bytes) (take i given) under) i (get_or bytes i 0) ≡ laid (take (suc i) bytes) (take (suc i) given) under
-laid-take_given [] given under i e h k t = grind arith
-laid-take_given (b ∷ bytes) [] under i e h k t = grind arith
-laid-take_given (b ∷ bytes) (g ∷ given) [] i e h k t = grind arith
-laid-take_given (b ∷ bytes) (true ∷ given) (u ∷ under) zero e h k t = grind arith
-laid-take_given (b ∷ bytes) (false ∷ given) (u ∷ under) zero e h k t = grind arith
-laid-take_given (b ∷ bytes) (g ∷ given) (u ∷ under) (suc i) e h k t =
-    ap (λ xs. (if g then b else u) ∷ xs) (laid-take_given bytes given under i (omega arith) (omega arith) (omega arith) t)
+-- one byte more, where the byte itself is untouched so far
+pub laid-take_next : (bytes : List ℕ) (given : List Bool) (under : List ℕ) (i : ℕ) → length given ≡ length bytes → length under ≡ length bytes → i < length bytes
+    → slice_set (laid (take i bytes) (take i given) under) i (if get_or given i false then get_or bytes i 0 else get_or (laid (take i bytes) (take i given) under) i 0)
+    ≡ laid (take (suc i) bytes) (take (suc i) given) under
+laid-take_next [] given under i e h k = grind arith
+laid-take_next (b ∷ bytes) [] under i e h k = grind arith
+laid-take_next (b ∷ bytes) (g ∷ given) [] i e h k = grind arith
+laid-take_next (b ∷ bytes) (g ∷ given) (u ∷ under) zero e h k = refl
+laid-take_next (b ∷ bytes) (g ∷ given) (u ∷ under) (suc i) e h k =
+    ap (λ xs. (if g then b else u) ∷ xs) (laid-take_next bytes given under i (omega arith) (omega arith) (omega arith))
 
--- one more byte that is not
-pub laid-take_kept : (bytes : List ℕ) (given : List Bool) (under : List ℕ) (i : ℕ) → length given ≡ length bytes → length under ≡ length bytes → i < length bytes
-    → get_or given i false ≡ false
-    → laid (take i bytes) (take i given) under ≡ laid (take (suc i) bytes) (take (suc i) given) under
-laid-take_kept [] given under i e h k t = grind arith
-laid-take_kept (b ∷ bytes) [] under i e h k t = grind arith
-laid-take_kept (b ∷ bytes) (g ∷ given) [] i e h k t = grind arith
-laid-take_kept (b ∷ bytes) (true ∷ given) (u ∷ under) zero e h k t = grind arith
-laid-take_kept (b ∷ bytes) (false ∷ given) (u ∷ under) zero e h k t = grind arith
-laid-take_kept (b ∷ bytes) (g ∷ given) (u ∷ under) (suc i) e h k t =
-    ap (λ xs. (if g then b else u) ∷ xs) (laid-take_kept bytes given under i (omega arith) (omega arith) (omega arith) t)
+-- the same of joined sets
+pub joined-take_next : (given other : List Bool) (i : ℕ) → length other ≡ length given → i < length given
+    → slice_set (joined (take i given) other) i (get_or (joined (take i given) other) i false || get_or given i false) ≡ joined (take (suc i) given) other
+joined-take_next [] other i e h = grind arith
+joined-take_next (g ∷ given) [] i e h = grind arith
+joined-take_next (true ∷ given) (true ∷ other) zero e h = refl
+joined-take_next (true ∷ given) (false ∷ other) zero e h = refl
+joined-take_next (false ∷ given) (true ∷ other) zero e h = refl
+joined-take_next (false ∷ given) (false ∷ other) zero e h = refl
+joined-take_next (g ∷ given) (o ∷ other) (suc i) e h = ap (λ xs. (g || o) ∷ xs) (joined-take_next given other i (omega arith) (omega arith))
 
--- one more byte that is given, in a joined set
-pub joined-take_given : (given other : List Bool) (i : ℕ) → length other ≡ length given → i < length given
-    → get_or given i false ≡ true → slice_set (joined (take i given) other) i true ≡ joined (take (suc i) given) other
-joined-take_given [] other i e h t = grind arith
-joined-take_given (g ∷ given) [] i e h t = grind arith
-joined-take_given (true ∷ given) (o ∷ other) zero e h t = grind arith
-joined-take_given (false ∷ given) (o ∷ other) zero e h t = grind arith
-joined-take_given (g ∷ given) (o ∷ other) (suc i) e h t = ap (λ xs. (g || o) ∷ xs) (joined-take_given given other i (omega arith) (omega arith) t)
+-- One of two bytes by a mask
 
--- one more byte that is not
-pub joined-take_kept : (given other : List Bool) (i : ℕ) → length other ≡ length given → i < length given
-    → get_or given i false ≡ false → joined (take i given) other ≡ joined (take (suc i) given) other
-joined-take_kept [] other i e h t = grind arith
-joined-take_kept (g ∷ given) [] i e h t = grind arith
-joined-take_kept (true ∷ given) (o ∷ other) zero e h t = grind arith
-joined-take_kept (false ∷ given) (o ∷ other) zero e h t = grind arith
-joined-take_kept (g ∷ given) (o ∷ other) (suc i) e h t = ap (λ xs. (g || o) ∷ xs) (joined-take_kept given other i (omega arith) (omega arith) t)
+-- what a mask of ones or of zeros leaves of their difference
+pub picked : (given : Bool) (above below bit : ℕ) → (given ≡ true → bit ≡ 1) → (given ≡ false → bit ≡ 0) → above < 2 ^ 8 → below < 2 ^ 8
+    → bit_xor below (bit_and (bit_xor below above) ((0 + (2 ^ 8 - bit)) % 2 ^ 8)) ≡ (if given then above else below)
+picked false above below bit one none h k = rw (none refl, and_zero_r (bit_xor below above)) (xor_zero_r below)
+picked true above below bit one none h k =
+    let small : bit_xor below above < 2 ^ 8 = xor_lt 8 below above k h in
+    let all : bit_and (bit_xor below above) (2 ^ 8 - 1) ≡ bit_xor below above = and_mask (bit_xor below above) 8 ∙ omega arith in
+    rw (one refl) (ap (bit_xor below) all ∙ sym (xor_assoc below below above) ∙ rw (xor_self below) (xor_zero_l above))

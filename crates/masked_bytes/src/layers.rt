@@ -1,15 +1,21 @@
 //! Bytes laid over others, in place.
-ghost use Rattle.std.specs.Prelude.{◌≡◌};
+ghost use Rattle.std.specs.Prelude.{◌≡◌, if◌then◌else◌};
 ghost use Rattle.masked_bytes.specs.Masked.{laid, joined, gives_all};
+
+// The byte above where it is given, and else that below. It has no branch: which bytes are given isn't known ahead.
+fn picked(given: bool, above: u8, below: u8) -> u8
+    ensures { result ≡ (if given then above else below) }
+{
+    let mask = 0u8.wrapping_sub(u8::from(given));
+    below ^ (below ^ above) & mask
+}
 
 /// Writes the given ones of these bytes over others.
 pub fn lay_over<const B: usize>(bytes: &[u8; B], given: &[bool; B], under: &mut [u8; B])
     ensures { under.new ≡ laid bytes.now given.now under.old }
 {
     for i in 0..B {
-        if given[i] {
-            under[i] = bytes[i];
-        }
+        under[i] = picked(given[i], bytes[i], under[i]);
     }
 }
 
@@ -27,9 +33,7 @@ pub fn join_given<const B: usize>(given: &[bool; B], other: &mut [bool; B])
     ensures { other.new ≡ joined given.now other.old }
 {
     for i in 0..B {
-        if given[i] {
-            other[i] = true;
-        }
+        other[i] |= given[i];
     }
 }
 

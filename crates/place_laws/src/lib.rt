@@ -40,15 +40,3 @@ pub fn gaps_move_with_stores()
 pub fn places_keep_their_law()
     ensures { (n : ℕ) (m : ℕ) → PlaceLaw n m }
 {}
-
-/// The laws are facts, and cost nothing to ask for.
-#[cfg(test)]
-#[test]
-fn laws_hold_of_every_history() {
-    rows_are_placed();
-    worn_rows_tell_of_worn_lines();
-    room_is_taken();
-    pulses_are_few();
-    gaps_move_with_stores();
-    places_keep_their_law();
-}

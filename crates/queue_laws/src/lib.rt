@@ -35,14 +35,3 @@ pub fn reads_are_forwarded_exactly()
 pub fn rows_are_fair_to_the_queue()
     ensures { QueueFairLaw }
 {}
-
-/// The laws are facts, and cost nothing to ask for.
-#[cfg(test)]
-#[test]
-fn laws_hold_of_every_history() {
-    few_writes_share_a_line();
-    refused_writes_find_at_most_one();
-    banks_have_room();
-    reads_are_forwarded_exactly();
-    rows_are_fair_to_the_queue();
-}

@@ -31,13 +31,3 @@ pub fn reads_that_may_cancel_wait_little()
 pub fn rows_are_in_time()
     ensures { InTimeLaw }
 {}
-
-/// The laws are facts, and cost nothing to ask for.
-#[cfg(test)]
-#[test]
-fn laws_hold_of_every_history() {
-    actions_stand_apart();
-    reads_wait_little();
-    writes_wait_little();
-    rows_are_in_time();
-}

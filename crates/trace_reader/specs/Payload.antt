@@ -9,6 +9,10 @@ use Rattle.hex.specs.Hex.{decode_sized, pair_value}
 unfoldable pub bytes_of : ℕ → List ℕ → Option (List ℕ)
 bytes_of n text = result_ok (decode_sized text n)
 
+-- what `hex` says of a character behind a zero: the value of a digit, 255 of any other
+unfoldable pub value_of : ℕ → ℕ
+value_of c = unwrap_or (result_ok (pair_value 48 c 0)) 255
+
 -- what two characters say of a byte: `..` that it isn't given, two hexadecimal digits what it is
 unfoldable pub pair_of : ℕ → ℕ → Option (Option ℕ)
 pair_of high low =

@@ -1,8 +1,8 @@
 //! The bytes that a write gives, as hexadecimal digits.
-ghost use Rattle.std.specs.Prelude.{◌≡◌, option_map};
+ghost use Rattle.std.specs.Prelude.{◌≡◌, ◌<◌, ℕ, option_map, slice_index};
 ghost use Rattle.std.specs.List.{list_any};
 ghost use Rattle.std.specs.Result.{result_ok};
-ghost use Rattle.trace_reader.specs.Payload.{bytes_of, pair_of, masked_of, Masked};
+ghost use Rattle.trace_reader.specs.Payload.{bytes_of, value_of, pair_of, masked_of, Masked};
 
 use hex::FromHexError;
 
@@ -13,14 +13,57 @@ pub struct MaskedBytes<const B: usize> {
     pub given: [bool; B],
 }
 
+// What `hex` says of a character: the value of a digit, 255 of any other.
+#[tactic(auto, unfolding(crate::specs::Payload::value_of, hex::specs::Hex::decode_pairs))]
+fn value(character: u8) -> u8
+    ensures { result ≡ value_of character }
+{
+    let mut byte = [0; 1];
+    match hex::decode_to_slice([b'0', character], &mut byte) {
+        Ok(()) => byte[0],
+        Err(_) => 255,
+    }
+}
+
+/// What `hex` says of each character, asked once.
+#[derive(Drop)]
+pub struct Values {
+    of: [u8; 256],
+    ghost are_its: { (c : ℕ) → c < 256 → slice_index of c ≡ value_of c },
+}
+
+impl Values {
+    pub fn new() -> Values {
+        let mut of = [0; 256];
+        for character in 0..256usize {
+            of[character] = value(character as u8);
+        }
+        Values { of }
+    }
+
+    fn value(&self, character: u8) -> u8
+        ensures { result ≡ value_of character }
+    {
+        self.of[character as usize]
+    }
+}
+
 /// The `B` bytes that a text of `2 * B` hexadecimal digits of either case writes.
-#[tactic(auto, unfolding(crate::specs::Payload::bytes_of))]
-pub fn bytes_from_digits<const B: usize>(text: &[u8]) -> Option<[u8; B]>
+pub fn bytes_from_digits<const B: usize>(values: &Values, text: &[u8]) -> Option<[u8; B]>
     ensures { result ≡ bytes_of B text.now }
 {
+    if text.len() % 2 != 0 || text.len() / 2 != B {
+        return None;
+    }
     let mut bytes = [0; B];
-    hex::decode_to_slice(text, &mut bytes).ok()?;
-    Some(bytes)
+    let mut most = 0;
+    'pairs: for i in 0..B {
+        let high = values.value(text[2 * i]);
+        let low = values.value(text[2 * i + 1]);
+        most = most.max(high.max(low));
+        bytes[i] = high % 16 * 16 + low % 16;
+    }
+    if most < 16 { Some(bytes) } else { None }
 }
 
 // What two characters say of a byte: `..` that it isn't given, two hexadecimal digits what it is.

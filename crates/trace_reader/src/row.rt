@@ -7,7 +7,7 @@ ghost use Rattle.trace_reader.specs.Rows.{text_at, line_of, op_of, event_of};
 use crate::decimal::number;
 use crate::event::{Event, EventOp};
 use crate::fault::Kind;
-use crate::payload::{bytes_from_digits, bytes_from_pairs};
+use crate::payload::{Values, bytes_from_digits, bytes_from_pairs};
 use csv::ByteRecord;
 
 /// The greatest tick of a trace: 2 to the power 40.
@@ -35,6 +35,7 @@ fn read_op<const B: usize>(
     line: &[u8],
     payload: &[u8],
     lines: u32,
+    values: &Values,
 ) -> Result<EventOp<B>, Kind>
     requires { 1 ≤ lines }
     ensures { result ≡ op_of B lines op.now line.now payload.now }
@@ -50,7 +51,7 @@ fn read_op<const B: usize>(
         }
         b"W" => {
             let line = read_line(line, lines)?;
-            let bytes = bytes_from_digits(payload).ok_or(Kind::Payload)?;
+            let bytes = bytes_from_digits(values, payload).ok_or(Kind::Payload)?;
             Ok(EventOp::Write(line, bytes))
         }
         b"M" => {
@@ -77,6 +78,7 @@ pub fn read_event<const B: usize>(
     row: &ByteRecord,
     lines: u32,
     before: u64,
+    values: &Values,
 ) -> Result<Event<B>, Kind>
     requires { 1 ≤ lines }
     ensures { result ≡ event_of B lines before (fields_of row.now) }
@@ -88,6 +90,6 @@ pub fn read_event<const B: usize>(
     if tick < before {
         return Err(Kind::Order);
     }
-    let op = read_op(field(row, 1), field(row, 2), field(row, 3), lines)?;
+    let op = read_op(field(row, 1), field(row, 2), field(row, 3), lines, values)?;
     Ok(Event { tick, op })
 }

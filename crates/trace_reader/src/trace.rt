@@ -5,6 +5,7 @@ ghost use Rattle.trace_reader.specs.Events.{AreEventsFor};
 ghost use Rattle.trace_reader.specs.Trace.{is_header, trace_of};
 
 use crate::event::Event;
+use crate::payload::Values;
 use crate::fault::{Kind, ParseFault, TraceFault};
 use crate::records::{next_row, open};
 use crate::row::{field, read_event};
@@ -46,13 +47,14 @@ pub fn parse<const B: usize>(
             kind: Kind::Header,
         }));
     }
+    let values = Values::new();
     let mut events = Vec::new(alloc);
     let mut before = 0;
     'rows: for number in 1..MOST_ROWS + 1 {
         if !next_row(&mut reader, &mut row)? {
             return Ok(events);
         }
-        let event = match read_event(&row, lines, before) {
+        let event = match read_event(&row, lines, before, &values) {
             Ok(event) => event,
             Err(kind) => return Err(ParseFault::Trace(TraceFault { row: number, kind })),
         };

@@ -31,3 +31,9 @@ pub returns : goal.returns
 returns g c =
     all-queued c.args.kept.now.entries c.args.arrivals.now.items c.args.results.now c.loop-place.place c.loop-place.results
     (past-of c.loop-place.place c.len-place-end.result _ c.loop-place-test.false c.len-place-end.ensures.len) c.loop-place.invariant
+
+pub len-place-end-requires : goal.len-place-end-requires
+len-place-end-requires g c = grind arith
+
+pub loop-place-smaller : goal.loop-place-smaller
+loop-place-smaller g c = grind arith

@@ -14,3 +14,9 @@ set-requires g c =
 
 pub returns-in_default-get : goal.returns-in_default-get
 returns-in_default-get g c = absurd (not-past c.args.arrivals.now.items c.args.place c.requires.told (rw c.in_default-get.is at c.get.ensures))
+
+pub returns-in-Some-get : goal.returns-in-Some-get
+returns-in-Some-get g c = grind arith
+
+pub returns-in_default : goal.returns-in_default
+returns-in_default g c = grind arith

@@ -1,4 +1,4 @@
-use Rattle.std.proofs.Common.{sym, ◌∙◌}
+use Rattle.std.proofs.Common.{arith, sym, ◌∙◌}
 use Rattle.pace.specs.Policies.{pacing_of}
 use Rattle.clock_laws.specs.State.{ClockState}
 use Rattle.bank_timing.proofs.Sizes.{timed_fits}
@@ -56,3 +56,27 @@ returns-clause-others g c =
 
 pub returns-clause-rows : goal.returns-clause-rows
 returns-clause-rows g c = c.loop-self.invariant.0.bound
+
+pub loop-self-smaller-in-None : goal.loop-self-smaller-in-None
+loop-self-smaller-in-None g c = grind arith
+
+pub complete-requires : goal.complete-requires
+complete-requires g c = grind arith
+
+pub loop-self-smaller-then-end-to : goal.loop-self-smaller-then-end-to
+loop-self-smaller-then-end-to g c = grind arith
+
+pub loop-self-smaller : goal.loop-self-smaller
+loop-self-smaller g c = grind arith
+
+pub returns-clause-now : goal.returns-clause-now
+returns-clause-now g c = grind arith
+
+pub returns-clause-going : goal.returns-clause-going
+returns-clause-going g c = grind arith
+
+pub returns-clause-extends : goal.returns-clause-extends
+returns-clause-extends g c = grind arith
+
+pub returns-clause-unset : goal.returns-clause-unset
+returns-clause-unset g c = grind arith

@@ -1,4 +1,4 @@
-use Rattle.std.proofs.Common.{◌≡◌, slice_get, None, refl, sym}
+use Rattle.std.proofs.Common.{arith, ◌≡◌, slice_get, None, refl, sym}
 use Rattle.bank_timing.proofs.Places.{set-none}
 use Rattle.bank_timing.proofs.Sizes.{bank_fits, kept_fits}
 use Rattle.bank_timing.proofs.timed.Timed.arrive_again.Goals as goal
@@ -25,3 +25,6 @@ returns g c =
             rw (← c.self.view_is, w.self-inside-is) (rw (set-none c.self.inside.arrivals.items c.place_of-place.result c.self.inside.tick none) refl)
       ],
     )
+
+pub invariant_of-self : goal.invariant_of-self
+invariant_of-self g c = grind arith

@@ -1,4 +1,4 @@
-use Rattle.std.proofs.Common.{rules, ◌≡◌, List, ◌∷◌, true, false, sym, subst, ◌∙◌}
+use Rattle.std.proofs.Common.{arith, rules, List, ◌∷◌, sym, subst, ◌∙◌}
 use Rattle.bank_model.specs.Events.{Read}
 use Rattle.bank_model.specs.Timing.{Timed}
 use Rattle.bank_invariant.specs.Serving.{read_from}
@@ -28,3 +28,36 @@ returns-else-cancels_for-clause-extends g c =
     subst (λ (first : List (Timed g.row.B g.row.M)). Extends xs (arrival c.args.self.now.tick (Read c.args.row c.args.line (read_from c.args.self.now.bank c.args.line)) ∷ first) c.args.self.now c.take_read.new.self
     (g.A.CellArray.state c.args.array.now) (g.A.CellArray.state c.args.array.now) c.args.results.now c.take_read.new.results) (sym (first-else xs c.args.self.now c.args.line (sym c.cancels_for.ensures ∙ c.if-cancels_for.false)))
     (c.take_read.ensures.extends xs (g.A.CellArray.state c.args.array.now) leads)
+
+pub cancels_for-requires : goal.cancels_for-requires
+cancels_for-requires g c = grind arith
+
+pub read_cancelled-requires : goal.read_cancelled-requires
+read_cancelled-requires g c = grind arith
+
+pub returns-then-cancels_for-clause-now : goal.returns-then-cancels_for-clause-now
+returns-then-cancels_for-clause-now g c = grind arith
+
+pub returns-then-cancels_for-clause-going : goal.returns-then-cancels_for-clause-going
+returns-then-cancels_for-clause-going g c = grind arith
+
+pub returns-then-cancels_for-clause-rows : goal.returns-then-cancels_for-clause-rows
+returns-then-cancels_for-clause-rows g c = grind arith
+
+pub returns-then-cancels_for-clause-others : goal.returns-then-cancels_for-clause-others
+returns-then-cancels_for-clause-others g c = grind arith
+
+pub returns-else-cancels_for-clause-now : goal.returns-else-cancels_for-clause-now
+returns-else-cancels_for-clause-now g c = grind arith
+
+pub returns-else-cancels_for-clause-going : goal.returns-else-cancels_for-clause-going
+returns-else-cancels_for-clause-going g c = grind arith
+
+pub returns-else-cancels_for-clause-rows : goal.returns-else-cancels_for-clause-rows
+returns-else-cancels_for-clause-rows g c = grind arith
+
+pub returns-else-cancels_for-clause-unset : goal.returns-else-cancels_for-clause-unset
+returns-else-cancels_for-clause-unset g c = grind arith
+
+pub returns-else-cancels_for-clause-others : goal.returns-else-cancels_for-clause-others
+returns-else-cancels_for-clause-others g c = grind arith

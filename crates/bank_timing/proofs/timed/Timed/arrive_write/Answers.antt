@@ -1,4 +1,4 @@
-use Rattle.std.proofs.Common.{◌≡◌, sym, ◌∙◌}
+use Rattle.std.proofs.Common.{arith, ◌≡◌, sym, ◌∙◌}
 use Rattle.bank_model.specs.declared.answer.WriteAnswer.{WriteAnswer}
 use Rattle.bank_model.specs.declared.answer.WriteAnswer.TheVariants as wrote
 use Rattle.bank_timing.proofs.Sizes.{bank_fits, timed_fits, outcome_fits, bytes_fits, row_fits}
@@ -106,3 +106,27 @@ returns-in-Exhausted-clause-others g c = rw (c.set-in-Exhausted.ensures, ← c.s
 
 pub returns-in-Exhausted-clause-rows : goal.returns-in-Exhausted-clause-rows
 returns-in-Exhausted-clause-rows g c = write-bound (taken g (goal.at.returns-in-Exhausted-clause-rows g c).After-write wrote.Exhausted c.in-Exhausted.is)
+
+pub returns-in-Accepted-clause-now : goal.returns-in-Accepted-clause-now
+returns-in-Accepted-clause-now g c = grind arith
+
+pub returns-in-Accepted-clause-going : goal.returns-in-Accepted-clause-going
+returns-in-Accepted-clause-going g c = grind arith
+
+pub returns-in-Merged-clause-now : goal.returns-in-Merged-clause-now
+returns-in-Merged-clause-now g c = grind arith
+
+pub returns-in-Merged-clause-going : goal.returns-in-Merged-clause-going
+returns-in-Merged-clause-going g c = grind arith
+
+pub returns-in-Full-clause-now : goal.returns-in-Full-clause-now
+returns-in-Full-clause-now g c = grind arith
+
+pub returns-in-Full-clause-going : goal.returns-in-Full-clause-going
+returns-in-Full-clause-going g c = grind arith
+
+pub returns-in-Exhausted-clause-now : goal.returns-in-Exhausted-clause-now
+returns-in-Exhausted-clause-now g c = grind arith
+
+pub returns-in-Exhausted-clause-going : goal.returns-in-Exhausted-clause-going
+returns-in-Exhausted-clause-going g c = grind arith

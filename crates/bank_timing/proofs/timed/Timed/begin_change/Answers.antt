@@ -1,12 +1,8 @@
-use Rattle.std.proofs.Common.{◌≡◌, Some, None, IsTrue, is_some, false, refl, sym, ap, ◌∙◌, arith}
-use Rattle.pace.specs.Policies.{pacing_of}
-use Rattle.bank_model.specs.Timing.{ends, KeepBegin}
-use Rattle.clock_laws.specs.Completing.{after_keep}
+use Rattle.std.proofs.Common.{arith}
 use Rattle.bank_timing.proofs.Sizes.{regs_fits}
 use Rattle.bank_timing.proofs.Views.{clock_of}
 use Rattle.bank_timing.proofs.Due.{due-stands, due-begun}
-use Rattle.bank_timing.proofs.Keeps.{keep-begin-ready, keep-begun, keep-begun-cancels, not-halted, keep-idle}
-use Rattle.bank_timing.proofs.timed.Timed.begin_change.Given.{Over}
+use Rattle.bank_timing.proofs.Keeps.{keep-begin-ready, keep-begun, keep-begun-cancels, keep-idle}
 use Rattle.bank_timing.proofs.timed.Timed.begin_change.Goals as goal
 
 pub ends-self-inside-requires : goal.ends-self-inside-requires
@@ -33,3 +29,6 @@ returns g c =
     rw (← c.self.view_is, c.cancels_by_keep-self-inside.ensures, keep-begun-cancels g.row.B c.begin-keep.result c.self.inside.cancels, c.ends-self-inside.ensures)
     (λ results unset. keep-begun (clock_of c.self.inside) c.args.action d.next d.fit stands c.begin-keep.new.self c.begin-keep.result (g.A.CellArray.state c.args.array.now) (g.A.CellArray.state c.begin-keep.new.array) d.led
     c.self.invariant.paced.some_read c.self.invariant.paced.some_iter c.begin-keep.ensures.keeps c.begin-keep.ensures.done c.begin-keep.ensures.held results unset d.doing c.begin-keep.ensures.goes touches)
+
+pub cancels_by_keep-self-inside-requires : goal.cancels_by_keep-self-inside-requires
+cancels_by_keep-self-inside-requires g c = grind arith

@@ -1,10 +1,8 @@
 use Rattle.std.proofs.Common.{◌≡◌, sym, ap, ◌∙◌, refl, arith}
 use Rattle.pace.specs.Policies.{pacing_of}
 use Rattle.bank_model.specs.Timing.{ends}
-use Rattle.spare_pool.specs.Table.{used_by}
-use Rattle.power_recovery.specs.Kept.{next_work}
 use Rattle.clock_laws.specs.Putting.{item_by}
-use Rattle.bank_timing.specs.Completing.{region_of, item_from}
+use Rattle.bank_timing.specs.Completing.{item_from}
 use Rattle.bank_timing.proofs.Sizes.{bank_fits, timed_fits, kept_fits, row_fits}
 use Rattle.bank_timing.proofs.Views.{clock_of}
 use Rattle.bank_timing.proofs.Due.{due, due-begun}
@@ -73,3 +71,6 @@ returns g c =
     let now = put ∙ begun-clock (clock_of c.self.inside) c.begin-step.new.self c.args.action c.changes_next-region.result.0 c.changes_next-region.result.1 c.begin-step.result (item g (goal.at.returns g c).After-begin-step) in
     rw (← c.self.view_is, now, c.record.ensures.results, c.ends-self-inside.ensures)
     (begun-whole (clock_of c.self.inside) c.args.action d.next d.doing d.fit alone (g.A.CellArray.state c.args.array.now) (g.A.CellArray.state c.begin-step.new.array) c.args.results.now c.begin-step.result c.begin-step.new.self d.led d.unset c.begin-step.ensures.begins c.self.invariant.paced.some_read c.self.invariant.paced.some_iter touches c.begin-step.ensures.holds)
+
+pub changes_next-region-requires : goal.changes_next-region-requires
+changes_next-region-requires g c = grind arith

@@ -1,4 +1,4 @@
-use Rattle.std.proofs.Common.{true}
+use Rattle.std.proofs.Common.{arith, true}
 use Rattle.pace.specs.Policies.{pacing_of}
 use Rattle.clock_laws.specs.State.{ClockState}
 use Rattle.bank_timing.proofs.Sizes.{bank_fits, kept_fits, row_fits}
@@ -59,3 +59,21 @@ returns-clause-laws g c =
     keeps-laws g.row.B g.row.M g.row.E
     (c.tables_keep_their_laws.ensures g.row.B g.row.M) (c.places_keep_their_laws.ensures g.row.B g.row.M) (c.logs_keep_their_laws.ensures g.row.B g.row.M)
     xs clock (g.A.CellArray.state c.settle.new.array) c.self.invariant.paced.some_read c.self.invariant.paced.some_iter leads rests
+
+pub tables_keep_their_laws-requires : goal.tables_keep_their_laws-requires
+tables_keep_their_laws-requires g c = grind arith
+
+pub places_keep_their_laws-requires : goal.places_keep_their_laws-requires
+places_keep_their_laws-requires g c = grind arith
+
+pub logs_keep_their_laws-requires : goal.logs_keep_their_laws-requires
+logs_keep_their_laws-requires g c = grind arith
+
+pub settle-requires : goal.settle-requires
+settle-requires g c = grind arith
+
+pub invariant_of-self : goal.invariant_of-self
+invariant_of-self g c = grind arith
+
+pub returns-clause-drained : goal.returns-clause-drained
+returns-clause-drained g c = grind arith

@@ -1,12 +1,8 @@
-use Rattle.std.proofs.Common.{◌≡◌, Some, None, IsTrue, is_some, false, refl, sym, ap, ◌∙◌, arith}
-use Rattle.pace.specs.Policies.{pacing_of}
-use Rattle.bank_model.specs.Timing.{ends, KeepIterate}
-use Rattle.clock_laws.specs.Completing.{after_keep}
+use Rattle.std.proofs.Common.{arith}
 use Rattle.bank_timing.proofs.Sizes.{regs_fits}
 use Rattle.bank_timing.proofs.Views.{clock_of}
 use Rattle.bank_timing.proofs.Due.{due-stands, due-begun}
 use Rattle.bank_timing.proofs.Keeps.{keep-iterate-ready, keep-iterated, keep-iterated-cancels, not-halted, keep-idle}
-use Rattle.bank_timing.proofs.timed.Timed.iterate_change.Given.{Over}
 use Rattle.bank_timing.proofs.timed.Timed.iterate_change.Goals as goal
 
 pub ends-self-inside-requires : goal.ends-self-inside-requires
@@ -32,3 +28,6 @@ returns g c =
     rw (← c.self.view_is, c.cancels_by_keep-self-inside.ensures, keep-iterated-cancels g.row.B c.iterate-keep.result c.self.inside.cancels, c.ends-self-inside.ensures)
     (λ results unset. keep-iterated (clock_of c.self.inside) c.args.action d.next d.fit stands c.iterate-keep.new.self c.iterate-keep.result (g.A.CellArray.state c.args.array.now) (g.A.CellArray.state c.iterate-keep.new.array) d.led
     c.self.invariant.paced.some_read c.self.invariant.paced.some_iter c.iterate-keep.ensures.keeps c.iterate-keep.ensures.done c.iterate-keep.ensures.held results unset d.doing (not-halted c.self.inside.regs c.self.invariant.idle (keep-iterate-ready (clock_of c.self.inside) c.args.action d.next d.fit stands d.doing)) touches)
+
+pub cancels_by_keep-self-inside-requires : goal.cancels_by_keep-self-inside-requires
+cancels_by_keep-self-inside-requires g c = grind arith

@@ -1,3 +1,4 @@
+use Rattle.std.proofs.Common.{arith}
 use Rattle.pace.specs.Policies.{pacing_of}
 use Rattle.clock_laws.specs.State.{ClockState}
 use Rattle.bank_timing.proofs.Acting.{passes, passes-clock}
@@ -21,3 +22,6 @@ invariant_of-self g c =
     let next = rw (← c.self.view_is) at c.requires.next in
     let later = rw (← c.self.view_is) at c.requires.later in
     passes-clock clock t.pace t.arrivals.capacity c.args.to c.args.action next later c.self.invariant
+
+pub returns-clause-clock : goal.returns-clause-clock
+returns-clause-clock g c = grind arith

@@ -1,5 +1,4 @@
-use Rattle.std.proofs.Common.{◌≡◌, ◌&&◌, not, None, false, List, [], ◌∷◌, length, is_some, sym, ap, subst, refl, ◌∙◌}
-use Rattle.pcm_cells.specs.Device.{ArrayState}
+use Rattle.std.proofs.Common.{arith, ◌≡◌, ◌&&◌, not, None, false, List, [], ◌∷◌, length, is_some, ap, subst, refl}
 use Rattle.bank_model.specs.declared.clock.Doing.TheVariants.{Iterating}
 use Rattle.bank_model.specs.Changes.{all_controls}
 use Rattle.bank_model.specs.Events.{Event, Cut}
@@ -14,7 +13,7 @@ use Rattle.reg_lines.specs.Keeping.{broken_off}
 use Rattle.bank_timing.specs.Losing.{bank_with_lost, lost_recorded}
 use Rattle.bank_timing.proofs.Sizes.{bank_fits, regs_fits, timed_fits, row_fits}
 use Rattle.bank_timing.proofs.Views.{clock_of}
-use Rattle.bank_timing.proofs.Losses.{MeetsCut, meets, cut-ready, cut-change-ready, cut-open, cut-unset, cut-control, broken-control, cut-extends, cut-others, CutExtends, rows_of}
+use Rattle.bank_timing.proofs.Losses.{meets, cut-ready, cut-change-ready, cut-open, cut-unset, cut-control, broken-control, cut-extends, cut-others, CutExtends, rows_of}
 use Rattle.bank_timing.proofs.timed.Timed.power_cut.Given.{Over}
 use Rattle.bank_timing.proofs.timed.Timed.power_cut.Goals.{After-tears_change-change, After-lose, After-read_back}
 use Rattle.bank_timing.proofs.timed.Timed.power_cut.Goals as goal
@@ -46,9 +45,10 @@ read_back-requires g c =
     let m = meets c.self.view_is c.self.invariant.fit c.requires.led c.requires.unset in
     let was = (goal.at.read_back-requires g c).After-tears_change-change in
     let held : AreHeld (broken_off c.self.inside.regs) (g.A.CellArray.state c.cut-2.new.array) = rw c.cut-2.ensures.regs at c.cut-2.ensures.held in
-    rw (c.lose.ensures.clock, c.cut.ensures.bank, c.cut-2.ensures.regs)
-    (timed_fits g.row.B g.row.M g.row.E c.self.invariant.layout,
-    (refl, (refl, (refl, (refl, (m.led.1.holds.kept, broken-control m c.tears_work-work.result (work-is g was) c.cut.ensures.touches c.tears_change-change.result (change-is g was) c.cut-2.ensures.touches held))))))
+    rw (c.lose.ensures.clock, c.cut.ensures.bank, c.cut-2.ensures.regs) (
+      timed_fits g.row.B g.row.M g.row.E c.self.invariant.layout,
+      (refl, (refl, (refl, (refl, (m.led.1.holds.kept, broken-control m c.tears_work-work.result (work-is g was) c.cut.ensures.touches c.tears_change-change.result (change-is g was) c.cut-2.ensures.touches held))))),
+    )
 
 -- a bank of which a history holds is one of which the history with the cut holds, once its lost reads are taken
 holds_on : (g : Over) (c : After-lose g) (h : List (Event g.row.B)) → Holds h c.self.inside.bank (g.A.CellArray.state c.args.array.now)
@@ -83,3 +83,30 @@ returns-clause-others g c =
     rw (c.lose.ensures.results, c.cut.ensures.bank, ← c.self.view_is)
     (cut-others (meets c.self.view_is c.self.invariant.fit c.requires.led c.requires.unset) c.tears_work-work.result (work-is g was) c.cut.ensures.touches c.tears_change-change.result (change-is g was) c.cut-2.ensures.touches held
     (third g (goal.at.returns-clause-others g c).After-read_back) (holds_on g (goal.at.returns-clause-others g c).After-lose))
+
+pub change-requires : goal.change-requires
+change-requires g c = grind arith
+
+pub tears_work-work-requires : goal.tears_work-work-requires
+tears_work-work-requires g c = grind arith
+
+pub tears_change-change-requires : goal.tears_change-change-requires
+tears_change-change-requires g c = grind arith
+
+pub invariant_of-self : goal.invariant_of-self
+invariant_of-self g c = grind arith
+
+pub returns-clause-now : goal.returns-clause-now
+returns-clause-now g c = grind arith
+
+pub returns-clause-going : goal.returns-clause-going
+returns-clause-going g c = grind arith
+
+pub returns-clause-rows : goal.returns-clause-rows
+returns-clause-rows g c = grind arith
+
+pub returns-clause-kept : goal.returns-clause-kept
+returns-clause-kept g c = grind arith
+
+pub returns-clause-regs : goal.returns-clause-regs
+returns-clause-regs g c = grind arith

@@ -1,7 +1,4 @@
-use Rattle.std.proofs.Common.{◌≡◌, ◌<◌, Option, Some, None, sym, subst, ◌∙◌}
-use Rattle.std.specs.Prelude.{IfSome}
-use Rattle.register_laws.specs.Items.{items_of}
-use Rattle.bank_timing.specs.Completing.{item_from}
+use Rattle.std.proofs.Common.{arith, ◌≡◌, ◌<◌, None, sym, ◌∙◌}
 use Rattle.bank_timing.proofs.Sizes.{bank_fits, regs_fits, kept_fits}
 use Rattle.bank_timing.proofs.Acting.{some-of}
 use Rattle.bank_timing.proofs.timed.Timed.put.Goals as goal
@@ -24,3 +21,21 @@ invariant_of-self g c =
     let rests = rw (← c.self.view_is) at c.requires.rests in
     rw (c.put.ensures, rests)
     (record { layout = c.self.invariant.layout; paced = c.self.invariant.paced; room = c.self.invariant.room; begun = tt; fit = tt; idle = c.self.invariant.idle })
+
+pub shape-requires : goal.shape-requires
+shape-requires g c = grind arith
+
+pub item_from-requires-clause-limits : goal.item_from-requires-clause-limits
+item_from-requires-clause-limits g c = grind arith
+
+pub item_from-requires-clause-few : goal.item_from-requires-clause-few
+item_from-requires-clause-few g c = grind arith
+
+pub item_values-values-requires : goal.item_values-values-requires
+item_values-values-requires g c = grind arith
+
+pub returns-in-Some : goal.returns-in-Some
+returns-in-Some g c = grind arith
+
+pub returns-in_default : goal.returns-in_default
+returns-in_default g c = grind arith

@@ -1,9 +1,6 @@
-use Rattle.std.proofs.Common.{◌≡◌, refl, sym, ap, subst, ◌∙◌}
-use Rattle.bank_shape.specs.declared.Home.TheVariants.{Array}
+use Rattle.std.proofs.Common.{arith, ◌≡◌, refl, ap}
 use Rattle.bank_invariant.specs.State.{BankState}
-use Rattle.bank_core.specs.Stepping.{with_kept}
 use Rattle.register_laws.specs.Recovering.{IsReadable}
-use Rattle.bank_timing.specs.Clock.{IsClock}
 use Rattle.bank_timing.proofs.Sizes.{bank_fits, regs_fits, kept_fits}
 use Rattle.bank_timing.proofs.Recovers.{same-bank}
 use Rattle.bank_timing.proofs.timed.Timed.read_back.Given.{Over}
@@ -58,3 +55,12 @@ invariant_of-self g c = rw (back g (goal.at.invariant_of-self g c).After-recover
 
 pub returns-in-Array-clause-clock : goal.returns-in-Array-clause-clock
 returns-in-Array-clause-clock g c = rw (← c.self.view_is, back g (goal.at.returns-in-Array-clause-clock g c).After-recover) refl
+
+pub shape-requires : goal.shape-requires
+shape-requires g c = grind arith
+
+pub returns-in-Guarded-clause-clock : goal.returns-in-Guarded-clause-clock
+returns-in-Guarded-clause-clock g c = grind arith
+
+pub returns-in-Array-clause-touches : goal.returns-in-Array-clause-touches
+returns-in-Array-clause-touches g c = grind arith

@@ -1,18 +1,15 @@
-use Rattle.std.proofs.Common.{◌≡◌, List, []  , ◌∷◌, sym, ap, subst, refl, ◌∙◌}
-use Rattle.result_rows.specs.declared.Outcome.{Outcome}
+use Rattle.std.proofs.Common.{arith, [], ◌∷◌, sym, ap, subst, ◌∙◌}
 use Rattle.bank_model.specs.Events.{Read}
-use Rattle.bank_model.specs.Timing.{Timed}
 use Rattle.bank_invariant.specs.Serving.{read_from}
 use Rattle.clock_laws.specs.State.{ClockState}
-use Rattle.clock_laws.specs.Leads.{Leads}
 use Rattle.clock_laws.specs.Arriving.{arrival}
-use Rattle.bank_timing.specs.Cancelling.{cancel_by, cancelled_by}
+use Rattle.bank_timing.specs.Cancelling.{cancel_by}
 use Rattle.bank_timing.specs.Extending.{Extends}
 use Rattle.bank_timing.proofs.Sizes.{bank_fits, read_fits}
 use Rattle.bank_timing.proofs.Views.{clock_of}
 use Rattle.bank_invariant.specs.State.{BankState}
 use Rattle.bank_timing.proofs.ReadArrivals.{read-keeps}
-use Rattle.bank_timing.proofs.Cancels.{CancelsRead, cancels-read, with_bank, cancel-extends, cancel-unset, cancel-bound, behind-cancel, IsBehind}
+use Rattle.bank_timing.proofs.Cancels.{CancelsRead, cancels-read, with_bank, cancel-extends, cancel-unset, cancel-bound, behind-cancel}
 use Rattle.bank_timing.proofs.timed.Timed.read_cancelled.Given.{Over}
 use Rattle.bank_timing.proofs.timed.Timed.read_cancelled.Goals.{After-cancel, After-read}
 use Rattle.bank_timing.proofs.timed.Timed.read_cancelled.Goals as goal
@@ -60,3 +57,6 @@ returns-clause-extends g c =
     subst (λ (k : ClockState g.row.B g.row.M g.row.E). Extends xs (arrival c.args.self.now.tick (Read c.args.row c.args.line (read_from c.args.self.now.bank c.args.line)) ∷ cancel_by c.args.self.now.regs.change xs c.args.self.now ∷ [])
     c.args.self.now (with_bank c.read.new.self k) (g.A.CellArray.state c.args.array.now) (g.A.CellArray.state c.cancel.new.array) results results) (sym (c.self.view_is ∙ c.cancel.ensures.clock))
     (cancel-extends (reads g (goal.at.returns-clause-extends g c).After-read) results xs leads)
+
+pub cancel-requires : goal.cancel-requires
+cancel-requires g c = grind arith

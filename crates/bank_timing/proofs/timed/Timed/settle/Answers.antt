@@ -1,4 +1,4 @@
-use Rattle.std.proofs.Common.{refl, sym, ◌∙◌}
+use Rattle.std.proofs.Common.{arith, refl, sym, ◌∙◌}
 use Rattle.pace.specs.Policies.{pacing_of}
 use Rattle.clock_laws.specs.State.{ClockState}
 use Rattle.clock_laws.specs.Remaining.{actions_left}
@@ -47,3 +47,9 @@ loop-action-preserved g c =
 
 pub loop-action-smaller : goal.loop-action-smaller
 loop-action-smaller g c = c.complete.ensures.less
+
+pub returns-clause-ran : goal.returns-clause-ran
+returns-clause-ran g c = grind arith
+
+pub returns-clause-rests : goal.returns-clause-rests
+returns-clause-rests g c = grind arith

@@ -1,4 +1,4 @@
-use Rattle.std.proofs.Common.{◌≡◌, sym, ◌∙◌}
+use Rattle.std.proofs.Common.{arith, ◌≡◌, sym, ◌∙◌}
 use Rattle.bank_model.specs.declared.answer.ReadAnswer.{ReadAnswer}
 use Rattle.bank_model.specs.declared.answer.ReadAnswer.TheVariants as came
 use Rattle.bank_timing.proofs.Sizes.{bank_fits, outcome_fits, read_fits, row_fits}
@@ -78,3 +78,24 @@ invariant_of-self-in-Waiting g c = rw (c.unless-self-inside.ensures, c.begins_st
 
 pub invariant_of-self-in-Busy : goal.invariant_of-self-in-Busy
 invariant_of-self-in-Busy g c = read-clock (taken g (goal.at.invariant_of-self-in-Busy g c).After-read came.Busy c.in-Busy.is) c.self.invariant
+
+pub unless-self-inside-requires : goal.unless-self-inside-requires
+unless-self-inside-requires g c = grind arith
+
+pub returns-in-Forwarded-clause-now : goal.returns-in-Forwarded-clause-now
+returns-in-Forwarded-clause-now g c = grind arith
+
+pub returns-in-Forwarded-clause-drained : goal.returns-in-Forwarded-clause-drained
+returns-in-Forwarded-clause-drained g c = grind arith
+
+pub returns-in-Waiting-clause-now : goal.returns-in-Waiting-clause-now
+returns-in-Waiting-clause-now g c = grind arith
+
+pub returns-in-Waiting-clause-drained : goal.returns-in-Waiting-clause-drained
+returns-in-Waiting-clause-drained g c = grind arith
+
+pub returns-in-Busy-clause-now : goal.returns-in-Busy-clause-now
+returns-in-Busy-clause-now g c = grind arith
+
+pub returns-in-Busy-clause-drained : goal.returns-in-Busy-clause-drained
+returns-in-Busy-clause-drained g c = grind arith

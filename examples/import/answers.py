@@ -1,0 +1,177 @@
+#!/usr/bin/env python3
+"""Tests of the importers' answers: bad lines, empty input, huge addresses, line ends, too many rows, and each option.
+
+usage: examples/import/answers.py
+"""
+
+import contextlib
+import io
+import os
+import sys
+import tempfile
+
+import accesses
+import dramsim3
+import gem5
+import lackey
+import nvmain
+import ramulator
+
+HEADER = "tick,op,arg,data\n"
+ZEROS = "00" * 64
+DIGITS = "".join(f"{number:02x}" for number in range(64))
+ADDRESSES = "".join((192 + at).to_bytes(8, "little").hex() for at in range(0, 64, 8))
+SECOND_WORD = "f465b9a16a9e786e"  # of SplitMix64 of seed 0, lowest byte first
+FORMS = {
+    gem5: "[id,]command,address,size,flags,tick[,pc]",
+    nvmain: "cycle operation address data thread",
+    dramsim3: "address command cycle",
+    ramulator: "address R|W, or LD|ST address",
+    lackey: "I  address,size or, behind one blank, L|S|M address,size",
+}
+GOOD = {
+    gem5: ("r,192,64,0,70", "70,R,3,\n"),
+    nvmain: (f"70 R 0xc0 {ZEROS} 0", "70,R,3,\n"),
+    dramsim3: ("0xc0 READ 70", "70,R,3,\n"),
+    ramulator: ("0xc0 R", "0,R,3,\n"),
+    lackey: (" L 000000c0,8", "0,R,3,\n"),
+}
+HUGE = {
+    gem5: "r,18446744073709551552,64,0,70",
+    nvmain: f"70 R 0xffffffffffffffc0 {ZEROS} 0",
+    dramsim3: "0xffffffffffffffff READ 70",
+    ramulator: "0xffffffffffffffff R",
+    lackey: " L ffffffffffffffc0,64",
+}
+TOO_LARGE = {
+    gem5: "r,18446744073709551616,64,0,70",
+    nvmain: f"70 R 0x10000000000000000 {ZEROS} 0",
+    dramsim3: "0x10000000000000000 READ 70",
+    ramulator: "0x10000000000000000 R",
+    lackey: " L 10000000000000000,8",
+}
+
+
+def run(tool, text, *words):
+    """What an importer prints for a text: its status, standard output and standard error."""
+    out, told = io.BytesIO(), io.StringIO()
+    source = io.BytesIO(text.encode("latin-1"))
+    try:
+        with contextlib.redirect_stderr(told):
+            status = accesses.main(tool.IMPORTER, list(words), source, out, told)
+    except SystemExit as stop:
+        return stop.code, out.getvalue().decode(), "usage"
+    return status, out.getvalue().decode(), told.getvalue()
+
+
+def same(name, got, wanted):
+    """Compares one answer; a difference is printed."""
+    if got != wanted:
+        print(f"import: {name}: got {got!r}, wanted {wanted!r}")
+    return got == wanted
+
+
+def answers_of_all():
+    """What every importer answers in the same way."""
+    for tool, (line, row) in GOOD.items():
+        name = tool.__name__
+        good = (0, HEADER + row, "")
+        refused = (1, "", f"line 2: not of the form {FORMS[tool]}\n")
+        beyond = (1, "", "line 1: line 288230376151711743 is beyond the module's 512 lines; see --lines and --fold\n")
+        huge_row = row.replace(",3,", ",511,")
+        yield same(name + ", a line", run(tool, line + "\n"), good)
+        yield same(name + ", no last end", run(tool, line), good)
+        yield same(name + ", CRLF", run(tool, line + "\r\n"), good)
+        yield same(name + ", no input", run(tool, ""), (0, HEADER, ""))
+        for bad in ["", "x", line + " x", line + "\r\r", "\xff" + line]:
+            yield same(f"{name}, {bad!r}", run(tool, f"{line}\n{bad}\n{line}\n"), refused)
+        yield same(name + ", huge", run(tool, HUGE[tool]), beyond)
+        yield same(name + ", huge and folded", run(tool, HUGE[tool], "--fold"), (0, HEADER + huge_row, ""))
+        status, printed, told = run(tool, TOO_LARGE[tool], "--fold")
+        why = "an address beyond 2^64" if tool is gem5 else "not of the form " + FORMS[tool]
+        yield same(name + ", 2^64", (status, printed, told), (1, "", f"line 1: {why}\n"))
+        yield same(name + ", bad option", run(tool, line, "--size", "32"), (2, "", "usage"))
+
+
+def answers_of_options():
+    """What the options do, by one importer each."""
+    write = "w,192,64,0,70\n"
+    row = "70,W,3,{}\n".format
+    yield same("zero", run(gem5, write, "--data", "zero"), (0, HEADER + row(ZEROS), ""))
+    yield same("address", run(gem5, write, "--data", "address"), (0, HEADER + row(ADDRESSES), ""))
+    part = "70,M,3," + ".." * 8 + SECOND_WORD + ".." * 48 + "\n"
+    yield same("seed", run(gem5, "w,200,8,0,70\n"), (0, HEADER + part, ""))
+    two = "7,M,0," + ".." * 63 + "00\n7,M,1,00" + ".." * 63 + "\n"
+    yield same("two lines", run(gem5, "w,63,2,0,70\n", "--data", "zero", "--per-tick", "10"), (0, HEADER + two, ""))
+    yield same("lines of 128", run(gem5, "r,192,64,0,70\n", "--size", "128"), (0, HEADER + "70,R,1,\n", ""))
+    yield same("lines and fold", run(gem5, "r,192,64,0,70\n", "--lines", "2", "--fold"), (0, HEADER + "70,R,1,\n", ""))
+    falls = (1, "", "line 2: cycle 69 comes behind cycle 70\n")
+    yield same("cycles fall", run(gem5, "r,0,64,0,70\nr,0,64,0,69\n"), falls)
+    yield same("tick 2^40", run(gem5, f"r,0,64,0,{2**40}\n"), (0, HEADER + f"{2**40},R,0,\n", ""))
+    late = (1, "", f"line 1: cycle {2**40 + 1} is beyond tick 2^40; see --per-tick\n")
+    yield same("beyond tick 2^40", run(gem5, f"r,0,64,0,{2**40 + 1}\n"), late)
+    yield same("no bytes", run(gem5, "r,0,0,0,70\n"), (1, "", "line 1: a size of 0 bytes; sizes are 1 to 4096\n"))
+    yield same("many bytes", run(gem5, "r,0,4097,0,70\n"), (1, "", "line 1: a size of 4097 bytes; sizes are 1 to 4096\n"))
+
+
+def answers_of_formats():
+    """What belongs to one format alone."""
+    other = (1, "", "line 1: a command that is neither read nor write; see --others\n")
+    yield same("gem5, u", run(gem5, "9,u,192,64,0,70,4194304\n"), other)
+    yield same("gem5, u dropped", run(gem5, "9,u,192,64,0,70\n", "--others", "drop"), (0, HEADER, ""))
+    yield same("gem5, u read", run(gem5, "u,192,64,0,70\n", "--others", "read"), (0, HEADER + "70,R,3,\n", ""))
+    yield same("nvmain, data", run(nvmain, f"7 W c5 {DIGITS} 0\n"), (0, HEADER + f"7,W,3,{DIGITS}\n", ""))
+    half = (0, HEADER + "7,M,1," + ".." * 64 + f"{DIGITS}\n", "")
+    yield same("nvmain, half a line", run(nvmain, f"7 W c5 {DIGITS} 0\n", "--size", "128"), half)
+    yield same("nvmain, version 1", run(nvmain, f"NVMV1\n7 W c5 {DIGITS} {ZEROS} 0\n"), (0, HEADER + f"7,W,3,{DIGITS}\n", ""))
+    yield same("nvmain, version alone", run(nvmain, "NVMV1\r\n"), (0, HEADER, ""))
+    lacks = (1, "", "line 2: not of the form cycle operation address data old thread\n")
+    yield same("nvmain, no old bytes", run(nvmain, f"NVMV1\n7 W c5 {DIGITS} 0\n"), lacks)
+    yield same("dramsim3, P_FETCH", run(dramsim3, "c0 P_FETCH 7\n"), (0, HEADER + "7,R,3,\n", ""))
+    written = (0, HEADER + f"0,R,3,\n5,W,3,{ZEROS}\n", "")
+    yield same("ramulator, load and store", run(ramulator, "LD 192\nST 0xc0\n", "--every", "5", "--data", "zero"), written)
+    modify = (0, HEADER + "1,R,3,\n1,M,3,0000" + ".." * 62 + "\n", "")
+    yield same("lackey, modify", run(lackey, "==1== x\nI  00000000,4\n M 000000c0,2\n", "--data", "zero"), modify)
+    fetched = (0, HEADER + "0,R,3,\n", "")
+    yield same("lackey, instructions", run(lackey, "I  000000c0,4\n", "--instructions", "read"), fetched)
+
+
+def pieces_of(folder, rows, most):
+    """What stands in a folder once some rows were cut into pieces; a refusal's text else."""
+    status, printed, told = run(gem5, rows, "--most-rows", str(most), "--pieces", os.path.join(folder, "part"))
+    if status != 0 or printed != "":
+        return told, sorted(os.listdir(folder))
+    texts = []
+    for name in sorted(os.listdir(folder)):
+        with open(os.path.join(folder, name), encoding="ascii") as piece:
+            texts.append((name, piece.read()))
+    return texts
+
+
+def answers_of_pieces():
+    """Many rows: refused, or cut into numbered files, of which none stands where a line is refused."""
+    rows = "r,0,64,0,1\nr,64,64,0,2\nr,128,64,0,3\n"
+    many = (1, "", "line 3: more than 2 rows; --pieces NAME cuts them into NAME-001.csv and so on\n")
+    yield same("too many rows", run(gem5, rows, "--most-rows", "2"), many)
+    cut = [("part-001.csv", HEADER + "1,R,0,\n2,R,1,\n"), ("part-002.csv", HEADER + "3,R,2,\n")]
+    with tempfile.TemporaryDirectory() as folder:
+        yield same("pieces", pieces_of(folder, rows, 2), cut)
+    whole = [("part-001.csv", HEADER + "1,R,0,\n2,R,1,\n3,R,2,\n")]
+    with tempfile.TemporaryDirectory() as folder:
+        yield same("one piece", pieces_of(folder, rows, 3), whole)
+    with tempfile.TemporaryDirectory() as folder:
+        refused = ("line 4: not of the form " + FORMS[gem5] + "\n", [])
+        yield same("pieces of a bad line", pieces_of(folder, rows + "x\n", 2), refused)
+
+
+def main():
+    """Runs all tests; the status is 1 where one failed."""
+    results = []
+    for answers in (answers_of_all, answers_of_options, answers_of_formats, answers_of_pieces):
+        results.extend(answers())
+    print(f"{sum(results)} passed, {len(results) - sum(results)} failed")
+    return 0 if all(results) else 1
+
+
+if __name__ == "__main__":
+    sys.exit(main())
