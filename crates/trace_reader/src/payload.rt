@@ -33,6 +33,7 @@ pub struct Values {
 }
 
 impl Values {
+    /// The table, filled by `hex`.
     pub fn new() -> Values {
         let mut of = [0; 256];
         for character in 0..256usize {
