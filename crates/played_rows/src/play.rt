@@ -4,7 +4,7 @@ ghost use Rattle.pcm_cells.specs.Shape.{IsShape};
 use crate::case::Case;
 use crate::digits::in_short;
 use crate::tally::Tally;
-use pcm_cells::{CellArray, MemArray, ScriptArray};
+use pcm_cells::{CellArray, Cells, MemArray, ScriptArray};
 use pcm_io::{MemSink, MemSource};
 use pcm_top::pcm_run;
 use std::alloc::{AllocError, Global};
@@ -41,19 +41,25 @@ pub fn played(alloc: Global, case: &Case) -> Result<String, AllocError> {
 
 fn answer_of(alloc: Global, case: &Case, trace: &[u8]) -> Result<Answer, AllocError> {
     if case.seeded {
-        return answer_over(
-            alloc,
-            case,
-            trace,
-            &mut MemArray::new(),
-            &mut MemArray::new(),
-        );
+        let mut array = MemArray::new();
+        let mut wide = MemArray::new();
+        answer_over(alloc, case, trace, &mut array, &mut wide)
+    } else {
+        let mut array = scripted(alloc, case)?;
+        let mut wide = scripted(alloc, case)?;
+        answer_over(alloc, case, trace, &mut array, &mut wide)
     }
+}
+
+// An array whose cells do as the case's script says.
+fn scripted<const B: usize, const M: usize>(
+    alloc: Global,
+    case: &Case,
+) -> Result<ScriptArray<B, M>, AllocError>
+    requires { IsShape B M }
+{
     let script = Vec::from_slice(alloc, case.script.as_slice())?;
-    let wide_script = Vec::from_slice(alloc, case.script.as_slice())?;
-    let mut array = ScriptArray::new(script);
-    let mut wide = ScriptArray::new(wide_script);
-    answer_over(alloc, case, trace, &mut array, &mut wide)
+    Ok(ScriptArray::new(script))
 }
 
 fn answer_over<A: CellArray<64, 8>, V: CellArray<128, 16>>(
@@ -63,33 +69,62 @@ fn answer_over<A: CellArray<64, 8>, V: CellArray<128, 16>>(
     array: &mut A,
     wide: &mut V,
 ) -> Result<Answer, AllocError> {
-    let bytes = Vec::from_slice(alloc, trace)?;
-    let fails = Vec::from_slice(alloc, case.source_fails.as_slice())?;
-    let mut source = MemSource::new(bytes, fails);
-    let mut out = sink(alloc, &case.out_fails)?;
-    let mut err = sink(alloc, &case.err_fails)?;
-    let status = pcm_run(
+    let mut ends = Ends::new(alloc, case, trace)?;
+    let status = run(alloc, case, array, wide, &mut ends);
+    let arrays = arrays_of(alloc, case, array, wide)?;
+    ends.answer(alloc, status, arrays)
+}
+
+fn run<A: CellArray<64, 8>, V: CellArray<128, 16>>(
+    alloc: Global,
+    case: &Case,
+    array: &mut A,
+    wide: &mut V,
+    ends: &mut Ends,
+) -> u8 {
+    pcm_run(
         alloc,
         case.words.as_slice(),
         array,
         wide,
-        &mut source,
-        &mut out,
-        &mut err,
-    );
-    let mut arrays = format!(in alloc; "array lines {} {}\n", array.lines(), wide.lines())?;
-    match case.line_bytes {
-        128 => push_lines(&mut arrays, case, wide)?,
-        _ => push_lines(&mut arrays, case, array)?,
+        &mut ends.source,
+        &mut ends.out,
+        &mut ends.err,
+    )
+}
+
+/// Where the bytes of a run come from and go to.
+#[derive(Drop)]
+struct Ends {
+    source: MemSource,
+    out: MemSink,
+    err: MemSink,
+}
+
+impl Ends {
+    fn new(alloc: Global, case: &Case, trace: &[u8]) -> Result<Ends, AllocError> {
+        let source = source(alloc, case, trace)?;
+        let out = sink(alloc, &case.out_fails)?;
+        let err = sink(alloc, &case.err_fails)?;
+        Ok(Ends { source, out, err })
     }
-    let out = text_in(alloc, &out)?;
-    let err = text_in(alloc, &err)?;
-    Ok(Answer {
-        status,
-        out,
-        err,
-        arrays,
-    })
+
+    fn answer(self, alloc: Global, status: u8, arrays: String) -> Result<Answer, AllocError> {
+        let out = text_in(alloc, &self.out)?;
+        let err = text_in(alloc, &self.err)?;
+        Ok(Answer {
+            status,
+            out,
+            err,
+            arrays,
+        })
+    }
+}
+
+fn source(alloc: Global, case: &Case, trace: &[u8]) -> Result<MemSource, AllocError> {
+    let bytes = Vec::from_slice(alloc, trace)?;
+    let fails = Vec::from_slice(alloc, case.source_fails.as_slice())?;
+    Ok(MemSource::new(bytes, fails))
 }
 
 fn sink(alloc: Global, fails: &Vec<u32>) -> Result<MemSink, AllocError> {
@@ -102,31 +137,56 @@ fn text_in(alloc: Global, sink: &MemSink) -> Result<String, AllocError> {
     String::from_str(alloc, text)
 }
 
-// What the shown lines of an array hold, and how often each was pulsed.
-fn push_lines<const B: usize, const M: usize, A: CellArray<B, M>>(
-    text: &mut String,
+// How many lines each array has, and what the shown lines hold, a text line for each.
+fn arrays_of<A: CellArray<64, 8>, V: CellArray<128, 16>>(
+    alloc: Global,
     case: &Case,
+    array: &mut A,
+    wide: &mut V,
+) -> Result<String, AllocError> {
+    let lines = array.lines();
+    let wide_lines = wide.lines();
+    let mut text = format!(in alloc; "array lines {lines} {wide_lines}\n")?;
+    for line in case.shown.iter() {
+        match case.line_bytes {
+            128 => push_line(alloc, &mut text, *line, wide)?,
+            _ => push_line(alloc, &mut text, *line, array)?,
+        }
+    }
+    Ok(text)
+}
+
+// What a line of an array holds, and how often it was pulsed.
+fn push_line<const B: usize, const M: usize, A: CellArray<B, M>>(
+    alloc: Global,
+    text: &mut String,
+    line: u32,
     array: &mut A,
 ) -> Result<(), AllocError>
     requires { IsShape B M }
 {
-    let alloc = *text.allocator();
-    for line in case.shown.iter() {
-        if *line >= array.lines() {
-            writeln!(text, "line {line} none")?;
-            continue;
-        }
-        let pulses = array.pulses(*line);
-        let cells = array.sense(*line, 0);
-        let bits = digits(alloc, &cells.bits)?;
-        let bits = in_short(alloc, bits.as_str(), B)?;
-        let check = digits(alloc, &cells.meta)?;
-        writeln!(
-            text,
-            "line {line} pulses {pulses} bits {bits} check {check}"
-        )?;
+    if line >= array.lines() {
+        return writeln!(text, "line {line} none");
     }
-    Ok(())
+    let pulses = array.pulses(line);
+    let cells = array.sense(line, 0);
+    push_cells(alloc, text, line, pulses, &cells)
+}
+
+fn push_cells<const B: usize, const M: usize>(
+    alloc: Global,
+    text: &mut String,
+    line: u32,
+    pulses: u64,
+    cells: &Cells<B, M>,
+) -> Result<(), AllocError> {
+    let bits = digits(alloc, &cells.bits)?;
+    let bits = in_short(alloc, bits.as_str(), B)?;
+    let check = digits(alloc, &cells.meta)?;
+    writeln!(
+        text,
+        "line {line} pulses {pulses} bits {bits} check {check}"
+    )
 }
 
 fn digits(alloc: Global, bytes: &[u8]) -> Result<String, AllocError> {
