@@ -1,6 +1,7 @@
 -- What a job does, and why a call does none of it.
 use Rattle.std.specs.Prelude.{◌≡◌, ◌⊎◌, ℕ, Bool, true, false, if◌then◌else◌, List, length, Option, Result, Ok, Err}
 use Rattle.std.specs.Io.KnownBytes.{Appends}
+use Rattle.pcm_io.specs.Faults.{Rose}
 use Rattle.pcm_io.specs.Giving.{AppendsPrefix}
 use Rattle.pcm_cells.specs.Device.{ArrayState}
 use Rattle.trace_reader.specs.declared.event.Event.{Event}
@@ -147,3 +148,7 @@ pub record TellsPart (job : Result Job Refusal) (s : SourceChange) (before now :
   pub fault : Fault
   pub cause : HasCause fault job s
   pub part : AppendsPrefix before now (fault_line fault)
+
+-- a line was tried: all of it was written, or first bytes of it and then a fault came
+abbrev pub IsTried : Option (List ℕ) → Option (List ℕ) → ℕ → ℕ → List ℕ → Type 0
+IsTried before now faults faults_now line = Appends before now line ⊎ (AppendsPrefix before now line × Rose faults faults_now)

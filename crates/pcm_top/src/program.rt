@@ -9,7 +9,7 @@ ghost use Rattle.pcm_top.specs.Jobs.{bytes_in};
 ghost use Rattle.pcm_top.specs.FaultLines.{fault_line, status_of};
 ghost use Rattle.pcm_top.specs.Reading.{source_change, trace_room};
 ghost use Rattle.pcm_top.specs.Inputs.{IsFaultOf, is_source};
-ghost use Rattle.pcm_top.specs.Running.{Does, DoesPart, WritesRun, WritesRunInPart, HasCause, Tells, TellsPart, IsRefused, is_size, reads_source, runs_on, status_done, room_of};
+ghost use Rattle.pcm_top.specs.Running.{Does, DoesPart, WritesRun, WritesRunInPart, HasCause, Tells, TellsPart, IsTried, IsRefused, is_size, reads_source, runs_on, status_done, room_of};
 ghost use Rattle.pcm_top.specs.Statuses.{IsStatusFor};
 
 use crate::drawn::write_drawn;
@@ -25,6 +25,7 @@ use std::alloc::Global;
 fn give_up<F: Sink>(fault: Fault, err: &mut F) -> u8
     ensures told { result ≢ 5 → (result ≡ status_of fault) × Appends (F.written err.old) (F.written err.new) (fault_line fault) }
     ensures part { AppendsPrefix (F.written err.old) (F.written err.new) (fault_line fault) }
+    ensures tried { IsTried (F.written err.old) (F.written err.new) (F.faults err.old) (F.faults err.new) (fault_line fault) }
     ensures broken { result ≡ 5 → fault ≢ Fault.Write → Rose (F.faults err.old) (F.faults err.new) }
     ensures statuses { (2 ≤ result) × (result ≤ 7) }
     ensures write { fault ≡ Fault.Write → result ≡ 5 }
@@ -170,12 +171,13 @@ pub fn pcm_run<A: CellArray<64, 8>, V: CellArray<128, 16>, S: Source, K: Sink, F
     ensures unwritten { 2 ≤ result → result ≢ 5 → out.new ≡ out.old }
     ensures untouched { 2 ≤ result → result ≢ 5 → result ≢ 7 → (array.new ≡ array.old) × (wide.new ≡ wide.old) }
 
-    // Writing failed: the text of a run or a report, or the line of a fault that has its cause.
+    // Writing failed: the text of a run or a report, whose fault is told as far as its line can be written; or the line of a fault
+    // that has its cause.
     ensures broken { result ≡ 5 →
         (DoesPart (source_change S.left S.taken S.faults source.old source.new)
         (A.state array.new) (V.state wide.new) (K.written out.old) (K.written out.new) (job_of (map string_bytes words.now))
         × Rose (K.faults out.old) (K.faults out.new)
-        × AppendsPrefix (F.written err.old) (F.written err.new) (fault_line Fault.Write))
+        × IsTried (F.written err.old) (F.written err.new) (F.faults err.old) (F.faults err.new) (fault_line Fault.Write))
         ⊎ ((t : TellsPart (job_of (map string_bytes words.now))
         (source_change S.left S.taken S.faults source.old source.new) (F.written err.old) (F.written err.new))
         × Rose (F.faults err.old) (F.faults err.new)

@@ -33,7 +33,7 @@ returns-in-Err-clause-broken g c =
     λ five. elim (is_write c.in-Err.fault) [
       | inl write ↦
           let r = c.in-Err.ensures.write (ap Err write) in
-          inl (r.0, r.1, rw write at c.give_up.ensures.part)
+          inl (r.0, r.1, rw write at c.give_up.ensures.tried)
       | inr other ↦ inr (
         record { fault = c.in-Err.fault; cause = c.in-Err.ensures.cause other; part = c.give_up.ensures.part },
         c.give_up.ensures.broken five other,
