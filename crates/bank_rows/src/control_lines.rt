@@ -102,11 +102,7 @@ fn iterate<A: CellArray<64, 8>>(regs: &mut RegLines<64, 8, 6>, array: &mut A) ->
 }
 
 // So many iterations, of which all but the last are to answer `More`: what the last answered.
-fn iterate_all<A: CellArray<64, 8>>(
-    regs: &mut RegLines<64, 8, 6>,
-    array: &mut A,
-    times: u32,
-) -> Saw
+fn iterate_all<A: CellArray<64, 8>>(regs: &mut RegLines<64, 8, 6>, array: &mut A, times: u32) -> Saw
     requires items { regs.old.items ≡ 3 }
     requires held { AreHeld regs.old (A.state array.old) }
     ensures items { regs.new.items ≡ 3 }

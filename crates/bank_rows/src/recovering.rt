@@ -87,6 +87,9 @@ fn a_new_bank_has_the_registers_that_the_control_lines_hold(rt: HostRuntime) -> 
     let mut array: ScriptArray<64, 8> = ScriptArray::new(Vec::new(rt.alloc()));
     let timed = written(rt.alloc(), &mut array, shape)?;
     let bank = reread(rt.alloc(), &timed, &mut array)?;
-    assert_eq!(rt; bank.as_ref().and_then(|bank| registers(bank)), Some([0, 3, 0, 4]));
+    assert_eq!(rt;
+        bank.as_ref().and_then(|bank| registers(bank)),
+        Some([0, 3, 0, 4])
+    );
     Ok(())
 }

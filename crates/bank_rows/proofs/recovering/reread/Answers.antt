@@ -18,11 +18,11 @@ recover-requires g c =
     let home : timed.bank.kept.shape.home ≡ Array = subst (λ (s : BankShape). s.home ≡ Array) shape_is (is-array c.shape.result.now.home c.in_default.not-Guarded) in
     let range : IsKept timed.bank.kept = subst (λ (b : BankState 64 8 6). IsKept b.kept) bank_is c.kept.ensures.in_range in
     let none : timed.regs.change ≡ None = none-stands timed.regs.change
-        (ap (λ (r : RegsState 64 8 6). is_some r.change) (sym c.regs.ensures) ∙ ap (λ o. is_some o) (sym c.change.ensures) ∙ sym c.is_some.ensures ∙ c.if-is_some.false) in
+    (ap (λ (r : RegsState 64 8 6). is_some r.change) (sym c.regs.ensures) ∙ ap (λ o. is_some o) (sym c.change.ensures) ∙ sym c.is_some.ensures ∙ c.if-is_some.false) in
     let else_is : c.kept-else-is_some.result.now ≡ timed.bank.kept = c.kept-else-is_some.ensures.kept ∙ ap (λ (b : BankState 64 8 6). b.kept) c.bank-else-is_some.ensures in
     let empty : timed.bank.kept.entries ≡ [] = subst (λ (k : KeptState 64). k.entries ≡ []) else_is (c.is_empty.ensures.0 c.if-not-is_empty.false) in
     let regs_is : c.new-regs.result ≡ first_regs {n = 64} {m = 8} {e = 6} timed.bank.kept.shape =
-        regs-first timed.bank.kept.shape c.shape.result.now c.first_control.result c.controls.result c.new-regs.result c.new-regs.ensures c.first_control.ensures c.controls.ensures shape_is in
+    regs-first timed.bank.kept.shape c.shape.result.now c.first_control.result c.controls.result c.new-regs.result c.new-regs.ensures c.first_control.ensures c.controls.ensures shape_is in
     let new_is : c.in_ok-bank.bank ≡ first_bank {n = 64} {m = 8} {e = 6} timed.bank.kept.shape = c.in_ok-bank.ensures.first ∙ ap (λ (s : BankShape). first_bank {n = 64} {m = 8} {e = 6} s) shape_is in
     rw (new_is, regs_is) (
       omega arith,
