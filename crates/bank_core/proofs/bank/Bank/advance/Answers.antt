@@ -46,7 +46,6 @@ worn-requires g c =
           (sym (c.slot_written-slot.ensures ∙ ap (λ w. target_slot view.kept w) c.step.ensures.step.work)) start.slot,
     )
 
-
 pub invariant_of-self : goal.invariant_of-self
 invariant_of-self g c = grind arith
 
@@ -55,7 +54,6 @@ invariant_of-self-in-Stored g c = grind arith
 
 pub invariant_of-self-in-Worn : goal.invariant_of-self-in-Worn
 invariant_of-self-in-Worn g c = grind arith
-
 
 pub unreachable-requires : goal.unreachable-requires
 unreachable-requires g c = grind arith

@@ -19,11 +19,8 @@ returns g c =
     (none_at_all c.args.line c.self.inside.waiting.items c.loop-place.place
     (omega (arith, c.len-place-end.ensures.len, c.loop-place-test.false)) c.loop-place.invariant)
 
-
 pub loop-place-init : goal.loop-place-init
 loop-place-init g c = grind arith
-
-
 
 pub unreachable-unreachable : goal.unreachable-unreachable
 unreachable-unreachable g c = grind arith

@@ -33,7 +33,6 @@ stop-requires g c = grind arith
 pub lose_reads-requires : goal.lose_reads-requires
 lose_reads-requires g c = grind arith
 
-
 pub returns-clause-quiet : goal.returns-clause-quiet
 returns-clause-quiet g c = grind arith
 

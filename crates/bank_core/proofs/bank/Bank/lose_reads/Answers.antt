@@ -39,14 +39,11 @@ loop-preserved g c =
           })
     ]
 
-
 pub loop-init : goal.loop-init
 loop-init g c = grind arith
 
 pub invariant_of-self : goal.invariant_of-self
 invariant_of-self g c = grind arith
-
-
 
 pub unreachable-requires : goal.unreachable-requires
 unreachable-requires g c = grind arith
@@ -56,4 +53,3 @@ unreachable-unreachable g c = grind arith
 
 pub loop-smaller : goal.loop-smaller
 loop-smaller g c = grind arith
-

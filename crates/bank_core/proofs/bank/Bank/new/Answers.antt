@@ -10,8 +10,6 @@ returns-clause-holds g c =
 pub new-requires : goal.new-requires
 new-requires g c = grind arith
 
-
-
 pub returns-in_err-kept-clause-first : goal.returns-in_err-kept-clause-first
 returns-in_err-kept-clause-first g c = grind arith
 
@@ -21,13 +19,6 @@ returns-in_err-kept-clause-holds g c = grind arith
 pub overflow_cast-shape : goal.overflow_cast-shape
 overflow_cast-shape g c = grind arith
 
-
-
-
-
-
-
-
 pub returns-in_err-waiting-clause-first : goal.returns-in_err-waiting-clause-first
 returns-in_err-waiting-clause-first g c = grind arith
 
@@ -36,14 +27,6 @@ returns-in_err-waiting-clause-holds g c = grind arith
 
 pub overflow_cast-shape-2 : goal.overflow_cast-shape-2
 overflow_cast-shape-2 g c = grind arith
-
-
-
-
-
-
-
-
 
 pub returns-in_err-lost-clause-first : goal.returns-in_err-lost-clause-first
 returns-in_err-lost-clause-first g c = grind arith

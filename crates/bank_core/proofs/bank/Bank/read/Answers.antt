@@ -106,7 +106,6 @@ returns-then-has_all-clause-bank g c = grind arith
 pub returns-then-has_all-clause-tied : goal.returns-then-has_all-clause-tied
 returns-then-has_all-clause-tied g c = grind arith
 
-
 pub returns-clause-answer : goal.returns-clause-answer
 returns-clause-answer g c = grind arith
 

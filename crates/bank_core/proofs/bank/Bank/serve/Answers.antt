@@ -58,13 +58,11 @@ read_as-bytes-requires g c =
     let few_check : g.row.M ≤ 16 = c.self.invariant.layout.shape.3 in
     (search rules, (search rules, c.self.invariant.layout))
 
-
 pub unreachable-requires : goal.unreachable-requires
 unreachable-requires g c = grind arith
 
 pub unreachable-unreachable : goal.unreachable-unreachable
 unreachable-unreachable g c = grind arith
-
 
 pub array_line-place-requires : goal.array_line-place-requires
 array_line-place-requires g c = grind arith

@@ -53,4 +53,3 @@ start-requires g c =
 
 pub complete-requires : goal.complete-requires
 complete-requires g c = grind arith
-

@@ -37,7 +37,6 @@ returns-clause-torn g c =
           subst P (sym (ap (λ r. operation_of r) value)) tt
     ])
 
-
 pub invariant_of-self : goal.invariant_of-self
 invariant_of-self g c = grind arith
 

@@ -1,7 +1,6 @@
 use Rattle.std.proofs.Common.{arith}
 use Rattle.bank_core.proofs.bank.Bank.waiting.Goals as goal
 
-
 pub overflow_cast-result : goal.overflow_cast-result
 overflow_cast-result g c = grind arith
 

@@ -89,7 +89,6 @@ returns-then-exhausted-clause-tied g c = grind arith
 pub invariant_of-self-2 : goal.invariant_of-self-2
 invariant_of-self-2 g c = grind arith
 
-
 pub accept-requires : goal.accept-requires
 accept-requires g c = grind arith
 
