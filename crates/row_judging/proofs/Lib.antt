@@ -1,0 +1,15 @@
+pub mod Apart
+pub mod LeastEnd
+pub mod Covers
+pub mod Cuts
+pub mod FirstWorn
+pub mod Fourth
+pub mod Joins
+pub mod Sublists
+pub mod Places
+pub mod Steps
+pub mod Stands
+pub mod Losing
+pub mod Fews
+pub mod Nears
+pub mod Counts

@@ -1,0 +1,5 @@
+use Rattle.row_judging.proofs.Apart.{apart_law}
+use Rattle.row_judging.proofs.last_and_coming_tell.Goals as goal
+
+pub returns : goal.returns
+returns c = apart_law

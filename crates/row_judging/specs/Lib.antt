@@ -1,0 +1,16 @@
+pub mod Coming
+pub mod Cutting
+pub mod Distances
+pub mod Heads
+pub mod Joining
+pub mod Keys
+pub mod Rising
+pub mod Runs
+pub mod Staying
+pub mod Worn
+pub mod Steps
+pub mod Standing
+pub mod Lost
+pub mod Few
+pub mod Near
+pub mod Counting
