@@ -1,0 +1,4 @@
+mod Cuts
+mod Numerals
+mod Hexes
+mod Shown
