@@ -2,3 +2,4 @@ mod Cuts
 mod Numerals
 mod Hexes
 mod Shown
+mod Rows

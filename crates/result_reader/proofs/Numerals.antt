@@ -24,7 +24,7 @@ tells = record {
   more = λ c cs k e. grind (arith, nat_tests, k.0, k.1);
 }
 
-own : IsNumeralModel AllDigits (digits_value 10)
+pub own : IsNumeralModel AllDigits (digits_value 10)
 own = numerals_by_value AllDigits tells
 
 -- the number that a text is

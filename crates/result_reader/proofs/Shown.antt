@@ -1,6 +1,7 @@
 -- The last four fields show one outcome.
 use Rattle.std.proofs.Common.{◌≡◌, ◌≢◌, ℕ, ◌*◌, ◌^◌, ◌<◌, ◌≤◌, List, [], length, Option, Some, None, refl, sym, ap, ◌∙◌, arith, rules}
-use Rattle.std.specs.Prelude.{IfNone, decimal}
+use Rattle.std.specs.Prelude.{IfNone, decimal, codes, if◌then◌else◌, unwrap_or}
+use Rattle.std.specs.Str.{bytes_eq}
 use Rattle.std.specs.Option.{ForSome}
 use Rattle.std.proofs.lemmas.Fmt.{decimal_injective, decimal_nonempty}
 use Rattle.hex.specs.Hex.{encode_lower, lower_digits}
@@ -80,7 +81,47 @@ module _ {n : ℕ} where
         has_bytes = same_bytes n f.digits (bytes_of outcome) bytes some may.bytes bytes_fit shows.digits bytes_are;
       }
 
-  -- an outcome is told by its operation, word, tick, place and bytes
-  shown_outcome : (asked : Op) (word : List ℕ) (tick : ℕ) (place : Option ℕ) (bytes : Option (List ℕ)) (one other : Outcome n)
+  -- the outcome of a word, a tick, a place and bytes
+  rebuilt : List ℕ → Option ℕ → Option ℕ → Option (List ℕ) → Outcome n
+  rebuilt word tick place bytes =
+      if bytes_eq word (codes "stored") then out.Stored (unwrap_or tick 0) (unwrap_or place 0)
+      else if bytes_eq word (codes "merged") then out.Merged (unwrap_or tick 0)
+      else if bytes_eq word (codes "queued") then out.Queued (unwrap_or tick 0)
+      else if bytes_eq word (codes "full") then out.Full (unwrap_or tick 0)
+      else if bytes_eq word (codes "worn") then out.Worn (unwrap_or tick 0)
+      else if bytes_eq word (codes "read") then out.Read (unwrap_or tick 0) (unwrap_or place 0) (unwrap_or bytes [])
+      else if bytes_eq word (codes "forwarded") then out.Forwarded (unwrap_or tick 0) (unwrap_or bytes [])
+      else if bytes_eq word (codes "busy") then out.Busy (unwrap_or tick 0)
+      else if bytes_eq word (codes "lost") then out.Lost (unwrap_or tick 0)
+      else if bytes_eq word (codes "cut") then out.Cut (unwrap_or tick 0)
+      else out.Unset
+
+  rebuilt-self : (outcome : Outcome n) → rebuilt (outcome_word outcome) (tick_of outcome) (place_of outcome) (bytes_of outcome) ≡ outcome
+  unfolding rebuilt
+  rebuilt-self out.Unset = refl
+  rebuilt-self (out.Stored tick place) = refl
+  rebuilt-self (out.Merged tick) = refl
+  rebuilt-self (out.Queued tick) = refl
+  rebuilt-self (out.Full tick) = refl
+  rebuilt-self (out.Worn tick) = refl
+  rebuilt-self (out.Read tick place bytes) = refl
+  rebuilt-self (out.Forwarded tick bytes) = refl
+  rebuilt-self (out.Busy tick) = refl
+  rebuilt-self (out.Lost tick) = refl
+  rebuilt-self (out.Cut tick) = refl
+
+  -- an outcome is told by its word, tick, place and bytes
+  told_by_parts : (asked : Op) (word : List ℕ) (tick : ℕ) (place : Option ℕ) (bytes : Option (List ℕ)) (one other : Outcome n)
       → HasParts asked word tick place bytes one → HasParts asked word tick place bytes other → one ≡ other
-  shown_outcome asked word tick place bytes one other h k = ?
+  told_by_parts asked word tick place bytes one other h k =
+      sym (rebuilt-self one) ∙ rw (h.has_word, h.has_tick, h.has_place, h.has_bytes, ← k.has_word, ← k.has_tick, ← k.has_place, ← k.has_bytes) (rebuilt-self other)
+
+  -- fields show one outcome
+  pub shown_once : (asked : Op) (f : Fields) (one other : Outcome n) → 1 ≤ n → MayStand asked one → Shows f one → MayStand asked other → Shows f other → one ≡ other
+  shown_once asked f one other some may shows also same =
+      let t = some_tick other asked also.belongs in
+      let within : t.0 < 10 ^ 15 = also.tick t.0 t.1 in
+      let printed : f.tick ≡ decimal t.0 = same.tick ∙ ap decimal_or_empty t.1 in
+      let parts = shown_parts asked f t.0 (place_of other) (bytes_of other) one some (omega arith) printed also.place same.place also.bytes same.digits may shows in
+      told_by_parts asked f.word t.0 (place_of other) (bytes_of other) one other parts
+      record { belongs = also.belongs; has_word = sym same.word; has_tick = t.1; has_place = refl; has_bytes = refl }

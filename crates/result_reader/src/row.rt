@@ -4,7 +4,7 @@ ghost use Rattle.result_reader.specs.ResultRows.{IsRow, IsNoRow};
 ghost use Rattle.result_reader.specs.Parts.{HasHead};
 ghost use Rattle.result_reader.specs.Fields.{seen};
 
-use crate::fields::{Fields, split_row};
+use crate::fields::{Fields, is_same, split_row};
 use crate::number::is_number;
 use crate::outcome::outcome_of;
 use result_rows::{Op, Outcome};
@@ -15,9 +15,9 @@ fn has_head(fields: &Fields, row: u32, op: Op, line: u32) -> bool
 {
     is_number(fields.number, u64::from(row))
         && match op {
-            Op::Read => fields.letter == b"R".as_slice() && is_number(fields.line, u64::from(line)),
-            Op::Write => fields.letter == b"W".as_slice() && is_number(fields.line, u64::from(line)),
-            Op::Cut => fields.letter == b"C".as_slice() && fields.line.is_empty(),
+            Op::Read => is_same(fields.letter, b"R") && is_number(fields.line, u64::from(line)),
+            Op::Write => is_same(fields.letter, b"W") && is_number(fields.line, u64::from(line)),
+            Op::Cut => is_same(fields.letter, b"C") && is_same(fields.line, b""),
         }
 }
 
