@@ -3,3 +3,4 @@ mod Numerals
 mod Hexes
 mod Shown
 mod Rows
+mod Whole

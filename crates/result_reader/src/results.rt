@@ -27,7 +27,7 @@ pub fn parse_results<const B: usize>(
         return Err(ResultFault::NoMemory);
     };
     let mut rest = behind;
-    for (i, (op, line)) in of.iter().enumerate() {
+    'rows: for (i, (op, line)) in of.iter().enumerate() {
         let row = i as u32 + 1;
         let Some((outcome, behind)) = read_row(row, *op, *line, rest) else {
             return Err(ResultFault::Row(row));
