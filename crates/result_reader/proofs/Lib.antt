@@ -4,3 +4,5 @@ mod Hexes
 mod Shown
 mod Rows
 mod Whole
+mod Once
+mod Begins
