@@ -1,5 +1,5 @@
 -- Cutting bytes at the first byte of a kind, and a row into its fields.
-use Rattle.std.proofs.Common.{◌≡◌, ℕ, zero, suc, ◌+◌, ◌-◌, ◌<◌, ◌≤◌, ◌==◌, eq-eqb, eqb-true, length-drop, append_assoc, List, [], ◌∷◌, ◌++◌, length, take, drop, Bool, true, false, Option, Some, None, refl, sym, ap, subst, ◌∙◌, arith, option_map, not}
+use Rattle.std.proofs.Common.{◌≡◌, ℕ, zero, suc, ◌+◌, ◌-◌, ◌<◌, ◌==◌, eq-eqb, eqb-true, length-drop, append_assoc, List, [], ◌∷◌, ◌++◌, length, take, drop, Bool, true, false, Option, Some, None, refl, ap, subst, ◌∙◌, arith, option_map, not}
 use Rattle.std.specs.Prelude.{if◌then◌else◌, codes, slice_index}
 use Rattle.std.specs.List.{list_all, join_with_byte}
 use Rattle.std.specs.Option.{option_and_then}
@@ -133,5 +133,12 @@ fields_of-text bytes f apart h =
     let c : List ℕ = f.line ++ 44 ∷ d in
     let b : List ℕ = f.letter ++ 44 ∷ c in
     let whole : bytes ≡ f.number ++ 44 ∷ b = h ∙ simp append_assoc in
-    rw (cuts 44 f.number b bytes whole apart.number, cut_at-text 44 f.letter c apart.letter, cut_at-text 44 f.line d apart.line,
-    cut_at-text 44 f.word e apart.word, cut_at-text 44 f.tick g apart.tick, cut_at-text 44 f.place i apart.place, cut_at-text 10 f.digits f.rest apart.digits) refl
+    rw (
+      cuts 44 f.number b bytes whole apart.number,
+      cut_at-text 44 f.letter c apart.letter,
+      cut_at-text 44 f.line d apart.line,
+      cut_at-text 44 f.word e apart.word,
+      cut_at-text 44 f.tick g apart.tick,
+      cut_at-text 44 f.place i apart.place,
+      cut_at-text 10 f.digits f.rest apart.digits,
+    ) refl

@@ -1,7 +1,6 @@
 -- Numbers without leading zeros are what is printed of their values.
-use Rattle.std.proofs.Common.{◌≡◌, ◌≢◌, ℕ, zero, suc, ◌+◌, ◌^◌, ◌<◌, ◌≤◌, ◌==◌, ◌&&◌, lit<, eq-eqb, eqb-true, List, [], ◌∷◌, length, get_or, Bool, true, false, not, Option, Some, None, refl, sym, ap, ◌∙◌, arith, nat_lt, nat_le}
-use Rattle.std.specs.Prelude.{if◌then◌else◌, decimal, IfSome, IfNone, IsTrue, ◌↔◌}
-use Rattle.std.specs.Option.{ForSome}
+use Rattle.std.proofs.Common.{◌≡◌, ◌≢◌, ℕ, zero, suc, ◌^◌, ◌<◌, ◌≤◌, ◌==◌, lit<, eq-eqb, eqb-true, List, [], ◌∷◌, length, get_or, true, Option, Some, None, refl, sym, ap, ◌∙◌, arith}
+use Rattle.std.specs.Prelude.{decimal, IfSome, IfNone, IsTrue, ◌↔◌}
 use Rattle.std.specs.List.{list_all}
 use Rattle.std.specs.Char.{is_ascii_digit}
 use Rattle.std.specs.Str.Parse.{digits_value}
@@ -10,7 +9,6 @@ use Rattle.std.proofs.lemmas.Fmt.{decimal-digits_value, digits_value-decimal, di
 use Rattle.std.proofs.lemmas.Str.Parse.{IsDigitsTest, IsNumeralModel, numerals_by_value}
 use Rattle.trace_reader.specs.Number.{is_number, number_of}
 use Rattle.trace_reader.proofs.Numbers.{number_of-some, number_within}
-use Rattle.result_rows.specs.RowText.{decimal_or_empty}
 
 -- all characters are digits
 abbrev pub AllDigits : List ℕ → Type 0

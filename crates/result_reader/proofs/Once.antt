@@ -1,21 +1,20 @@
 -- Bytes are read in one way: a row by its fields, and so all rows.
-use Rattle.std.proofs.Common.{◌≡◌, ◌≢◌, ℕ, zero, suc, ◌+◌, ◌^◌, ◌<◌, ◌≤◌, ◌⊎◌, inl, inr, List, [], ◌∷◌, ◌++◌, length, drop, Some, refl, sym, ap, ◌∙◌, arith, append_assoc}
-use Rattle.std.specs.Prelude.{slice_get}
+use Rattle.std.proofs.Common.{◌≡◌, ℕ, suc, ◌+◌, ◌^◌, ◌<◌, ◌≤◌, inl, inr, List, [], ◌∷◌, ◌++◌, length, drop, refl, sym, ap, ◌∙◌, arith}
 use Rattle.std.proofs.Math.Seq.{drop-append_seam}
 use Rattle.result_rows.specs.declared.Op.{Op}
 use Rattle.result_rows.specs.declared.Outcome.{Outcome}
-use Rattle.result_rows.specs.RowText.{header_text, row_text, rows_text, results_text}
+use Rattle.result_rows.specs.RowText.{header_text, rows_text}
 use Rattle.result_reader.specs.Fields.{Fields}
 use Rattle.result_reader.specs.Parts.{Shows}
-use Rattle.result_reader.specs.ResultRows.{MayStand, EachMayStand, rows_of, AreResults, IsRow, IsNoRow, FailsAt, IsFault, Header, Later}
+use Rattle.result_reader.specs.ResultRows.{EachMayStand, rows_of, AreResults, IsRow, FailsAt, IsFault, Header, Later}
 use Rattle.result_reader.specs.declared.fault.ResultFault.{ResultFault}
 use Rattle.result_reader.specs.declared.fault.ResultFault.TheVariants as fault
-use Rattle.result_reader.specs.ReadOnce.{AreAsks, IsReadOnce, ReadOnceLaw}
+use Rattle.result_reader.specs.ReadOnce.{AreAsks, ReadOnceLaw}
 use Rattle.result_reader.proofs.Shown.{shown_once}
-use Rattle.result_reader.proofs.Rows.{Tells, row_fields_of, row_has_fields, row_tells}
+use Rattle.result_reader.proofs.Rows.{row_fields_of, row_has_fields, row_tells}
 
 -- what stands behind the same beginning
-same_rest : {A : Type 0} (front one other : List A) → front ++ one ≡ front ++ other → one ≡ other
+pub same_rest : {A : Type 0} (front one other : List A) → front ++ one ≡ front ++ other → one ≡ other
 same_rest front one other is = sym (drop-append_seam front one) ∙ ap (drop (length front)) is ∙ drop-append_seam front other
 
 lines_behind : (ask : Op × ℕ) (asks : List (Op × ℕ)) → AreAsks (ask ∷ asks) → AreAsks asks

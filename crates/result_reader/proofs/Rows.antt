@@ -1,22 +1,20 @@
 -- A row of results is told by its fields.
-use Rattle.std.proofs.Common.{◌≡◌, ◌≢◌, ℕ, zero, suc, ◌+◌, ◌/◌, ◌%◌, ◌^◌, ◌<◌, ◌≤◌, ◌==◌, ◌&&◌, List, [], ◌∷◌, ◌++◌, length, Bool, true, false, not, Option, Some, None, refl, sym, ap, ◌∙◌, arith, rules, subst, append_assoc}
-use Rattle.std.specs.Prelude.{IfNone, decimal, codes, slice_index}
-use Rattle.std.specs.List.{list_all, join_with_byte}
+use Rattle.std.proofs.Common.{◌≡◌, ℕ, zero, suc, ◌/◌, ◌%◌, ◌^◌, ◌<◌, ◌≤◌, ◌==◌, List, [], ◌∷◌, ◌++◌, true, false, Option, Some, None, refl, ap, ◌∙◌, arith, subst}
+use Rattle.std.specs.Prelude.{decimal, slice_index}
 use Rattle.std.specs.Option.{ForSome}
-use Rattle.std.specs.Char.{is_ascii_digit}
 use Rattle.std.proofs.lemmas.Bool.Decides.{nat_tests}
 use Rattle.std.proofs.lemmas.Fmt.{digits_decimal}
-use Rattle.hex.specs.Hex.{encode_lower, encode_with, lower_digits}
+use Rattle.hex.specs.Hex.{encode_with, lower_digits}
 use Rattle.result_rows.specs.declared.Op.{Op}
 use Rattle.result_rows.specs.declared.Op.TheVariants as op
 use Rattle.result_rows.specs.declared.Outcome.{Outcome}
 use Rattle.result_rows.specs.declared.Outcome.TheVariants as out
-use Rattle.result_rows.specs.Outcomes.{op_of, outcome_word, tick_of, place_of, bytes_of}
+use Rattle.result_rows.specs.Outcomes.{outcome_word, tick_of, place_of, bytes_of}
 use Rattle.result_rows.specs.RowText.{op_letter, line_of, decimal_or_empty, hex_or_empty, row_text}
-use Rattle.result_reader.specs.ResultRows.{MayStand, IsRow, IsNoRow, IsTick, IsPlace, AreBytes}
+use Rattle.result_reader.specs.ResultRows.{MayStand, IsRow, IsNoRow}
 use Rattle.result_reader.specs.Fields.{Fields, fields_of}
 use Rattle.result_reader.specs.Parts.{HasHead, Shows}
-use Rattle.result_reader.proofs.Cuts.{lacks, joined, AreApart, fields_of-some, fields_of-text}
+use Rattle.result_reader.proofs.Cuts.{lacks, joined, fields_of-some, fields_of-text}
 use Rattle.result_reader.proofs.Numerals.{AllDigits, own}
 
 -- printed fields have no comma, and printed bytes no LF

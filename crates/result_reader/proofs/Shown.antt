@@ -1,5 +1,5 @@
 -- The last four fields show one outcome.
-use Rattle.std.proofs.Common.{◌≡◌, ◌≢◌, ℕ, ◌*◌, ◌^◌, ◌<◌, ◌≤◌, List, [], length, Option, Some, None, refl, sym, ap, ◌∙◌, arith, rules}
+use Rattle.std.proofs.Common.{◌≡◌, ◌≢◌, ℕ, ◌^◌, ◌<◌, ◌≤◌, List, [], length, Option, Some, None, refl, sym, ap, ◌∙◌, arith}
 use Rattle.std.specs.Prelude.{IfNone, decimal, codes, if◌then◌else◌, unwrap_or}
 use Rattle.std.specs.Str.{bytes_eq}
 use Rattle.std.specs.Option.{ForSome}
@@ -11,7 +11,7 @@ use Rattle.result_rows.specs.declared.Outcome.{Outcome}
 use Rattle.result_rows.specs.declared.Outcome.TheVariants as out
 use Rattle.result_rows.specs.Outcomes.{op_of, outcome_word, tick_of, place_of, bytes_of}
 use Rattle.result_rows.specs.RowText.{decimal_or_empty, hex_or_empty}
-use Rattle.result_reader.specs.ResultRows.{MayStand, IsTick, IsPlace, AreBytes}
+use Rattle.result_reader.specs.ResultRows.{MayStand, IsPlace, AreBytes}
 use Rattle.result_reader.specs.Fields.{Fields}
 use Rattle.result_reader.specs.Parts.{HasParts, Shows}
 

@@ -1,20 +1,18 @@
 -- The rows of results, one after the other.
-use Rattle.std.proofs.Common.{◌≡◌, ◌≢◌, ℕ, zero, suc, ◌+◌, ◌-◌, ◌^◌, ◌<◌, ◌≤◌, ◌⊎◌, inl, inr, List, [], ◌∷◌, ◌++◌, length, take, drop, get_or, Bool, true, false, Option, Some, None, refl, sym, ap, ◌∙◌, arith, rules, subst, append_assoc, append-nil, replicate}
-use Rattle.std.specs.Prelude.{slice_get, slice_set, nat_eq}
+use Rattle.std.proofs.Common.{◌≡◌, ◌≢◌, ℕ, zero, suc, ◌+◌, ◌-◌, ◌<◌, ◌≤◌, inl, inr, List, [], ◌∷◌, ◌++◌, length, take, drop, get_or, true, false, Some, refl, sym, ◌∙◌, arith, append_assoc, append-nil, replicate}
+use Rattle.std.specs.Prelude.{slice_get}
 use Rattle.std.specs.Str.{bytes_eq}
 use Rattle.std.proofs.lemmas.Slice.Eq.{bytes_eq-Decides}
 use Rattle.std.proofs.lemmas.Grind.{common_steps}
-use Rattle.std.proofs.Math.ListN.{length-set, set}
 use Rattle.std.proofs.Math.Seq.{drop-cons, take-append_seam}
 use Rattle.std.proofs.lemmas.List.{take_all, take-append-drop, take_more_set, drop_all}
 use Rattle.result_rows.specs.declared.Op.{Op}
 use Rattle.result_rows.specs.declared.Outcome.{Outcome}
 use Rattle.result_rows.specs.declared.Outcome.TheVariants as out
-use Rattle.result_rows.specs.RowText.{header_text, row_text, rows_text, results_text}
-use Rattle.result_rows.specs.Table.{HasRow, outcome_at, with_outcome}
+use Rattle.result_rows.specs.RowText.{rows_text}
+use Rattle.result_rows.specs.Table.{outcome_at, with_outcome}
 use Rattle.result_rows.proofs.TableLemmas.{length-with_outcome, outcome_at-other}
-use Rattle.result_reader.specs.ResultRows.{MayStand, EachMayStand, rows_of, AreResults, IsRow, IsNoRow, FailsAt, IsFault}
-use Rattle.result_reader.specs.declared.fault.ResultFault.TheVariants as fault
+use Rattle.result_reader.specs.ResultRows.{EachMayStand, rows_of, IsRow, IsNoRow, FailsAt}
 
 -- the prefix stands there, or nothing that begins with it does
 pub begins_with : (prefix bytes rest : List ℕ) → bytes_eq (take (length prefix) bytes) prefix ≡ true → rest ≡ drop (length prefix) bytes → bytes ≡ prefix ++ rest

@@ -39,8 +39,15 @@ fn read_outcome<const B: usize>(
     ensures none { IfNone result ((o : Outcome B) → ¬ HasParts Op.Read word.now tick place bytes.entry o) }
 {
     match (place, bytes) {
-        (Some(place), Some(bytes)) if is_same(word, b"read") => Some(Outcome::Read { tick, place, bytes }),
-        (None, Some(bytes)) if is_same(word, b"forwarded") => Some(Outcome::Forwarded { tick, bytes }),
+        (Some(place), Some(bytes)) if is_same(word, b"read") => Some(Outcome::Read {
+            tick,
+            place,
+            bytes,
+        }),
+        (None, Some(bytes)) if is_same(word, b"forwarded") => Some(Outcome::Forwarded {
+            tick,
+            bytes,
+        }),
         (None, None) if is_same(word, b"busy") => Some(Outcome::Busy { tick }),
         (None, None) if is_same(word, b"lost") => Some(Outcome::Lost { tick }),
         _ => None,

@@ -1,6 +1,4 @@
-use Rattle.std.proofs.Common.{rules, arith, ◌≡◌, ◌<◌, ℕ, true, sym, ◌∙◌, length, refl}
-use Rattle.std.specs.Prelude.{slice_index}
-use Rattle.hex.specs.Hex.{encode_lower}
+use Rattle.std.proofs.Common.{rules, ◌≡◌, sym}
 use Rattle.result_reader.proofs.Hexes.{if_none, Decodes, refuses, decodes, decoded}
 use Rattle.result_reader.proofs.digits.read_bytes.Goals as goal
 

@@ -1,4 +1,4 @@
-use Rattle.std.proofs.Common.{arith, rules, ◌<◌, length}
+use Rattle.std.proofs.Common.{rules, ◌<◌, length}
 use Rattle.result_reader.proofs.Hexes.{if_none, none_of}
 use Rattle.result_reader.proofs.digits.read_digits.Goals as goal
 

@@ -1,4 +1,4 @@
-use Rattle.std.proofs.Common.{◌∙◌, sym, rules}
+use Rattle.std.proofs.Common.{rules}
 use Rattle.result_reader.proofs.Cuts.{cut_at-search}
 use Rattle.result_reader.proofs.fields.cut.Goals as goal
 

@@ -1,4 +1,3 @@
-use Rattle.std.proofs.Common.{rules}
 use Rattle.result_reader.specs.Fields.{seen}
 use Rattle.result_reader.proofs.Shown.{if_none_then, shown_parts}
 use Rattle.result_reader.proofs.outcome.outcome_of.Goals as goal

@@ -1,9 +1,8 @@
-use Rattle.std.proofs.Common.{◌≡◌, ◌<◌, ◌^◌, Option, Some, None, arith, rules, sym, ap, ◌∙◌, option_map}
-use Rattle.result_rows.specs.declared.Outcome.{Outcome}
+use Rattle.std.proofs.Common.{◌≡◌, Some, None, arith, rules}
 use Rattle.result_reader.specs.Fields.{seen, fields_of}
 use Rattle.result_reader.specs.ResultRows.{IsNoRow}
 use Rattle.result_reader.proofs.Hexes.{if_none}
-use Rattle.result_reader.proofs.Rows.{Tells, row_tells, fields_make_row, no_fields}
+use Rattle.result_reader.proofs.Rows.{row_tells, fields_make_row, no_fields}
 use Rattle.result_reader.proofs.row.read_row.Goals as goal
 
 pub returns-in_err-fields-clause-none : goal.returns-in_err-fields-clause-none
@@ -21,8 +20,8 @@ pub returns-in_err-outcome-clause-none : goal.returns-in_err-outcome-clause-none
 returns-in_err-outcome-clause-none g c =
     let some : fields_of c.args.bytes.now ≡ Some (seen c.in_ok-fields.fields) = search rules in
     let no_row : IsNoRow g.row.B c.args.row (c.args.op, c.args.line) c.args.bytes.now = λ outcome rest is.
-        let tells = row_tells c.args.row (c.args.op, c.args.line) c.args.bytes.now outcome rest (seen c.in_ok-fields.fields) (omega arith) (omega arith) some is in
-        c.in_err-outcome.ensures.none outcome is.may tells.shows in
+    let tells = row_tells c.args.row (c.args.op, c.args.line) c.args.bytes.now outcome rest (seen c.in_ok-fields.fields) (omega arith) (omega arith) some is in
+    c.in_err-outcome.ensures.none outcome is.may tells.shows in
     if_none c.from_residual-in_err-outcome.result no_row
 
 pub returns-clause-some : goal.returns-clause-some
