@@ -1,4 +1,4 @@
-//! The words of the program: the commands `run`, `gen`, `map` and `moves` with their options, as `clap` reads them.
+//! The words of the program: the commands `run`, `gen`, `map`, `moves` and `check` with their options, as `clap` reads them.
 #![tactic(auto)]
 
 mod job;
@@ -6,7 +6,7 @@ mod options;
 mod read;
 mod table;
 
-pub use job::{GenJob, Input, Job, LineSize, MapJob, MovesJob, Print, Refusal, RunJob};
+pub use job::{CheckJob, GenJob, Input, Job, LineSize, MapJob, MovesJob, Print, Refusal, RunJob};
 pub use read::read_job;
 
 #[cfg(test)]
