@@ -1,74 +1,29 @@
-//! Whether the results of a run are ones that a module may give: a verdict over the rows of a trace and their outcomes, the
-//! bank of each line, and the rules. No queue and no array is known here.
+//! Whether the results of a run are ones that a module may give: the verdict on a trace, its results, the bank of each line
+//! and the rules.
 #![tactic(auto)]
 
-ghost use Rattle.result_check.specs.Judging.{VerdictLaw};
+ghost use Rattle.std.specs.Prelude.{◌≡◌, ◌≤◌, IfOk};
+ghost use Rattle.row_verdict.specs.Verdicts.{rows_with, rules_by, verdict_of};
+ghost use Rattle.result_check.specs.Checkable.{IsCheckable};
 
-pub mod bank;
-pub mod judge;
-mod judging;
-mod keys;
-pub mod lines;
-pub mod members;
-mod queue;
-mod reads;
-mod serving;
-mod settling;
-mod timing;
-mod wearing;
+use result_rows::Results;
+pub use row_verdict::{Rule, RulePolicy, Rules, Verdict};
+use std::alloc::{AllocError, Global};
+use trace_reader::Event;
 
-/// What a row may break.
-#[derive(Clone, Copy, Debug, PartialEq)]
-pub enum Rule {
-    /// A row has an outcome of its operation, and a read that is answered has the newest bytes.
-    Serves,
-    /// What the write queue and the waiting reads hold, and what follows for a row's answer.
-    Queue,
-    /// No write is accepted behind a worn row, and none is stored at its tick or later.
-    Worn,
-    /// When a row is read or stored, or lost.
-    Tick,
+/// The verdict on a trace and its results, where item l of `banks` is the bank of line l. Yes comes exactly where each row
+/// keeps each rule, and No names the lowest row that doesn't, counted from 1, and the first rule that it breaks
+/// (`row_verdict::verdicts_are_exact`).
+pub fn check<const B: usize>(
+    alloc: Global,
+    events: &[Event<B>],
+    results: &Results<B>,
+    banks: &[u8],
+    rules: &Rules,
+) -> Result<Verdict, AllocError>
+    requires small { B ≤ 128 }
+    requires checkable { IsCheckable events.now results.now banks.now rules.now }
+    ensures exact { IfOk result (λ verdict. verdict ≡ verdict_of (rules_by rules.now) banks.now (rows_with events.now results.now)) }
+{
+    Err(AllocError)
 }
-
-/// Whether each row keeps each rule.
-#[derive(Clone, Copy, Debug, PartialEq)]
-pub enum Verdict {
-    /// It does.
-    Yes,
-    /// This row is the lowest that breaks a rule, and this is the first rule that it breaks.
-    No { row: u32, rule: Rule },
-}
-
-/// When a line write gives way to a read.
-#[derive(Clone, Copy, Debug, PartialEq)]
-pub enum RulePolicy {
-    Pause,
-    Plain,
-    Cancel,
-}
-
-/// How much a bank holds, and its times.
-#[derive(Clone, Copy, Debug)]
-pub struct Rules {
-    /// How many writes the queue holds.
-    pub writes: u32,
-    /// How many reads may wait.
-    pub reads: u32,
-    /// How many spare lines there are.
-    pub spares: u32,
-    /// How many ticks a serve or a begin lasts.
-    pub read_ticks: u32,
-    /// How many ticks an iteration of a line write lasts.
-    pub iter_ticks: u32,
-    /// How many iterations a line write takes at most.
-    pub steps: u32,
-    /// When a line write gives way to a read.
-    pub policy: RulePolicy,
-    /// Whether each event of a bank brings a second line write, that of its registers.
-    pub twice: bool,
-}
-
-/// Yes comes exactly where each row keeps each rule, and No names the lowest row that doesn't and the first rule that it breaks.
-pub fn verdicts_are_exact()
-    ensures { VerdictLaw }
-{}
