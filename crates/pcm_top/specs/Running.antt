@@ -12,7 +12,7 @@ use Rattle.rotation_reports.specs.MovesText.{moves_text}
 use Rattle.end_laws.specs.Ends.{BankEnd}
 use Rattle.run_laws.specs.Runs.{RunsRight}
 use Rattle.command_line.specs.declared.job.Job.{Job}
-use Rattle.command_line.specs.declared.job.Job.TheVariants.{Run, Gen, Map, Moves}
+use Rattle.command_line.specs.declared.job.Job.TheVariants.{Run, Gen, Map, Moves, Check}
 use Rattle.command_line.specs.declared.job.RunJob.{RunJob}
 use Rattle.command_line.specs.declared.job.LineSize.{LineSize}
 use Rattle.command_line.specs.declared.job.LineSize.TheVariants.{Bytes64, Bytes128}
@@ -21,6 +21,7 @@ use Rattle.command_line.specs.declared.job.Refusal.TheVariants as refusal
 use Rattle.pcm_top.specs.Jobs.{bytes_in, gen_text, map_options}
 use Rattle.pcm_top.specs.Reading.{SourceChange, trace_room}
 use Rattle.pcm_top.specs.Inputs.{ComeFrom, IsFaultOf, is_source}
+use Rattle.pcm_top.specs.Checking.{IsCheckFault, TellsVerdict, TellsVerdictInPart, pointers_in, room_line}
 use Rattle.pcm_top.specs.Rows.{rows_of}
 use Rattle.pcm_top.specs.RunText.{IsRunText}
 use Rattle.pcm_top.specs.FaultLines.{fault_line, status_of}
@@ -68,13 +69,14 @@ module _ (n m e : ℕ) (job : RunJob) (s : SourceChange) (array : ArrayState n m
     pub is_text : IsTextOf run text
     pub written : AppendsPrefix before now text
 
--- whether the words ask for a run of a trace that is read, and for one over lines of this size
+-- whether the words ask for what is read, a trace that is run or a trace and its results, and for a run over lines of this size
 abbrev pub reads_source : Result Job Refusal → Bool
 reads_source (Err e) = false
 reads_source (Ok (Run job)) = is_source job.input
 reads_source (Ok (Gen job)) = false
 reads_source (Ok (Map job)) = false
 reads_source (Ok (Moves job)) = false
+reads_source (Ok (Check job)) = true
 
 abbrev pub is_size : LineSize → LineSize → Bool
 is_size Bytes64 Bytes64 = true
@@ -88,6 +90,7 @@ runs_on size (Ok (Run job)) = is_size size job.line
 runs_on size (Ok (Gen job)) = false
 runs_on size (Ok (Map job)) = false
 runs_on size (Ok (Moves job)) = false
+runs_on size (Ok (Check job)) = false
 
 -- how many bytes may be read for it
 abbrev pub room_of : Result Job Refusal → ℕ
@@ -96,6 +99,7 @@ room_of (Ok (Run job)) = trace_room (bytes_in job.line)
 room_of (Ok (Gen job)) = 0
 room_of (Ok (Map job)) = 0
 room_of (Ok (Moves job)) = 0
+room_of (Ok (Check job)) = trace_room room_line
 
 -- the arrays of lines of 64 and of 128 bytes
 module _ (s : SourceChange) (array : ArrayState 64 8) (wide : ArrayState 128 16) (before now : Option (List ℕ)) where
@@ -104,13 +108,14 @@ module _ (s : SourceChange) (array : ArrayState 64 8) (wide : ArrayState 128 16)
   WritesRun job done Bytes64 = RunIsWritten 64 8 6 job s array before now done
   WritesRun job done Bytes128 = RunIsWritten 128 16 8 job s wide before now done
 
-  -- what a job does: a run is made and its text is written; a generated trace or a report is written
+  -- what a job does: a run is made and its text is written; a generated trace or a report is written; results are checked
   abbrev pub Does : Result Job Refusal → Done → Type 0
   Does (Err e) done = ⊥
   Does (Ok (Run job)) done = WritesRun job done job.line
   Does (Ok (Gen job)) done = Appends before now (gen_text job) × (done ≡ Whole)
   Does (Ok (Map job)) done = Appends before now (map_text (map_options job)) × (done ≡ Whole)
   Does (Ok (Moves job)) done = Appends before now (moves_text job.lines job.from) × (done ≡ Whole)
+  Does (Ok (Check job)) done = TellsVerdict (bytes_in job.line) (pointers_in job.line) job s before now done
 
   -- the same, where only first bytes could be written
   abbrev pub WritesRunInPart : RunJob → LineSize → Type 0
@@ -123,18 +128,20 @@ module _ (s : SourceChange) (array : ArrayState 64 8) (wide : ArrayState 128 16)
   DoesPart (Ok (Gen job)) = AppendsPrefix before now (gen_text job)
   DoesPart (Ok (Map job)) = AppendsPrefix before now (map_text (map_options job))
   DoesPart (Ok (Moves job)) = AppendsPrefix before now (moves_text job.lines job.from)
+  DoesPart (Ok (Check job)) = TellsVerdictInPart (bytes_in job.line) (pointers_in job.line) job s before now
 
 -- why words give no job: they ask for none, or memory ran out
 abbrev pub IsRefused : Result Job Refusal → Fault → Type 0
 IsRefused asked fault = (fault ≡ NoMemory) ⊎ ((fault ≡ Usage) × (asked ≡ Err refusal.Usage))
 
--- why a call doesn't do its work: the words ask for no job, a run has no events, or there is no memory
+-- why a call doesn't do its work: the words ask for no job, a run has no events, results can't be checked, or there is no memory
 abbrev pub HasCause : Fault → Result Job Refusal → SourceChange → Type 0
 HasCause fault (Err e) s = (fault ≡ Usage) ⊎ (fault ≡ NoMemory)
 HasCause fault (Ok (Run job)) s = IsFaultOf (bytes_in job.line) job job.input fault s
 HasCause fault (Ok (Gen job)) s = fault ≡ NoMemory
 HasCause fault (Ok (Map job)) s = fault ≡ NoMemory
 HasCause fault (Ok (Moves job)) s = fault ≡ NoMemory
+HasCause fault (Ok (Check job)) s = IsCheckFault (bytes_in job.line) job fault s
 
 -- a call that doesn't do its work says why, by its status and by a line
 pub record Tells (job : Result Job Refusal) (s : SourceChange) (before now : Option (List ℕ)) (status : ℕ) : Type 0 where
