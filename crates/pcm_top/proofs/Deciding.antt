@@ -25,8 +25,7 @@ use Rattle.pcm_top.specs.Reading.{IsReadFault, ReadsWhole, SourceChange, TakesNo
 use Rattle.pcm_top.specs.Inputs.{ComeFrom, IsFaultOf, is_source}
 use Rattle.command_line.specs.declared.job.CheckJob.{CheckJob}
 use Rattle.text_check.specs.declared.fault.TextFault.TheVariants as text
-use Rattle.row_verdict.specs.declared.Verdict.{Verdict}
-use Rattle.pcm_top.specs.Checking.{IsCheckFault, ReadsVerdict, TellsVerdict, pointers_in, room_line}
+use Rattle.pcm_top.specs.Checking.{IsCheckFault, TellsVerdict, pointers_in, room_line}
 use Rattle.pcm_top.specs.FaultLines.{status_of}
 use Rattle.pcm_top.specs.Running.{Does, HasCause, IsRefused, Runs, Tells, WritesRun, reads_source, status_done}
 use Rattle.pcm_top.specs.Statuses.{IsCheckStatus, IsTextStatus, IsInputStatus, IsRunStatus, IsSourceStatus, IsStatusFor, IsTraceStatus}
@@ -224,23 +223,6 @@ too-much n lines Read s cause low over = absurd (within-count n s cause.1 low ov
 too-much n lines NoMemory s cause low over = absurd (within-count n s cause low over)
 too-much n lines (Trace f) s cause low over = absurd (within-count n s (cause.0, cause.1.takes, cause.1.within) low over)
 too-much n lines TooLong s cause low over = refl
-
--- a check over too many bytes ends with that fault
-pub check-too_much : (n : ℕ) (job : CheckJob) (fault : Fault) (s : SourceChange) → IsCheckFault n job fault s → s.taken_before + trace_room room_line < 2 ^ 64 - 1 → s.taken_before + trace_room room_line < s.taken_now → fault ≡ TooLong
-check-too_much n job Usage s cause low over = absurd cause
-check-too_much n job Write s cause low over = absurd cause
-check-too_much n job Read s cause low over = absurd (within-count room_line s cause.1 low over)
-check-too_much n job NoMemory s cause low over = absurd (within-count room_line s cause low over)
-check-too_much n job (Trace f) s cause low over = absurd (within-count room_line s (cause.0, cause.1.takes, cause.1.within) low over)
-check-too_much n job (Results row) s cause low over = absurd (within-count room_line s (cause.0, cause.1.takes, cause.1.within) low over)
-check-too_much n job TooLong s cause low over = refl
-
-pub check-within : (n e : ℕ) (job : CheckJob) (s : SourceChange) (verdict : Verdict) → ReadsVerdict n e job s verdict → s.taken_before + trace_room room_line < 2 ^ 64 - 1 → s.taken_before + trace_room room_line < s.taken_now → ⊥
-check-within n e job s verdict reads low over = within-count room_line s (reads.bytes, reads.whole.takes, reads.whole.within) low over
-
--- a verdict was read only of bytes within their room
-pub within-some : (n e : ℕ) (job : CheckJob) (s : SourceChange) (verdict : Verdict) → ReadsVerdict n e job s verdict → TakesSome room_line s
-within-some n e job s verdict reads = (reads.bytes, reads.whole.takes, reads.whole.within)
 
 -- a source that was read to its end within its room, and one of which nothing was taken
 come-within : (n : ℕ) (job : RunJob) (input : Input) (s : SourceChange) (events : List (Event n)) → ComeFrom n job input s events → s.taken_before + trace_room n < 2 ^ 64 - 1 → s.taken_before + trace_room n < s.taken_now → ⊥
