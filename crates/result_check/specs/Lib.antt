@@ -1,1 +1,4 @@
 pub mod Checkable
+pub mod Watching
+pub mod Finding
+pub mod Coming
