@@ -1,0 +1,1 @@
+-- What is ahead of a row.
