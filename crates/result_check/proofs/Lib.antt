@@ -1,1 +1,6 @@
 mod Watching
+mod Finding
+mod Sizes
+mod Rows
+mod Lists
+mod Coming

@@ -2,3 +2,4 @@ pub mod Checkable
 pub mod Watching
 pub mod Finding
 pub mod Coming
+pub mod Tables

@@ -1,12 +1,13 @@
 //! A first look at a table: the keys of what is stored and read, and the ticks of the cuts.
 
-ghost use Rattle.std.specs.Prelude.{◌≡◌, ◌<◌, ◌++◌, [], ◌∷◌, length, IfOk, IsTrue};
+ghost use Rattle.std.specs.Prelude.{◌≡◌, ◌<◌, ◌≤◌, ◌++◌, [], ◌∷◌, length, IfOk, IsTrue};
 ghost use Rattle.row_judging.specs.Keys as keys;
 ghost use Rattle.row_judging.specs.Cutting.{cut_ticks};
-ghost use Rattle.row_verdict.specs.Verdicts.{bank_in, asks_of};
+ghost use Rattle.row_verdict.specs.Verdicts.{bank_in, asks_of, rows_with};
 ghost use Rattle.result_check.specs.Finding.{row_of, IsBelow};
+ghost use Rattle.result_check.specs.Tables.{IsTable, IsFound};
 
-use result_rows::Outcome;
+use result_rows::{Outcome, Results};
 use row_verdict::keys::key;
 use row_verdict::queue::line_key;
 use std::alloc::{AllocError, Global};
@@ -59,5 +60,33 @@ impl Found {
             EventOp::Cut => self.cuts.push(event.tick)?,
         }
         Ok(())
+    }
+
+    /// Those of a whole table, the keys sorted.
+    pub fn of<const B: usize>(
+        alloc: Global,
+        events: &[Event<B>],
+        results: &Results<B>,
+        banks: &[u8],
+    ) -> Result<Found, AllocError>
+        requires small { B ≤ 128 }
+        requires table { IsTable (length banks.now) (rows_with events.now results.now) }
+        requires few { length events.now ≤ 400_000 }
+        requires rows { length results.now ≡ length events.now }
+        ensures { IfOk result (λ found. IsFound banks.now (rows_with events.now results.now) found) }
+    {
+        let mut found = Found {
+            stores: Vec::new(alloc),
+            lines: Vec::new(alloc),
+            reads: Vec::new(alloc),
+            cuts: Vec::new(alloc),
+        };
+        for (i, event) in events.iter().enumerate() {
+            found.add(banks, event, results.get(i as u32 + 1))?;
+        }
+        found.stores.sort_unstable();
+        found.lines.sort_unstable();
+        found.reads.sort_unstable();
+        Ok(found)
     }
 }

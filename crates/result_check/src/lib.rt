@@ -6,6 +6,7 @@ ghost use Rattle.std.specs.Prelude.{◌≡◌, ◌≤◌, IfOk};
 ghost use Rattle.row_verdict.specs.Verdicts.{rows_with, rules_by, verdict_of};
 ghost use Rattle.result_check.specs.Checkable.{IsCheckable};
 
+mod ahead;
 mod found;
 pub mod watched;
 

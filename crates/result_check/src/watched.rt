@@ -33,7 +33,7 @@ impl Model for Watched {
 }
 
 /// The lesser of two ticks.
-fn earlier(tick: u64, other: u64) -> u64
+pub fn earlier(tick: u64, other: u64) -> u64
     ensures { result ≡ min tick other }
 {
     if tick < other { tick } else { other }

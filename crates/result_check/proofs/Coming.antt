@@ -1,0 +1,181 @@
+-- What the rows behind each row bring.
+use Rattle.std.proofs.Common.{◌≡◌, ℕ, zero, suc, ◌+◌, ◌<◌, ◌≤◌, ◌==◌, ◌&&◌, ◌⊎◌, inl, inr, Bool, true, false, List, [], ◌∷◌, ◌++◌, length, Option, Some, None, refl, sym, ap, ◌∙◌, cond, subst, arith}
+use Rattle.std.specs.Prelude.{slice_get, slice_set, min}
+use Rattle.std.proofs.lemmas.Bool.{eq-eqb, ne_eqb, cases_eq}
+use Rattle.std.proofs.Math.ListN.{length-set}
+use Rattle.result_rows.specs.declared.Outcome.{Outcome}
+use Rattle.result_rows.specs.declared.Outcome.TheVariants as out
+use Rattle.row_laws.specs.declared.Asks.{Asks}
+use Rattle.row_laws.specs.declared.Asks.TheVariants.{Reads, Writes, Cuts}
+use Rattle.row_laws.specs.declared.Row.{Row}
+use Rattle.row_laws.specs.Answers.{accepts, is_worn}
+use Rattle.row_laws.specs.Rows.{asks_write_of, asks_write}
+use Rattle.row_laws.specs.Table.{is_of, of_bank}
+use Rattle.row_laws.specs.Wearing.{worn_row}
+use Rattle.row_verdict.specs.Covering.{sooner, soonest}
+use Rattle.row_verdict.specs.QueueLaws.{next_accepted}
+use Rattle.row_verdict.specs.Verdicts.{bank_in}
+use Rattle.row_verdict.specs.Worn.{first_worn}
+use Rattle.result_check.specs.Coming.{IsOutlook, sooner_of}
+use Rattle.result_check.proofs.Lists.{get_set_same, get_set_other, some_same}
+
+module _ {n : ℕ} (banks : List ℕ) (rows : List (Row n)) where
+  abbrev Next : List (Row n) → List (Option ℕ) → Type 0
+  Next rs next = (line : ℕ) (found : Option ℕ) → slice_get next line ≡ Some found → found ≡ next_accepted line rs
+
+  abbrev Soonest : List (Row n) → List (Option ℕ) → Type 0
+  Soonest rs soon = (line : ℕ) (found : Option ℕ) → slice_get soon line ≡ Some found → found ≡ soonest line rs
+
+  abbrev FirstWorn : List (Row n) → List (Option ℕ) → Type 0
+  FirstWorn rs worn = (bank : ℕ) (found : Option ℕ) → slice_get worn bank ≡ Some found → found ≡ first_worn (of_bank (bank_in banks) bank rs)
+
+  module _ (tick : ℕ) (asks : Asks n) (outcome : Outcome n) where
+    abbrev r : Row n
+    r = record { tick = tick; asks = asks; outcome = outcome }
+
+    -- a row that isn't an accepted write
+    next_same : accepts outcome ≡ false → (next : List (Option ℕ)) → Next rows next → Next (r ∷ rows) next
+    next_same no next h line found is = h line found is ∙ sym (ap (λ b. cond b (Some tick) (next_accepted line rows)) (none (asks_write_of line asks) ∙ refl))
+      where
+        none : (b : Bool) → (b && accepts outcome) ≡ false
+        none true = no
+        none false = refl
+
+    soonest_same : ((line : ℕ) (found : Option ℕ) → sooner line r outcome found ≡ found) → (soon : List (Option ℕ)) → Soonest rows soon → Soonest (r ∷ rows) soon
+    soonest_same no soon h line found is = h line found is ∙ sym (no line (soonest line rows))
+
+    worn_same : worn_row r ≡ false → (worn : List (Option ℕ)) → FirstWorn rows worn → FirstWorn (r ∷ rows) worn
+    worn_same no worn h bank found is = h bank found is ∙ sym (by (is_of (bank_in banks) bank asks))
+      where
+        by : (b : Bool) → first_worn (cond b (r ∷ of_bank (bank_in banks) bank rows) (of_bank (bank_in banks) bank rows)) ≡ first_worn (of_bank (bank_in banks) bank rows)
+        by true = ap (λ c. cond c (Some tick) (first_worn (of_bank (bank_in banks) bank rows))) no
+        by false = refl
+
+    -- a write of a line
+    module _ (own : ℕ) (bytes : List ℕ) (given : List Bool) (is_write : asks ≡ Writes own bytes given) where
+      next_set : accepts outcome ≡ true → (next : List (Option ℕ)) → own < length next → Next rows next → Next (r ∷ rows) (slice_set next own (Some tick))
+      next_set yes next lt h line found is = by (cases_eq line own)
+        where
+          by : (line ≡ own) ⊎ (line ≡ own → ⊥) → found ≡ next_accepted line (r ∷ rows)
+          by (inl e) =
+              some_same found (Some tick) (sym is ∙ ap (slice_get (slice_set next own (Some tick))) e ∙ get_set_same next own (Some tick) lt)
+              ∙ sym (ap (λ b. cond b (Some tick) (next_accepted line rows)) (ap (λ a. asks_write_of line a && accepts outcome) is_write ∙ ap (λ b. b && accepts outcome) (eq-eqb own line (sym e)) ∙ yes))
+          by (inr off) =
+              h line found (sym (get_set_other next own line (Some tick) off) ∙ is)
+              ∙ sym (ap (λ b. cond b (Some tick) (next_accepted line rows)) (ap (λ a. asks_write_of line a && accepts outcome) is_write ∙ ap (λ b. b && accepts outcome) (ne_eqb own line (λ e. off (sym e)))))
+
+      soonest_set : (u place : ℕ) → outcome ≡ out.Stored u place → (soon : List (Option ℕ)) (old : Option ℕ) → slice_get soon own ≡ Some old → own < length soon → Soonest rows soon
+          → Soonest (r ∷ rows) (slice_set soon own (sooner_of u old))
+      soonest_set u place stored soon old there lt h line found is = by (cases_eq line own)
+        where
+          at_own : (b : Bool) → asks_write_of line asks ≡ b → (some : Option ℕ) → b ≡ true → sooner line r (out.Stored u place) some ≡ sooner_of u some
+          at_own b same None yes = ap (λ c. cond c (Some u) None) (same ∙ yes)
+          at_own b same (Some v) yes = ap (λ c. cond c (Some (min u v)) (Some v)) (same ∙ yes)
+
+          off_own : (b : Bool) → asks_write_of line asks ≡ b → (some : Option ℕ) → b ≡ false → sooner line r (out.Stored u place) some ≡ some
+          off_own b same None no = ap (λ c. cond c (Some u) None) (same ∙ no)
+          off_own b same (Some v) no = ap (λ c. cond c (Some (min u v)) (Some v)) (same ∙ no)
+
+          by : (line ≡ own) ⊎ (line ≡ own → ⊥) → found ≡ soonest line (r ∷ rows)
+          by (inl e) =
+              some_same found (sooner_of u old) (sym is ∙ ap (slice_get (slice_set soon own (sooner_of u old))) e ∙ get_set_same soon own (sooner_of u old) lt)
+              ∙ ap (sooner_of u) (h line old (ap (slice_get soon) e ∙ there))
+              ∙ sym (ap (λ o. sooner line r o (soonest line rows)) stored ∙ at_own (own == line) (ap (asks_write_of line) is_write) (soonest line rows) (eq-eqb own line (sym e)))
+          by (inr off) =
+              h line found (sym (get_set_other soon own line (sooner_of u old) off) ∙ is)
+              ∙ sym (ap (λ o. sooner line r o (soonest line rows)) stored ∙ off_own (own == line) (ap (asks_write_of line) is_write) (soonest line rows) (ne_eqb own line (λ e. off (sym e))))
+
+      worn_set : is_worn outcome ≡ true → (worn : List (Option ℕ)) (bank : ℕ) → bank ≡ bank_in banks own → bank < length worn → FirstWorn rows worn
+          → FirstWorn (r ∷ rows) (slice_set worn bank (Some tick))
+      worn_set yes worn bank here lt h other found is = by (cases_eq other bank)
+        where
+          worn_one : worn_row r ≡ true
+          worn_one = ap (λ a. asks_write a && is_worn outcome) is_write ∙ yes
+
+          by : (other ≡ bank) ⊎ (other ≡ bank → ⊥) → found ≡ first_worn (of_bank (bank_in banks) other (r ∷ rows))
+          by (inl e) =
+              some_same found (Some tick) (sym is ∙ ap (slice_get (slice_set worn bank (Some tick))) e ∙ get_set_same worn bank (Some tick) lt)
+              ∙ sym (ap (λ b. first_worn (cond b (r ∷ of_bank (bank_in banks) other rows) (of_bank (bank_in banks) other rows))) (ap (is_of (bank_in banks) other) is_write ∙ eq-eqb (bank_in banks own) other (sym here ∙ sym e))
+              ∙ ap (λ c. cond c (Some tick) (first_worn (of_bank (bank_in banks) other rows))) worn_one)
+          by (inr off) =
+              h other found (sym (get_set_other worn bank other (Some tick) off) ∙ is)
+              ∙ sym (ap (λ b. first_worn (cond b (r ∷ of_bank (bank_in banks) other rows) (of_bank (bank_in banks) other rows))) (ap (is_of (bank_in banks) other) is_write ∙ ne_eqb (bank_in banks own) other (λ e. off (sym e ∙ sym here))))
+
+    -- a row that is no write
+    module _ (no_write : asks_write asks ≡ false) where
+      none_of : (a : Asks n) → asks_write a ≡ false → (line : ℕ) → asks_write_of line a ≡ false
+      none_of (Reads at) no line = refl
+      none_of (Writes at bytes given) no line = absurd (cc)
+      none_of Cuts no line = refl
+
+      not_sooner : (o : Outcome n) (line : ℕ) (found : Option ℕ) → sooner line r o found ≡ found
+      not_sooner (out.Stored u place) line None = ap (λ b. cond b (Some u) None) (none_of asks no_write line)
+      not_sooner (out.Stored u place) line (Some v) = ap (λ b. cond b (Some (min u v)) (Some v)) (none_of asks no_write line)
+      not_sooner out.Unset line found = refl
+      not_sooner (out.Merged u) line found = refl
+      not_sooner (out.Queued u) line found = refl
+      not_sooner (out.Full u) line found = refl
+      not_sooner (out.Worn u) line found = refl
+      not_sooner (out.Read u place bytes) line found = refl
+      not_sooner (out.Forwarded u bytes) line found = refl
+      not_sooner (out.Busy u) line found = refl
+      not_sooner (out.Lost u) line found = refl
+      not_sooner (out.Cut u) line found = refl
+
+      pub outlook_other : (next soon worn : List (Option ℕ)) → IsOutlook banks rows next soon worn → IsOutlook banks (r ∷ rows) next soon worn
+      outlook_other next soon worn h = record {
+        next_is = λ line found is. h.next_is line found is ∙ sym (ap (λ b. cond (b && accepts outcome) (Some tick) (next_accepted line rows)) (none_of asks no_write line));
+        soonest_is = soonest_same (not_sooner outcome) soon h.soonest_is;
+        worn_is = worn_same (ap (λ b. b && is_worn outcome) no_write) worn h.worn_is;
+        next_size = h.next_size;
+        soonest_size = h.soonest_size;
+        worn_size = h.worn_size;
+      }
+
+-- a write of a line, by its outcome
+module _ {n : ℕ} (banks : List ℕ) (rows : List (Row n)) (tick : ℕ) (asks : Asks n) (own : ℕ) (bytes : List ℕ) (given : List Bool) (is_write : asks ≡ Writes own bytes given)
+    (next soon worn : List (Option ℕ)) (h : IsOutlook banks rows next soon worn) (lt : own < length banks) where
+  pub outlook_stored : (u place : ℕ) (old : Option ℕ) → slice_get soon own ≡ Some old
+      → IsOutlook banks (record { tick = tick; asks = asks; outcome = out.Stored u place } ∷ rows) (slice_set next own (Some tick)) (slice_set soon own (sooner_of u old)) worn
+  outlook_stored u place old there = let a = h.next_size in let b = h.soonest_size in record {
+    next_is = next_set banks rows tick asks (out.Stored u place) own bytes given is_write refl next (omega (arith, a, lt)) h.next_is;
+    soonest_is = soonest_set banks rows tick asks (out.Stored u place) own bytes given is_write u place refl soon old there (omega (arith, b, lt)) h.soonest_is;
+    worn_is = worn_same banks rows tick asks (out.Stored u place) (ap (λ a. asks_write a && false) is_write) worn h.worn_is;
+    next_size = length-set next own (Some tick) ∙ a;
+    soonest_size = length-set soon own (sooner_of u old) ∙ b;
+    worn_size = h.worn_size;
+  }
+
+  pub outlook_accepted : (outcome : Outcome n) → accepts outcome ≡ true → is_worn outcome ≡ false → ((line : ℕ) (found : Option ℕ) → sooner line (record { tick = tick; asks = asks; outcome = outcome }) outcome found ≡ found)
+      → IsOutlook banks (record { tick = tick; asks = asks; outcome = outcome } ∷ rows) (slice_set next own (Some tick)) soon worn
+  outlook_accepted outcome yes no same = let a = h.next_size in record {
+    next_is = next_set banks rows tick asks outcome own bytes given is_write yes next (omega (arith, a, lt)) h.next_is;
+    soonest_is = soonest_same banks rows tick asks outcome same soon h.soonest_is;
+    worn_is = worn_same banks rows tick asks outcome (ap (λ a. asks_write a && is_worn outcome) is_write ∙ no) worn h.worn_is;
+    next_size = length-set next own (Some tick) ∙ a;
+    soonest_size = h.soonest_size;
+    worn_size = h.worn_size;
+  }
+
+  pub outlook_worn : (u bank : ℕ) → bank ≡ bank_in banks own → bank < 256
+      → IsOutlook banks (record { tick = tick; asks = asks; outcome = out.Worn u } ∷ rows) next soon (slice_set worn bank (Some tick))
+  outlook_worn u bank here below = let c = h.worn_size in record {
+    next_is = next_same banks rows tick asks (out.Worn u) refl next h.next_is;
+    soonest_is = soonest_same banks rows tick asks (out.Worn u) (λ line found. refl) soon h.soonest_is;
+    worn_is = worn_set banks rows tick asks (out.Worn u) own bytes given is_write refl worn bank here (omega (arith, c, below)) h.worn_is;
+    next_size = h.next_size;
+    soonest_size = h.soonest_size;
+    worn_size = length-set worn bank (Some tick) ∙ c;
+  }
+
+  -- it is refused in another way, or has another operation's outcome
+  pub outlook_refused : (outcome : Outcome n) → accepts outcome ≡ false → is_worn outcome ≡ false → ((line : ℕ) (found : Option ℕ) → sooner line (record { tick = tick; asks = asks; outcome = outcome }) outcome found ≡ found)
+      → IsOutlook banks (record { tick = tick; asks = asks; outcome = outcome } ∷ rows) next soon worn
+  outlook_refused outcome no not_worn same = record {
+    next_is = next_same banks rows tick asks outcome no next h.next_is;
+    soonest_is = soonest_same banks rows tick asks outcome same soon h.soonest_is;
+    worn_is = worn_same banks rows tick asks outcome (ap (λ a. asks_write a && is_worn outcome) is_write ∙ not_worn) worn h.worn_is;
+    next_size = h.next_size;
+    soonest_size = h.soonest_size;
+    worn_size = h.worn_size;
+  }
