@@ -1,7 +1,7 @@
 -- What the rows behind each row bring.
 use Rattle.std.proofs.Common.{◌≡◌, ℕ, zero, suc, ◌+◌, ◌<◌, ◌≤◌, ◌==◌, ◌&&◌, ◌⊎◌, inl, inr, Bool, true, false, List, [], ◌∷◌, ◌++◌, length, Option, Some, None, refl, sym, ap, ◌∙◌, cond, subst, arith}
 use Rattle.std.specs.Prelude.{slice_get, slice_set, min}
-use Rattle.std.proofs.lemmas.Bool.{eq-eqb, ne_eqb, cases_eq}
+use Rattle.std.proofs.lemmas.Bool.{eq-eqb, eqb-true, ne_eqb, cases_eq}
 use Rattle.std.proofs.Math.ListN.{length-set}
 use Rattle.result_rows.specs.declared.Outcome.{Outcome}
 use Rattle.result_rows.specs.declared.Outcome.TheVariants as out
@@ -9,14 +9,17 @@ use Rattle.row_laws.specs.declared.Asks.{Asks}
 use Rattle.row_laws.specs.declared.Asks.TheVariants.{Reads, Writes, Cuts}
 use Rattle.row_laws.specs.declared.Row.{Row}
 use Rattle.row_laws.specs.Answers.{accepts, is_worn}
-use Rattle.row_laws.specs.Rows.{asks_write_of, asks_write}
+use Rattle.row_laws.specs.Rows.{asks_write_of, asks_write, accepted_of}
 use Rattle.row_laws.specs.Table.{is_of, of_bank}
 use Rattle.row_laws.specs.Wearing.{worn_row}
 use Rattle.row_verdict.specs.Covering.{sooner, soonest}
 use Rattle.row_verdict.specs.QueueLaws.{next_accepted}
 use Rattle.row_verdict.specs.Verdicts.{bank_in}
 use Rattle.row_verdict.specs.Worn.{first_worn}
-use Rattle.result_check.specs.Coming.{IsOutlook, sooner_of}
+use Rattle.row_verdict.specs.Judged.{beside}
+use Rattle.result_check.specs.declared.ahead.Coming.{Coming}
+use Rattle.result_check.specs.Coming.{IsOutlook, sooner_of, coming_to, coming_of, coming_at}
+use Rattle.result_check.specs.Finding.{IsBelow, line_asked, line_written}
 use Rattle.result_check.proofs.Lists.{get_set_same, get_set_other, some_same}
 
 module _ {n : ℕ} (banks : List ℕ) (rows : List (Row n)) where
@@ -33,33 +36,33 @@ module _ {n : ℕ} (banks : List ℕ) (rows : List (Row n)) where
     abbrev r : Row n
     r = record { tick = tick; asks = asks; outcome = outcome }
 
-    -- a row that isn't an accepted write
+    -- a row that is not an accepted write
     next_same : accepts outcome ≡ false → (next : List (Option ℕ)) → Next rows next → Next (r ∷ rows) next
-    next_same no next h line found is = h line found is ∙ sym (ap (λ b. cond b (Some tick) (next_accepted line rows)) (none (asks_write_of line asks) ∙ refl))
+    next_same fails next h line found is = h line found is ∙ sym (ap (λ b. cond b (Some tick) (next_accepted line rows)) (none (asks_write_of line asks) ∙ refl))
       where
         none : (b : Bool) → (b && accepts outcome) ≡ false
-        none true = no
+        none true = fails
         none false = refl
 
     soonest_same : ((line : ℕ) (found : Option ℕ) → sooner line r outcome found ≡ found) → (soon : List (Option ℕ)) → Soonest rows soon → Soonest (r ∷ rows) soon
-    soonest_same no soon h line found is = h line found is ∙ sym (no line (soonest line rows))
+    soonest_same fails soon h line found is = h line found is ∙ sym (fails line (soonest line rows))
 
     worn_same : worn_row r ≡ false → (worn : List (Option ℕ)) → FirstWorn rows worn → FirstWorn (r ∷ rows) worn
-    worn_same no worn h bank found is = h bank found is ∙ sym (by (is_of (bank_in banks) bank asks))
+    worn_same fails worn h bank found is = h bank found is ∙ sym (by (is_of (bank_in banks) bank asks))
       where
         by : (b : Bool) → first_worn (cond b (r ∷ of_bank (bank_in banks) bank rows) (of_bank (bank_in banks) bank rows)) ≡ first_worn (of_bank (bank_in banks) bank rows)
-        by true = ap (λ c. cond c (Some tick) (first_worn (of_bank (bank_in banks) bank rows))) no
+        by true = ap (λ c. cond c (Some tick) (first_worn (of_bank (bank_in banks) bank rows))) fails
         by false = refl
 
     -- a write of a line
     module _ (own : ℕ) (bytes : List ℕ) (given : List Bool) (is_write : asks ≡ Writes own bytes given) where
       next_set : accepts outcome ≡ true → (next : List (Option ℕ)) → own < length next → Next rows next → Next (r ∷ rows) (slice_set next own (Some tick))
-      next_set yes next lt h line found is = by (cases_eq line own)
+      next_set holds next lt h line found is = by (cases_eq line own)
         where
           by : (line ≡ own) ⊎ (line ≡ own → ⊥) → found ≡ next_accepted line (r ∷ rows)
           by (inl e) =
               some_same found (Some tick) (sym is ∙ ap (slice_get (slice_set next own (Some tick))) e ∙ get_set_same next own (Some tick) lt)
-              ∙ sym (ap (λ b. cond b (Some tick) (next_accepted line rows)) (ap (λ a. asks_write_of line a && accepts outcome) is_write ∙ ap (λ b. b && accepts outcome) (eq-eqb own line (sym e)) ∙ yes))
+              ∙ sym (ap (λ b. cond b (Some tick) (next_accepted line rows)) (ap (λ a. asks_write_of line a && accepts outcome) is_write ∙ ap (λ b. b && accepts outcome) (eq-eqb own line (sym e)) ∙ holds))
           by (inr off) =
               h line found (sym (get_set_other next own line (Some tick) off) ∙ is)
               ∙ sym (ap (λ b. cond b (Some tick) (next_accepted line rows)) (ap (λ a. asks_write_of line a && accepts outcome) is_write ∙ ap (λ b. b && accepts outcome) (ne_eqb own line (λ e. off (sym e)))))
@@ -69,12 +72,12 @@ module _ {n : ℕ} (banks : List ℕ) (rows : List (Row n)) where
       soonest_set u place stored soon old there lt h line found is = by (cases_eq line own)
         where
           at_own : (b : Bool) → asks_write_of line asks ≡ b → (some : Option ℕ) → b ≡ true → sooner line r (out.Stored u place) some ≡ sooner_of u some
-          at_own b same None yes = ap (λ c. cond c (Some u) None) (same ∙ yes)
-          at_own b same (Some v) yes = ap (λ c. cond c (Some (min u v)) (Some v)) (same ∙ yes)
+          at_own b same None holds = ap (λ c. cond c (Some u) None) (same ∙ holds)
+          at_own b same (Some v) holds = ap (λ c. cond c (Some (min u v)) (Some v)) (same ∙ holds)
 
           off_own : (b : Bool) → asks_write_of line asks ≡ b → (some : Option ℕ) → b ≡ false → sooner line r (out.Stored u place) some ≡ some
-          off_own b same None no = ap (λ c. cond c (Some u) None) (same ∙ no)
-          off_own b same (Some v) no = ap (λ c. cond c (Some (min u v)) (Some v)) (same ∙ no)
+          off_own b same None fails = ap (λ c. cond c (Some u) None) (same ∙ fails)
+          off_own b same (Some v) fails = ap (λ c. cond c (Some (min u v)) (Some v)) (same ∙ fails)
 
           by : (line ≡ own) ⊎ (line ≡ own → ⊥) → found ≡ soonest line (r ∷ rows)
           by (inl e) =
@@ -87,10 +90,10 @@ module _ {n : ℕ} (banks : List ℕ) (rows : List (Row n)) where
 
       worn_set : is_worn outcome ≡ true → (worn : List (Option ℕ)) (bank : ℕ) → bank ≡ bank_in banks own → bank < length worn → FirstWorn rows worn
           → FirstWorn (r ∷ rows) (slice_set worn bank (Some tick))
-      worn_set yes worn bank here lt h other found is = by (cases_eq other bank)
+      worn_set holds worn bank here lt h other found is = by (cases_eq other bank)
         where
           worn_one : worn_row r ≡ true
-          worn_one = ap (λ a. asks_write a && is_worn outcome) is_write ∙ yes
+          worn_one = ap (λ a. asks_write a && is_worn outcome) is_write ∙ holds
 
           by : (other ≡ bank) ⊎ (other ≡ bank → ⊥) → found ≡ first_worn (of_bank (bank_in banks) other (r ∷ rows))
           by (inl e) =
@@ -101,12 +104,12 @@ module _ {n : ℕ} (banks : List ℕ) (rows : List (Row n)) where
               h other found (sym (get_set_other worn bank other (Some tick) off) ∙ is)
               ∙ sym (ap (λ b. first_worn (cond b (r ∷ of_bank (bank_in banks) other rows) (of_bank (bank_in banks) other rows))) (ap (is_of (bank_in banks) other) is_write ∙ ne_eqb (bank_in banks own) other (λ e. off (sym e ∙ sym here))))
 
-    -- a row that is no write
+    -- a row that is not a write
     module _ (no_write : asks_write asks ≡ false) where
       none_of : (a : Asks n) → asks_write a ≡ false → (line : ℕ) → asks_write_of line a ≡ false
-      none_of (Reads at) no line = refl
-      none_of (Writes at bytes given) no line = absurd (cc)
-      none_of Cuts no line = refl
+      none_of (Reads at) fails line = refl
+      none_of (Writes at bytes given) fails line = absurd (cc)
+      none_of Cuts fails line = refl
 
       not_sooner : (o : Outcome n) (line : ℕ) (found : Option ℕ) → sooner line r o found ≡ found
       not_sooner (out.Stored u place) line None = ap (λ b. cond b (Some u) None) (none_of asks no_write line)
@@ -148,10 +151,10 @@ module _ {n : ℕ} (banks : List ℕ) (rows : List (Row n)) (tick : ℕ) (asks :
 
   pub outlook_accepted : (outcome : Outcome n) → accepts outcome ≡ true → is_worn outcome ≡ false → ((line : ℕ) (found : Option ℕ) → sooner line (record { tick = tick; asks = asks; outcome = outcome }) outcome found ≡ found)
       → IsOutlook banks (record { tick = tick; asks = asks; outcome = outcome } ∷ rows) (slice_set next own (Some tick)) soon worn
-  outlook_accepted outcome yes no same = let a = h.next_size in record {
-    next_is = next_set banks rows tick asks outcome own bytes given is_write yes next (omega (arith, a, lt)) h.next_is;
+  outlook_accepted outcome holds fails same = let a = h.next_size in record {
+    next_is = next_set banks rows tick asks outcome own bytes given is_write holds next (omega (arith, a, lt)) h.next_is;
     soonest_is = soonest_same banks rows tick asks outcome same soon h.soonest_is;
-    worn_is = worn_same banks rows tick asks outcome (ap (λ a. asks_write a && is_worn outcome) is_write ∙ no) worn h.worn_is;
+    worn_is = worn_same banks rows tick asks outcome (ap (λ a. asks_write a && is_worn outcome) is_write ∙ fails) worn h.worn_is;
     next_size = length-set next own (Some tick) ∙ a;
     soonest_size = h.soonest_size;
     worn_size = h.worn_size;
@@ -171,11 +174,84 @@ module _ {n : ℕ} (banks : List ℕ) (rows : List (Row n)) (tick : ℕ) (asks :
   -- it is refused in another way, or has another operation's outcome
   pub outlook_refused : (outcome : Outcome n) → accepts outcome ≡ false → is_worn outcome ≡ false → ((line : ℕ) (found : Option ℕ) → sooner line (record { tick = tick; asks = asks; outcome = outcome }) outcome found ≡ found)
       → IsOutlook banks (record { tick = tick; asks = asks; outcome = outcome } ∷ rows) next soon worn
-  outlook_refused outcome no not_worn same = record {
-    next_is = next_same banks rows tick asks outcome no next h.next_is;
+  outlook_refused outcome fails not_worn same = record {
+    next_is = next_same banks rows tick asks outcome fails next h.next_is;
     soonest_is = soonest_same banks rows tick asks outcome same soon h.soonest_is;
     worn_is = worn_same banks rows tick asks outcome (ap (λ a. asks_write a && is_worn outcome) is_write ∙ not_worn) worn h.worn_is;
     next_size = h.next_size;
     soonest_size = h.soonest_size;
     worn_size = h.worn_size;
   }
+
+-- what is written has bytes
+pub written_is : {n : ℕ} (asks : Asks n) (line : ℕ) → line_written asks ≡ Some line → (bytes : List ℕ) × (given : List Bool) × (asks ≡ Writes line bytes given)
+written_is (Reads at) line is = absurd (cc)
+written_is {n} (Writes at bytes given) line is = (bytes, given, ap (λ k. let w : Asks n = Writes k bytes given in w) (some_same at line is))
+written_is Cuts line is = absurd (cc)
+
+pub written_below : {n : ℕ} (asks : Asks n) (line lines : ℕ) → line_written asks ≡ Some line → IsBelow lines asks → line < lines
+written_below (Reads at) line lines is h = absurd (cc)
+written_below (Writes at bytes given) line lines is h = let e = some_same at line is in omega (arith, e, h)
+written_below Cuts line lines is h = absurd (cc)
+
+pub asked_below : {n : ℕ} (asks : Asks n) (line lines : ℕ) → line_asked asks ≡ Some line → IsBelow lines asks → line < lines
+asked_below (Reads at) line lines is h = let e = some_same at line is in omega (arith, e, h)
+asked_below (Writes at bytes given) line lines is h = let e = some_same at line is in omega (arith, e, h)
+asked_below Cuts line lines is h = absurd (cc)
+
+pub not_written : {n : ℕ} (asks : Asks n) → line_written asks ≡ None → asks_write asks ≡ false
+not_written (Reads at) is = refl
+not_written (Writes at bytes given) is = absurd (cc)
+not_written Cuts is = refl
+
+-- the rows of a line's bank have all rows of the line
+apart_of : {n : ℕ} (bank_of : ℕ → ℕ) (line : ℕ) (asks : Asks n) → is_of bank_of (bank_of line) asks ≡ false → asks_write_of line asks ≡ false
+apart_of bank_of line (Reads at) differs = refl
+apart_of bank_of line Cuts differs = refl
+apart_of bank_of line (Writes at bytes given) differs = which (at == line) refl
+  where
+    which : (b : Bool) → (at == line) ≡ b → b ≡ false
+    which true is = let k : true ≡ false = sym (eq-eqb (bank_of at) (bank_of line) (ap bank_of (eqb-true at line is))) ∙ differs in absurd (cc)
+    which false is = refl
+
+sooner_not : {n : ℕ} (line : ℕ) (q : Row n) → asks_write_of line q.asks ≡ false → (o : Outcome n) (found : Option ℕ) → sooner line q o found ≡ found
+sooner_not line q off (out.Stored u place) None = ap (λ b. cond b (Some u) None) off
+sooner_not line q off (out.Stored u place) (Some v) = ap (λ b. cond b (Some (min u v)) (Some v)) off
+sooner_not line q off out.Unset found = refl
+sooner_not line q off (out.Merged u) found = refl
+sooner_not line q off (out.Queued u) found = refl
+sooner_not line q off (out.Full u) found = refl
+sooner_not line q off (out.Worn u) found = refl
+sooner_not line q off (out.Read u place bytes) found = refl
+sooner_not line q off (out.Forwarded u bytes) found = refl
+sooner_not line q off (out.Busy u) found = refl
+sooner_not line q off (out.Lost u) found = refl
+sooner_not line q off (out.Cut u) found = refl
+
+next_beside : {n : ℕ} (bank_of : ℕ → ℕ) (line : ℕ) (rows : List (Row n)) → next_accepted line (of_bank bank_of (bank_of line) rows) ≡ next_accepted line rows
+next_beside bank_of line [] = refl
+next_beside {n} bank_of line (q ∷ rows) = by (is_of bank_of (bank_of line) q.asks) refl (next_beside bank_of line rows)
+  where
+    by : (b : Bool) → is_of bank_of (bank_of line) q.asks ≡ b → next_accepted line (of_bank bank_of (bank_of line) rows) ≡ next_accepted line rows
+        → next_accepted line (cond b (q ∷ of_bank bank_of (bank_of line) rows) (of_bank bank_of (bank_of line) rows)) ≡ next_accepted line (q ∷ rows)
+    by true is ih = ap (cond (accepted_of line q) (Some q.tick)) ih
+    by false is ih = ih ∙ sym (ap (λ b. cond (b && accepts q.outcome) (Some q.tick) (next_accepted line rows)) (apart_of bank_of line q.asks is))
+
+soonest_beside : {n : ℕ} (bank_of : ℕ → ℕ) (line : ℕ) (rows : List (Row n)) → soonest line (of_bank bank_of (bank_of line) rows) ≡ soonest line rows
+soonest_beside bank_of line [] = refl
+soonest_beside {n} bank_of line (q ∷ rows) = by (is_of bank_of (bank_of line) q.asks) refl (soonest_beside bank_of line rows)
+  where
+    by : (b : Bool) → is_of bank_of (bank_of line) q.asks ≡ b → soonest line (of_bank bank_of (bank_of line) rows) ≡ soonest line rows
+        → soonest line (cond b (q ∷ of_bank bank_of (bank_of line) rows) (of_bank bank_of (bank_of line) rows)) ≡ soonest line (q ∷ rows)
+    by true is ih = ap (sooner line q q.outcome) ih
+    by false is ih = ih ∙ sym (sooner_not line q (apart_of bank_of line q.asks is) q.outcome (soonest line rows))
+
+-- what is looked up
+pub looked_up : {n : ℕ} (banks : List ℕ) (rows : List (Row n)) (next soon worn : List (Option ℕ)) (line bank : ℕ) (a b c : Option ℕ) → IsOutlook banks rows next soon worn
+    → slice_get next line ≡ Some a → slice_get soon line ≡ Some b → slice_get worn bank ≡ Some c → bank ≡ bank_in banks line
+    → record { next = a; soonest = b; worn = c } ≡ coming_to banks line rows
+looked_up {n} banks rows next soon worn line bank a b c h at_next at_soon at_worn here =
+    ap (λ x. let w : Coming = record { next = x; soonest = b; worn = c } in w) (h.next_is line a at_next ∙ sym (next_beside (bank_in banks) line rows))
+    ∙ ap (λ x. let w : Coming = record { next = next_accepted line (beside banks line rows); soonest = x; worn = c } in w) (h.soonest_is line b at_soon ∙ sym (soonest_beside (bank_in banks) line rows))
+    ∙ ap (λ x. let w : Coming = record { next = next_accepted line (beside banks line rows); soonest = soonest line (beside banks line rows); worn = x } in w)
+    (h.worn_is bank c at_worn ∙ ap (λ k. first_worn (of_bank (bank_in banks) k rows)) here)

@@ -1,7 +1,7 @@
 -- What the rows behind a row bring.
 use Rattle.std.specs.Prelude.{◌≡◌, ℕ, List, [], ◌∷◌, ◌++◌, length, Option, Some, None, slice_get, min}
+use Rattle.result_rows.specs.declared.Outcome.{Outcome}
 use Rattle.row_laws.specs.declared.Asks.{Asks}
-use Rattle.row_laws.specs.declared.Asks.TheVariants.{Reads, Writes, Cuts}
 use Rattle.row_laws.specs.declared.Row.{Row}
 use Rattle.row_laws.specs.Table.{of_bank}
 use Rattle.row_verdict.specs.Covering.{soonest}
@@ -10,6 +10,10 @@ use Rattle.row_verdict.specs.QueueLaws.{next_accepted}
 use Rattle.row_verdict.specs.Verdicts.{bank_in}
 use Rattle.row_verdict.specs.Worn.{first_worn}
 use Rattle.result_check.specs.declared.ahead.Coming.{Coming}
+use Rattle.result_check.specs.Finding.{line_asked}
+
+abbrev pub a_row : {n : ℕ} → ℕ → Asks n → Outcome n → Row n
+a_row tick asks outcome = record { tick = tick; asks = asks; outcome = outcome }
 
 -- to a row of a line: the next accepted write of the line, the first of the line's stores, and the first worn row of its bank
 abbrev pub coming_to : {n : ℕ} → List ℕ → ℕ → List (Row n) → Coming
@@ -19,10 +23,13 @@ coming_to banks line after = record {
   worn = first_worn (beside banks line after);
 }
 
+-- to a row of a line, or of none
+abbrev pub coming_for : {n : ℕ} → List ℕ → Option ℕ → List (Row n) → Coming
+coming_for banks (Some line) after = coming_to banks line after
+coming_for banks None after = record { next = None; soonest = None; worn = None }
+
 abbrev pub coming_at : {n : ℕ} → List ℕ → Asks n → List (Row n) → Coming
-coming_at banks (Reads line) after = coming_to banks line after
-coming_at banks (Writes line bytes given) after = coming_to banks line after
-coming_at banks Cuts after = record { next = None; soonest = None; worn = None }
+coming_at banks asks after = coming_for banks (line_asked asks) after
 
 -- that of each of these rows, the last row's first
 abbrev pub coming_of : {n : ℕ} → List ℕ → List (Row n) → List Coming

@@ -1,5 +1,5 @@
 -- The rows of a table, as the code has them: an event and its outcome.
-use Rattle.std.specs.Prelude.{◌≡◌, ℕ, ◌<◌, List, length}
+use Rattle.std.specs.Prelude.{ℕ, ◌<◌, Option, Some, None}
 use Rattle.trace_reader.specs.declared.event.Event.{Event}
 use Rattle.result_rows.specs.declared.Outcome.{Outcome}
 use Rattle.row_laws.specs.declared.Asks.{Asks}
@@ -16,3 +16,15 @@ abbrev pub IsBelow : {n : ℕ} → ℕ → Asks n → Type 0
 IsBelow lines (Reads line) = line < lines
 IsBelow lines (Writes line bytes given) = line < lines
 IsBelow lines Cuts = Unit {0}
+
+-- the line that is asked for
+abbrev pub line_asked : {n : ℕ} → Asks n → Option ℕ
+line_asked (Reads line) = Some line
+line_asked (Writes line bytes given) = Some line
+line_asked Cuts = None
+
+-- the line that is written
+abbrev pub line_written : {n : ℕ} → Asks n → Option ℕ
+line_written (Reads line) = None
+line_written (Writes line bytes given) = Some line
+line_written Cuts = None
