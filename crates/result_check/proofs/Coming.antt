@@ -1,8 +1,11 @@
 -- What the rows behind each row bring.
-use Rattle.std.proofs.Common.{◌≡◌, ℕ, zero, suc, ◌+◌, ◌<◌, ◌≤◌, ◌==◌, ◌&&◌, ◌⊎◌, inl, inr, Bool, true, false, List, [], ◌∷◌, ◌++◌, length, Option, Some, None, refl, sym, ap, ◌∙◌, cond, subst, arith}
+use Rattle.std.proofs.Common.{◌≡◌, ℕ, zero, suc, ◌+◌, ◌-◌, ◌<◌, ◌≤◌, ◌==◌, ◌&&◌, ◌⊎◌, inl, inr, Bool, true, false, List, [], ◌∷◌, ◌++◌, length, drop, replicate, Option, Some, None, refl, sym, ap, ◌∙◌, cond, subst, arith}
 use Rattle.std.specs.Prelude.{slice_get, slice_set, min}
 use Rattle.std.proofs.lemmas.Bool.{eq-eqb, eqb-true, ne_eqb, cases_eq}
 use Rattle.std.proofs.Math.ListN.{length-set}
+use Rattle.std.proofs.lemmas.List.{length-replicate, get_or-replicate}
+use Rattle.std.proofs.lemmas.Option.{slice_get_within, get_or_from_slice_get}
+use Rattle.result_check.proofs.Finding.{none_left}
 use Rattle.result_rows.specs.declared.Outcome.{Outcome}
 use Rattle.result_rows.specs.declared.Outcome.TheVariants as out
 use Rattle.row_laws.specs.declared.Asks.{Asks}
@@ -255,3 +258,50 @@ looked_up {n} banks rows next soon worn line bank a b c h at_next at_soon at_wor
     ∙ ap (λ x. let w : Coming = record { next = next_accepted line (beside banks line rows); soonest = x; worn = c } in w) (h.soonest_is line b at_soon ∙ sym (soonest_beside (bank_in banks) line rows))
     ∙ ap (λ x. let w : Coming = record { next = next_accepted line (beside banks line rows); soonest = soonest line (beside banks line rows); worn = x } in w)
     (h.worn_is bank c at_worn ∙ ap (λ k. first_worn (of_bank (bank_in banks) k rows)) here)
+
+-- the rows from a place on were looked at
+pub record LooksFrom {n : ℕ} (banks : List ℕ) (rows : List (Row n)) (row size : ℕ) (next soon worn : List (Option ℕ)) (coming : List Coming) : Type 0 where
+  pub outlook : IsOutlook banks (drop row rows) next soon worn
+  pub coming_is : coming ≡ coming_of banks (drop row rows)
+  pub within : row ≤ size
+
+pub looks_none : {n : ℕ} (banks : List ℕ) (rows : List (Row n)) (size : ℕ) (next soon worn : List (Option ℕ)) (coming : List Coming) → length rows ≤ size
+    → next ≡ replicate (length banks) None → soon ≡ replicate (length banks) None → worn ≡ replicate 256 None → coming ≡ []
+    → LooksFrom banks rows size size next soon worn coming
+looks_none {n} banks rows size next soon worn coming le next_is soon_is worn_is empty = record {
+  outlook = subst (λ (rs : List (Row n)). IsOutlook banks rs next soon worn) (sym (none_left size rows le)) (record {
+    next_is = λ line found is. nothing (length banks) line found (ap (λ xs. slice_get xs line) (sym next_is) ∙ is);
+    soonest_is = λ line found is. nothing (length banks) line found (ap (λ xs. slice_get xs line) (sym soon_is) ∙ is);
+    worn_is = λ bank found is. nothing 256 bank found (ap (λ xs. slice_get xs bank) (sym worn_is) ∙ is);
+    next_size = ap length next_is ∙ length-replicate (length banks) none_yet;
+    soonest_size = ap length soon_is ∙ length-replicate (length banks) none_yet;
+    worn_size = ap length worn_is ∙ length-replicate 256 none_yet;
+  });
+  coming_is = empty ∙ sym (ap (coming_of banks) (none_left size rows le));
+  within = omega arith;
+}
+  where
+    none_yet : Option ℕ
+    none_yet = None
+
+    nothing : (k i : ℕ) (found : Option ℕ) → slice_get (replicate k none_yet) i ≡ Some found → found ≡ None
+    nothing k i found is =
+        let within = slice_get_within (replicate k none_yet) i found is in
+        sym (get_or_from_slice_get (replicate k none_yet) i found none_yet is)
+        ∙ get_or-replicate k i none_yet none_yet (let size = length-replicate k none_yet in omega (arith, within, size))
+
+pub looks_more : {n : ℕ} (banks : List ℕ) (rows : List (Row n)) (row size : ℕ) (r : Row n) (next soon worn next' soon' worn' : List (Option ℕ)) (coming coming' : List Coming) (one : Coming)
+    → 0 < row → drop (row - 1) rows ≡ r ∷ drop (suc (row - 1)) rows → LooksFrom banks rows row size next soon worn coming
+    → ((rs : List (Row n)) → IsOutlook banks rs next soon worn → one ≡ coming_at banks r.asks rs)
+    → ((rs : List (Row n)) → IsOutlook banks rs next soon worn → IsOutlook banks (r ∷ rs) next' soon' worn')
+    → coming' ≡ coming ++ one ∷ []
+    → LooksFrom banks rows (row - 1) size next' soon' worn' coming'
+looks_more {n} banks rows row size r next soon worn next' soon' worn' coming coming' one some here had at_row add pushed =
+    let same : suc (row - 1) ≡ row = omega (arith, some) in
+    let first : drop (row - 1) rows ≡ r ∷ drop row rows = here ∙ ap (λ k. r ∷ drop k rows) same in
+    let le = had.within in
+    record {
+      outlook = subst (λ (rs : List (Row n)). IsOutlook banks rs next' soon' worn') (sym first) (add (drop row rows) had.outlook);
+      coming_is = pushed ∙ ap (λ xs. xs ++ one ∷ []) had.coming_is ∙ ap (λ x. coming_of banks (drop row rows) ++ x ∷ []) (at_row (drop row rows) had.outlook) ∙ sym (ap (coming_of banks) first);
+      within = omega (arith, le);
+    }

@@ -114,7 +114,7 @@ found_none banks rows found s d l c = record {
   cuts = ap (λ xs. xs ++ cut_ticks rows) c;
 }
 
-none_left : {A : Type 0} (i : ℕ) (xs : List A) → length xs ≤ i → drop i xs ≡ []
+pub none_left : {A : Type 0} (i : ℕ) (xs : List A) → length xs ≤ i → drop i xs ≡ []
 none_left zero [] le = refl
 none_left (suc i) [] le = refl
 none_left zero (x ∷ xs) le = absurd (omega (arith, le))

@@ -26,3 +26,9 @@ outcome_below k h = omega arith
 
 pub outcome_fits : (b : ℕ) → b ≤ 128 → up 8 (max 1 (max 20 (max 16 (max 16 (max 16 (max 16 (max (20 + (b * 1)) (max (16 + (b * 1)) 16)))))))) < 9223372036854775808
 outcome_fits b h = outcome_below _ (read_le b h)
+
+ops_below : (ops : ℕ) → ops ≤ 269 → ops < 9223372036854775808
+ops_below ops h = omega arith
+
+pub op_fits : (b : ℕ) → b ≤ 128 → up 4 (max 8 (max (8 + (b * 1)) (max (up 1 (8 + (b * 1)) + (b * 1)) 1))) < 9223372036854775808
+op_fits b h = ops_below _ (ops_le _ _ (line_le b h) (masked_le _ b (line_le b h) h))

@@ -1,6 +1,6 @@
 //! What the rows behind each row bring, by one pass from the last row to the first.
 
-ghost use Rattle.std.specs.Prelude.{◌≡◌, ◌<◌, ◌≤◌, ◌++◌, [], ◌∷◌, length, List, Some, IfOk};
+ghost use Rattle.std.specs.Prelude.{◌≡◌, ◌<◌, ◌≤◌, ◌++◌, [], ◌∷◌, length, replicate, List, None, Some, IfOk};
 ghost use Rattle.row_laws.specs.declared.Asks.{Asks};
 ghost use Rattle.row_laws.specs.declared.Row.{Row};
 ghost use Rattle.row_verdict.specs.Verdicts.{asks_of, rows_with};
@@ -133,6 +133,13 @@ impl Outlook {
     }
 }
 
+/// No tick yet, so many times.
+fn none_yet(alloc: Global, number: usize) -> Result<Vec<Option<u64>>, AllocError>
+    ensures { IfOk result (λ ticks. ticks.items ≡ replicate number None) }
+{
+    vec![in alloc; None; number]
+}
+
 /// What the rows behind each row bring, the last row's first.
 pub fn look_ahead<const B: usize>(
     alloc: Global,
@@ -147,16 +154,17 @@ pub fn look_ahead<const B: usize>(
     ensures { IfOk result (λ coming. coming.items ≡ coming_of banks.now (rows_with events.now results.now)) }
 {
     let mut outlook = Outlook {
-        next: vec![in alloc; None; banks.len()]?,
-        soonest: vec![in alloc; None; banks.len()]?,
-        worn: vec![in alloc; None; 256]?,
+        next: none_yet(alloc, banks.len())?,
+        soonest: none_yet(alloc, banks.len())?,
+        worn: none_yet(alloc, 256)?,
     };
     let mut coming = Vec::new(alloc);
     let mut row = events.len();
     while row > 0 {
         let event = &events[row - 1];
+        let outcome = results.get(row as u32);
         coming.push(outlook.at(banks, &event.op))?;
-        outlook.add(banks, event, results.get(row as u32));
+        outlook.add(banks, event, outcome);
         row -= 1;
     }
     Ok(coming)
