@@ -4,3 +4,4 @@ mod Sizes
 mod Rows
 mod Lists
 mod Coming
+mod Keeping

@@ -3,3 +3,5 @@ pub mod Watching
 pub mod Finding
 pub mod Coming
 pub mod Tables
+pub mod Keeping
+pub mod Outcomes

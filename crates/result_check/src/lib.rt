@@ -8,6 +8,7 @@ ghost use Rattle.result_check.specs.Checkable.{IsCheckable};
 
 mod ahead;
 mod found;
+mod kept;
 pub mod watched;
 
 use result_rows::Results;
