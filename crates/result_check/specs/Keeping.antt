@@ -37,7 +37,7 @@ pub record IsNext {n : ℕ} (rules : Rules) (banks : List ℕ) (found : Found) (
   pub knows : Knows rules banks r.tick kept joined before
   pub seen : room ≡ true → Knows rules banks r.tick kept None before
   pub all : all_have_room banks rules before r after ≡ room
-  pub lines : KnowsLines banks r.tick lines before
+  pub lines_known : KnowsLines banks r.tick lines before
   pub keys : HasKeys banks before r after found.stores.items found.reads.items found.lines.items
   pub later : IsTrue (rising r.tick after)
   pub brief : IsTrue (is_brief r.outcome)
@@ -50,4 +50,4 @@ pub record IsNext {n : ℕ} (rules : Rules) (banks : List ℕ) (found : Found) (
 pub record HasPassed {n : ℕ} (rules : Rules) (banks : List ℕ) (before : List (Row n)) (r : Row n) (after : List (Row n)) (broken : Option Rule) (kept : List Facts) (joined : Option ℕ) (lines : List (Line n)) : Type 0 where
   pub told : broken ≡ broken_by rules banks all_rules before r after
   pub knows : broken ≡ None → Knows rules banks r.tick kept joined (r ∷ before)
-  pub lines : broken ≡ None → KnowsLines banks r.tick lines (r ∷ before)
+  pub lines_known : broken ≡ None → KnowsLines banks r.tick lines (r ∷ before)

@@ -4,4 +4,5 @@ pub mod Finding
 pub mod Coming
 pub mod Tables
 pub mod Keeping
+pub mod Lines
 pub mod Outcomes

@@ -1,6 +1,6 @@
 //! What is kept of the rows that have passed, and how the next row passes.
 
-ghost use Rattle.std.specs.Prelude.{◌≡◌, ◌<◌, ◌≤◌, ◌+◌, ℕ, List, [], None, Some, true, length, slice_set, IsTrue, IfOk, IfSome};
+ghost use Rattle.std.specs.Prelude.{◌≡◌, ◌<◌, ◌≤◌, ◌+◌, ℕ, List, [], None, Some, true, length, slice_get, slice_set, All, IsTrue, IfOk, IfSome};
 ghost use Rattle.std.specs.List.Sorted.{IsNonDecreasing};
 ghost use Rattle.row_laws.specs.Answers as answers;
 ghost use Rattle.row_laws.specs.Serving.{may_have};
@@ -10,12 +10,17 @@ ghost use Rattle.row_judging.specs.Keys.{reach, is_short};
 ghost use Rattle.row_verdict.specs.Judged as judged;
 ghost use Rattle.row_verdict.specs.Kept.{sight, sight_of};
 ghost use Rattle.row_verdict.specs.Passing.{joined_room};
-ghost use Rattle.row_verdict.specs.States.{settled, cut_off};
+ghost use Rattle.row_verdict.specs.Fitting.{room_kept};
+ghost use Rattle.row_verdict.specs.Members.{never};
+ghost use Rattle.row_verdict.specs.States.{settled, cut_off, after_write, after_read};
 ghost use Rattle.row_verdict.specs.Verdicts.{asks_of, bank_in, rules_by};
 ghost use Rattle.row_verdict.specs.Within.{AreWithin};
 ghost use Rattle.result_check.specs.Coming.{a_row};
+ghost use Rattle.result_check.specs.Lines.{IsLineBehind, LinePasses};
 ghost use Rattle.result_check.specs.Keeping.{facts_in, Knows, IsNext, HasPassed};
 ghost use Rattle.result_check.specs.Outcomes as spec;
+ghost use Rattle.row_verdict.specs.declared.members.Member.{Member};
+ghost use Rattle.row_verdict.specs.declared.lines.Line.{Line};
 
 use crate::found::bank_of;
 use crate::watched::Watched;
@@ -68,6 +73,22 @@ fn member_of<const B: usize>(row: u32, line: u32, tick: u64, outcome: &Outcome<B
     }
 }
 
+/// Lets a write of a line pass: it changes what is kept of the line where it is accepted.
+fn pass_line<const B: usize>(
+    line: &mut Line<B>,
+    tick: u64,
+    bytes: &[u8; B],
+    given: &[bool; B],
+    outcome: &Outcome<B>,
+) -> Result<(), AllocError>
+    ensures { IfOk result (λ _. IsLineBehind B tick bytes.now given.now outcome.now line.old line.new) }
+{
+    if accepts(outcome) {
+        return line.pass(tick, stored_at(outcome), bytes, given);
+    }
+    Ok(())
+}
+
 /// The verdict on a cut, where each bank has room or not as it comes.
 fn judge_cut<const B: usize>(tick: u64, room: bool, outcome: &Outcome<B>) -> Option<Rule>
     ensures { result ≡ judged.first_broken (may_have tick Cuts [] outcome.now) room true true true }
@@ -86,5 +107,107 @@ fn cut_all(banks: &mut Vec<Watched>, tick: u64)
     for bank in 0..banks.len() {
         banks[bank].settle(tick);
         banks[bank].pass_cut();
+    }
+}
+
+/// What is kept of the rows that have passed: of each bank and of each line, and the line of the last row, if it has one. Only
+/// that line's bank may hold more than it may.
+#[derive(Drop)]
+pub struct Kept<const B: usize> {
+    pub banks: Vec<Watched>,
+    pub lines: Vec<Line<B>>,
+    pub joined: Option<u32>,
+}
+
+impl<const B: usize> Kept<B> {
+    /// Settles the bank of a line.
+    fn settle(&mut self, banks: &[u8], tick: u64, line: u32)
+        requires line { line < length banks.now }
+        requires exist { bank_in banks.now line < length self.old.banks.items }
+        ensures banks { self.new.banks.items ≡ slice_set self.old.banks.items (bank_in banks.now line) (settled tick (facts_in self.old.banks.items (bank_in banks.now line))) }
+        ensures lines { self.new.lines ≡ self.old.lines }
+        ensures joined { self.new.joined ≡ self.old.joined }
+    {
+        self.banks[bank_of(banks, line) as usize].settle(tick);
+    }
+
+    /// Whether the bank of a line holds no more than it may.
+    fn holds_few(&self, rules: &Rules, banks: &[u8], line: u32) -> bool
+        requires line { line < length banks.now }
+        requires exist { bank_in banks.now line < length self.now.banks.items }
+        ensures { let f = facts_in self.now.banks.items (bank_in banks.now line) in
+            result ≡ room_kept rules.now.writes rules.now.reads f.members f.waits f.lost }
+    {
+        let bank = self.banks[bank_of(banks, line) as usize].bank();
+        has_room(rules.writes, rules.reads, &bank.members, &bank.waits, bank.lost)
+    }
+
+    /// Lets time pass in the bank of the last row, and tells whether each bank has room.
+    fn find_room(&mut self, rules: &Rules, banks: &[u8], tick: u64) -> bool
+        requires line { IfSome self.old.joined (λ line. line < length banks.now) }
+        requires exist { All (λ bank. bank < length self.old.banks.items) banks.now }
+        ensures room { result ≡ joined_room (rules_by rules.now) banks.now tick (facts_in self.old.banks.items) self.old.joined }
+        ensures knows { (from : ℕ) (before : List (Row B)) → from ≤ tick → tick < never
+            → Knows (rules_by rules.now) banks.now from self.old.banks.items self.old.joined before
+            → Knows (rules_by rules.now) banks.now tick self.new.banks.items self.old.joined before }
+        ensures seen { (from : ℕ) (before : List (Row B)) → from ≤ tick → tick < never
+            → Knows (rules_by rules.now) banks.now from self.old.banks.items self.old.joined before → result ≡ true
+            → Knows (rules_by rules.now) banks.now tick self.new.banks.items None before }
+        ensures number { length self.new.banks.items ≡ length self.old.banks.items }
+        ensures lines { self.new.lines ≡ self.old.lines }
+        ensures joined { self.new.joined ≡ self.old.joined }
+    {
+        match self.joined {
+            Some(line) => {
+                self.settle(banks, tick, line);
+                self.holds_few(rules, banks, line)
+            }
+            None => true,
+        }
+    }
+
+    /// Lets a write of a line pass.
+    fn pass_write(
+        &mut self,
+        bank: u8,
+        row: u32,
+        tick: u64,
+        line: u32,
+        bytes: &[u8; B],
+        given: &[bool; B],
+        outcome: &Outcome<B>,
+    ) -> Result<(), AllocError>
+        requires exist { bank < length self.old.banks.items }
+        requires line { line < length self.old.lines.items }
+        ensures banks { IfOk result (λ _. (m : Member) × (sight m ≡ sight_of (a_row tick (Writes line [] []) outcome.now))
+            × (self.new.banks.items ≡ slice_set self.old.banks.items bank (after_write line m outcome.now (facts_in self.old.banks.items bank)))) }
+        ensures lines { IfOk result (λ _. (old : Line B) → slice_get self.old.lines.items line ≡ Some old
+            → LinePasses B tick bytes.now given.now outcome.now line self.old.lines.items old self.new.lines.items) }
+        ensures joined { IfOk result (λ _. self.new.joined ≡ Some line) }
+    {
+        let member = member_of(row, line, tick, outcome);
+        self.banks[bank as usize].pass_write(member, outcome)?;
+        pass_line(&mut self.lines[line as usize], tick, bytes, given, outcome)?;
+        self.joined = Some(line);
+        Ok(())
+    }
+
+    /// Lets a read of a line pass.
+    fn pass_read(
+        &mut self,
+        bank: u8,
+        tick: u64,
+        line: u32,
+        outcome: &Outcome<B>,
+    ) -> Result<(), AllocError>
+        requires exist { bank < length self.old.banks.items }
+        requires few { (facts_in self.old.banks.items bank).lost ≤ 400_000 }
+        ensures banks { IfOk result (λ _. self.new.banks.items ≡ slice_set self.old.banks.items bank (after_read tick outcome.now (facts_in self.old.banks.items bank))) }
+        ensures lines { IfOk result (λ _. self.new.lines ≡ self.old.lines) }
+        ensures joined { IfOk result (λ _. self.new.joined ≡ Some line) }
+    {
+        self.banks[bank as usize].pass_read(tick, outcome)?;
+        self.joined = Some(line);
+        Ok(())
     }
 }
