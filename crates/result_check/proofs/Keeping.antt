@@ -128,3 +128,6 @@ bank_exists banks line number lt all =
 -- a settled bank has what it has
 pub facts_settled : (kept new : List Facts) (bank : ℕ) (f : Facts) → bank < length kept → new ≡ slice_set kept bank f → facts_in new bank ≡ f
 facts_settled kept new bank f lt is = ap (λ xs. facts_in xs bank) is ∙ facts_set_same kept bank f lt
+
+pub facts_got : (kept : List Facts) (bank : ℕ) (f : Facts) → slice_get kept bank ≡ Some f → facts_in kept bank ≡ f
+facts_got kept bank f is = ap (λ o. unwrap_or o no_facts) is

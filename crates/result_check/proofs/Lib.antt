@@ -5,3 +5,4 @@ mod Rows
 mod Lists
 mod Coming
 mod Keeping
+mod Lines

@@ -32,3 +32,9 @@ ops_below ops h = omega arith
 
 pub op_fits : (b : ℕ) → b ≤ 128 → up 4 (max 8 (max (8 + (b * 1)) (max (up 1 (8 + (b * 1)) + (b * 1)) 1))) < 9223372036854775808
 op_fits b h = ops_below _ (ops_le _ _ (line_le b h) (masked_le _ b (line_le b h) h))
+
+pub line_fits : (b : ℕ) → b ≤ 128 → up 8 (up 8 (up 1 (0 + (b * 1)) + (b * 1)) + 24) < 9223372036854775808
+line_fits b h = omega arith
+
+pub bytes_fit : (b : ℕ) → b ≤ 128 → b * 1 < 9223372036854775808
+bytes_fit b h = omega arith

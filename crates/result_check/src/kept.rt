@@ -177,6 +177,7 @@ impl<const B: usize> Kept<B> {
         given: &[bool; B],
         outcome: &Outcome<B>,
     ) -> Result<(), AllocError>
+        requires small { B ≤ 128 }
         requires exist { bank < length self.old.banks.items }
         requires line { line < length self.old.lines.items }
         ensures banks { IfOk result (λ _. (m : Member) × (sight m ≡ sight_of (a_row tick (Writes line [] []) outcome.now))
