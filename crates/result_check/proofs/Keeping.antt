@@ -58,7 +58,7 @@ cut_every tick reached old new le had k = by (cases_lt k reached)
     by (inr more) = had.above k more ∙ past more ∙ sym (ap (λ g. cut_off (settled tick g)) (past more))
 
 -- what is known is known of the same facts
-same_facts : {n : ℕ} (rules : Rules) (banks : List ℕ) (tick : ℕ) (at : ℕ → ℕ) (facts other : ℕ → Facts) (joined : Option ℕ) (before : List (Row n))
+pub same_facts : {n : ℕ} (rules : Rules) (banks : List ℕ) (tick : ℕ) (at : ℕ → ℕ) (facts other : ℕ → Facts) (joined : Option ℕ) (before : List (Row n))
     → ((k : ℕ) → facts k ≡ other k) → Passed rules banks tick at facts joined before → Passed rules banks tick at other joined before
 same_facts rules banks tick at facts other joined before same p = record {
   stand = λ k. subst (λ f. Stands (at k) (of_bank (bank_in banks) k before) f) (same k) (p.stand k);
@@ -67,7 +67,7 @@ same_facts rules banks tick at facts other joined before same p = record {
   known = p.known;
 }
 
-put_set : (kept : List Facts) (bank : ℕ) (f : Facts) → bank < length kept → (k : ℕ) → put (facts_in kept) bank f k ≡ facts_in (slice_set kept bank f) k
+pub put_set : (kept : List Facts) (bank : ℕ) (f : Facts) → bank < length kept → (k : ℕ) → put (facts_in kept) bank f k ≡ facts_in (slice_set kept bank f) k
 put_set kept bank f lt k = by (cases_eq k bank)
   where
     by : (k ≡ bank) ⊎ (k ≡ bank → ⊥) → put (facts_in kept) bank f k ≡ facts_in (slice_set kept bank f) k

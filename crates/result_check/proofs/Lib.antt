@@ -6,3 +6,4 @@ mod Lists
 mod Coming
 mod Keeping
 mod Lines
+mod Taking

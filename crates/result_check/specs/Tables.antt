@@ -33,3 +33,11 @@ pub record IsFound {n : ℕ} (banks : List ℕ) (rows : List (Row n)) (found : F
   pub lines : IsPermutation (store_keys (λ line. line) rows) found.lines.items
   pub lines_sorted : IsNonDecreasing found.lines.items
   pub cuts : found.cuts.items ≡ cut_ticks rows
+
+-- keys are sorted and few
+pub record IsUsable (found : Found) : Type 0 where
+  pub stores_sorted : IsNonDecreasing found.stores.items
+  pub reads_sorted : IsNonDecreasing found.reads.items
+  pub lines_sorted : IsNonDecreasing found.lines.items
+  pub few_stores : length found.stores.items ≤ 400000
+  pub few_reads : length found.reads.items ≤ 400000

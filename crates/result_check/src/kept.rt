@@ -4,8 +4,10 @@ ghost use Rattle.std.specs.Prelude.{◌≡◌, ◌<◌, ◌≤◌, ◌+◌, ℕ,
 ghost use Rattle.std.specs.List.Sorted.{IsNonDecreasing};
 ghost use Rattle.row_laws.specs.Answers as answers;
 ghost use Rattle.row_laws.specs.Serving.{may_have};
-ghost use Rattle.row_laws.specs.declared.Asks.TheVariants.{Writes, Cuts};
+ghost use Rattle.row_laws.specs.declared.Asks.TheVariants.{Reads, Writes, Cuts};
 ghost use Rattle.row_laws.specs.declared.Row.{Row};
+ghost use Rattle.row_laws.specs.Rules as laws;
+ghost use Rattle.result_check.specs.declared.found.Found.{Found};
 ghost use Rattle.row_judging.specs.Keys.{reach, is_short};
 ghost use Rattle.row_verdict.specs.Judged as judged;
 ghost use Rattle.row_verdict.specs.Kept.{sight, sight_of};
@@ -15,14 +17,21 @@ ghost use Rattle.row_verdict.specs.Members.{never};
 ghost use Rattle.row_verdict.specs.States.{settled, cut_off, after_write, after_read};
 ghost use Rattle.row_verdict.specs.Verdicts.{asks_of, bank_in, rules_by};
 ghost use Rattle.row_verdict.specs.Within.{AreWithin};
+ghost use Rattle.row_judging.specs.Cutting.{cut_ticks};
+ghost use Rattle.row_verdict.specs.Covering.{soonest};
+ghost use Rattle.row_verdict.specs.Judged.{beside, a_write, a_read, a_cut};
+ghost use Rattle.row_verdict.specs.QueueLaws.{next_accepted};
+ghost use Rattle.row_verdict.specs.Worn.{first_worn};
 ghost use Rattle.result_check.specs.Coming.{a_row};
+ghost use Rattle.result_check.specs.Tables.{IsUsable};
 ghost use Rattle.result_check.specs.Lines.{IsLineBehind, LinePasses};
 ghost use Rattle.result_check.specs.Keeping.{facts_in, Knows, IsNext, HasPassed};
 ghost use Rattle.result_check.specs.Outcomes as spec;
 ghost use Rattle.row_verdict.specs.declared.members.Member.{Member};
 ghost use Rattle.row_verdict.specs.declared.lines.Line.{Line};
 
-use crate::found::bank_of;
+use crate::ahead::Coming;
+use crate::found::{Found, bank_of};
 use crate::watched::Watched;
 use result_rows::Outcome;
 use row_verdict::judge::{Ahead, Keys, judge_read, judge_write};
@@ -182,6 +191,7 @@ impl<const B: usize> Kept<B> {
         requires line { line < length self.old.lines.items }
         ensures banks { IfOk result (λ _. (m : Member) × (sight m ≡ sight_of (a_row tick (Writes line [] []) outcome.now))
             × (self.new.banks.items ≡ slice_set self.old.banks.items bank (after_write line m outcome.now (facts_in self.old.banks.items bank)))) }
+        ensures number { IfOk result (λ _. length self.new.lines.items ≡ length self.old.lines.items) }
         ensures lines { IfOk result (λ _. (old : Line B) → slice_get self.old.lines.items line ≡ Some old
             → LinePasses B tick bytes.now given.now outcome.now line self.old.lines.items old self.new.lines.items) }
         ensures joined { IfOk result (λ _. self.new.joined ≡ Some line) }
@@ -210,5 +220,161 @@ impl<const B: usize> Kept<B> {
         self.banks[bank as usize].pass_read(tick, outcome)?;
         self.joined = Some(line);
         Ok(())
+    }
+
+    /// Judges a write of a line, and lets it pass where it breaks no rule; `cuts` are the ticks of the cuts behind it.
+    fn take_write(
+        &mut self,
+        rules: &Rules,
+        banks: &[u8],
+        found: &Found,
+        cuts: &[u64],
+        coming: Coming,
+        room: bool,
+        row: u32,
+        tick: u64,
+        line: u32,
+        op: &EventOp<B>,
+        bytes: &[u8; B],
+        given: &[bool; B],
+        outcome: &Outcome<B>,
+    ) -> Result<Option<Rule>, AllocError>
+        requires small { B ≤ 128 }
+        requires within { AreWithin rules.now }
+        requires asked { asks_of op.now ≡ Writes line bytes.now given.now }
+        requires line { line < length banks.now }
+        requires exist { All (λ bank. bank < length self.old.banks.items) banks.now }
+        requires lines { length self.old.lines.items ≡ length banks.now }
+        requires usable { IsUsable found.now }
+        requires cuts { IsNonDecreasing cuts.now }
+        requires few { length cuts.now ≤ 400_000 }
+        requires short { IsTrue (is_short outcome.now) }
+        requires arrived { tick < reach }
+        ensures number { IfOk result (λ _. length self.new.banks.items ≡ length self.old.banks.items) }
+        ensures lines { IfOk result (λ _. length self.new.lines.items ≡ length self.old.lines.items) }
+        ensures passes { (before after : List (Row B)) → coming.next ≡ next_accepted line (beside banks.now line after)
+            → coming.worn ≡ first_worn (beside banks.now line after) → cuts.now ≡ cut_ticks after
+            → IsNext (rules_by rules.now) banks.now found.now before (a_write tick line bytes.now given.now outcome.now) after self.old.banks.items self.old.joined self.old.lines.items room
+            → IfOk result (λ broken. HasPassed (rules_by rules.now) banks.now before (a_write tick line bytes.now given.now outcome.now) after broken self.new.banks.items self.new.joined self.new.lines.items) }
+    {
+        let number = bank_of(banks, line);
+        self.settle(banks, tick, line);
+        let keys = Keys {
+            stores: &found.stores,
+            reads: &found.reads,
+            lines: &found.lines,
+        };
+        let ahead = Ahead {
+            next: coming.next,
+            soonest: coming.soonest,
+            worn: coming.worn,
+            cuts,
+        };
+        let broken = judge_write(
+            rules,
+            room,
+            number,
+            self.banks[number as usize].bank(),
+            tick,
+            line,
+            op,
+            &self.lines[line as usize].newest,
+            keys,
+            ahead,
+            outcome,
+        );
+        match broken {
+            Some(rule) => Ok(Some(rule)),
+            None => {
+                self.pass_write(number, row, tick, line, bytes, given, outcome)?;
+                Ok(None)
+            }
+        }
+    }
+
+    /// Judges a read of a line, and lets it pass where it breaks no rule; `cuts` are the ticks of the cuts behind it.
+    fn take_read(
+        &mut self,
+        rules: &Rules,
+        banks: &[u8],
+        found: &Found,
+        cuts: &[u64],
+        coming: Coming,
+        room: bool,
+        tick: u64,
+        line: u32,
+        op: &EventOp<B>,
+        outcome: &Outcome<B>,
+    ) -> Result<Option<Rule>, AllocError>
+        requires small { B ≤ 128 }
+        requires within { AreWithin rules.now }
+        requires asked { asks_of op.now ≡ Reads line }
+        requires line { line < length banks.now }
+        requires exist { All (λ bank. bank < length self.old.banks.items) banks.now }
+        requires lines { length self.old.lines.items ≡ length banks.now }
+        requires usable { IsUsable found.now }
+        requires short { IsTrue (is_short outcome.now) }
+        requires arrived { tick < reach }
+        requires fourth { IfSome (facts_in self.old.banks.items (bank_in banks.now line)).fourth (λ came. came < reach) }
+        requires few { let f = settled tick (facts_in self.old.banks.items (bank_in banks.now line)) in length f.waits + f.lost ≤ 400_000 }
+        ensures number { IfOk result (λ _. length self.new.banks.items ≡ length self.old.banks.items) }
+        ensures lines { IfOk result (λ _. length self.new.lines.items ≡ length self.old.lines.items) }
+        ensures passes { (before after : List (Row B)) → coming.soonest ≡ soonest line (beside banks.now line after) → cuts.now ≡ cut_ticks after
+            → IsNext (rules_by rules.now) banks.now found.now before (a_read tick line outcome.now) after self.old.banks.items self.old.joined self.old.lines.items room
+            → IfOk result (λ broken. HasPassed (rules_by rules.now) banks.now before (a_read tick line outcome.now) after broken self.new.banks.items self.new.joined self.new.lines.items) }
+    {
+        let number = bank_of(banks, line);
+        self.settle(banks, tick, line);
+        let keys = Keys {
+            stores: &found.stores,
+            reads: &found.reads,
+            lines: &found.lines,
+        };
+        let ahead = Ahead {
+            next: coming.next,
+            soonest: coming.soonest,
+            worn: coming.worn,
+            cuts,
+        };
+        let broken = judge_read(
+            rules,
+            room,
+            number,
+            self.banks[number as usize].bank(),
+            tick,
+            line,
+            op,
+            &self.lines[line as usize],
+            keys,
+            ahead,
+            outcome,
+        );
+        match broken {
+            Some(rule) => Ok(Some(rule)),
+            None => {
+                self.pass_read(number, tick, line, outcome)?;
+                Ok(None)
+            }
+        }
+    }
+
+    /// Judges a cut, and lets it pass where it breaks no rule.
+    fn take_cut(&mut self, room: bool, tick: u64, outcome: &Outcome<B>) -> Option<Rule>
+        requires arrived { tick < reach }
+        ensures number { length self.new.banks.items ≡ length self.old.banks.items }
+        ensures lines { length self.new.lines.items ≡ length self.old.lines.items }
+        ensures passes { (rules : laws.Rules) (banks : List ℕ) (found : Found) (before after : List (Row B))
+            → IsNext rules banks found before (a_cut tick outcome.now) after self.old.banks.items self.old.joined self.old.lines.items room
+            → HasPassed rules banks before (a_cut tick outcome.now) after result self.new.banks.items self.new.joined self.new.lines.items }
+    {
+        let broken = judge_cut(tick, room, outcome);
+        match broken {
+            Some(rule) => Some(rule),
+            None => {
+                cut_all(&mut self.banks, tick);
+                self.joined = None;
+                None
+            }
+        }
     }
 }
