@@ -1,5 +1,5 @@
 -- What is kept of the rows that have passed, and what a row that comes leaves.
-use Rattle.std.specs.Prelude.{◌≡◌, ◌<◌, ◌≤◌, ℕ, Bool, true, IsTrue, List, [], ◌∷◌, Option, Some, None, All, length, slice_get, unwrap_or}
+use Rattle.std.specs.Prelude.{◌≡◌, ◌<◌, ◌≤◌, ℕ, Bool, true, false, IsTrue, List, [], ◌∷◌, Option, Some, None, All, length, slice_get, unwrap_or}
 use Rattle.result_rows.specs.declared.Outcome.{Outcome}
 use Rattle.result_rows.specs.declared.Outcome.TheVariants as out
 use Rattle.row_laws.specs.declared.Row.{Row}
@@ -16,7 +16,11 @@ use Rattle.row_verdict.specs.Passing.{Passed}
 use Rattle.row_verdict.specs.States.{Facts, no_facts}
 use Rattle.row_verdict.specs.VerdictLaws.{HasKeys}
 use Rattle.row_verdict.specs.Verdicts.{all_rules, broken_by, all_have_room}
+use Rattle.row_laws.specs.Rows.{asks_cut}
+use Rattle.row_judging.specs.Cutting.{cut_ticks}
+use Rattle.result_check.specs.declared.ahead.Coming.{Coming}
 use Rattle.result_check.specs.declared.found.Found.{Found}
+use Rattle.result_check.specs.Coming.{coming_at}
 
 -- what is kept of a bank, these being the banks that are kept
 abbrev pub facts_in : List Facts → ℕ → Facts
@@ -51,3 +55,19 @@ pub record HasPassed {n : ℕ} (rules : Rules) (banks : List ℕ) (before : List
   pub told : broken ≡ broken_by rules banks all_rules before r after
   pub knows : broken ≡ None → Knows rules banks r.tick kept joined (r ∷ before)
   pub lines_known : broken ≡ None → KnowsLines banks r.tick lines (r ∷ before)
+
+-- a row comes between these rows, of which this was known behind the last one before it; this is what the rows behind it bring
+pub record Meets {n : ℕ} (rules : Rules) (banks : List ℕ) (found : Found) (before : List (Row n)) (r : Row n) (after : List (Row n)) (kept : List Facts) (joined : Option ℕ) (lines : List (Line n)) (cuts : List ℕ) (coming : Coming) : Type 0 where
+  pub from : ℕ
+  pub passed_by : from ≤ r.tick
+  pub knows : Knows rules banks from kept joined before
+  pub lines_known : KnowsLines banks from lines before
+  pub keys : HasKeys banks before r after found.stores.items found.reads.items found.lines.items
+  pub later : IsTrue (rising r.tick after)
+  pub brief : IsTrue (is_brief r.outcome)
+  pub sized : All (λ q. GivesSized q) (r ∷ before)
+  pub reached : r.tick < reach
+  pub few : length before ≤ 400000
+  pub exist : All (λ bank. bank < length kept) banks
+  pub brings : coming ≡ coming_at banks r.asks after
+  pub cuts_are : asks_cut r.asks ≡ false → cuts ≡ cut_ticks after

@@ -25,7 +25,8 @@ ghost use Rattle.row_verdict.specs.Worn.{first_worn};
 ghost use Rattle.result_check.specs.Coming.{a_row};
 ghost use Rattle.result_check.specs.Tables.{IsUsable};
 ghost use Rattle.result_check.specs.Lines.{IsLineBehind, LinePasses};
-ghost use Rattle.result_check.specs.Keeping.{facts_in, Knows, IsNext, HasPassed};
+ghost use Rattle.result_check.specs.Keeping.{facts_in, Knows, IsNext, HasPassed, Meets};
+ghost use Rattle.result_check.specs.Finding.{row_of, IsBelow};
 ghost use Rattle.result_check.specs.Outcomes as spec;
 ghost use Rattle.row_verdict.specs.declared.members.Member.{Member};
 ghost use Rattle.row_verdict.specs.declared.lines.Line.{Line};
@@ -40,7 +41,7 @@ use row_verdict::members::{Member, NEVER};
 use row_verdict::queue::has_room;
 use row_verdict::{Rule, Rules};
 use std::alloc::AllocError;
-use trace_reader::EventOp;
+use trace_reader::{Event, EventOp};
 
 /// When a write is stored, if it is.
 fn stored_at<const B: usize>(outcome: &Outcome<B>) -> Option<u64>
@@ -134,7 +135,7 @@ impl<const B: usize> Kept<B> {
         requires line { line < length banks.now }
         requires exist { bank_in banks.now line < length self.old.banks.items }
         ensures banks { self.new.banks.items ≡ slice_set self.old.banks.items (bank_in banks.now line) (settled tick (facts_in self.old.banks.items (bank_in banks.now line))) }
-        ensures lines { self.new.lines ≡ self.old.lines }
+        ensures lines { self.new.lines.items ≡ self.old.lines.items }
         ensures joined { self.new.joined ≡ self.old.joined }
     {
         self.banks[bank_of(banks, line) as usize].settle(tick);
@@ -163,7 +164,7 @@ impl<const B: usize> Kept<B> {
             → Knows (rules_by rules.now) banks.now from self.old.banks.items self.old.joined before → result ≡ true
             → Knows (rules_by rules.now) banks.now tick self.new.banks.items None before }
         ensures number { length self.new.banks.items ≡ length self.old.banks.items }
-        ensures lines { self.new.lines ≡ self.old.lines }
+        ensures lines { self.new.lines.items ≡ self.old.lines.items }
         ensures joined { self.new.joined ≡ self.old.joined }
     {
         match self.joined {
@@ -214,7 +215,7 @@ impl<const B: usize> Kept<B> {
         requires exist { bank < length self.old.banks.items }
         requires few { (facts_in self.old.banks.items bank).lost ≤ 400_000 }
         ensures banks { IfOk result (λ _. self.new.banks.items ≡ slice_set self.old.banks.items bank (after_read tick outcome.now (facts_in self.old.banks.items bank))) }
-        ensures lines { IfOk result (λ _. self.new.lines ≡ self.old.lines) }
+        ensures lines { IfOk result (λ _. self.new.lines.items ≡ self.old.lines.items) }
         ensures joined { IfOk result (λ _. self.new.joined ≡ Some line) }
     {
         self.banks[bank as usize].pass_read(tick, outcome)?;
@@ -375,6 +376,57 @@ impl<const B: usize> Kept<B> {
                 self.joined = None;
                 None
             }
+        }
+    }
+
+    /// Judges the next row, and lets it pass where it breaks no rule; `cuts` are the ticks of the cuts behind it, and `coming` what
+    /// the rows behind it bring.
+    pub fn take(
+        &mut self,
+        rules: &Rules,
+        banks: &[u8],
+        found: &Found,
+        cuts: &[u64],
+        coming: Coming,
+        row: u32,
+        event: &Event<B>,
+        outcome: &Outcome<B>,
+    ) -> Result<Option<Rule>, AllocError>
+        requires small { B ≤ 128 }
+        requires within { AreWithin rules.now }
+        requires line { IsBelow (length banks.now) (asks_of event.now.op) }
+        requires exist { All (λ bank. bank < length self.old.banks.items) banks.now }
+        requires lines { length self.old.lines.items ≡ length banks.now }
+        requires usable { IsUsable found.now }
+        requires cuts { IsNonDecreasing cuts.now }
+        requires few { length cuts.now ≤ 400_000 }
+        requires met { (before : List (Row B)) × (after : List (Row B)) × Meets (rules_by rules.now) banks.now found.now before (row_of event.now outcome.now) after self.old.banks.items self.old.joined self.old.lines.items cuts.now coming }
+        ensures number { IfOk result (λ _. length self.new.banks.items ≡ length self.old.banks.items) }
+        ensures lines { IfOk result (λ _. length self.new.lines.items ≡ length self.old.lines.items) }
+        ensures passes { (before after : List (Row B))
+            → Meets (rules_by rules.now) banks.now found.now before (row_of event.now outcome.now) after self.old.banks.items self.old.joined self.old.lines.items cuts.now coming
+            → IfOk result (λ broken. HasPassed (rules_by rules.now) banks.now before (row_of event.now outcome.now) after broken self.new.banks.items self.new.joined self.new.lines.items) }
+    {
+        let tick = event.tick;
+        let room = self.find_room(rules, banks, tick);
+        match &event.op {
+            EventOp::Read(line) => {
+                self.take_read(
+                    rules, banks, found, cuts, coming, room, tick, *line, &event.op, outcome,
+                )
+            }
+            EventOp::Write(line, bytes) => {
+                let given = [true; B];
+                self.take_write(
+                    rules, banks, found, cuts, coming, room, row, tick, *line, &event.op, bytes, &given, outcome,
+                )
+            }
+            EventOp::Mask(line, bytes, given) => {
+                self.take_write(
+                    rules, banks, found, cuts, coming, room, row, tick, *line, &event.op, bytes, given, outcome,
+                )
+            }
+            EventOp::Cut => Ok(self.take_cut(room, tick, outcome)),
         }
     }
 }
