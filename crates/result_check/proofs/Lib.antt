@@ -7,3 +7,4 @@ mod Coming
 mod Keeping
 mod Lines
 mod Taking
+mod Meeting
