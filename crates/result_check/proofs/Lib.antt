@@ -8,3 +8,4 @@ mod Keeping
 mod Lines
 mod Taking
 mod Meeting
+mod Going

@@ -1,5 +1,5 @@
 -- What is kept of the rows that have passed, and what a row that comes leaves.
-use Rattle.std.specs.Prelude.{◌≡◌, ◌<◌, ◌≤◌, ℕ, Bool, true, false, IsTrue, List, [], ◌∷◌, Option, Some, None, All, length, slice_get, unwrap_or}
+use Rattle.std.specs.Prelude.{◌≡◌, ◌<◌, ◌≤◌, ◌+◌, max, ℕ, Bool, true, false, IsTrue, List, [], ◌∷◌, Option, Some, None, All, length, slice_get, unwrap_or}
 use Rattle.result_rows.specs.declared.Outcome.{Outcome}
 use Rattle.result_rows.specs.declared.Outcome.TheVariants as out
 use Rattle.row_laws.specs.declared.Row.{Row}
@@ -25,6 +25,11 @@ use Rattle.result_check.specs.Coming.{coming_at}
 -- what is kept of a bank, these being the banks that are kept
 abbrev pub facts_in : List Facts → ℕ → Facts
 facts_in kept bank = unwrap_or (slice_get kept bank) no_facts
+
+-- how many banks there are: each is below this number or one of these
+abbrev pub banks_from : ℕ → List ℕ → ℕ
+banks_from number [] = number
+banks_from number (bank ∷ banks) = banks_from (max number (bank + 1)) banks
 
 -- this is known of all banks by a tick, the last row having this line, if it has one
 pub record Knows {n : ℕ} (rules : Rules) (banks : List ℕ) (tick : ℕ) (kept : List Facts) (joined : Option ℕ) (before : List (Row n)) : Type 0 where

@@ -4,5 +4,6 @@ pub mod Finding
 pub mod Coming
 pub mod Tables
 pub mod Keeping
+pub mod Going
 pub mod Lines
 pub mod Outcomes

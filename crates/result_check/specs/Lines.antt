@@ -1,6 +1,6 @@
 -- What is kept of a line, behind a write.
-use Rattle.std.specs.Prelude.{◌≡◌, ℕ, ◌<◌, true, false, Bool, List, Option, Some, slice_get, slice_set}
-use Rattle.masked_bytes.specs.Masked.{joined, laid}
+use Rattle.std.specs.Prelude.{◌≡◌, ℕ, ◌<◌, true, false, Bool, List, [], Option, Some, replicate, slice_get, slice_set}
+use Rattle.masked_bytes.specs.Masked.{joined, laid, none_given}
 use Rattle.result_rows.specs.declared.Outcome.{Outcome}
 use Rattle.row_laws.specs.Answers.{accepts}
 use Rattle.row_verdict.specs.Covering.{unclosed_behind, runs_behind}
@@ -19,3 +19,12 @@ pub record LinePasses (n tick : ℕ) (bytes : List ℕ) (given : List Bool) (out
   pub new : Line n
   pub own : IsLineBehind n tick bytes given outcome old new
   pub all : after ≡ slice_set lines line new
+
+-- no write has passed of a line
+pub record IsFresh (n : ℕ) (line : Line n) : Type 0 where
+  pub newest : line.newest ≡ replicate n 0
+  pub unclosed : line.unclosed ≡ none_given n
+  pub runs : line.runs.items ≡ []
+
+abbrev pub AreFresh : (n : ℕ) → List (Line n) → Type 0
+AreFresh n lines = (l : ℕ) (line : Line n) → slice_get lines l ≡ Some line → IsFresh n line

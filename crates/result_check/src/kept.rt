@@ -1,6 +1,6 @@
 //! What is kept of the rows that have passed, and how the next row passes.
 
-ghost use Rattle.std.specs.Prelude.{◌≡◌, ◌<◌, ◌≤◌, ◌+◌, ℕ, List, [], None, Some, true, length, slice_get, slice_set, All, IsTrue, IfOk, IfSome};
+ghost use Rattle.std.specs.Prelude.{◌≡◌, ◌<◌, ◌≤◌, ◌+◌, ℕ, List, [], None, Some, true, length, max, slice_get, slice_set, All, IsTrue, IfOk, IfSome};
 ghost use Rattle.std.specs.List.Sorted.{IsNonDecreasing};
 ghost use Rattle.row_laws.specs.Answers as answers;
 ghost use Rattle.row_laws.specs.Serving.{may_have};
@@ -14,7 +14,7 @@ ghost use Rattle.row_verdict.specs.Kept.{sight, sight_of};
 ghost use Rattle.row_verdict.specs.Passing.{joined_room};
 ghost use Rattle.row_verdict.specs.Fitting.{room_kept};
 ghost use Rattle.row_verdict.specs.Members.{never};
-ghost use Rattle.row_verdict.specs.States.{settled, cut_off, after_write, after_read};
+ghost use Rattle.row_verdict.specs.States.{no_facts, settled, cut_off, after_write, after_read};
 ghost use Rattle.row_verdict.specs.Verdicts.{asks_of, bank_in, rules_by};
 ghost use Rattle.row_verdict.specs.Within.{AreWithin};
 ghost use Rattle.row_judging.specs.Cutting.{cut_ticks};
@@ -24,8 +24,8 @@ ghost use Rattle.row_verdict.specs.QueueLaws.{next_accepted};
 ghost use Rattle.row_verdict.specs.Worn.{first_worn};
 ghost use Rattle.result_check.specs.Coming.{a_row};
 ghost use Rattle.result_check.specs.Tables.{IsUsable};
-ghost use Rattle.result_check.specs.Lines.{IsLineBehind, LinePasses};
-ghost use Rattle.result_check.specs.Keeping.{facts_in, Knows, IsNext, HasPassed, Meets};
+ghost use Rattle.result_check.specs.Lines.{AreFresh, IsLineBehind, LinePasses};
+ghost use Rattle.result_check.specs.Keeping.{banks_from, facts_in, Knows, IsNext, HasPassed, Meets};
 ghost use Rattle.result_check.specs.Finding.{row_of, IsBelow};
 ghost use Rattle.result_check.specs.Outcomes as spec;
 ghost use Rattle.row_verdict.specs.declared.members.Member.{Member};
@@ -40,7 +40,7 @@ use row_verdict::lines::Line;
 use row_verdict::members::{Member, NEVER};
 use row_verdict::queue::has_room;
 use row_verdict::{Rule, Rules};
-use std::alloc::AllocError;
+use std::alloc::{AllocError, Global};
 use trace_reader::{Event, EventOp};
 
 /// When a write is stored, if it is.
@@ -129,7 +129,66 @@ pub struct Kept<const B: usize> {
     pub joined: Option<u32>,
 }
 
+/// How many banks there are, where each is below this number or one of these.
+fn number_of_banks(banks: &[u8]) -> usize
+    ensures { result ≡ banks_from 0 banks.now }
+{
+    let mut number = 0;
+    for bank in banks {
+        number = greater(number, *bank as usize + 1);
+    }
+    number
+}
+
+/// The greater of two numbers.
+fn greater(number: usize, other: usize) -> usize
+    ensures { result ≡ max number other }
+{
+    if number < other { other } else { number }
+}
+
+/// So many banks of which no row has passed.
+fn new_banks(alloc: Global, number: usize) -> Result<Vec<Watched>, AllocError>
+    ensures number { IfOk result (λ banks. length banks.items ≡ number) }
+    ensures facts { IfOk result (λ banks. (bank : ℕ) → facts_in banks.items bank ≡ no_facts) }
+{
+    let mut banks = Vec::new(alloc);
+    for _ in 0..number {
+        banks.push(Watched::new(alloc))?;
+    }
+    Ok(banks)
+}
+
+/// So many lines of which no write has passed.
+fn new_lines<const B: usize>(alloc: Global, number: usize) -> Result<Vec<Line<B>>, AllocError>
+    requires small { B ≤ 128 }
+    ensures number { IfOk result (λ lines. length lines.items ≡ number) }
+    ensures fresh { IfOk result (λ lines. AreFresh B lines.items) }
+{
+    let mut lines = Vec::new(alloc);
+    for _ in 0..number {
+        lines.push(Line::new(alloc))?;
+    }
+    Ok(lines)
+}
+
 impl<const B: usize> Kept<B> {
+    /// What is kept of no row.
+    pub fn new(alloc: Global, banks: &[u8]) -> Result<Kept<B>, AllocError>
+        requires small { B ≤ 128 }
+        ensures number { IfOk result (λ kept. length kept.banks.items ≡ banks_from 0 banks.now) }
+        ensures facts { IfOk result (λ kept. (bank : ℕ) → facts_in kept.banks.items bank ≡ no_facts) }
+        ensures lines { IfOk result (λ kept. length kept.lines.items ≡ length banks.now) }
+        ensures fresh { IfOk result (λ kept. AreFresh B kept.lines.items) }
+        ensures joined { IfOk result (λ kept. kept.joined ≡ None) }
+    {
+        Ok(Kept {
+            banks: new_banks(alloc, number_of_banks(banks))?,
+            lines: new_lines(alloc, banks.len())?,
+            joined: None,
+        })
+    }
+
     /// Settles the bank of a line.
     fn settle(&mut self, banks: &[u8], tick: u64, line: u32)
         requires line { line < length banks.now }
