@@ -3,9 +3,10 @@ use Rattle.std.proofs.Common.{◌≡◌, ℕ, zero, suc, ◌+◌, ◌-◌, ◌<�
 use Rattle.std.specs.Prelude.{All, IsPermutation, slice_get, nat_le, max, replicate}
 use Rattle.std.specs.List.Sorted.{IsNonDecreasing}
 use Rattle.std.proofs.lemmas.Bool.{leb-true, le-leb}
-use Rattle.std.proofs.lemmas.List.{reverse-reverse, length-append, take_more, take_all, reverse-append, length-reverse, length-take, length-take-le, take-append-drop}
+use Rattle.std.proofs.lemmas.Option.{get_or_from_slice_get}
+use Rattle.std.proofs.lemmas.List.{length-drop, reverse-reverse, length-append, take_more, take_all, reverse-append, length-reverse, length-take, length-take-le, take-append-drop}
 use Rattle.std.proofs.lemmas.List.Elements.{All-take, All-cons}
-use Rattle.std.proofs.lemmas.List.Sorted.{All-permutation, IsPermutation-reverse, length_permutation}
+use Rattle.std.proofs.lemmas.List.Sorted.{All-permutation, IsPermutation-reverse, IsNonDecreasingBy-drop, length_permutation}
 use Rattle.std.proofs.Math.ListN.{get_or-append}
 use Rattle.std.proofs.Math.Seq.{get_or-append_seam, drop-cons}
 use Rattle.trace_reader.specs.declared.event.EventOp.{EventOp}
@@ -80,7 +81,7 @@ cuts_sorted {n} t (q ∷ rows) h = by (is_cut q) (cuts_sorted q.tick rows (secon
     by false ih = ih
 
 -- what the rows behind a row bring, by its place
-coming_length : {n : ℕ} (banks : List ℕ) (rows : List (Row n)) → length (coming_of banks rows) ≡ length rows
+pub coming_length : {n : ℕ} (banks : List ℕ) (rows : List (Row n)) → length (coming_of banks rows) ≡ length rows
 coming_length banks [] = refl
 coming_length banks (q ∷ rows) = let h = coming_length banks rows in omega (arith, h, length-append (coming_of banks rows) (coming_at banks q.asks rows ∷ []))
 
@@ -96,6 +97,11 @@ coming_there {n} banks (q ∷ rows) zero r here k d is =
 coming_there {n} banks (q ∷ rows) (suc i) r here k d is =
     let size = coming_length banks rows in
     get_or-append (coming_of banks rows) (coming_at banks q.asks rows ∷ []) d k (omega (arith, size, is)) ∙ coming_there banks rows i r here k d (omega (arith, is))
+
+pub coming_got : {n : ℕ} (banks : List ℕ) (rows : List (Row n)) (i : ℕ) (r : Row n) → drop i rows ≡ r ∷ drop (suc i) rows → (coming : List Coming) → coming ≡ coming_of banks rows → (k : ℕ) (x : Coming)
+    → k + 1 + i ≡ length rows → slice_get coming k ≡ Some x → x ≡ coming_at banks r.asks (drop (suc i) rows)
+coming_got banks rows i r here coming is k x place there =
+    sym (get_or_from_slice_get coming k x x there) ∙ ap (λ xs. get_or xs k x) is ∙ coming_there banks rows i r here k x place
 
 -- few keys
 store_key_few : {n : ℕ} (bank_of : ℕ → ℕ) (rows : List (Row n)) → length (store_keys bank_of rows) ≤ length rows
@@ -208,9 +214,9 @@ module _ {n : ℕ} (rules : Rules) (banks : List ℕ) (rows : List (Row n)) (tab
           (let same : next ≡ suc cuts = omega (arith, is) in ap (λ k. drop k found.cuts.items) same ∙ d.0, let le = d.1 in omega (arith, is, le))
       by false front is = (ap (λ k. drop k found.cuts.items) is ∙ h.cuts_left ∙ front, let le = h.cuts_within in omega (arith, is, le))
 
-  pub meets : (next : ℕ) (coming : Coming) → next ≡ cond (asks_cut r.asks) (cuts + 1) cuts → coming ≡ coming_at banks r.asks after
-      → Meets rules banks found before r after kept joined lines (drop next found.cuts.items) coming
-  meets next coming is brings = record {
+  pub meets : (next : ℕ) (piece : List ℕ) (coming : Coming) → next ≡ cond (asks_cut r.asks) (cuts + 1) cuts → piece ≡ drop next found.cuts.items → coming ≡ coming_at banks r.asks after
+      → Meets rules banks found before r after kept joined lines piece coming
+  meets next piece coming is piece_is brings = record {
     from = h.from;
     passed_by = passed_by;
     knows = h.knows;
@@ -228,7 +234,7 @@ module _ {n : ℕ} (rules : Rules) (banks : List ℕ) (rows : List (Row n)) (tab
     few = let a = length-reverse (take i rows) in let b = length-take i rows in let few_rows = table.few in omega (arith, a, b, few_rows);
     exist = h.exist;
     brings = brings;
-    cuts_are = λ not_cut. (next_cuts next is).0;
+    cuts_are = λ not_cut. piece_is ∙ (next_cuts next is).0;
   }
 
   -- the row breaks a rule
@@ -317,10 +323,10 @@ pub goes_first : {n : ℕ} (rules : Rules) (banks : List ℕ) (rows : List (Row 
 goes_first {n} rules banks rows found kept joined lines table finds number facts long fresh none = record {
   from = 0;
   rises = table.rises;
-  knows = subst (λ j. Knows rules banks 0 kept j []) (sym none) (record {
+  knows = subst (λ j. Knows {n = n} rules banks 0 kept j []) (sym none) (record {
     at = λ bank. 0;
     passed = record {
-      stand = λ bank. subst (λ f. Stands 0 [] f) (sym (facts bank)) nothing;
+      stand = λ bank. subst (λ f. Stands {n = n} 0 [] f) (sym (facts bank)) nothing;
       by = λ bank. omega arith;
       room = λ bank differs. ap (λ b. b && (nat_le 0 rules.reads && true)) (le-leb 0 rules.writes (omega arith)) ∙ ap (λ b. b && true) (le-leb 0 rules.reads (omega arith));
       known = λ line is. absurd (cc);
@@ -345,3 +351,17 @@ goes_first {n} rules banks rows found kept joined lines table finds number facts
       four = record { at_1 = refl; at_2 = refl; at_3 = refl; at_4 = refl };
       passed = refl;
     }
+
+-- few cuts have come
+pub cuts_below : {n : ℕ} (banks : List ℕ) (rows : List (Row n)) (found : Found) (cuts : ℕ) → length rows ≤ 400000 → IsFound banks rows found → cuts ≤ length found.cuts.items → cuts ≤ 400000
+cuts_below banks rows found cuts few f le = let a = cuts_few rows in let b = ap length f.cuts in omega (arith, a, b, few, le)
+
+-- the cuts behind a row are sorted and few
+pub piece_sorted : {n : ℕ} (banks : List ℕ) (rows : List (Row n)) (found : Found) (next : ℕ) (piece : List ℕ) → rising 0 rows ≡ true → IsFound banks rows found → piece ≡ drop next found.cuts.items → IsNonDecreasing piece
+piece_sorted banks rows found next piece h f is =
+    subst (λ xs. IsNonDecreasing xs) (sym is)
+    (IsNonDecreasingBy-drop (λ (x : ℕ). x) next found.cuts.items (subst (λ xs. IsNonDecreasing xs) (sym f.cuts) (cuts_sorted 0 rows h)))
+
+pub piece_few : {n : ℕ} (banks : List ℕ) (rows : List (Row n)) (found : Found) (next : ℕ) (piece : List ℕ) → length rows ≤ 400000 → IsFound banks rows found → piece ≡ drop next found.cuts.items → length piece ≤ 400000
+piece_few banks rows found next piece few f is =
+    let a = cuts_few rows in let b = ap length f.cuts in let d = length-drop next found.cuts.items in let e = ap length is in omega (arith, a, b, d, e, few)

@@ -9,3 +9,4 @@ mod Lines
 mod Taking
 mod Meeting
 mod Going
+mod Checking

@@ -2,7 +2,7 @@
 //! and the rules.
 #![tactic(auto)]
 
-ghost use Rattle.std.specs.Prelude.{◌≡◌, ◌+◌, ◌≤◌, if◌then◌else◌, length, IfOk};
+ghost use Rattle.std.specs.Prelude.{◌≡◌, ◌+◌, ◌≤◌, if◌then◌else◌, drop, length, slice_get, Some, ◌<◌, IfOk};
 ghost use Rattle.row_laws.specs.Rows.{asks_cut};
 ghost use Rattle.row_verdict.specs.Within.{AreWithin};
 ghost use Rattle.row_verdict.specs.Verdicts.{asks_of, rows_with, rules_by, verdict_of};
@@ -35,6 +35,22 @@ fn cuts_with<const B: usize>(cuts: usize, op: &EventOp<B>) -> usize
     }
 }
 
+/// The ticks of the cuts behind so many.
+fn cuts_behind(cuts: &[u64], passed: usize) -> &[u64]
+    requires { passed ≤ length cuts.now }
+    ensures { result.now ≡ drop passed cuts.now }
+{
+    &cuts[passed..]
+}
+
+/// The item at a place.
+fn item(coming: &[Coming], place: usize) -> Coming
+    requires { place < length coming.now }
+    ensures { slice_get coming.now place ≡ Some result }
+{
+    coming[place]
+}
+
 /// Lets the rows pass in their order, up to the first that breaks a rule.
 fn pass_rows<const B: usize>(
     events: &[Event<B>],
@@ -57,14 +73,15 @@ fn pass_rows<const B: usize>(
 {
     let mut cuts = 0;
     for (i, event) in events.iter().enumerate() {
-        cuts = cuts_with(cuts, &event.op);
-        let ahead = coming[events.len() - 1 - i];
         let outcome = results.get(i as u32 + 1);
+        cuts = cuts_with(cuts, &event.op);
+        let behind = cuts_behind(&found.cuts, cuts);
+        let ahead = item(coming, events.len() - 1 - i);
         let broken = kept.take(
             rules,
             banks,
             found,
-            &found.cuts[cuts..],
+            behind,
             ahead,
             i as u32 + 1,
             event,
