@@ -111,7 +111,7 @@ loop-i-preserved g c =
     let met = meets rules banks rows c.requires.table found c.requires.found i r here c.loop-i.cuts old.banks.items old.joined old.lines.items inv c.cuts_with-cuts.result piece c.item-ahead.result c.cuts_with-cuts.ensures piece_is brings in
     let p = c.in_ok-broken.ensures.passes (reverse (take i rows)) (drop (suc i) rows) met in
     goes_on rules banks rows c.requires.table found c.requires.found i r here c.loop-i.cuts old.banks.items old.joined old.lines.items inv c.cuts_with-cuts.result c.in_ok-broken.broken
-    c.take.new.self.banks.items c.take.new.self.joined c.take.new.self.lines.items c.cuts_with-cuts.ensures p ? c.in_ok-broken.ensures.number c.in_ok-broken.ensures.lines
+    c.take.new.self.banks.items c.take.new.self.joined c.take.new.self.lines.items c.cuts_with-cuts.ensures p c.in_default.is c.in_ok-broken.ensures.number c.in_ok-broken.ensures.lines
 
 pub returns : goal.returns
 returns g c =
