@@ -1,0 +1,12 @@
+mod Watching
+mod Finding
+mod Sizes
+mod Rows
+mod Lists
+mod Coming
+mod Keeping
+mod Lines
+mod Taking
+mod Meeting
+mod Going
+mod Checking

@@ -2,14 +2,100 @@
 //! and the rules.
 #![tactic(auto)]
 
-ghost use Rattle.std.specs.Prelude.{◌≡◌, ◌≤◌, IfOk};
-ghost use Rattle.row_verdict.specs.Verdicts.{rows_with, rules_by, verdict_of};
+ghost use Rattle.std.specs.Prelude.{◌≡◌, ◌+◌, ◌≤◌, if◌then◌else◌, drop, length, slice_get, Some, ◌<◌, IfOk};
+ghost use Rattle.row_laws.specs.Rows.{asks_cut};
+ghost use Rattle.row_verdict.specs.Within.{AreWithin};
+ghost use Rattle.row_verdict.specs.Verdicts.{asks_of, rows_with, rules_by, verdict_of};
 ghost use Rattle.result_check.specs.Checkable.{IsCheckable};
+ghost use Rattle.result_check.specs.Coming.{coming_of};
+ghost use Rattle.result_check.specs.Going.{GoesOn};
+ghost use Rattle.result_check.specs.Tables.{IsTable, IsFound};
 
+mod ahead;
+mod found;
+mod kept;
+pub mod watched;
+
+use ahead::{Coming, look_ahead};
+use found::Found;
+use kept::Kept;
 use result_rows::Results;
 pub use row_verdict::{Rule, RulePolicy, Rules, Verdict};
 use std::alloc::{AllocError, Global};
-use trace_reader::Event;
+use trace_reader::{Event, EventOp};
+
+/// How many cuts have come with this operation.
+fn cuts_with<const B: usize>(cuts: usize, op: &EventOp<B>) -> usize
+    requires { cuts ≤ 400_000 }
+    ensures { result ≡ (if asks_cut (asks_of op.now) then cuts + 1 else cuts) }
+{
+    match op {
+        EventOp::Cut => cuts + 1,
+        _ => cuts,
+    }
+}
+
+/// The ticks of the cuts behind so many.
+fn cuts_behind(cuts: &[u64], passed: usize) -> &[u64]
+    requires { passed ≤ length cuts.now }
+    ensures { result.now ≡ drop passed cuts.now }
+{
+    &cuts[passed..]
+}
+
+/// The item at a place.
+fn item(coming: &[Coming], place: usize) -> Coming
+    requires { place < length coming.now }
+    ensures { slice_get coming.now place ≡ Some result }
+{
+    coming[place]
+}
+
+/// Lets the rows pass in their order, up to the first that breaks a rule.
+fn pass_rows<const B: usize>(
+    events: &[Event<B>],
+    results: &Results<B>,
+    banks: &[u8],
+    rules: &Rules,
+    found: &Found,
+    coming: &[Coming],
+    kept: &mut Kept<B>,
+) -> Result<Verdict, AllocError>
+    requires small { B ≤ 128 }
+    requires within { AreWithin rules.now }
+    requires few { length events.now ≤ 400_000 }
+    requires rows { length results.now ≡ length events.now }
+    requires table { IsTable (length banks.now) (rows_with events.now results.now) }
+    requires found { IsFound banks.now (rows_with events.now results.now) found.now }
+    requires coming { coming.now ≡ coming_of banks.now (rows_with events.now results.now) }
+    requires begun { GoesOn (rules_by rules.now) banks.now (rows_with events.now results.now) 0 found.now 0 kept.old.banks.items kept.old.joined kept.old.lines.items }
+    ensures exact { IfOk result (λ verdict. verdict ≡ verdict_of (rules_by rules.now) banks.now (rows_with events.now results.now)) }
+{
+    let mut cuts = 0;
+    for (i, event) in events.iter().enumerate() {
+        let outcome = results.get(i as u32 + 1);
+        cuts = cuts_with(cuts, &event.op);
+        let behind = cuts_behind(&found.cuts, cuts);
+        let ahead = item(coming, events.len() - 1 - i);
+        let broken = kept.take(
+            rules,
+            banks,
+            found,
+            behind,
+            ahead,
+            i as u32 + 1,
+            event,
+            outcome,
+        )?;
+        if let Some(rule) = broken {
+            return Ok(Verdict::No {
+                row: i as u32 + 1,
+                rule,
+            });
+        }
+    }
+    Ok(Verdict::Yes)
+}
 
 /// The verdict on a trace and its results, where item l of `banks` is the bank of line l. Yes comes exactly where each row
 /// keeps each rule, and No names the lowest row that doesn't, counted from 1, and the first rule that it breaks
@@ -25,5 +111,8 @@ pub fn check<const B: usize>(
     requires checkable { IsCheckable events.now results.now banks.now rules.now }
     ensures exact { IfOk result (λ verdict. verdict ≡ verdict_of (rules_by rules.now) banks.now (rows_with events.now results.now)) }
 {
-    Err(AllocError)
+    let found = Found::of(alloc, events, results, banks)?;
+    let coming = look_ahead(alloc, events, results, banks)?;
+    let mut kept = Kept::new(alloc, banks)?;
+    pass_rows(events, results, banks, rules, &found, &coming, &mut kept)
 }

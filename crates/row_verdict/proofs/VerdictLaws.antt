@@ -101,7 +101,7 @@ module _ {n : ℕ} (rules : Rules) (banks : List ℕ) (line : ℕ) (before : Lis
             by (inr ne) = ne_eqb c 0 ne ∙ sym (ne_eqb a b (λ e. ne (omega (arith, is, e))))
 
 -- a read that came did so no later than the last row
-came_below : {n : ℕ} (t : ℕ) (rows : List (Row n)) → falling t rows ≡ true → (k d : ℕ) → slice_get (came rows) k ≡ Some d → d ≤ t
+pub came_below : {n : ℕ} (t : ℕ) (rows : List (Row n)) → falling t rows ≡ true → (k d : ℕ) → slice_get (came rows) k ≡ Some d → d ≤ t
 came_below t [] h k d is = absurd (cc)
 came_below {n} t (q ∷ rows) h k d is =
     by (asks_read q.asks && (is_answered q.outcome || is_lost q.outcome)) k is

@@ -1,0 +1,43 @@
+-- A whole table, as a checker goes over it.
+use Rattle.std.specs.Prelude.{◌≡◌, ℕ, ◌<◌, ◌≤◌, IsTrue, List, All, length, IsPermutation}
+use Rattle.std.specs.List.Sorted.{IsNonDecreasing}
+use Rattle.row_laws.specs.declared.Row.{Row}
+use Rattle.row_judging.specs.Cutting.{cut_ticks}
+use Rattle.row_judging.specs.Keys.{reach, store_keys, read_keys}
+use Rattle.row_judging.specs.Rising.{rising}
+use Rattle.row_judging.specs.Runs.{GivesSized}
+use Rattle.row_verdict.specs.Fitting.{all_brief}
+use Rattle.row_verdict.specs.Verdicts.{bank_in}
+use Rattle.result_check.specs.declared.found.Found.{Found}
+use Rattle.result_check.specs.Finding.{IsBelow}
+
+-- a row comes below the reach, of one of so many lines or of none
+pub record IsRowOf {n : ℕ} (lines : ℕ) (r : Row n) : Type 0 where
+  pub line : IsBelow lines r.asks
+  pub reached : r.tick < reach
+
+-- rows of a table over so many lines, the oldest first
+pub record IsTable {n : ℕ} (lines : ℕ) (rows : List (Row n)) : Type 0 where
+  pub rises : IsTrue (rising 0 rows)
+  pub brief : IsTrue (all_brief rows)
+  pub sized : All (λ r. GivesSized r) rows
+  pub each : All (λ r. IsRowOf lines r) rows
+  pub few : length rows ≤ 400000
+
+-- these are the sorted keys of a table, and its cuts
+pub record IsFound {n : ℕ} (banks : List ℕ) (rows : List (Row n)) (found : Found) : Type 0 where
+  pub stores : IsPermutation (store_keys (bank_in banks) rows) found.stores.items
+  pub stores_sorted : IsNonDecreasing found.stores.items
+  pub reads : IsPermutation (read_keys (bank_in banks) rows) found.reads.items
+  pub reads_sorted : IsNonDecreasing found.reads.items
+  pub lines : IsPermutation (store_keys (λ line. line) rows) found.lines.items
+  pub lines_sorted : IsNonDecreasing found.lines.items
+  pub cuts : found.cuts.items ≡ cut_ticks rows
+
+-- keys are sorted and few
+pub record IsUsable (found : Found) : Type 0 where
+  pub stores_sorted : IsNonDecreasing found.stores.items
+  pub reads_sorted : IsNonDecreasing found.reads.items
+  pub lines_sorted : IsNonDecreasing found.lines.items
+  pub few_stores : length found.stores.items ≤ 400000
+  pub few_reads : length found.reads.items ≤ 400000
