@@ -1,5 +1,5 @@
 //! Numbers as results have them: without leading zeros.
-ghost use Rattle.std.specs.Prelude.{◌≡◌, ◌≢◌, ◌^◌, ◌<◌, ◌≤◌, ◌↔◌, ℕ, Option, IsTrue, IfSome, IfNone, decimal};
+ghost use Rattle.std.specs.Prelude.{◌≡◌, ◌≢◌, ◌^◌, ◌<◌, ◌≤◌, ◌↔◌, ℕ, Option, length, slice_index, IsTrue, IfSome, IfNone, decimal};
 ghost use Rattle.std.specs.Option.{ForSome};
 ghost use Rattle.result_rows.specs.RowText.{decimal_or_empty};
 ghost use Rattle.result_reader.specs.ResultRows.{IsPlace};
@@ -9,12 +9,19 @@ use trace_reader::number;
 /// The greatest number of an array line.
 const LAST_PLACE: u64 = 98_831;
 
+// Whether a text begins with a zero that isn't all of it.
+fn has_leading_zero(text: &[u8]) -> bool
+    ensures { IsTrue result ↔ ((1 < length text.now) × (slice_index text.now 0 ≡ 48)) }
+{
+    text.len() > 1 && text[0] == b'0'
+}
+
 /// The number up to `most` that a text is, as it is printed.
 pub fn read_number(text: &[u8], most: u64) -> Option<u64>
     ensures some { IfSome result (λ n. (n ≤ most) × (text.now ≡ decimal n)) }
     ensures none { IfNone result ((n : ℕ) → n ≤ most → text.now ≢ decimal n) }
 {
-    if text.len() > 1 && text[0] == b'0' {
+    if has_leading_zero(text) {
         return None;
     }
     number(text, 20, most)
