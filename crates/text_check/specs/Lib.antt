@@ -1,3 +1,4 @@
 -- What a text that has a trace and its results is judged by.
 pub mod Checked
 pub mod VerdictText
+pub mod PrintedLaw

@@ -2,6 +2,8 @@
 //! says so.
 #![tactic(auto)]
 
+ghost use Rattle.text_check.specs.PrintedLaw.{PrintedLaw};
+
 mod asks;
 mod banks;
 mod fault;
@@ -13,3 +15,8 @@ pub use fault::TextFault;
 pub use result_check::{Rule, Verdict};
 pub use text::check_text;
 pub use verdict::print_verdict;
+
+/// What a run prints of its results is read as these.
+pub fn printed_results_are_read()
+    ensures { PrintedLaw }
+{}
