@@ -90,10 +90,11 @@ abbrev pub seeded_lines : {B M : ℕ} → Option (Vec (LifeLine B M) Global) →
 seeded_lines None = []
 seeded_lines (Some lines) = lines.items
 
--- the array: its lines, and how often it was torn
+-- the array: its lines, how often it was torn, and the wear that it was last powered up with
 pub record SeededArray (B M : ℕ) : Type 0 where
   pub lines : List (LifeLine B M)
   pub tears : ℕ
+  pub wear : Option Wear
 
 -- the line with this number
 abbrev pub seeded_line : {B M : ℕ} → SeededArray B M → ℕ → LifeLine B M
@@ -106,6 +107,7 @@ seeded_state array = record {
   lines = length array.lines;
   tears = array.tears;
   log = None;
+  wear = array.wear;
 }
 
 -- a pulse or a tear of the line: each masked cell wears as its life says, the pulse is counted, and all else stays

@@ -82,7 +82,7 @@ impl<A: CellArray<B, M> + Drop, const B: usize, const M: usize> CellArray<B, M>
     fn power_up(&mut self, alloc: Global, lines: u32, wear: Wear) -> Result<(), AllocError>
         requires wear { IsWear wear }
         requires shape { IsShape B M }
-        ensures ok { OnOk result (IsFresh lines (logged_state (A.state self.new.inner) self.new)) }
+        ensures ok { OnOk result (IsFresh lines wear (logged_state (A.state self.new.inner) self.new)) }
         ensures err { OnErr result ((A.state self.new.inner).lines ≡ 0) }
         ensures log { told_log self.new ≡ Some [] }
         ensures cap { self.new.cap ≡ self.old.cap }

@@ -199,6 +199,7 @@ fn drawn_lines<const B: usize, const M: usize>(
 pub struct MemArray<const B: usize, const M: usize> {
     lines: Option<Vec<SeededLine<B, M>>>,
     tears: u64,
+    wear: Option<Wear>,
 }
 
 impl<const B: usize, const M: usize> Model for MemArray<B, M> {
@@ -208,7 +209,7 @@ impl<const B: usize, const M: usize> Model for MemArray<B, M> {
 
     ghost Value = { SeededArray B M };
 
-    ghost view = { λ a. record { lines = seeded_lines a.lines; tears = a.tears } };
+    ghost view = { λ a. record { lines = seeded_lines a.lines; tears = a.tears; wear = a.wear } };
 
     ghost invariant = { λ a. (length (seeded_lines a.lines) < 2 ^ 32) × IsShape B M × IsWhole B M };
 }
@@ -218,11 +219,12 @@ impl<const B: usize, const M: usize> MemArray<B, M> {
     pub fn new() -> MemArray<B, M>
         requires shape { IsShape B M }
         requires whole { IsWhole B M }
-        ensures { result ≡ record { lines = []; tears = 0 } }
+        ensures { result ≡ record { lines = []; tears = 0; wear = None } }
     {
         MemArray {
             lines: None,
             tears: 0,
+            wear: None,
         }
     }
 
@@ -232,6 +234,7 @@ impl<const B: usize, const M: usize> MemArray<B, M> {
         requires shape { IsShape B M }
         ensures wears { Wears line tearing mask.now want.now self.old self.new }
         ensures tears { self.new.tears ≡ self.old.tears }
+        ensures wear { self.new.wear ≡ self.old.wear }
     {
         let Some(lines) = &mut self.lines else {
             unreachable!()
@@ -250,12 +253,13 @@ impl<const B: usize, const M: usize> CellArray<B, M> for MemArray<B, M> {
     fn power_up(&mut self, alloc: Global, lines: u32, wear: Wear) -> Result<(), AllocError>
         requires wear { IsWear wear }
         requires shape { IsShape B M }
-        ensures ok { OnOk result (IsFresh lines (seeded_state self.new)) }
+        ensures ok { OnOk result (IsFresh lines wear (seeded_state self.new)) }
         ensures err { OnErr result (length self.new.lines ≡ 0) }
         ensures drawn { OnOk result ((l : ℕ) → l < lines → IsDrawn wear l (seeded_line self.new l)) }
     {
         self.lines = None;
         self.tears = 0;
+        self.wear = Some(wear);
         self.lines = Some(drawn_lines(alloc, lines, wear)?);
         Ok(())
     }

@@ -8,4 +8,5 @@ returns-clause-ok g c = record {
   blank = λ l h. drawn_is_blank c.args.wear l _ (c.in_ok-drawn_lines.ensures.drawn l h);
   tears = refl;
   log = λ senses told. cc;
+  wear = refl;
 }
