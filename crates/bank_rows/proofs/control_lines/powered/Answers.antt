@@ -8,7 +8,7 @@ returns-clause-held g c =
     let count = fresh.count in
     rw c.new.ensures (record {
       exist = omega (arith, count);
-      sound = λ item below. fresh_sound 6 5 (2 + item) _ fresh (omega (arith, below));
+      sound = λ item below. fresh_sound 6 5 (2 + item) _ _ fresh (omega (arith, below));
       writing = tt;
       halted = λ yes. cc;
     })
