@@ -53,11 +53,11 @@ senses = holds 5 17 (whole 0) 0 ∷ holds 15 17 (whole 0x11) 1 ∷ holds 105 17 
 
 -- the array in the end
 abbrev pub ended : ArrayState 2 1
-ended = record { line = λ line. if line == 17 then holding 0x11 1 else holding 0 0; lines = 22; tears = 0; log = Some senses }
+ended = record { line = λ line. if line == 17 then holding 0x11 1 else holding 0 0; lines = 22; tears = 0; log = Some senses; wear = None }
 
 -- the same, but that what was written is gone
 abbrev pub forgotten : ArrayState 2 1
-forgotten = record { line = λ line. if line == 17 then holding 0 1 else holding 0 0; lines = 22; tears = 0; log = Some senses }
+forgotten = record { line = λ line. if line == 17 then holding 0 1 else holding 0 0; lines = 22; tears = 0; log = Some senses; wear = None }
 
 -- over no array and by no ends are these rows right
 abbrev pub NeverRight : List (Row 2) → Type 0
