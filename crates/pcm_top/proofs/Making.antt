@@ -1,5 +1,5 @@
 -- What a run that was made is, and that what is written of it is its text.
-use Rattle.std.proofs.Common.{◌≡◌, ℕ, List, length, Option, sym, subst}
+use Rattle.std.proofs.Common.{◌≡◌, ℕ, List, length, Option, Some, sym, subst}
 use Rattle.std.specs.Io.KnownBytes.{Appends}
 use Rattle.pcm_io.specs.Giving.{AppendsPrefix}
 use Rattle.pcm_cells.specs.Device.{ArrayState}
@@ -36,9 +36,9 @@ module _ {n m e : ℕ} (job : RunJob) (array : ArrayState n m) (events : List (E
       let Seeded : ℕ → Type 0 = λ seed. RunsRight e job.shape seed (rows_of events outcomes) array left.0 in
       subst Seeded seeded (subst Shaped shape left.2)
 
-  module _ (s : SourceChange) (come : ComeFrom n job job.input s events) where
+  module _ (s : SourceChange) (come : ComeFrom n job job.input s events) (wear : array.wear ≡ Some job.wear) where
     abbrev made : Runs n m e job s array
-    made = record { events = events; come = come; outcomes = outcomes; one_each = size; ends = left.0; right = of-job }
+    made = record { events = events; come = come; outcomes = outcomes; one_each = size; ends = left.0; right = of-job; wear = wear }
 
     text-of-job : (whole : List ℕ) → IsRunText pcm.shape pcm.seed events outcomes left.0 array job.print whole → IsRunText job.shape job.seed events outcomes left.0 array job.print whole
     text-of-job whole is =

@@ -1,5 +1,5 @@
 -- What a job does, and why a call does none of it.
-use Rattle.std.specs.Prelude.{◌≡◌, ◌⊎◌, ℕ, Bool, true, false, if◌then◌else◌, List, length, Option, Result, Ok, Err}
+use Rattle.std.specs.Prelude.{◌≡◌, ◌⊎◌, ℕ, Bool, true, false, if◌then◌else◌, List, length, Option, Some, Result, Ok, Err}
 use Rattle.std.specs.Io.KnownBytes.{Appends}
 use Rattle.pcm_io.specs.Faults.{Rose}
 use Rattle.pcm_io.specs.Giving.{AppendsPrefix}
@@ -40,7 +40,7 @@ status_done Short = 1
 -- lines of n bytes with m check bytes and e error-correcting pointers
 module _ (n m e : ℕ) (job : RunJob) (s : SourceChange) (array : ArrayState n m) where
   -- a run: its events came from its input, each row has an outcome, and what a completed run leaves is right; a completed read
-  -- has its line's newest bytes, and each line's newest bytes are in the array or in a queue
+  -- has its line's newest bytes, and each line's newest bytes are in the array or in a queue. The array was powered up with the job's wear
   pub record Runs : Type 0 where
     pub events : List (Event n)
     pub come : ComeFrom n job job.input s events
@@ -48,6 +48,7 @@ module _ (n m e : ℕ) (job : RunJob) (s : SourceChange) (array : ArrayState n m
     pub one_each : length outcomes ≡ length events
     pub ends : ℕ → BankEnd
     pub right : RunsRight e job.shape job.seed (rows_of events outcomes) array ends
+    pub wear : array.wear ≡ Some job.wear
 
   -- this is its text
   abbrev pub IsTextOf : Runs → List ℕ → Type 0

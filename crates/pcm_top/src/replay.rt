@@ -30,6 +30,7 @@ pub fn replay<const B: usize, const M: usize, const E: usize, A: CellArray<B, M>
     ensures table { length results.new ≡ length events.now }
     ensures right { (ends : ℕ → BankEnd) × AreEndsOf pcm.new ends
         × RunsRight E pcm.new.shape pcm.new.seed (rows_of events.now results.new) (A.state array.new) ends }
+    ensures wear { (A.state array.new).wear ≡ (A.state array.old).wear }
 {
     for (i, event) in events.iter().enumerate() {
         pcm.event(array, i as u32 + 1, event, results);

@@ -55,7 +55,7 @@ returns-in-Ok-written-clause-done g c =
     can-print job array events c.replay.new.results c.replay.new.pcm shape seeded size left
     c.right_runs_can_be_printed.ensures c.requires.job.shape (rw (← c.as_slice-2.ensures.value) at c.in_ok-events.ensures.events) in
     run-written job array events c.replay.new.results c.replay.new.pcm shape seeded size left _ (rw (← c.as_slice-2.ensures.value) at c.in_ok-events.ensures.come)
-    (g.K.Sink.written c.args.out.now) (g.K.Sink.written c.print_run-written.new.out) c.ending.result c.ending.ensures can.roles c.in-Ok-written.ensures.ok
+    (c.replay.ensures.wear ∙ c.in-Ok.ensures.wear) (g.K.Sink.written c.args.out.now) (g.K.Sink.written c.print_run-written.new.out) c.ending.result c.ending.ensures can.roles c.in-Ok-written.ensures.ok
 
 pub returns-clause-write : goal.returns-clause-write
 returns-clause-write g c =
@@ -72,6 +72,6 @@ returns-clause-write g c =
     can-print job array events c.replay.new.results c.replay.new.pcm shape seeded size left
     c.right_runs_can_be_printed.ensures c.requires.job.shape (rw (← c.as_slice-2.ensures.value) at c.in_ok-events.ensures.events) in (
       run-part job array events c.replay.new.results c.replay.new.pcm shape seeded size left _ (rw (← c.as_slice-2.ensures.value) at c.in_ok-events.ensures.come)
-          (g.K.Sink.written c.args.out.now) (g.K.Sink.written c.print_run-written.new.out) can.roles c.in-Err-written.ensures.prefix,
+          (c.replay.ensures.wear ∙ c.in-Ok.ensures.wear) (g.K.Sink.written c.args.out.now) (g.K.Sink.written c.print_run-written.new.out) can.roles c.in-Err-written.ensures.prefix,
       c.in-Err-written.ensures.fault,
     )
