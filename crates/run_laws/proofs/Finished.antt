@@ -1,14 +1,18 @@
 -- A finished run is right, by the laws of its banks.
-use Rattle.std.proofs.Common.{◌≡◌, ℕ, ◌<◌, List, [], map, Some, sym, ◌∙◌, subst, arith}
+use Rattle.std.proofs.Common.{◌≡◌, ℕ, ◌+◌, ◌*◌, ◌/◌, ◌%◌, ◌<◌, ◌≤◌, List, [], map, Some, sym, ◌∙◌, subst, arith}
 use Rattle.std.specs.Prelude.{All}
 use Rattle.std.proofs.lemmas.List.{append-nil}
+use Rattle.std.proofs.lemmas.Nat.{mod_below, div_below, div-add-mod'}
+use Rattle.std.proofs.Math.Nat.{one-le-mul}
 use Rattle.std.proofs.lemmas.List.Elements.{All-nil, All-map}
 use Rattle.pcm_cells.specs.Device.{ArrayState}
 use Rattle.pcm_cells.specs.declared.array.Sense.{Sense}
 use Rattle.result_rows.specs.declared.Outcome.{Outcome}
+use Rattle.line_writer.specs.Untouched.{HasUntouched, AreUntouched}
 use Rattle.row_laws.specs.declared.Row.{Row}
 use Rattle.row_laws.specs.Table.{KeepsRows}
 use Rattle.bank_shape.specs.declared.BankShape.{BankShape}
+use Rattle.bank_shape.specs.Shape.{lines_in}
 use Rattle.bank_model.specs.Adding.{senses_of}
 use Rattle.bank_model.specs.Timing.{Timed}
 use Rattle.bank_model.specs.Lawful.{Lawful}
@@ -16,12 +20,12 @@ use Rattle.bank_laws.specs.Laws.{IsSized, LeavesArray, KeepsPlaces, KeepsLog, is
 use Rattle.bank_laws.specs.Outcomes.{table_of}
 use Rattle.module_shape.specs.declared.raw.RawShape.{RawShape}
 use Rattle.module_shape.specs.Limits.{IsShape, total_of}
-use Rattle.module_shape.specs.Addresses.{module_of, bank_shape}
+use Rattle.module_shape.specs.Addresses.{module_of, array_lines_of, bank_shape}
 use Rattle.table_laws.specs.Whole.{WholeTableLaw, WholePlaceLaw, WholeLogLaw, WholeRoomLaw}
 use Rattle.module_laws.specs.Asking.{Asked, row_with}
 use Rattle.module_laws.specs.Serves.{BankTableLaw, ServedByBanksLaw, RoomByBankLaw, IsOfLines}
 use Rattle.bank_invariant.specs.Tied.{decoded}
-use Rattle.clock_laws.specs.Ending.{LeavingLaw}
+use Rattle.clock_laws.specs.Ending.{LeavingLaw, UntouchedLaw}
 use Rattle.clock_laws.specs.State.{ClockState}
 use Rattle.end_laws.specs.Ends.{EndsWith}
 use Rattle.end_laws.specs.EndLaws.{RemappedLaw, GapsLaw, KeptLaw, QueuedLaw, StillThereLaw}
@@ -41,6 +45,7 @@ pub record BankLaws : Type 0 where
   pub served : ServedByBanksLaw
   pub finds : RoomByBankLaw
   pub leaving : LeavingLaw
+  pub unused : UntouchedLaw
   pub remapped : RemappedLaw
   pub gaps : GapsLaw
   pub kept : KeptLaw
@@ -58,6 +63,10 @@ sized raw bank is = record {
   read = is.some_read_ticks;
   iter = is.some_iter_ticks;
 }
+
+-- and has array lines
+some_lines : (raw : RawShape) → IsShape raw → 0 < array_lines_of (module_of raw)
+some_lines raw is = let slots : 1 ≤ raw.regions * (raw.lines + 1) = one-le-mul {a = raw.regions} {b = raw.lines + 1} is.some_regions (omega arith) in omega (arith, slots)
 
 module _ {n m e : ℕ} (laws : BankLaws) (raw : RawShape) (seed : ℕ) (h : ℕ → List (Timed n m)) (trace : List (Asked n)) (banks : ℕ → ClockState n m e)
     (array : ArrayState n m) (outcome : ℕ → Outcome n) (is : IsShape raw) (done : IsFinished raw seed h trace banks array outcome) where
@@ -103,6 +112,12 @@ module _ {n m e : ℕ} (laws : BankLaws) (raw : RawShape) (seed : ℕ) (h : ℕ 
         (ends_right (h bank) (banks bank) array (done.leads bank exists) (shape_of bank) (pacing_in raw) (done.shapes bank exists) (done.paces bank exists)
         laws.leaving laws.remapped laws.gaps laws.kept laws.queued laws.still (sized raw bank is) (done.idle bank exists))
 
+    -- no unused check cell of its lines was ever pulsed
+    untouched : AreUntouched e array (shape_of bank).base (lines_in (shape_of bank))
+    untouched =
+        subst (λ (s : BankShape). AreUntouched e array s.base (lines_in s)) (done.shapes bank exists)
+        (laws.unused n m e (h bank) (banks bank) array (done.leads bank exists))
+
   -- of the whole module
   exist : All (λ r. IsOfLines (total_of raw) r.asks) rows
   exist = All-map (λ (r : Row n). IsOfLines (total_of raw) r.asks) (row_with outcome) trace done.exist
@@ -119,12 +134,23 @@ module _ {n m e : ℕ} (laws : BankLaws) (raw : RawShape) (seed : ℕ) (h : ℕ 
     places = keeps_places;
   }
 
+  -- each array line is one of a bank
+  unused : (line : ℕ) → line < array.lines → HasUntouched e (array.line line)
+  unused line below =
+      let each : ℕ = array_lines_of (module_of raw) in
+      let within : line < raw.banks * each = omega (arith, below, done.size) in
+      let some : 0 < each = some_lines raw is in
+      let place : line / each * each + line % each ≡ line = div-add-mod' line each in
+      subst (λ (at : ℕ). HasUntouched e (array.line at)) place
+      (untouched (line / each) (div_below line each raw.banks some within) (line % each) (mod_below line each some))
+
   pub runs_right : RunsRight e raw seed rows array (ends_of h banks)
   runs_right = record {
     size = done.size;
     serves = serves;
     sensed = λ log told bank few. keeps_log bank few log told;
     end = ends;
+    unused = unused;
   }
 
 pub finished_law : BankLaws → FinishedLaw

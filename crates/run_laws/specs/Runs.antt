@@ -5,6 +5,7 @@ use Rattle.feistel_map.specs.Log2.{log2}
 use Rattle.feistel_map.specs.Network.{network_of, feistel, unfeistel}
 use Rattle.pcm_cells.specs.Device.{ArrayState}
 use Rattle.pcm_cells.specs.declared.array.Sense.{Sense}
+use Rattle.line_writer.specs.Untouched.{HasUntouched}
 use Rattle.row_laws.specs.declared.Row.{Row}
 use Rattle.row_laws.specs.Rows.{each_row}
 use Rattle.row_laws.specs.Rules.{Rules}
@@ -71,9 +72,14 @@ module _ {n m : ℕ} (e : ℕ) (raw : RawShape) (seed : ℕ) where
       (bank : ℕ) → bank < raw.banks
       → EndsWith (bank_shape (module_of raw) bank) (is_worn_at e array) (decoded e array) (table_in raw seed bank rows) (ends bank)
 
+  -- no unused check cell of an array line was ever pulsed
+  abbrev pub Unused : ArrayState n m → Type 0
+  Unused array = (line : ℕ) → line < array.lines → HasUntouched e (array.line line)
+
   -- the headline: what a completed run leaves
   pub record RunsRight (rows : List (Row n)) (array : ArrayState n m) (ends : ℕ → BankEnd) : Type 0 where
     pub size : array.lines ≡ raw.banks * array_lines_of (module_of raw)
     pub serves : Serves rows array
     pub sensed : Sensed rows array
     pub end : Ends rows array ends
+    pub unused : Unused array

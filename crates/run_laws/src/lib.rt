@@ -8,7 +8,7 @@ mod worked;
 ghost use Rattle.run_laws.specs.FinishedLaws.{FinishedLaw, LinesLaw, NamedLaw, RolesLaw};
 ghost use Rattle.run_laws.specs.RowsOfRuns.{OwnOutcomesLaw, PlacesExistLaw, FewArrayLinesLaw, NoneLostLaw, RoomIsTakenLaw, NoneShortLaw};
 
-use clock_laws::events::histories_leave_the_array;
+use clock_laws::events::{histories_leave_the_array, unused_cells_stay_untouched};
 use end_laws::{
     excepted_lines_are_queued, lines_are_kept, lines_have_one_role, registers_follow_stores,
     slots_have_their_lines, stored_rows_are_still_there,
@@ -42,6 +42,7 @@ pub fn finished_runs_are_right()
     modules_serve_as_their_banks();
     every_row_finds_room();
     histories_leave_the_array();
+    unused_cells_stay_untouched();
     slots_have_their_lines();
     registers_follow_stores();
     lines_are_kept();

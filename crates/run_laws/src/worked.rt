@@ -4,7 +4,7 @@
 ghost use Rattle.std.specs.Prelude.{◌≡◌, ℕ};
 ghost use Rattle.end_laws.specs.Ends.{BankEnd};
 ghost use Rattle.run_laws.specs.Runs.{RunsRight, bank_of_line, line_in_bank, line_named, table_in};
-ghost use Rattle.run_laws.specs.Worked.{small, reading, misplaced, first_bank, second_bank, ended, forgotten, unmoved, NeverRight};
+ghost use Rattle.run_laws.specs.Worked.{small, reading, misplaced, first_bank, second_bank, ended, touched, forgotten, unmoved, NeverRight};
 
 use crate::{
     array_lines_are_few, array_lines_have_one_role, finished_runs_are_right,
@@ -24,6 +24,7 @@ fn worked_runs_are_judged()
     ensures right { RunsRight 1 small 0 (reading 0x11 0) ended unmoved }
     ensures stale { NeverRight (reading 0 0) }
     ensures misplaced { (ends : ℕ → BankEnd) → RunsRight 1 small 0 misplaced ended ends → ⊥ }
+    ensures touched { RunsRight 1 small 0 (reading 0x11 0) touched unmoved → ⊥ }
     ensures forgotten { RunsRight 1 small 0 (reading 0x11 0) forgotten unmoved → ⊥ }
 {}
 

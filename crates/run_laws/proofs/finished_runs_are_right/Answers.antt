@@ -12,6 +12,7 @@ returns c =
       served = c.modules_serve_as_their_banks.ensures;
       finds = c.every_row_finds_room.ensures;
       leaving = c.histories_leave_the_array.ensures;
+      unused = c.unused_cells_stay_untouched.ensures;
       remapped = c.slots_have_their_lines.ensures;
       gaps = c.registers_follow_stores.ensures;
       kept = c.lines_are_kept.ensures;
