@@ -66,8 +66,7 @@ pub record IsExhausted {n m e : ℕ} (kept : KeptState n) (running : Option (Ope
   pub idle : running ≡ None
   pub worn : IsWornLine e (array.line (target_of kept (due_work (due_region kept) kept kept.entries)))
 
--- what ties a bank to its array, indexed by the parts that it reads. No unused check cell of a slot or a spare was ever pulsed, which
--- would have left it other than untouched
+-- what ties a bank to its array, indexed by the parts that it reads; the unused check cells of its slots and spares are untouched
 pub record AreTied {n m e : ℕ} (kept : KeptState n) (running : Option (Operation n m e)) (waiting : List (Waiting n)) (array : ArrayState n m) : Type 0 where
   pub lines : kept.shape.base + lines_in kept.shape ≤ array.lines
   pub sound : AreSound e kept array

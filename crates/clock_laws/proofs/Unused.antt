@@ -1,4 +1,4 @@
--- No unused check cell of a line of the bank was ever pulsed.
+-- The unused check cells of a bank's lines are untouched.
 use Rattle.std.proofs.Common.{◌≡◌, ℕ, ◌+◌, ◌-◌, ◌<◌, inl, inr, subst, arith}
 use Rattle.std.proofs.lemmas.Bool.{cases_lt}
 use Rattle.line_writer.specs.Untouched.{HasUntouched}

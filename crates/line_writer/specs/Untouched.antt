@@ -7,7 +7,7 @@ use Rattle.program_verify.specs.Programming.{is_wrong}
 use Rattle.ecp_line.specs.Layout.{full_cell}
 
 module _ {n m : ℕ} where
-  -- such a cell holds 0, is live, and never missed: a pulse of it, which would want a 1, leaves none of these three as they are
+  -- a cell as it is powered up: it holds 0, is live, and has no miss. A pulse of it, which would want a 1, ends one of these
   pub record IsUntouched (line : LineState n m) (number : ℕ) : Type 0 where
     pub held : cell line.held number ≡ false
     pub live : line.stuck number ≡ false

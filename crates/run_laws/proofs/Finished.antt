@@ -64,7 +64,7 @@ sized raw bank is = record {
   iter = is.some_iter_ticks;
 }
 
--- and has array lines
+-- and array lines
 some_lines : (raw : RawShape) → IsShape raw → 0 < array_lines_of (module_of raw)
 some_lines raw is = let slots : 1 ≤ raw.regions * (raw.lines + 1) = one-le-mul {a = raw.regions} {b = raw.lines + 1} is.some_regions (omega arith) in omega (arith, slots)
 
@@ -112,7 +112,7 @@ module _ {n m e : ℕ} (laws : BankLaws) (raw : RawShape) (seed : ℕ) (h : ℕ 
         (ends_right (h bank) (banks bank) array (done.leads bank exists) (shape_of bank) (pacing_in raw) (done.shapes bank exists) (done.paces bank exists)
         laws.leaving laws.remapped laws.gaps laws.kept laws.queued laws.still (sized raw bank is) (done.idle bank exists))
 
-    -- no unused check cell of its lines was ever pulsed
+    -- the unused check cells of its lines are untouched
     untouched : AreUntouched e array (shape_of bank).base (lines_in (shape_of bank))
     untouched =
         subst (λ (s : BankShape). AreUntouched e array s.base (lines_in s)) (done.shapes bank exists)
@@ -134,7 +134,7 @@ module _ {n m e : ℕ} (laws : BankLaws) (raw : RawShape) (seed : ℕ) (h : ℕ 
     places = keeps_places;
   }
 
-  -- each array line is one of a bank
+  -- and so are those of each array line, which is one of a bank
   unused : (line : ℕ) → line < array.lines → HasUntouched e (array.line line)
   unused line below =
       let each : ℕ = array_lines_of (module_of raw) in

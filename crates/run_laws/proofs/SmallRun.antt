@@ -145,7 +145,7 @@ room : (bank : ℕ) → bank < 2 → each_row (finds_room_in (bank_of_line small
 unfolding next_u64 stream_of
 room = each_bank (λ bank. each_row (finds_room_in (bank_of_line small 0) (line_in_bank small 0) (rules_in 1 small bank) bank) rows [] ≡ true) refl refl
 
--- a check cell behind the 22nd cell is unused
+-- the cells behind number 21 are unused
 full_is : layout.full_cell 2 1 ≡ 21
 unfolding layout.width lib.Count.count_trailing_zeros
 full_is = refl

@@ -72,7 +72,7 @@ module _ {n m : ℕ} (e : ℕ) (raw : RawShape) (seed : ℕ) where
       (bank : ℕ) → bank < raw.banks
       → EndsWith (bank_shape (module_of raw) bank) (is_worn_at e array) (decoded e array) (table_in raw seed bank rows) (ends bank)
 
-  -- no unused check cell of an array line was ever pulsed
+  -- each unused check cell of every array line is untouched
   abbrev pub Unused : ArrayState n m → Type 0
   Unused array = (line : ℕ) → line < array.lines → HasUntouched e (array.line line)
 
