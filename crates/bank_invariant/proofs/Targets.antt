@@ -180,8 +180,10 @@ module _ {n m : ℕ} where
       }
 
   -- and no unused check cell is touched
-  pub AreUntouched-differs : (e target from lines : ℕ) (old new : ArrayState n m) → DiffersAt e target old new → AreUntouched e old from lines → AreUntouched e new from lines
-  AreUntouched-differs e target from lines old new differs own = AreUntouched-beside e old new target from lines differs.others differs.unused own
+  pub AreUntouched-differs : (e target from lines : ℕ) (old new : ArrayState n m) → DiffersAt e target old new
+      → AreUntouched e old from lines → AreUntouched e new from lines
+  AreUntouched-differs e target from lines old new differs own =
+      AreUntouched-beside e old new target from lines differs.others differs.unused own
 
   -- Where the premises come from
 

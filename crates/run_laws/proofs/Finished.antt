@@ -66,7 +66,9 @@ sized raw bank is = record {
 
 -- and array lines
 some_lines : (raw : RawShape) → IsShape raw → 0 < array_lines_of (module_of raw)
-some_lines raw is = let slots : 1 ≤ raw.regions * (raw.lines + 1) = one-le-mul {a = raw.regions} {b = raw.lines + 1} is.some_regions (omega arith) in omega (arith, slots)
+some_lines raw is =
+    let slots : 1 ≤ raw.regions * (raw.lines + 1) = one-le-mul {a = raw.regions} {b = raw.lines + 1} is.some_regions (omega arith) in
+    omega (arith, slots)
 
 module _ {n m e : ℕ} (laws : BankLaws) (raw : RawShape) (seed : ℕ) (h : ℕ → List (Timed n m)) (trace : List (Asked n)) (banks : ℕ → ClockState n m e)
     (array : ArrayState n m) (outcome : ℕ → Outcome n) (is : IsShape raw) (done : IsFinished raw seed h trace banks array outcome) where

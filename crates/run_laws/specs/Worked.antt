@@ -55,9 +55,12 @@ senses = holds 5 17 (whole 0) 0 ∷ holds 15 17 (whole 0x11) 1 ∷ holds 105 17 
 abbrev pub ended : ArrayState 2 1
 ended = record { line = λ line. if line == 17 then holding 0x11 1 else holding 0 0; lines = 22; tears = 0; log = Some senses; wear = None }
 
--- the same, but that an unused check cell, the second last one, of line 3 holds 1
+-- the same, but that the second last check cell of line 3, an unused one, holds 1
+abbrev pub touched_line : LineState 2 1
+touched_line = record (holding 0 1) { held = record { bits = whole 0; meta = 64 ∷ [] } }
+
 abbrev pub touched : ArrayState 2 1
-touched = record ended { line = λ line. if line == 3 then record { held = record { bits = whole 0; meta = 64 ∷ [] }; stuck = λ n. false; misses = λ n. 0; pulses = 1 } else ended.line line }
+touched = record ended { line = λ line. if line == 3 then touched_line else ended.line line }
 
 -- the same, but that what was written is gone
 abbrev pub forgotten : ArrayState 2 1
