@@ -134,7 +134,7 @@ fn play<A: CellArray<64, 8>>(
     ensures replayed { IsReplayed memory.new (A.state array.new) results.new }
     ensures rises { memory.new.rows_below ≤ row + 1 }
 {
-    if tick < memory.tick || tick > LAST_TICK || !is_open(results, row) {
+    if tick < memory.tick() || tick > LAST_TICK || !is_open(results, row) {
         return false;
     }
     let Some(op) = op_for(call, memory.shape().total()) else {
