@@ -106,6 +106,7 @@ fn with_program_name<'a>(alloc: Global, words: &'a [String]) -> Result<Vec<&'a s
 // Why clap refused the words.
 fn refusal(error: &Error) -> Refusal
     ensures told { result ≢ Refusal.NoMemory → kind_of error.now ≢ ErrorKind.OutOfMemory }
+    ensures memory { result ≡ Refusal.NoMemory → kind_of error.now ≡ ErrorKind.OutOfMemory }
     ensures usage { result ≢ Refusal.NoMemory → result ≡ Refusal.Usage }
 {
     match error.kind() {

@@ -120,6 +120,13 @@ impl<const B: usize, const M: usize, const E: usize> Module<B, M, E> {
         &self.banks[bank as usize]
     }
 
+    /// The tick of the last row that came, 0 before the first.
+    pub fn tick(&self) -> u64
+        ensures { result ≡ self.now.tick }
+    {
+        self.tick
+    }
+
     /// The sizes of the module.
     pub fn shape(&self) -> &Shape
         ensures shape { result.now ≡ self.now.shape }

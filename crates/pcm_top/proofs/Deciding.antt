@@ -69,8 +69,8 @@ fault-status n lines NoMemory s bytes is calm cause = inr refl
 fault-status n lines (Trace f) s bytes is calm cause =
     inl (by-trace n lines bytes cause.0 3 (Err (parsing.Trace f)) (reads-told n s bytes cause.0 is cause.1) cause.1.within cause.2 refl)
 fault-status n lines TooLong s bytes is calm (inl more) =
-    let size = more-go s.left_before s.left_now bytes more.0 is more.1.first in
-    let over = more.2 in
+    let size = more-go s.left_before s.left_now bytes more.1.0 is more.1.1.first in
+    let over = more.1.2 in
     inl (inl (omega arith, refl))
 fault-status n lines TooLong s bytes is calm (inr many) =
     inl (by-trace n lines bytes many.0 6 (Err parsing.TooMany) (reads-told n s bytes many.0 is many.1) many.1.within many.2 refl)
@@ -151,7 +151,7 @@ pub drawn-nothing : (left : Option (List ℕ)) (taken faults : ℕ) → TakesNot
 drawn-nothing left taken faults = record { left = refl; taken = refl; faults = refl }
 
 input-memory : (n : ℕ) (job : RunJob) (input : Input) (left : Option (List ℕ)) (taken faults : ℕ) → IsFaultOf n job input NoMemory (untouched left taken faults)
-input-memory n job Source left taken faults = some-nothing n left taken faults
+input-memory n job Source left taken faults = (refl, some-nothing n left taken faults)
 input-memory n job (Drawn mix) left taken faults = refl
 
 memory-cause : (asked : Result Job Refusal) (left : Option (List ℕ)) (taken faults : ℕ) → HasCause NoMemory asked (untouched left taken faults)
@@ -181,7 +181,7 @@ too-much : (n lines : ℕ) (fault : Fault) (s : SourceChange) → IsReadFault n 
 too-much n lines Usage s cause low over = absurd cause
 too-much n lines Write s cause low over = absurd cause
 too-much n lines Read s cause low over = absurd (within-count n s cause.1 low over)
-too-much n lines NoMemory s cause low over = absurd (within-count n s cause low over)
+too-much n lines NoMemory s cause low over = absurd (within-count n s cause.1 low over)
 too-much n lines (Trace f) s cause low over = absurd (within-count n s (cause.0, cause.1.takes, cause.1.within) low over)
 too-much n lines TooLong s cause low over = refl
 

@@ -7,9 +7,9 @@ ghost use Rattle.result_rows.specs.declared.Outcome.{Outcome as OutcomeOf};
 ghost use Rattle.bank_timing.specs.Extending.{IsOpen};
 ghost use Rattle.pcm_module.specs.Replaying.{IsReplayed};
 
-use crate::module::Module;
 use module_shape::{Home, Policy, RawShape, Shape};
 use pcm_cells::{Act, CellArray, MemArray, Script, ScriptArray, Wear};
+use pcm_module::module::Module;
 use result_rows::{Outcome, Results};
 use std::alloc::{AllocError, Global};
 use std::test::Fail;
@@ -134,7 +134,7 @@ fn play<A: CellArray<64, 8>>(
     ensures replayed { IsReplayed memory.new (A.state array.new) results.new }
     ensures rises { memory.new.rows_below ≤ row + 1 }
 {
-    if tick < memory.tick || tick > LAST_TICK || !is_open(results, row) {
+    if tick < memory.tick() || tick > LAST_TICK || !is_open(results, row) {
         return false;
     }
     let Some(op) = op_for(call, memory.shape().total()) else {
