@@ -16,7 +16,9 @@ use Rattle.row_laws.specs.Rows.{each_row, asks_write, asks_write_of, line_of}
 use Rattle.row_laws.specs.Rules.{Rules}
 use Rattle.row_laws.specs.Ticking.{is_in_time, tries}
 use Rattle.bank_shape.specs.declared.BankShape.{BankShape}
-use Rattle.bank_shape.specs.Shape.{slots_of, slot_moved}
+use Rattle.bank_shape.specs.declared.Home.{Home}
+use Rattle.bank_shape.specs.declared.Home.TheVariants as home
+use Rattle.bank_shape.specs.Shape.{slots_of, slot_moved, is_array, if_array, control_line}
 use Rattle.bank_model.specs.Timing.{core}
 use Rattle.bank_model.specs.History.{in_progress, iterated, waits}
 use Rattle.bank_model.specs.After.{target_after}
@@ -36,7 +38,7 @@ use Rattle.lifetime_laws.proofs.Counting.{one, passing-none}
 use Rattle.lifetime_laws.proofs.Ranks.{count-cons, count-sum, Each}
 use Rattle.lifetime_laws.proofs.Stays.{stay_law, even_law}
 use Rattle.lifetime_laws.proofs.Spreading.{IsPlacedBy, placed-each, home-placed, found_law, spread_law}
-use Rattle.lifetime_laws.proofs.Enduring.{unworn_law}
+use Rattle.lifetime_laws.proofs.Enduring.{unworn_law, controls_law}
 use Rattle.lifetime_laws.proofs.Sound.{sound_rows_law}
 use Rattle.lifetime_laws.proofs.Writing.{pulses_on_law}
 use Rattle.lifetime_laws.proofs.Broken.{works_law}
@@ -230,8 +232,18 @@ attack_law n rules shape worn rows line slot some each read exists in_time place
 
 pub lifetime_law : LifetimeLaw
 lifetime_law n m e lo shape array rules rows hot layout endures within some each read keeps places lines few =
-    record { unworn = unworn; tells = sound_rows_law n m e shape array rules rows places unworn }
+    let tells = sound_rows_law n m e shape array rules rows places unworn in
+    record {
+      unworn = unworn;
+      taken = tells.taken;
+      finished = λ fewer. tells.finished (λ item lt. by shape.home refl lt (λ is. controls_law n m e lo shape array rules rows layout endures within places (fewer is) item lt));
+    }
   where
+    by : {item : ℕ} (where_ : Home) → shape.home ≡ where_ → item < if_array shape.home (shape.regions + shape.spares + 1)
+        → (is_array shape.home ≡ true → is_worn_at e array (control_line shape item) ≡ false) → is_worn_at e array (control_line shape item) ≡ false
+    by home.Guarded is lt its = absurd (let none : if_array shape.home (shape.regions + shape.spares + 1) ≡ 0 = ap (λ h. if_array h (shape.regions + shape.spares + 1)) is in omega (arith, lt, none))
+    by home.Array is lt its = its (ap is_array is)
+
     unworn : (slot : ℕ) → slot < slots_of shape → is_worn_at e array (shape.base + slot) ≡ false
     unworn slot exists =
         let r : ℕ = slot / (shape.lines + 1) in

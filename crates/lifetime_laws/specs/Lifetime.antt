@@ -10,16 +10,16 @@ use Rattle.row_laws.specs.Rules.{Rules}
 use Rattle.row_laws.specs.Table.{KeepsRows}
 use Rattle.row_laws.specs.Ticking.{is_in_time}
 use Rattle.bank_shape.specs.declared.BankShape.{BankShape}
-use Rattle.bank_shape.specs.Shape.{slots_of, lines_in}
+use Rattle.bank_shape.specs.Shape.{slots_of, lines_in, is_array}
 use Rattle.bank_model.specs.Timing.{Pacing, Timed}
 use Rattle.bank_model.specs.Lawful.{Lawful, IsIdle}
 use Rattle.bank_laws.specs.Laws.{IsSized, LeavesArray, KeepsPlaces, is_worn_at, rules_of}
 use Rattle.bank_laws.specs.Outcomes.{table_of}
-use Rattle.bank_laws.specs.Places.{region_stores, is_placed}
+use Rattle.bank_laws.specs.Places.{region_stores, is_placed, most_pulses}
 use Rattle.lifetime_laws.specs.Spread.{most_at, most_moves, stay, stores_on}
 use Rattle.lifetime_laws.specs.Works.{most_works, most_each, stores_at}
 use Rattle.lifetime_laws.specs.Endures.{EnduresAtLeast}
-use Rattle.lifetime_laws.specs.Endurance.{TellsNoWear}
+use Rattle.lifetime_laws.specs.Endurance.{is_unrefused, is_unqueued}
 
 -- the stores of a region that are of none of these lines
 abbrev pub other_stores : {n : ℕ} → BankShape → ℕ → List ℕ → List (Row n) → ℕ
@@ -69,13 +69,15 @@ most_hot_works shape region hot rows =
     length hot * most_at shape.lines shape.psi (region_stores is_stored shape region rows) + other_stores shape region hot rows
     + most_moves shape.lines (region_stores is_stored shape region rows / shape.psi) + 1 + count_by is_cut rows
 
--- what a bank shows in which no slot's own line is worn
-pub record LivesOn {n m : ℕ} (e : ℕ) (shape : BankShape) (array : ArrayState n m) (rows : List (Row n)) : Type 0 where
+-- what a bank shows in which no slot's own line is worn: no row is refused for want of a spare, and none is left in the queue. Where
+-- registers are kept in the array the last needs that no control line is worn, which rotation doesn't spare: all pulses of the bank
+-- together are to be fewer than cells endure
+pub record LivesOn {n m : ℕ} (e lo : ℕ) (shape : BankShape) (array : ArrayState n m) (rules : Rules) (rows : List (Row n)) : Type 0 where
   pub unworn : (slot : ℕ) → slot < slots_of shape → IsFalse (is_worn_at e array (shape.base + slot))
-  pub tells : TellsNoWear shape (is_worn_at e array) rows
+  pub taken : IsTrue (each_row is_unrefused rows [])
+  pub finished : (IsTrue (is_array shape.home) → most_pulses rules rows < lo) → IsTrue (each_row is_unqueued rows [])
 
--- over cells that endure as many pulses as a slot's own line may take, no such line wears out: no row is refused for want of a spare,
--- and none is left in the queue, unless a control line is worn
+-- over cells that endure as many pulses as a slot's own line may take, no such line wears out
 abbrev pub LifetimeLaw : Type 0
 LifetimeLaw =
     (n m e lo : ℕ) (shape : BankShape) (array : ArrayState n m) (rules : Rules) (rows : List (Row n)) (hot : List ℕ)
@@ -83,4 +85,4 @@ LifetimeLaw =
     → 1 ≤ shape.lines → 1 ≤ shape.psi → 1 ≤ rules.read
     → KeepsRows rules rows → KeepsPlaces e shape array rules rows → KeepsLines shape array rules rows
     → ((region : ℕ) → region < shape.regions → most_each rules * most_hot_works shape region hot rows < lo)
-    → LivesOn e shape array rows
+    → LivesOn e lo shape array rules rows

@@ -1,13 +1,13 @@
-//! The lifetime that rotation gives a module: how the stores of one line are spread over the array lines of its region, how many
-//! pulses an array line takes, and that over cells that endure so many no line wears out. A law is what a function here ensures;
-//! the functions do nothing when they run.
+//! The lifetime that Start-Gap (Qureshi et al., MICRO 2009) gives a module: how the stores of one line are spread over the array
+//! lines of its region, how many pulses an array line takes, and that over cells that endure so many no line of a slot wears out.
+//! A law is what a function here ensures; the functions do nothing when they run.
 #![tactic(auto)]
 
 #[cfg(test)]
 mod worked;
 
 ghost use Rattle.lifetime_laws.specs.Spread.{AnyLineLaw, CopiesLaw, EvenLaw, FoundLaw, OneStayLaw, SpreadLaw, StayLaw, TightLaw};
-ghost use Rattle.lifetime_laws.specs.Endurance.{NoneRetiredLaw, SoundRowsLaw, UnwornLaw};
+ghost use Rattle.lifetime_laws.specs.Endurance.{ControlsLaw, NoneRetiredLaw, SoundRowsLaw, UnwornLaw};
 ghost use Rattle.lifetime_laws.specs.Works.{LinePulsesLaw, PulsesOnLaw, WorksLaw};
 ghost use Rattle.lifetime_laws.specs.Going.{FineWriteLaw};
 ghost use Rattle.lifetime_laws.specs.Lifetime.{AttackLaw, HotLinesLaw, KeptLinesLaw, LifetimeLaw};
@@ -71,6 +71,11 @@ pub fn spared_lines_are_unworn()
 /// Where no slot's own line is worn, no row is refused for want of a spare, and none is left in the queue unless a control line is worn.
 pub fn unworn_banks_take_all()
     ensures { SoundRowsLaw }
+{}
+
+/// Where all pulses of a bank together are fewer than its cells endure, no control line is worn.
+pub fn spared_controls_are_unworn()
+    ensures { ControlsLaw }
 {}
 
 /// And none was retired.

@@ -13,6 +13,7 @@ use end_laws::{
     excepted_lines_are_queued, lines_are_kept, lines_have_one_role, registers_follow_stores,
     slots_have_their_lines, stored_rows_are_still_there,
 };
+use lifetime_laws::lines_keep_their_law;
 use module_laws::{
     bank_tables_are_those_of_histories, every_row_finds_room, modules_serve_as_their_banks,
 };
@@ -36,6 +37,7 @@ pub fn finished_runs_are_right()
 {
     tables_keep_their_laws();
     places_keep_their_laws();
+    lines_keep_their_law();
     logs_keep_their_laws();
     banks_keep_their_room();
     bank_tables_are_those_of_histories();
