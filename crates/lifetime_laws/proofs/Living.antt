@@ -26,7 +26,8 @@ use Rattle.bank_model.specs.Changes.{change_after, keeping_after}
 use Rattle.bank_model.specs.Running.{busy_by, busy_after, gives_way, choice_after}
 use Rattle.bank_laws.proofs.Changing.{changed-idle}
 use Rattle.bank_model.specs.Timing.{is_empty}
-use Rattle.bank_laws.specs.Places.{region_stores, is_place_after, is_placed}
+use Rattle.bank_laws.specs.Places.{region_stores, is_place_after, is_placed, most_pulses}
+use Rattle.lifetime_laws.specs.Endurance.{KeepsControls}
 use Rattle.bank_laws.specs.Laws.{is_worn_at}
 use Rattle.bank_laws.specs.Outcomes.{table_of}
 use Rattle.place_laws.proofs.WornOut.{none-ready}
@@ -236,13 +237,17 @@ lifetime_law n m e lo shape array rules rows hot layout endures within some each
     record {
       unworn = unworn;
       taken = tells.taken;
-      finished = λ fewer. tells.finished (λ item lt. by shape.home refl lt (λ is. controls_law n m e lo shape array rules rows layout endures within places (fewer is) item lt));
+      finished = λ fewer. tells.finished (unworn_controls fewer);
+      leaves = λ fewer. tells.leaves (unworn_controls fewer);
     }
   where
     by : {item : ℕ} (where_ : Home) → shape.home ≡ where_ → item < if_array shape.home (shape.regions + shape.spares + 1)
         → (is_array shape.home ≡ true → is_worn_at e array (control_line shape item) ≡ false) → is_worn_at e array (control_line shape item) ≡ false
     by home.Guarded is lt its = absurd (let none : if_array shape.home (shape.regions + shape.spares + 1) ≡ 0 = ap (λ h. if_array h (shape.regions + shape.spares + 1)) is in omega (arith, lt, none))
     by home.Array is lt its = its (ap is_array is)
+
+    unworn_controls : (is_array shape.home ≡ true → most_pulses rules rows < lo) → KeepsControls shape (is_worn_at e array)
+    unworn_controls fewer item lt = by shape.home refl lt (λ is. controls_law n m e lo shape array rules rows layout endures within places (fewer is) item lt)
 
     unworn : (slot : ℕ) → slot < slots_of shape → is_worn_at e array (shape.base + slot) ≡ false
     unworn slot exists =

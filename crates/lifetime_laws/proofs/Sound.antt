@@ -63,6 +63,7 @@ pub sound_rows_law : SoundRowsLaw
 sound_rows_law n m e shape array rules rows k none = record {
   taken = refused rows [] k.worn;
   finished = λ controls. queued (leaves-none shape worn out controls) rows [] k.worn;
+  leaves = λ controls. leaves-none shape worn out controls;
 }
   where
     worn : ℕ → Bool

@@ -11,7 +11,7 @@ use Rattle.row_laws.specs.Wearing.{worn_row}
 use Rattle.bank_shape.specs.declared.BankShape.{BankShape}
 use Rattle.bank_shape.specs.Shape.{slots_of, controls_of, control_line, lines_in}
 use Rattle.bank_laws.specs.Laws.{KeepsPlaces, is_worn_at}
-use Rattle.bank_laws.specs.Places.{most_pulses}
+use Rattle.bank_laws.specs.Places.{most_pulses, may_leave}
 use Rattle.end_laws.specs.Ends.{BankEnd, EndsWith}
 use Rattle.end_laws.specs.Roles.{used_spares}
 use Rattle.lifetime_laws.specs.Endures.{EnduresAtLeast}
@@ -38,11 +38,12 @@ is_unqueued before r after = not (asks_write r.asks && is_queued r.outcome)
 abbrev pub KeepsControls : BankShape → (ℕ → Bool) → Type 0
 KeepsControls shape worn = (item : ℕ) → item < controls_of shape → IsFalse (worn (control_line shape item))
 
--- what the rows tell where no slot's own line is worn in the end: none was refused, and none is left in the queue, unless a control
--- line is worn
+-- what the rows tell where no slot's own line is worn in the end: none was refused; and unless a control line is worn, none is left in
+-- the queue, nor has the bank a reason to leave one
 pub record TellsNoWear {n : ℕ} (shape : BankShape) (worn : ℕ → Bool) (rows : List (Row n)) : Type 0 where
   pub taken : IsTrue (each_row is_unrefused rows [])
   pub finished : KeepsControls shape worn → IsTrue (each_row is_unqueued rows [])
+  pub leaves : KeepsControls shape worn → IsFalse (may_leave shape worn)
 
 abbrev pub SoundRowsLaw : Type 0
 SoundRowsLaw =

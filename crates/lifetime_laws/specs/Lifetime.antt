@@ -15,7 +15,7 @@ use Rattle.bank_model.specs.Timing.{Pacing, Timed}
 use Rattle.bank_model.specs.Lawful.{Lawful, IsIdle}
 use Rattle.bank_laws.specs.Laws.{IsSized, LeavesArray, KeepsPlaces, is_worn_at, rules_of}
 use Rattle.bank_laws.specs.Outcomes.{table_of}
-use Rattle.bank_laws.specs.Places.{region_stores, is_placed, most_pulses}
+use Rattle.bank_laws.specs.Places.{region_stores, is_placed, most_pulses, may_leave}
 use Rattle.lifetime_laws.specs.Spread.{most_at, most_moves, stay, stores_on}
 use Rattle.lifetime_laws.specs.Works.{most_works, most_each, stores_at}
 use Rattle.lifetime_laws.specs.Endures.{EnduresAtLeast}
@@ -69,13 +69,14 @@ most_hot_works shape region hot rows =
     length hot * most_at shape.lines shape.psi (region_stores is_stored shape region rows) + other_stores shape region hot rows
     + most_moves shape.lines (region_stores is_stored shape region rows / shape.psi) + 1 + count_by is_cut rows
 
--- what a bank shows in which no slot's own line is worn: no row is refused for want of a spare, and none is left in the queue. Where
--- registers are kept in the array the last needs that no control line is worn, which rotation doesn't spare: all pulses of the bank
--- together are to be fewer than cells endure
+-- what a bank shows in which no slot's own line is worn: no row is refused for want of a spare, and none is left in the queue, nor has
+-- the bank a reason to leave one. Where registers are kept in the array the last needs that no control line is worn, which rotation
+-- doesn't spare: all pulses of the bank together are to be fewer than cells endure
 pub record LivesOn {n m : ℕ} (e lo : ℕ) (shape : BankShape) (array : ArrayState n m) (rules : Rules) (rows : List (Row n)) : Type 0 where
   pub unworn : (slot : ℕ) → slot < slots_of shape → IsFalse (is_worn_at e array (shape.base + slot))
   pub taken : IsTrue (each_row is_unrefused rows [])
   pub finished : (IsTrue (is_array shape.home) → most_pulses rules rows < lo) → IsTrue (each_row is_unqueued rows [])
+  pub leaves : (IsTrue (is_array shape.home) → most_pulses rules rows < lo) → IsFalse (may_leave shape (is_worn_at e array))
 
 -- over cells that endure as many pulses as a slot's own line may take, no such line wears out
 abbrev pub LifetimeLaw : Type 0

@@ -21,7 +21,7 @@ use Rattle.bank_invariant.specs.Tied.{decoded}
 use Rattle.end_laws.specs.Ends.{BankEnd, EndsWith, IsRemapped, is_kept_line, place_by_table}
 use Rattle.lifetime_laws.specs.Lifetime.{KeepsLines}
 use Rattle.run_laws.specs.Runs.{bank_of_line, line_in_bank, line_named, rules_in, table_in, RunsRight}
-use Rattle.run_laws.specs.Worked.{small, reading, misplaced, first_bank, second_bank, senses, ended, holding, forgotten, NeverRight, unmoved}
+use Rattle.run_laws.specs.Worked.{small, reading, misplaced, first_bank, second_bank, senses, ended, holding, forgotten, hammered, NeverRight, unmoved}
 
 pub where_8_is : (bank_of_line small 0 8 ≡ 1) × (line_in_bank small 0 8 ≡ 5) × (line_named small 0 1 5 ≡ 8)
 unfolding next_u64 stream_of
@@ -83,10 +83,10 @@ few_pulses at = by (at == 17)
     by false = lit≤ tt
 
 first_lines : KeepsLines (bank_shape (module_of small) 0) ended (rules_in 1 small 0) (first_bank 0)
-first_lines = record { pulses = λ plain slot exists. omega (arith, few_pulses ((bank_shape (module_of small) 0).base + slot)) }
+first_lines = record { pulses = λ slot exists. omega (arith, few_pulses ((bank_shape (module_of small) 0).base + slot)) }
 
 second_lines : KeepsLines (bank_shape (module_of small) 1) ended (rules_in 1 small 1) (second_bank 0x11)
-second_lines = record { pulses = λ plain slot exists. omega (arith, few_pulses ((bank_shape (module_of small) 1).base + slot)) }
+second_lines = record { pulses = λ slot exists. omega (arith, few_pulses ((bank_shape (module_of small) 1).base + slot)) }
 
 -- a line of a bank is shown by the log
 abbrev shows : ℕ → List (Row 2) → ℕ → Bool
@@ -188,3 +188,8 @@ misplaced_is_wrong ends right = absurd (cc ((right.serves.places 0 (lit< tt)).pl
 pub forgotten_is_wrong : RunsRight 1 small 0 rows forgotten unmoved → ⊥
 unfolding next_u64 stream_of decode layout.number layout.source_below layout.active layout.width layout.leading layout.some_below cells.cell cells.members lib.Count.count_trailing_zeros
 forgotten_is_wrong right = absurd (cc ((right.end 1 (lit< tt)).kept 5 (lit< tt)))
+
+-- an array line that was pulsed more often than its slot's stores account for, though not more than its bank's do
+pub hammered_is_wrong : RunsRight 1 small 0 rows hammered unmoved → ⊥
+unfolding next_u64 stream_of
+hammered_is_wrong right = let many : 100 ≤ 80 = (right.serves.lines 1 (lit< tt)).pulses 6 (lit< tt) in absurd (omega (arith, many))
