@@ -11,3 +11,4 @@ mod Broken
 mod Living
 mod Going
 mod Owning
+mod Asking

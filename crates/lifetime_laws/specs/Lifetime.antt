@@ -69,6 +69,25 @@ most_hot_works shape region hot rows =
     length hot * most_at shape.lines shape.psi (region_stores is_stored shape region rows) + other_stores shape region hot rows
     + most_moves shape.lines (region_stores is_stored shape region rows / shape.psi) + 1 + count_by is_cut rows
 
+-- the writes of a region that a trace asks for, and those that are of none of these lines
+abbrev pub asked_writes : {n : ℕ} → BankShape → ℕ → List (Row n) → ℕ
+asked_writes shape region rows = count_by (λ q. asks_write q.asks && line_of q.asks / shape.lines == region) rows
+
+abbrev pub other_asked : {n : ℕ} → BankShape → ℕ → List ℕ → List (Row n) → ℕ
+other_asked shape region hot rows =
+    count_by (λ q. asks_write q.asks && (line_of q.asks / shape.lines == region && not (list_any (λ h. h == line_of q.asks) hot))) rows
+
+-- the same bound by what a trace asks for, whatever becomes of it
+abbrev pub most_asked_works : {n : ℕ} → BankShape → ℕ → List ℕ → List (Row n) → ℕ
+most_asked_works shape region hot rows =
+    length hot * most_at shape.lines shape.psi (asked_writes shape region rows) + other_asked shape region hot rows
+    + most_moves shape.lines (asked_writes shape region rows / shape.psi) + 1 + count_by is_cut rows
+
+abbrev pub AskedLaw : Type 0
+AskedLaw =
+    (n : ℕ) (shape : BankShape) (region : ℕ) (hot : List ℕ) (rows : List (Row n)) → 1 ≤ shape.lines → 1 ≤ shape.psi
+    → most_hot_works shape region hot rows ≤ most_asked_works shape region hot rows
+
 -- what a bank shows in which no slot's own line is worn: no row is refused for want of a spare, and none is left in the queue, nor has
 -- the bank a reason to leave one. Where registers are kept in the array the last needs that no control line is worn, which rotation
 -- doesn't spare: all pulses of the bank together are to be fewer than cells endure

@@ -10,7 +10,7 @@ ghost use Rattle.lifetime_laws.specs.Spread.{AnyLineLaw, CopiesLaw, EvenLaw, Fou
 ghost use Rattle.lifetime_laws.specs.Endurance.{ControlsLaw, NoneRetiredLaw, SoundRowsLaw, UnwornLaw};
 ghost use Rattle.lifetime_laws.specs.Works.{LinePulsesLaw, PulsesOnLaw, WorksLaw};
 ghost use Rattle.lifetime_laws.specs.Going.{FineWriteLaw};
-ghost use Rattle.lifetime_laws.specs.Lifetime.{AttackLaw, HotLinesLaw, KeptLinesLaw, LifetimeLaw};
+ghost use Rattle.lifetime_laws.specs.Lifetime.{AskedLaw, AttackLaw, HotLinesLaw, KeptLinesLaw, LifetimeLaw};
 
 /// Whatever the trace: of the first so many stores of a region at most so many find a line at one slot.
 pub fn lines_stay_for_a_while()
@@ -102,6 +102,11 @@ pub fn line_pulses_are_few()
 /// The same as a law of a bank's finished table and array.
 pub fn lines_keep_their_law()
     ensures { KeptLinesLaw }
+{}
+
+/// What a trace asks for bounds what becomes of it: more writes give no smaller bound.
+pub fn asked_writes_bound_stores()
+    ensures { AskedLaw }
 {}
 
 /// Over cells that endure as many pulses as a slot's own line may take by its hot lines, no line of a slot wears out.

@@ -8,8 +8,9 @@ ghost use Rattle.run_laws.specs.Worked.{small, reading, misplaced, first_bank, s
 
 use crate::{
     array_lines_are_few, array_lines_have_one_role, finished_runs_are_right,
-    lines_have_their_banks, lines_have_their_names, no_row_falls_short, places_are_array_lines,
-    reads_are_not_lost_without_cuts, room_is_taken, rows_have_their_own_outcomes, runs_live_on,
+    lasting_traces_live_on, lines_have_their_banks, lines_have_their_names, no_row_falls_short,
+    places_are_array_lines, reads_are_not_lost_without_cuts, room_is_taken,
+    rows_have_their_own_outcomes, runs_live_on,
 };
 
 fn worked_lines_are_mixed()
@@ -42,6 +43,7 @@ fn laws_hold_of_every_run() {
     room_is_taken();
     no_row_falls_short();
     runs_live_on();
+    lasting_traces_live_on();
 }
 
 #[test]
