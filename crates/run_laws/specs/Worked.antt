@@ -61,7 +61,7 @@ forgotten = record { line = λ line. if line == 17 then holding 0 1 else holding
 
 -- the same rows over an array that tells no log, one of whose lines was pulsed 100 times
 abbrev pub hammered : ArrayState 2 1
-hammered = record { line = λ line. if line == 17 then holding 0x11 100 else holding 0 0; lines = 22; tears = 0; log = None }
+hammered = record { line = λ line. if line == 17 then holding 0x11 100 else holding 0 0; lines = 22; tears = 0; log = None; wear = None }
 
 -- over no array and by no ends are these rows right
 abbrev pub NeverRight : List (Row 2) → Type 0
