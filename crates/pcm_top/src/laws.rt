@@ -48,7 +48,8 @@ pub fn runs_last()
     runs_live_on();
 }
 
-/// So it is where the trace asks for no more writes than that, whatever becomes of them.
+/// So it is by the options and the trace alone: over an array whose cells endure as the wear says that the options ask for, where
+/// the writes that the trace asks for bring no slot's own line of a bank as many pulses, whatever becomes of them.
 pub fn traces_last()
     ensures { LastingTraceLaw }
 {
