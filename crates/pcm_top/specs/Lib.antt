@@ -8,3 +8,4 @@ pub mod RunText
 pub mod Running
 pub mod Statuses
 pub mod Laws
+pub mod Lasting

@@ -1,9 +1,11 @@
 //! The laws of the program. A law is what a function here ensures; the functions do nothing when they run.
+ghost use Rattle.pcm_top.specs.Lasting.{LastingLaw, LastingTraceLaw};
 ghost use Rattle.pcm_top.specs.Laws.{CompletenessLaw, DrawnLaw, PrintableLaw};
 
 use run_laws::{
-    array_lines_are_few, array_lines_have_one_role, no_row_falls_short, places_are_array_lines,
-    reads_are_not_lost_without_cuts, room_is_taken, rows_have_their_own_outcomes,
+    array_lines_are_few, array_lines_have_one_role, lasting_traces_live_on, no_row_falls_short,
+    places_are_array_lines, reads_are_not_lost_without_cuts, room_is_taken,
+    rows_have_their_own_outcomes, runs_live_on,
 };
 use trace_gen::laws::{gen_text_is_short, gen_text_reads_back, generated_events_are_lawful};
 
@@ -35,4 +37,21 @@ pub fn drawn_runs_are_runs_of_their_text()
 {
     gen_text_reads_back();
     gen_text_is_short();
+}
+
+/// Of whichever trace: over cells that endure more pulses than the hot lines of a bank may bring any slot's own line, the bank
+/// wears out nowhere: no write is refused for want of a spare or left in the queue, each slot has its own line, and no spare is
+/// used. Start-Gap divides what one hot line brings by the lines of its region.
+pub fn runs_last()
+    ensures { LastingLaw }
+{
+    runs_live_on();
+}
+
+/// So it is by the options and the trace alone: over an array whose cells endure as the wear says that the options ask for, where
+/// the writes that the trace asks for bring no slot's own line of a bank as many pulses, whatever becomes of them.
+pub fn traces_last()
+    ensures { LastingTraceLaw }
+{
+    lasting_traces_live_on();
 }

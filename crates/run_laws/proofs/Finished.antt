@@ -29,6 +29,7 @@ use Rattle.clock_laws.specs.Ending.{LeavingLaw, UntouchedLaw}
 use Rattle.clock_laws.specs.State.{ClockState}
 use Rattle.end_laws.specs.Ends.{EndsWith}
 use Rattle.end_laws.specs.EndLaws.{RemappedLaw, GapsLaw, KeptLaw, QueuedLaw, StillThereLaw}
+use Rattle.lifetime_laws.specs.Lifetime.{KeepsLines, KeptLinesLaw}
 use Rattle.run_laws.specs.Runs.{bank_of_line, line_in_bank, pacing_in, rules_in, table_in, Serves, RunsRight}
 use Rattle.run_laws.specs.Finishing.{IsFinished}
 use Rattle.run_laws.specs.FinishedLaws.{FinishedLaw, ends_of}
@@ -39,6 +40,7 @@ use Rattle.run_laws.proofs.Banks.{is_end, is_lawful, leaves, ends_right}
 pub record BankLaws : Type 0 where
   pub tables : WholeTableLaw
   pub places : WholePlaceLaw
+  pub lines : KeptLinesLaw
   pub logs : WholeLogLaw
   pub room : WholeRoomLaw
   pub by_bank : BankTableLaw
@@ -102,6 +104,11 @@ module _ {n m e : ℕ} (laws : BankLaws) (raw : RawShape) (seed : ℕ) (h : ℕ 
         subst (λ (rs : List (Row n)). KeepsPlaces e (shape_of bank) array (rules_in e raw bank) rs) (sym table)
         (laws.places n m e (shape_of bank) (pacing_in raw) (h bank) array (sized raw bank is) lawful (done.idle bank exists) left)
 
+    keeps_lines : KeepsLines (shape_of bank) array (rules_in e raw bank) (table_in raw seed bank rows)
+    keeps_lines =
+        subst (λ (rs : List (Row n)). KeepsLines (shape_of bank) array (rules_in e raw bank) rs) (sym table)
+        (laws.lines n m e (shape_of bank) (pacing_in raw) (h bank) array (sized raw bank is) lawful (done.idle bank exists) left)
+
     keeps_log : (log : List (Sense n m)) → array.log ≡ Some log → KeepsLog e (shape_of bank) array (rules_in e raw bank) (table_in raw seed bank rows) log
     keeps_log log told =
         subst (λ (rs : List (Row n)). KeepsLog e (shape_of bank) array (rules_in e raw bank) rs log) (sym table)
@@ -134,6 +141,7 @@ module _ {n m e : ℕ} (laws : BankLaws) (raw : RawShape) (seed : ℕ) (h : ℕ 
         laws.finds n m e (shape_of bank) (pacing_in raw) (bank_of_line raw seed) (line_in_bank raw seed) bank (h bank) trace outcome (laws.room n m)
         (sized raw bank is) (lawful bank few) (done.idle bank few) done.ticks (done.asked bank few) (done.recorded bank few);
     places = keeps_places;
+    lines = keeps_lines;
   }
 
   -- and so are those of each array line, which is one of a bank

@@ -1,5 +1,5 @@
 -- The worked run is right, and altered ones are not.
-use Rattle.std.proofs.Common.{◌≡◌, ℕ, zero, suc, ◌+◌, ◌*◌, ◌/◌, ◌%◌, ◌<◌, ◌≤◌, ◌==◌, ◌&&◌, if◌then◌else◌, Bool, true, false, List, [], ◌∷◌, ◌++◌, inl, inr, lit<, lit≤, refl, sym, ap, ◌∙◌, subst, arith}
+use Rattle.std.proofs.Common.{◌≡◌, ℕ, zero, suc, ◌+◌, ◌*◌, ◌/◌, ◌%◌, ◌<◌, ◌≤◌, ◌==◌, ◌&&◌, if◌then◌else◌, Bool, true, false, List, [], ◌∷◌, ◌++◌, inl, inr, lit<, lit≤, refl, sym, ap, ◌∙◌, subst, arith, cond}
 use Rattle.std.specs.Prelude.{nat_lt, nat_eq, slice_index}
 use Rattle.std.specs.Int.{bit_at}
 use Rattle.std.proofs.lemmas.Nat.Bits.{bit_at-zero}
@@ -23,8 +23,9 @@ use Rattle.bank_laws.specs.Logs.{is_line_fair}
 use Rattle.bank_laws.specs.Places.{is_moved}
 use Rattle.bank_invariant.specs.Tied.{decoded}
 use Rattle.end_laws.specs.Ends.{BankEnd, EndsWith, IsRemapped, is_kept_line, place_by_table}
+use Rattle.lifetime_laws.specs.Lifetime.{KeepsLines}
 use Rattle.run_laws.specs.Runs.{bank_of_line, line_in_bank, line_named, rules_in, table_in, RunsRight}
-use Rattle.run_laws.specs.Worked.{small, reading, misplaced, first_bank, second_bank, senses, holding, ended, touched, forgotten, NeverRight, unmoved}
+use Rattle.run_laws.specs.Worked.{small, reading, misplaced, first_bank, second_bank, senses, holding, ended, touched, forgotten, NeverRight, unmoved, hammered}
 
 pub where_8_is : (bank_of_line small 0 8 ≡ 1) × (line_in_bank small 0 8 ≡ 5) × (line_named small 0 1 5 ≡ 8)
 unfolding next_u64 stream_of
@@ -76,6 +77,20 @@ first_places = record { worn = refl; pulses = lit≤ tt; placed = refl; taken = 
 second_places : KeepsPlaces 1 (bank_shape (module_of small) 1) ended (rules_in 1 small 1) (second_bank 0x11)
 unfolding layout.width layout.some_below cells.cell cells.members lib.Count.count_trailing_zeros
 second_places = record { worn = refl; pulses = lit≤ tt; placed = refl; taken = refl }
+
+-- the one line that was pulsed has one pulse, and one line write may take 40
+few_pulses : (at : ℕ) → (ended.line at).pulses ≤ 1
+few_pulses at = by (at == 17)
+  where
+    by : (b : Bool) → (cond b (holding 0x11 1) (holding 0 0)).pulses ≤ 1
+    by true = lit≤ tt
+    by false = lit≤ tt
+
+first_lines : KeepsLines (bank_shape (module_of small) 0) ended (rules_in 1 small 0) (first_bank 0)
+first_lines = record { pulses = λ slot exists. omega (arith, few_pulses ((bank_shape (module_of small) 0).base + slot)) }
+
+second_lines : KeepsLines (bank_shape (module_of small) 1) ended (rules_in 1 small 1) (second_bank 0x11)
+second_lines = record { pulses = λ slot exists. omega (arith, few_pulses ((bank_shape (module_of small) 1).base + slot)) }
 
 -- a line of a bank is shown by the log
 abbrev shows : ℕ → List (Row 2) → ℕ → Bool
@@ -181,6 +196,7 @@ is_right = record {
     banks = each_table (λ bank rs. KeepsRows (rules_in 1 small bank) rs) first_rows second_rows;
     room = room;
     places = each_table (λ bank rs. KeepsPlaces 1 (bank_shape (module_of small) bank) ended (rules_in 1 small bank) rs) first_places second_places;
+    lines = each_table (λ bank rs. KeepsLines (bank_shape (module_of small) bank) ended (rules_in 1 small bank) rs) first_lines second_lines;
   };
   sensed = λ log told.
       let same : senses ≡ log = cc in
@@ -210,3 +226,8 @@ touched_is_wrong right = let held = (right.unused 3 (lit< tt) 22 (omega (arith, 
 pub forgotten_is_wrong : RunsRight 1 small 0 rows forgotten unmoved → ⊥
 unfolding next_u64 stream_of decode layout.number layout.source_below layout.active layout.width layout.leading layout.some_below cells.cell cells.members lib.Count.count_trailing_zeros
 forgotten_is_wrong right = absurd (cc ((right.end 1 (lit< tt)).kept 5 (lit< tt)))
+
+-- an array line that was pulsed more often than its slot's stores account for, though not more than its bank's do
+pub hammered_is_wrong : RunsRight 1 small 0 rows hammered unmoved → ⊥
+unfolding next_u64 stream_of
+hammered_is_wrong right = let many : 100 ≤ 80 = (right.serves.lines 1 (lit< tt)).pulses 6 (lit< tt) in absurd (omega (arith, many))

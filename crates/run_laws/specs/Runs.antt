@@ -21,6 +21,7 @@ use Rattle.module_laws.specs.Asking.{bank_table}
 use Rattle.module_laws.specs.Serves.{finds_room_in}
 use Rattle.bank_invariant.specs.Tied.{decoded}
 use Rattle.end_laws.specs.Ends.{BankEnd, EndsWith}
+use Rattle.lifetime_laws.specs.Lifetime.{KeepsLines}
 
 module _ (raw : RawShape) (seed : ℕ) where
   -- the number that the static randomiser gives a line of the module
@@ -59,6 +60,8 @@ module _ {n m : ℕ} (e : ℕ) (raw : RawShape) (seed : ℕ) where
         → IsTrue (each_row (finds_room_in (bank_of_line raw seed) (line_in_bank raw seed) (rules_in e raw bank) bank) rows [])
     pub places : (bank : ℕ) → bank < raw.banks
         → KeepsPlaces e (bank_shape (module_of raw) bank) array (rules_in e raw bank) (table_in raw seed bank rows)
+    pub lines : (bank : ℕ) → bank < raw.banks
+        → KeepsLines (bank_shape (module_of raw) bank) array (rules_in e raw bank) (table_in raw seed bank rows)
 
   -- where the array tells its log, each answer and each line shows in it
   abbrev pub Sensed : List (Row n) → ArrayState n m → Type 0

@@ -66,6 +66,10 @@ touched = record ended { line = λ line. if line == 3 then touched_line else end
 abbrev pub forgotten : ArrayState 2 1
 forgotten = record { line = λ line. if line == 17 then holding 0 1 else holding 0 0; lines = 22; tears = 0; log = Some senses; wear = None }
 
+-- the same rows over an array that tells no log, one of whose lines was pulsed 100 times
+abbrev pub hammered : ArrayState 2 1
+hammered = record { line = λ line. if line == 17 then holding 0x11 100 else holding 0 0; lines = 22; tears = 0; log = None; wear = None }
+
 -- over no array and by no ends are these rows right
 abbrev pub NeverRight : List (Row 2) → Type 0
 NeverRight rows = (m e : ℕ) (array : ArrayState 2 m) (ends : ℕ → BankEnd) → RunsRight e small 0 rows array ends → ⊥

@@ -6,6 +6,7 @@ returns c =
     let laws : BankLaws = record {
       tables = c.tables_keep_their_laws.ensures;
       places = c.places_keep_their_laws.ensures;
+      lines = c.lines_keep_their_law.ensures;
       logs = c.logs_keep_their_laws.ensures;
       room = c.banks_keep_their_room.ensures;
       by_bank = c.bank_tables_are_those_of_histories.ensures;

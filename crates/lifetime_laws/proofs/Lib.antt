@@ -1,0 +1,14 @@
+mod Counting
+mod Stays
+mod Ranks
+mod Spreading
+pub mod Enduring
+mod Sound
+mod Writing
+mod Landing
+mod Ended
+mod Broken
+mod Living
+mod Going
+mod Owning
+mod Asking
