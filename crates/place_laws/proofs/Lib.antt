@@ -16,3 +16,4 @@ mod Cancels
 mod Pulses
 pub mod Moved
 mod Places
+mod GapMoves
