@@ -23,3 +23,4 @@ pub mod Settled
 pub mod Fitting
 pub mod Remaining
 pub mod Passing
+pub mod Draining
