@@ -24,3 +24,4 @@ pub mod Fitting
 pub mod Remaining
 pub mod Passing
 pub mod Unused
+pub mod Draining

@@ -16,3 +16,4 @@ pub mod Cancels
 pub mod Pulses
 pub mod Moved
 mod Places
+mod GapMoves
