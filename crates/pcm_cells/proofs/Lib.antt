@@ -10,4 +10,5 @@ pub mod WordLemmas
 pub mod SeededLemmas
 pub mod PageLemmas
 pub mod PagingLemmas
+pub mod EnduranceLemmas
 pub mod LoggingLemmas

@@ -13,3 +13,4 @@ pub mod Counts
 pub mod Seeded
 pub mod Pages
 pub mod Paging
+pub mod Endurance

@@ -215,6 +215,8 @@ pub struct MemArray<const B: usize, const M: usize> {
 }
 
 impl<const B: usize, const M: usize> Model for MemArray<B, M> {
+    ghost use Rattle.std.specs.Prelude.{◌^◌, ◌<◌};
+    ghost use Rattle.pcm_cells.specs.Endurance.{Spares, least_endurance};
     ghost use Rattle.pcm_cells.specs.Paging.{seeded_lines};
     ghost use Rattle.pcm_cells.specs.Seeded.{SeededArray};
     ghost use Rattle.pcm_cells.specs.Shape.{IsShape, IsWhole};
@@ -223,10 +225,12 @@ impl<const B: usize, const M: usize> Model for MemArray<B, M> {
 
     ghost view = { λ a. record { lines = seeded_lines a.lines; tears = a.tears; wear = a.wear } };
 
-    ghost invariant = { λ a. IsShape B M × IsWhole B M };
+    ghost invariant = { λ a. IsShape B M × IsWhole B M × (least_endurance a.wear < 2 ^ 64) × Spares (least_endurance a.wear) (seeded_lines a.lines) };
 }
 
 impl<const B: usize, const M: usize> MemArray<B, M> {
+    ghost use Rattle.pcm_cells.specs.Endurance.{EnduresAtLeast, least_endurance};
+
     /// An array without lines, whose rows are to be whole blocks of 64 cells.
     pub fn new() -> MemArray<B, M>
         requires shape { IsShape B M }
@@ -237,6 +241,18 @@ impl<const B: usize, const M: usize> MemArray<B, M> {
             lines: None,
             tears: 0,
             wear: None,
+        }
+    }
+
+    /// The least number of pulses and tears of a line with a stuck cell: `lo` of the wear that the array was last powered up with,
+    /// and before that 0.
+    pub fn endurance(&self) -> u32
+        ensures is { result ≡ least_endurance (seeded_state self.now).wear }
+        ensures endures { EnduresAtLeast result (seeded_state self.now) }
+    {
+        match self.wear {
+            Some(wear) => wear.lo,
+            None => 0,
         }
     }
 
