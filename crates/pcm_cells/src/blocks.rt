@@ -71,18 +71,16 @@ fn cleared(bits: u64, place: u32) -> u64
     bits & !(1 << place)
 }
 
-// Takes one from each count of a block that is in the mask, and answers those of them that were at most one.
-pub(crate) fn spend(left: &mut [u32], block: usize, mask: u64) -> u64
-    requires { 64 * block + 64 ≤ length left.old }
-    ensures last { (i : ℕ) → i < 64 → bit_in result i ≡ bit_in mask i && nat_le (slice_index left.old (64 * block + i)) 1 }
-    ensures here { (i : ℕ) → i < 64 → slice_index left.new (64 * block + i) ≡ (if bit_in mask i then slice_index left.old (64 * block + i) - 1 else slice_index left.old (64 * block + i)) }
-    ensures others { (n : ℕ) → n / 64 ≢ block → slice_index left.new n ≡ slice_index left.old n }
+// Takes one from each count that is in the mask, and answers those of them that were at most one.
+pub(crate) fn spend(left: &mut [u32; 64], mask: u64) -> u64
+    ensures last { (i : ℕ) → i < 64 → bit_in result i ≡ bit_in mask i && nat_le (slice_index left.old i) 1 }
+    ensures here { (i : ℕ) → i < 64 → slice_index left.new i ≡ (if bit_in mask i then slice_index left.old i - 1 else slice_index left.old i) }
 {
     let mut last = 0;
     let mut rest = mask;
     while rest != 0 {
         let place = rest.trailing_zeros();
-        let count = &mut left[64 * block + place as usize];
+        let count = &mut left[place as usize];
         last = joined(last, place, *count <= 1);
         *count = count.saturating_sub(1);
         rest = cleared(rest, place);
@@ -99,26 +97,23 @@ fn digit_at(bits: u64, place: u32) -> u32
     if bits >> place & 1 == 1 { 1 } else { 0 }
 }
 
-// Takes from each count of a block the number whose binary digits these are, the lowest first.
-pub(crate) fn level(left: &mut [u32], block: usize, low: u64, middle: u64, high: u64)
-    requires { 64 * block + 64 ≤ length left.old }
-    ensures here { (i : ℕ) → i < 64 → slice_index left.new (64 * block + i) ≡ slice_index left.old (64 * block + i) - number_of (bit_in low i) (bit_in middle i) (bit_in high i) }
-    ensures others { (n : ℕ) → n / 64 ≢ block → slice_index left.new n ≡ slice_index left.old n }
+// Takes from each count the number whose binary digits these are, the lowest first.
+pub(crate) fn level(left: &mut [u32; 64], low: u64, middle: u64, high: u64)
+    ensures { (i : ℕ) → i < 64 → slice_index left.new i ≡ slice_index left.old i - number_of (bit_in low i) (bit_in middle i) (bit_in high i) }
 {
     for place in 0..64 {
         let less = digit_at(low, place) + 2 * digit_at(middle, place) + 4 * digit_at(high, place);
-        let count = &mut left[64 * block + place as usize];
+        let count = &mut left[place as usize];
         *count = count.saturating_sub(less);
     }
 }
 
-// Whether each count of a block is at least eight that isn't in the mask.
-pub(crate) fn are_many(left: &[u32], block: usize, mask: u64) -> bool
-    requires { 64 * block + 64 ≤ length left.now }
-    ensures { IsTrue result → (i : ℕ) → i < 64 → bit_in mask i ≡ false → 8 ≤ slice_index left.now (64 * block + i) }
+// Whether each count is at least eight that isn't in the mask.
+pub(crate) fn are_many(left: &[u32; 64], mask: u64) -> bool
+    ensures { IsTrue result → (i : ℕ) → i < 64 → bit_in mask i ≡ false → 8 ≤ slice_index left.now i }
 {
     for place in 0..64 {
-        if left[64 * block + place as usize] < 8 && digit_at(mask, place) == 0 {
+        if left[place as usize] < 8 && digit_at(mask, place) == 0 {
             return false;
         }
     }
