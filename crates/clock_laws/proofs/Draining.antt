@@ -91,16 +91,19 @@ module _ {n m : ℕ} (shape : BankShape) (pace : Pacing) (e : ℕ) where
   next-begun y ys x ticks is end =
       begun-last (running shape pace (y ∷ ys)) (chosen_after shape pace (y ∷ ys)) y.tick x.tick (record { doing = end.doing; first = x.first }) (none-runs y ys y.happens is) end.runs
 
+some-same : (a b : Action) → Some a ≡ Some b → a ≡ b
+some-same a b is = cc
+
 -- so many ticks more
 more-ticks : (a : Option Action) (tick next ticks more : ℕ) → next ≡ tick + more → IsSomeAnd a (λ a. tick ≡ a.first + ticks) → IsSomeAnd a (λ a. next ≡ a.first + (more + ticks))
 more-ticks None tick next ticks more is some = some
 more-ticks (Some a) tick next ticks more is some = omega (arith, is, some)
 
 module _ {n m e : ℕ} (xs : List (Timed n m)) (clock : ClockState n m e) (array : ArrayState n m) (read : 1 ≤ clock.pace.read) (iter : 1 ≤ clock.pace.iter) (leads : Leads xs clock array) where
-  no-gap : (x : Timed n m) (added : List (Timed n m)) → Lawful clock.bank.kept.shape clock.pace e (x ∷ (added ++ xs)) → All (λ y. IsTrue (ends_action y.happens)) (x ∷ added)
-      → IsSomeAnd (next_action clock) (λ a. x.tick ≡ a.first + ticks_in clock.pace (x ∷ added))
-  no-gap x [] lawful quiet =
-      let is : IsTrue (ends_action x.happens) = All-head (λ y. IsTrue (ends_action y.happens)) x [] quiet in
+  -- the next event that ends an action ends the one that runs from now on
+  next-ends : (x : Timed n m) → Lawful clock.bank.kept.shape clock.pace e (x ∷ xs) → IsTrue (ends_action x.happens)
+      → (end : IsAnEnd clock.bank.kept.shape clock.pace e xs x (ticks_of clock.pace x.happens)) × (next_action clock ≡ Some (record { doing = end.doing; first = x.first }))
+  next-ends x lawful is =
       let end : IsAnEnd clock.bank.kept.shape clock.pace e xs x (ticks_of clock.pace x.happens) = an-end clock.bank.kept.shape clock.pace e xs x x.happens lawful.0 is in
       let below : last_tick xs < x.tick = last-below clock.bank.kept.shape clock.pace e xs x read iter lawful is in
       let to_come : IfSome (running_at clock.bank.kept.shape clock.pace xs clock.tick) (λ a. clock.tick < ends clock.pace a) =
@@ -108,7 +111,21 @@ module _ {n m e : ℕ} (xs : List (Timed n m)) (clock : ClockState n m e) (array
       let later : clock.tick < x.tick =
       ends-behind clock.pace (running clock.bank.kept.shape clock.pace xs) (chosen_after clock.bank.kept.shape clock.pace xs) (last_tick xs) clock.tick x.tick
       (record { doing = end.doing; first = x.first }) leads.told.now below to_come end.runs end.at in
-      subst (λ (a : Option Action). IsSomeAnd a (λ a. x.tick ≡ a.first + (ticks_of clock.pace x.happens + 0))) (sym (next-runs xs clock array leads x.tick later ∙ end.runs)) (omega (arith, end.long))
+      (end, next-runs xs clock array leads x.tick later ∙ end.runs)
+
+  -- it comes as that ends
+  pub ends-at : (x : Timed n m) (action : Action) → Lawful clock.bank.kept.shape clock.pace e (x ∷ xs) → IsTrue (ends_action x.happens) → next_action clock ≡ Some action
+      → x.tick ≡ ends clock.pace action
+  ends-at x action lawful is next =
+      let found = next-ends x lawful is in
+      let same : record { doing = found.0.doing; first = x.first } ≡ action = some-same _ _ (sym found.1 ∙ next) in
+      found.0.at ∙ ap (λ (a : Action). ends clock.pace a) same
+
+  no-gap : (x : Timed n m) (added : List (Timed n m)) → Lawful clock.bank.kept.shape clock.pace e (x ∷ (added ++ xs)) → All (λ y. IsTrue (ends_action y.happens)) (x ∷ added)
+      → IsSomeAnd (next_action clock) (λ a. x.tick ≡ a.first + ticks_in clock.pace (x ∷ added))
+  no-gap x [] lawful quiet =
+      let found = next-ends x lawful (All-head (λ y. IsTrue (ends_action y.happens)) x [] quiet) in
+      subst (λ (a : Option Action). IsSomeAnd a (λ a. x.tick ≡ a.first + (ticks_of clock.pace x.happens + 0))) (sym found.1) (omega (arith, found.0.long))
   no-gap x (y ∷ ys) lawful quiet =
       let is : IsTrue (ends_action x.happens) = All-head (λ y. IsTrue (ends_action y.happens)) x (y ∷ ys) quiet in
       let rest : All (λ y. IsTrue (ends_action y.happens)) (y ∷ ys) = All-tail (λ y. IsTrue (ends_action y.happens)) x (y ∷ ys) quiet in
