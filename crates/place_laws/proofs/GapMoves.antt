@@ -23,7 +23,8 @@ use Rattle.place_laws.proofs.Moves.{last_region, some-due}
 -- The moves of a history
 
 -- one more move of some region
-one-more : (lines own region t : ℕ) (step : Move) (moves : List Move) (b : Bool) → eqb own region ≡ b → (own ≡ region → step ≡ move_after lines t)
+one-more : (lines own region t : ℕ) (step : Move) (moves : List Move) (b : Bool) → eqb own region ≡ b
+    → (own ≡ region → step ≡ move_after lines t)
     → moves ≡ first_moves lines t → cond b (step ∷ moves) moves ≡ first_moves lines (cond b 1 0 + t)
 one-more lines own region t step moves true is next same =
     let count : 1 + t ≡ suc t = omega arith in
@@ -39,7 +40,8 @@ module _ {n : ℕ} (shape : BankShape) where
   ended-move h step d = by (has_exhausted h) (due_after shape h) (queue shape h) refl d
     where
       by : (ex : Bool) (due : Option ℕ) (q : List (Entry n)) → due_after shape h ≡ due
-          → IsDone shape h (cond ex Nothing (due_work shape h due q)) (did.Moved step) → step ≡ move_after shape.lines (moved_in shape.lines h (last_region shape h))
+          → IsDone shape h (cond ex Nothing (due_work shape h due q)) (did.Moved step)
+          → step ≡ move_after shape.lines (moved_in shape.lines h (last_region shape h))
       by true due q is d = absurd d
       by false (Some region) q is d =
           d ∙ ap (λ r. move_after shape.lines (moved_in shape.lines h r)) (sym (some-due shape h region is).own)
@@ -53,7 +55,8 @@ module _ {n : ℕ} (shape : BankShape) where
       one-more shape.lines (last_region shape h) region (moved_in shape.lines h region) step (moves_of shape.lines h region) (eqb (last_region shape h) region) refl
       (λ is. ended-move h step d ∙ ap (λ r. move_after shape.lines (moved_in shape.lines h r)) is) same
 
-  moves-are : (most region : ℕ) (h : List (Event n)) → MayAll shape most h → moves_of shape.lines h region ≡ first_moves shape.lines (moved_in shape.lines h region)
+  moves-are : (most region : ℕ) (h : List (Event n)) → MayAll shape most h
+      → moves_of shape.lines h region ≡ first_moves shape.lines (moved_in shape.lines h region)
   moves-are most region [] may = refl
   moves-are most region (Begin (did.Moved step) ∷ h) may = moved-more h region step may.0.1 (moves-are most region h may.1)
   moves-are most region (Iterate (did.Moved step) ∷ h) may = moved-more h region step may.0.1 (moves-are most region h may.1)
@@ -101,24 +104,29 @@ copies-so lines line place t c = and_both _ _ (eq-eqb _ _ c.copied) (eq-eqb _ _ 
 
 module _ (lines line place : ℕ) where
   -- whether the first of these counts
-  counted-more : (m : Move) (during : List Move) (b : Bool) (k : ℕ) → copies_into line place m ≡ b → count_by (copies_into line place) during ≡ k
+  counted-more : (m : Move) (during : List Move) (b : Bool) (k : ℕ) → copies_into line place m ≡ b
+      → count_by (copies_into line place) during ≡ k
       → count_by (copies_into line place) (m ∷ during) ≡ cond b 1 0 + k
   counted-more m during b k is count =
       sum_by-cons (λ x. cond (copies_into line place x) 1 0) m during ∙ ap (λ b. cond b 1 0 + count_by (copies_into line place) during) is ∙ ap (λ k. cond b 1 0 + k) count
 
   -- moves of which none copies the line into the place
   counted-none : (during earlier : List Move) → during ++ earlier ≡ first_moves lines (length during + length earlier)
-      → ((t : ℕ) → length earlier ≤ t → t < length during + length earlier → Copies lines line place t → ⊥) → count_by (copies_into line place) during ≡ 0
+      → ((t : ℕ) → length earlier ≤ t → t < length during + length earlier → Copies lines line place t → ⊥)
+      → count_by (copies_into line place) during ≡ 0
   counted-none [] earlier is none = refl
   counted-none (m ∷ during) earlier is none =
       let more : suc (length during) + length earlier ≡ suc (length during + length earlier) = omega arith in
-      let same : m ∷ (during ++ earlier) ≡ first_moves lines (suc (length during + length earlier)) = is ∙ ap (λ k. first_moves lines k) more in
+      let same : m ∷ (during ++ earlier) ≡ first_moves lines (suc (length during + length earlier)) =
+      is ∙ ap (λ k. first_moves lines k) more in
       let head : m ≡ move_after lines (length during + length earlier) = cc in
       let rest : during ++ earlier ≡ first_moves lines (length during + length earlier) = cc in
-      let fewer : count_by (copies_into line place) during ≡ 0 = counted-none during earlier rest (λ t le lt. none t le (omega (arith, lt, more))) in
+      let fewer : count_by (copies_into line place) during ≡ 0 =
+      counted-none during earlier rest (λ t le lt. none t le (omega (arith, lt, more))) in
       by (copies_into line place m) refl head fewer
     where
-      by : (b : Bool) → copies_into line place m ≡ b → m ≡ move_after lines (length during + length earlier) → count_by (copies_into line place) during ≡ 0
+      by : (b : Bool) → copies_into line place m ≡ b → m ≡ move_after lines (length during + length earlier)
+          → count_by (copies_into line place) during ≡ 0
           → count_by (copies_into line place) (m ∷ during) ≡ 0
       by true is head fewer =
           absurd (none (length during + length earlier) (omega arith) (omega arith) (copies-by lines line place _ (sym (ap (λ k. copies_into line place k) head) ∙ is)))
@@ -133,7 +141,8 @@ module _ (lines line place : ℕ) where
   counted-one t (m ∷ during) earlier is le lt copies only =
       elim (cases_order t (length during + length earlier)) [
         | inl here ↦
-            let yes : copies_into line place m ≡ true = ap (λ k. copies_into line place k) head ∙ copies-so lines line place _ (subst (λ k. Copies lines line place k) here copies) in
+            let yes : copies_into line place m ≡ true =
+            ap (λ k. copies_into line place k) head ∙ copies-so lines line place _ (subst (λ k. Copies lines line place k) here copies) in
             let none : count_by (copies_into line place) during ≡ 0 =
             counted-none during earlier rest (λ other ge below c. let same : other ≡ t = only other ge (omega (arith, below, more)) c in omega (arith, same, here, below)) in
             counted-more m during true 0 yes none
@@ -160,7 +169,8 @@ module _ (lines line place : ℕ) where
       other : (b : Bool) → copies_into line place m ≡ b → t < length during + length earlier → b ≡ false
       other false is below = refl
       other true is below =
-          let so : Copies lines line place (length during + length earlier) = copies-by lines line place _ (sym (ap (λ k. copies_into line place k) head) ∙ is) in
+          let so : Copies lines line place (length during + length earlier) =
+          copies-by lines line place _ (sym (ap (λ k. copies_into line place k) head) ∙ is) in
           let same : length during + length earlier ≡ t = only (length during + length earlier) (omega arith) (omega (arith, more)) so in
           absurd (omega (arith, same, below))
 

@@ -20,17 +20,20 @@ module _ {n : ℕ} where
   candidate-newest busy [] line old is = cc
   candidate-newest busy (e ∷ es) line old is = by (newest_row es line) busy (e.line == line) is
     where
-      by : (rest : Option ℕ) (busy at : Bool) → or_this rest (cond (not busy && at) (Some e.row) None) ≡ Some old → or_this rest (cond at (Some e.row) None) ≡ Some old
+      by : (rest : Option ℕ) (busy at : Bool) → or_this rest (cond (not busy && at) (Some e.row) None) ≡ Some old
+          → or_this rest (cond at (Some e.row) None) ≡ Some old
       by (Some row) busy at is = is
       by None true at is = cc
       by None false at is = is
 
   -- a new entry is the newest of its line
-  newest-push : (es : List (Entry n)) (x : Entry n) (line : ℕ) → newest_row (es ++ x ∷ []) line ≡ cond (x.line == line) (Some x.row) (newest_row es line)
+  newest-push : (es : List (Entry n)) (x : Entry n) (line : ℕ)
+      → newest_row (es ++ x ∷ []) line ≡ cond (x.line == line) (Some x.row) (newest_row es line)
   newest-push [] x line = refl
   newest-push (e ∷ es) x line = ap (λ r. or_this r (cond (e.line == line) (Some e.row) None)) (newest-push es x line) ∙ by (x.line == line)
     where
-      by : (b : Bool) → or_this (cond b (Some x.row) (newest_row es line)) (cond (e.line == line) (Some e.row) None) ≡ cond b (Some x.row) (newest_row (e ∷ es) line)
+      by : (b : Bool)
+          → or_this (cond b (Some x.row) (newest_row es line)) (cond (e.line == line) (Some e.row) None) ≡ cond b (Some x.row) (newest_row (e ∷ es) line)
       by true = refl
       by false = refl
 
@@ -55,7 +58,8 @@ module _ {n : ℕ} where
         by false none go = ap (λ xs. e ∷ xs) (go none)
 
     -- a merged entry is the newest of its line where that of the old row was
-    newest-merged : (es : List (Entry n)) (line : ℕ) → RowsApart es → newest_row es line ≡ Some old → newest_row (merged old row bytes given es) line ≡ Some row
+    newest-merged : (es : List (Entry n)) (line : ℕ) → RowsApart es → newest_row es line ≡ Some old
+        → newest_row (merged old row bytes given es) line ≡ Some row
     newest-merged [] line apart is = absurd (cc)
     newest-merged (e ∷ es) line apart is = by (newest_row es line) refl (λ t. newest-merged es line apart.1 t) is
       where
@@ -71,8 +75,10 @@ module _ {n : ℕ} where
         there true same found rest = absurd (cc (subst (λ r. has_row es r ≡ false) (eqb-true e.row old same) apart.0, newest_row-there es line old found))
         there false other found rest = ap (λ r. or_this r (cond (eqb e.line line) (Some e.row) None)) rest
 
-        by : (r : Option ℕ) → newest_row es line ≡ r → (newest_row es line ≡ Some old → newest_row (merged old row bytes given es) line ≡ Some row)
-            → or_this r (cond (eqb e.line line) (Some e.row) None) ≡ Some old → newest_row (merged old row bytes given (e ∷ es)) line ≡ Some row
+        by : (r : Option ℕ) → newest_row es line ≡ r
+            → (newest_row es line ≡ Some old → newest_row (merged old row bytes given es) line ≡ Some row)
+            → or_this r (cond (eqb e.line line) (Some e.row) None) ≡ Some old
+            → newest_row (merged old row bytes given (e ∷ es)) line ≡ Some row
         by (Some other) found go is = there (eqb e.row old) refl (found ∙ is) (go (found ∙ is))
         by None found go is = own (eqb e.line line) (eqb e.row old) refl refl found is
 
@@ -90,34 +96,41 @@ module _ {n : ℕ} where
         own true false here other is = let same : e.row ≡ old = cc in absurd (cc (other, eq-eqb e.row old same))
         own false c here same is = absurd (cc)
 
-        there : (c : Bool) → eqb e.row old ≡ c → newest_row es line ≡ Some old → newest_row (merged old row bytes given es) at ≡ newest_row es at
+        there : (c : Bool) → eqb e.row old ≡ c → newest_row es line ≡ Some old
+            → newest_row (merged old row bytes given es) at ≡ newest_row es at
             → newest_row (cond c (laid_on row bytes given e ∷ es) (e ∷ merged old row bytes given es)) at ≡ newest_row (e ∷ es) at
         there true same found rest = absurd (cc (subst (λ r. has_row es r ≡ false) (eqb-true e.row old same) apart.0, newest_row-there es line old found))
         there false other found rest = ap (λ r. or_this r (cond (eqb e.line at) (Some e.row) None)) rest
 
-        by : (r : Option ℕ) → newest_row es line ≡ r → (newest_row es line ≡ Some old → newest_row (merged old row bytes given es) at ≡ newest_row es at)
-            → or_this r (cond (eqb e.line line) (Some e.row) None) ≡ Some old → newest_row (merged old row bytes given (e ∷ es)) at ≡ newest_row (e ∷ es) at
+        by : (r : Option ℕ) → newest_row es line ≡ r
+            → (newest_row es line ≡ Some old → newest_row (merged old row bytes given es) at ≡ newest_row es at)
+            → or_this r (cond (eqb e.line line) (Some e.row) None) ≡ Some old
+            → newest_row (merged old row bytes given (e ∷ es)) at ≡ newest_row (e ∷ es) at
         by (Some other) found go is = there (eqb e.row old) refl (found ∙ is) (go (found ∙ is))
         by None found go is = own (eqb e.line line) (eqb e.row old) refl refl is
 
-accepted-last : (row : ℕ) (b : Bool) (new : ℕ) (rest last : Option ℕ) → (rest ≡ Some row → last ≡ Some row) → cond b (Some new) rest ≡ Some row → cond b (Some new) last ≡ Some row
+accepted-last : (row : ℕ) (b : Bool) (new : ℕ) (rest last : Option ℕ) → (rest ≡ Some row → last ≡ Some row)
+    → cond b (Some new) rest ≡ Some row → cond b (Some new) last ≡ Some row
 accepted-last row true new rest last go is = is
 accepted-last row false new rest last go is = go is
 
-merged-last : {n : ℕ} (line row : ℕ) (b : Bool) (at new : ℕ) (es after : List (Entry n)) (last : Option ℕ) → eqb at line ≡ b → newest_row after at ≡ Some new
+merged-last : {n : ℕ} (line row : ℕ) (b : Bool) (at new : ℕ) (es after : List (Entry n)) (last : Option ℕ) → eqb at line ≡ b
+    → newest_row after at ≡ Some new
     → ((at == line) ≡ false → newest_row after line ≡ newest_row es line) → (newest_row es line ≡ Some row → last ≡ Some row)
     → newest_row after line ≡ Some row → cond b (Some new) last ≡ Some row
 merged-last line row true at new es after last here own aside go is = sym own ∙ ap (λ l. newest_row after l) (eqb-true at line here) ∙ is
 merged-last line row false at new es after last here own aside go is = go (sym (aside here) ∙ is)
 
 module _ {n : ℕ} (shape : BankShape) (line row : ℕ) where
-  pub queue-last : (most : ℕ) (h : List (Event n)) (bound : ℕ) → MayAll shape most h → RowsBelow h bound → newest_row (queue shape h) line ≡ Some row → last_write h line ≡ Some row
+  pub queue-last : (most : ℕ) (h : List (Event n)) (bound : ℕ) → MayAll shape most h → RowsBelow h bound
+      → newest_row (queue shape h) line ≡ Some row → last_write h line ≡ Some row
   queue-last most [] bound may below is = absurd (cc)
   queue-last most (Write new at bytes given wrote.Accepted ∷ h) bound may below is =
       accepted-last row (at == line) new (newest_row (queue shape h) line) (last_write h line) (queue-last most h new may.1 below.1)
       (sym (newest-push (queue shape h) (record { row = new; line = at; bytes = bytes; given = given }) line) ∙ is)
   queue-last most (Write new at bytes given (wrote.Merged old) ∷ h) bound may below is =
-      let found : newest_row (queue shape h) at ≡ Some old = candidate-newest (head_busy_after shape h) (queue shape h) at old (merged-candidate shape h at old may.0.2) in
+      let found : newest_row (queue shape h) at ≡ Some old =
+      candidate-newest (head_busy_after shape h) (queue shape h) at old (merged-candidate shape h at old may.0.2) in
       let apart : RowsApart (queue shape h) = (stand_apart shape h new below.1).queued_apart in
       merged-last line row (at == line) at new (queue shape h) (merged old new bytes given (queue shape h)) (last_write h line) refl
       (newest-merged old new bytes given (queue shape h) at apart found)

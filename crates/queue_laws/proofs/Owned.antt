@@ -47,7 +47,8 @@ laid-between (b ∷ bytes) (false ∷ given) (o ∷ own) (a ∷ also) (u ∷ und
     let rest : laid own also under ≡ under = cc in
     ap (λ x. x ∷ laid bytes given (laid own also (laid bytes given under))) first ∙ ap (λ xs. u ∷ xs) (laid-between bytes given own also under rest)
 
-length-laid_if : (b : Bool) (bytes : List ℕ) (given : List Bool) (under : List ℕ) (n : ℕ) → length under ≡ n → length (cond b (laid bytes given under) under) ≡ n
+length-laid_if : (b : Bool) (bytes : List ℕ) (given : List Bool) (under : List ℕ) (n : ℕ) → length under ≡ n
+    → length (cond b (laid bytes given under) under) ≡ n
 length-laid_if true bytes given under n len = length-laid bytes given under ∙ len
 length-laid_if false bytes given under n len = len
 
@@ -89,11 +90,13 @@ module _ {n : ℕ} where
     gives_all-joined given e.given (m.given_len ∙ sym d) gives.0,
     laid-laid bytes given own.bytes own.given (laid bytes given e.bytes)
         (m.given_len ∙ sym m.bytes_len) (a ∙ sym m.bytes_len) (b ∙ sym m.bytes_len) (length-laid bytes given e.bytes ∙ c ∙ sym m.bytes_len)
-    ∙ laid-between bytes given own.bytes own.given e.bytes gives.1,
+        ∙ laid-between bytes given own.bytes own.given e.bytes gives.1,
   )
 
-  own-laid : (written : Option ℕ) (own : Layer) (whole : Bool) (row line : ℕ) (bytes : List ℕ) (given : List Bool) (e : Entry n) → IsMasked n bytes given → e.line ≡ line
-      → IsOwn written own whole e → IsOwn (Some line) (stacked (record { bytes = bytes; given = given }) own) whole (laid_on row bytes given e)
+  own-laid : (written : Option ℕ) (own : Layer) (whole : Bool) (row line : ℕ) (bytes : List ℕ) (given : List Bool) (e : Entry n)
+      → IsMasked n bytes given → e.line ≡ line
+      → IsOwn written own whole e
+      → IsOwn (Some line) (stacked (record { bytes = bytes; given = given }) own) whole (laid_on row bytes given e)
   own-laid written own whole row line bytes given e m at is = record {
     line = ap Some (sym at);
     own_bytes = length-laid bytes given own.bytes ∙ is.own_bytes;
@@ -104,12 +107,14 @@ module _ {n : ℕ} where
   }
 
   -- a begin completes it
-  completed-bytes : (whole : Bool) (own : Layer) (e : Entry n) (under : List ℕ) → length e.bytes ≡ n → length e.given ≡ n → length under ≡ n → Gives whole own e
+  completed-bytes : (whole : Bool) (own : Layer) (e : Entry n) (under : List ℕ) → length e.bytes ≡ n → length e.given ≡ n → length under ≡ n
+      → Gives whole own e
       → laid own.bytes own.given (laid e.bytes e.given under) ≡ laid e.bytes e.given under
   completed-bytes false own e under a b c gives =
       ap (λ (l : Layer). laid l.bytes l.given (laid e.bytes e.given under)) (sym gives) ∙ laid-again e.bytes e.given under
   completed-bytes true own e under a b c gives =
-      let same : laid e.bytes e.given under ≡ e.bytes = ap (λ given. laid e.bytes given under) (all_given-gives_all n e.given b gives.0) ∙ laid-all_given n e.bytes under a c in
+      let same : laid e.bytes e.given under ≡ e.bytes =
+      ap (λ given. laid e.bytes given under) (all_given-gives_all n e.given b gives.0) ∙ laid-all_given n e.bytes under a c in
       ap (λ bytes. laid own.bytes own.given bytes) same ∙ gives.1 ∙ sym same
 
   own-completed : (written : Option ℕ) (own : Layer) (whole : Bool) (e : Entry n) (under : List ℕ) → length under ≡ n
@@ -139,11 +144,13 @@ module _ {n : ℕ} where
   each-own lines own [] are = refl
   each-own lines own (e ∷ es) are = are
 
-  own-drop : (lines : ℕ → Option ℕ) (own : ℕ → Layer) (whole : Bool) (es : List (Entry n)) → AreOwn lines own whole es → AreOwn lines own false (drop 1 es)
+  own-drop : (lines : ℕ → Option ℕ) (own : ℕ → Layer) (whole : Bool) (es : List (Entry n)) → AreOwn lines own whole es
+      → AreOwn lines own false (drop 1 es)
   own-drop lines own whole [] are = refl
   own-drop lines own whole (e ∷ es) are = each-own lines own es are.1
 
-  own-begun : (lines : ℕ → Option ℕ) (own : ℕ → Layer) (whole : Bool) (due : Option ℕ) (f : ℕ → List ℕ) (es : List (Entry n)) → ((line : ℕ) → length (f line) ≡ n)
+  own-begun : (lines : ℕ → Option ℕ) (own : ℕ → Layer) (whole : Bool) (due : Option ℕ) (f : ℕ → List ℕ) (es : List (Entry n))
+      → ((line : ℕ) → length (f line) ≡ n)
       → (due ≡ None → es ≡ [] → ⊥) → AreOwn lines own whole es → AreOwn lines own (is_none due || whole) (begun due f es)
   own-begun lines own whole (Some region) f es len some are = are
   own-begun lines own whole None f [] len some are = absurd (some refl refl)
@@ -152,7 +159,8 @@ module _ {n : ℕ} where
   -- A write
 
   module _ (row : ℕ) (lines after : ℕ → Option ℕ) (own next : ℕ → Layer) (writes : Writes row lines after own next) where
-    own-aside : (whole : Bool) (e : Entry n) → (e.row == row) ≡ false → IsOwn (lines e.row) (own e.row) whole e → IsOwn (after e.row) (next e.row) whole e
+    own-aside : (whole : Bool) (e : Entry n) → (e.row == row) ≡ false → IsOwn (lines e.row) (own e.row) whole e
+        → IsOwn (after e.row) (next e.row) whole e
     own-aside whole e other is =
         let turned : (row == e.row) ≡ false = differ_sym e.row row other in
         subst (λ (l : Layer). IsOwn (after e.row) l whole e) (sym (writes.bytes e.row turned))
@@ -163,12 +171,14 @@ module _ {n : ℕ} where
     each-aside (e ∷ es) none are = (own-aside false e (or_left (e.row == row) _ none) are.0, each-aside es (or_right (e.row == row) _ none) are.1)
 
     -- it is accepted
-    each-pushed : (es : List (Entry n)) (x : Entry n) → has_row es row ≡ false → IsOwn (after x.row) (next x.row) false x → EachOwn lines own es → EachOwn after next (es ++ x ∷ [])
+    each-pushed : (es : List (Entry n)) (x : Entry n) → has_row es row ≡ false → IsOwn (after x.row) (next x.row) false x
+        → EachOwn lines own es → EachOwn after next (es ++ x ∷ [])
     each-pushed [] x none new are = (new, tt)
     each-pushed (e ∷ es) x none new are =
         (own-aside false e (or_left (e.row == row) _ none) are.0, each-pushed es x (or_right (e.row == row) _ none) new are.1)
 
-    own-pushed : (whole : Bool) (es : List (Entry n)) (x : Entry n) → has_row es row ≡ false → IsOwn (after x.row) (next x.row) false x → AreOwn lines own whole es → AreOwn after next whole (es ++ x ∷ [])
+    own-pushed : (whole : Bool) (es : List (Entry n)) (x : Entry n) → has_row es row ≡ false → IsOwn (after x.row) (next x.row) false x
+        → AreOwn lines own whole es → AreOwn after next whole (es ++ x ∷ [])
     own-pushed whole [] x none new are = (subst (λ (b : Bool). IsOwn (after x.row) (next x.row) b x) (sym are) new, tt)
     own-pushed whole (e ∷ es) x none new are =
         (own-aside whole e (or_left (e.row == row) _ none) are.0, each-pushed es x (or_right (e.row == row) _ none) new are.1)
@@ -176,7 +186,8 @@ module _ {n : ℕ} where
     -- it is merged into an entry of its line
     module _ (old line : ℕ) (bytes : List ℕ) (given : List Bool) (m : IsMasked n bytes given)
         (line_is : after row ≡ Some line) (bytes_are : next row ≡ stacked (record { bytes = bytes; given = given }) (own old)) where
-      own-into : (whole : Bool) (e : Entry n) → e.row ≡ old → e.line ≡ line → IsOwn (lines e.row) (own e.row) whole e → IsOwn (after row) (next row) whole (laid_on row bytes given e)
+      own-into : (whole : Bool) (e : Entry n) → e.row ≡ old → e.line ≡ line → IsOwn (lines e.row) (own e.row) whole e
+          → IsOwn (after row) (next row) whole (laid_on row bytes given e)
       own-into whole e same at is =
           subst (λ (l : Layer). IsOwn (after row) l whole (laid_on row bytes given e)) (sym (bytes_are ∙ ap (λ r. stacked (record { bytes = bytes; given = given }) (own r)) (sym same)))
           (subst (λ (w : Option ℕ). IsOwn w (stacked (record { bytes = bytes; given = given }) (own e.row)) whole (laid_on row bytes given e)) (sym line_is)
@@ -191,7 +202,8 @@ module _ {n : ℕ} where
       behind e es other (inl s) = absurd (cc (other, eq-eqb e.row old s.0))
       behind e es other (inr s) = s
 
-      each-merged : (es : List (Entry n)) → has_row es row ≡ false → RowsApart es → Stands es old line → EachOwn lines own es → EachOwn after next (merged old row bytes given es)
+      each-merged : (es : List (Entry n)) → has_row es row ≡ false → RowsApart es → Stands es old line → EachOwn lines own es
+          → EachOwn after next (merged old row bytes given es)
       each-merged [] none apart s are = absurd s
       each-merged (e ∷ es) none apart s are =
           by (eqb e.row old) refl (λ t. each-merged es (or_right (e.row == row) _ none) apart.1 t are.1)
@@ -203,12 +215,14 @@ module _ {n : ℕ} where
               (own-into false e same (its-line e es apart.0 same s) are.0, each-aside es (or_right (e.row == row) _ none) are.1)
           by false is go = (own-aside false e (or_left (e.row == row) _ none) are.0, go (behind e es is s))
 
-      own-merged : (whole : Bool) (es : List (Entry n)) → has_row es row ≡ false → RowsApart es → Stands es old line → AreOwn lines own whole es → AreOwn after next whole (merged old row bytes given es)
+      own-merged : (whole : Bool) (es : List (Entry n)) → has_row es row ≡ false → RowsApart es → Stands es old line
+          → AreOwn lines own whole es → AreOwn after next whole (merged old row bytes given es)
       own-merged whole [] none apart s are = absurd s
       own-merged whole (e ∷ es) none apart s are =
           by (eqb e.row old) refl
         where
-          by : (b : Bool) → eqb e.row old ≡ b → AreOwn after next whole (cond b (laid_on row bytes given e ∷ es) (e ∷ merged old row bytes given es))
+          by : (b : Bool) → eqb e.row old ≡ b
+              → AreOwn after next whole (cond b (laid_on row bytes given e ∷ es) (e ∷ merged old row bytes given es))
           by true is =
               let same : e.row ≡ old = eqb-true e.row old is in
               (own-into whole e same (its-line e es apart.0 same s) are.0, each-aside es (or_right (e.row == row) _ none) are.1)
@@ -223,7 +237,8 @@ module _ {n : ℕ} (shape : BankShape) where
   QueueOwn h = AreOwn (λ row. line_written row h) (λ row. given_by row h) (is_head_begun shape h) (queue shape h)
 
   -- where a line write may be begun and no gap move is due, a head stands
-  ready-head : (h : List (Event n)) (b : Bool) (due : Option ℕ) (q : List (Entry n)) (ws : List Awaited) → is_ready ws (cond b Nothing (due_work shape h due q)) ≡ true
+  ready-head : (h : List (Event n)) (b : Bool) (due : Option ℕ) (q : List (Entry n)) (ws : List Awaited)
+      → is_ready ws (cond b Nothing (due_work shape h due q)) ≡ true
       → due ≡ None → q ≡ [] → ⊥
   ready-head h true due q ws r none empty = absurd (cc)
   ready-head h false due q ws r none empty =
@@ -231,7 +246,8 @@ module _ {n : ℕ} (shape : BankShape) where
       subst (λ (d : Option ℕ). is_ready ws (due_work shape h d []) ≡ true) none (subst (λ (es : List (Entry n)). is_ready ws (due_work shape h due es) ≡ true) empty r) in
       absurd (cc)
 
-  begun-own : (h : List (Event n)) → (not (in_progress h) && is_ready (waits shape h) (cond (has_exhausted h) Nothing (due_work shape h (due_after shape h) (queue shape h)))) ≡ true
+  begun-own : (h : List (Event n))
+      → (not (in_progress h) && is_ready (waits shape h) (cond (has_exhausted h) Nothing (due_work shape h (due_after shape h) (queue shape h)))) ≡ true
       → QueueOwn h
       → AreOwn (λ row. line_written row h) (λ row. given_by row h) (is_none (due_after shape h) || is_head_begun shape h) (begun (due_after shape h) (newest h) (queue shape h))
   begun-own h may are =
@@ -252,7 +268,8 @@ module _ {n : ℕ} (shape : BankShape) where
       its : given_by row (Write row line bytes given wrote.Accepted ∷ h) ≡ record { bytes = bytes; given = given }
       its = ap (λ b. cond b (record { bytes = bytes; given = given }) (given_by row h)) one
 
-      new : IsOwn {n = n} (line_written row (Write row line bytes given wrote.Accepted ∷ h)) (given_by row (Write row line bytes given wrote.Accepted ∷ h)) false (record { row = row; line = line; bytes = bytes; given = given })
+      new : IsOwn {n = n} (line_written row (Write row line bytes given wrote.Accepted ∷ h))
+          (given_by row (Write row line bytes given wrote.Accepted ∷ h)) false (record { row = row; line = line; bytes = bytes; given = given })
       new = record {
         line = ap (λ b. cond b (Some line) (line_written row h)) one;
         own_bytes = ap (λ (l : Layer). length l.bytes) its ∙ may.0.1.bytes_len;
@@ -288,12 +305,14 @@ module _ {n : ℕ} (shape : BankShape) where
 
 module _ {n : ℕ} where
   -- the entry at a place
-  each-at : (lines : ℕ → Option ℕ) (own : ℕ → Layer) (es : List (Entry n)) (place : ℕ) (e : Entry n) → EachOwn lines own es → slice_get es place ≡ Some e → IsOwn (lines e.row) (own e.row) false e
+  each-at : (lines : ℕ → Option ℕ) (own : ℕ → Layer) (es : List (Entry n)) (place : ℕ) (e : Entry n) → EachOwn lines own es
+      → slice_get es place ≡ Some e → IsOwn (lines e.row) (own e.row) false e
   each-at lines own [] place e are is = absurd (cc)
   each-at lines own (f ∷ es) zero e are is = let same : f ≡ e = cc in subst (λ (x : Entry n). IsOwn (lines x.row) (own x.row) false x) same are.0
   each-at lines own (f ∷ es) (suc place) e are is = each-at lines own es place e are.1 is
 
-  own-at : (lines : ℕ → Option ℕ) (own : ℕ → Layer) (whole : Bool) (es : List (Entry n)) (place : ℕ) (e : Entry n) → AreOwn lines own whole es → slice_get es place ≡ Some e
+  own-at : (lines : ℕ → Option ℕ) (own : ℕ → Layer) (whole : Bool) (es : List (Entry n)) (place : ℕ) (e : Entry n)
+      → AreOwn lines own whole es → slice_get es place ≡ Some e
       → IsOwn (lines e.row) (own e.row) (place == 0 && whole) e
   own-at lines own whole [] place e are is = absurd (cc)
   own-at lines own whole (f ∷ es) zero e are is = let same : f ≡ e = cc in subst (λ (x : Entry n). IsOwn (lines x.row) (own x.row) whole x) same are.0
