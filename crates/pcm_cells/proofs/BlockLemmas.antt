@@ -81,6 +81,15 @@ byte_of bits place i low =
     (sym (bit_at_cat_low (up / 2 ^ 8) 8 (up % 2 ^ 8) i low) ∙ ap (λ x. bit_at x i) (shr_split up 8)
     ∙ ap (λ x. x % 2) (shr-shr bits (8 * place) i))
 
+-- half of a number has its bits
+pub low_half : (bits i : ℕ) → i < 32 → bit_in (bit_and bits 4294967295) i ≡ bit_in bits i
+low_half bits i low =
+    ap (λ x. bit_in x i) (and_mask bits 32)
+    ∙ ap (λ x. eqb x 1) (sym (bit_at_cat_low (bits / 2 ^ 32) 32 (bits % 2 ^ 32) i low) ∙ ap (λ x. bit_at x i) (shr_split bits 32))
+
+pub high_half : (bits i : ℕ) → bit_in (bits / 2 ^ 32) i ≡ bit_in bits (32 + i)
+high_half bits i = ap (λ x. eqb (x % 2) 1) (shr-shr bits 32 i)
+
 -- one byte more is written
 pub write_more : (bytes : List ℕ) (block place bits byte i : ℕ) → 8 * block + place < length bytes → place < 8
     → ((j : ℕ) → j < 8 → bit_in byte j ≡ bit_in bits (8 * place + j))

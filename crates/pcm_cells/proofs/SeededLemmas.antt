@@ -203,6 +203,15 @@ pub calm_here : (changing : Bool) (count spent new : ℕ) → new ≡ cond chang
 calm_here true count spent new is = omega (arith, is)
 calm_here false count spent new is = omega (arith, is)
 
+pub less_none : (x : ℕ) → x - 0 ≡ x
+less_none x = omega arith
+
+-- so it is too where the count was brought up to date first
+pub calm_level : (changing : Bool) (count spent levelled none new : ℕ) → levelled ≡ count - spent → none ≡ 0
+    → new ≡ cond changing (none + 1) none → levelled - new ≡ cond changing (count - spent - 1) (count - spent)
+calm_level true count spent levelled none new before clear is = omega (arith, before, clear, is)
+calm_level false count spent levelled none new before clear is = omega (arith, before, clear, is)
+
 -- what is left after the counts were brought up to date, and one taken of those that change
 pub level_here : (changing : Bool) (count levelled final spent new : ℕ) → levelled ≡ count - spent
     → final ≡ cond changing (levelled - 1) levelled → new ≡ 0 → final - new ≡ cond changing (count - spent - 1) (count - spent)

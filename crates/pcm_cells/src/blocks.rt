@@ -88,34 +88,61 @@ pub(crate) fn spend(left: &mut [u32; 64], mask: u64) -> u64
     last
 }
 
+// The 32 lowest bits of a number, and the highest.
+fn halves(bits: u64) -> (u32, u32)
+    ensures low { (i : ℕ) → i < 32 → bit_in result.0 i ≡ bit_in bits i }
+    ensures high { (i : ℕ) → i < 32 → bit_in result.1 i ≡ bit_in bits (32 + i) }
+{
+    ((bits & 0xffff_ffff) as u32, (bits >> 32) as u32)
+}
+
 // The digit that a number has at a place.
-fn digit_at(bits: u64, place: u32) -> u32
-    requires { place < 64 }
+fn digit_at(bits: u32, place: u32) -> u32
+    requires { place < 32 }
     ensures is { result ≡ (if bit_in bits place then 1 else 0) }
     ensures few { result ≤ 1 }
 {
     if bits >> place & 1 == 1 { 1 } else { 0 }
 }
 
+// Takes from each of 32 counts the number whose binary digits these are, the lowest first.
+fn level_half(left: &mut [u32; 64], first: usize, low: u32, middle: u32, high: u32)
+    requires { first ≤ 32 }
+    ensures here { (i : ℕ) → i < 32 → slice_index left.new (first + i) ≡ slice_index left.old (first + i) - number_of (bit_in low i) (bit_in middle i) (bit_in high i) }
+    ensures before { (n : ℕ) → n < first → slice_index left.new n ≡ slice_index left.old n }
+    ensures after { (n : ℕ) → first + 32 ≤ n → slice_index left.new n ≡ slice_index left.old n }
+{
+    for place in 0..32 {
+        let less = digit_at(low, place) + 2 * digit_at(middle, place) + 4 * digit_at(high, place);
+        let count = &mut left[first + place as usize];
+        *count = count.saturating_sub(less);
+    }
+}
+
 // Takes from each count the number whose binary digits these are, the lowest first.
 pub(crate) fn level(left: &mut [u32; 64], low: u64, middle: u64, high: u64)
     ensures { (i : ℕ) → i < 64 → slice_index left.new i ≡ slice_index left.old i - number_of (bit_in low i) (bit_in middle i) (bit_in high i) }
 {
-    for place in 0..64 {
-        let less = digit_at(low, place) + 2 * digit_at(middle, place) + 4 * digit_at(high, place);
-        let count = &mut left[place as usize];
-        *count = count.saturating_sub(less);
-    }
+    let (low, middle, high) = (halves(low), halves(middle), halves(high));
+    level_half(left, 0, low.0, middle.0, high.0);
+    level_half(left, 32, low.1, middle.1, high.1);
+}
+
+// Whether the number has the digit 0 at a place.
+fn lacks(bits: u64, place: u32) -> bool
+    requires { place < 64 }
+    ensures { result ≡ not (bit_in bits place) }
+{
+    bits >> place & 1 == 0
 }
 
 // Whether each count is at least eight that isn't in the mask.
 pub(crate) fn are_many(left: &[u32; 64], mask: u64) -> bool
     ensures { IsTrue result → (i : ℕ) → i < 64 → bit_in mask i ≡ false → 8 ≤ slice_index left.now i }
 {
+    let mut few = false;
     for place in 0..64 {
-        if left[place as usize] < 8 && digit_at(mask, place) == 0 {
-            return false;
-        }
+        few |= (left[place as usize] < 8) & lacks(mask, place);
     }
-    true
+    !few
 }

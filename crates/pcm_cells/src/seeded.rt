@@ -146,8 +146,14 @@ impl<const B: usize, const M: usize> SeededLine<B, M> {
         let mut counts = self.left.block(block);
         level(&mut counts, low, middle, high);
         self.spent.clear(block);
+        let calm = are_many(&counts, stuck);
+        self.calm[block] = calm;
+        if calm {
+            self.left.set_block(block, &counts);
+            self.spent.advance(block, changing, 0);
+            return 0;
+        }
         let last = spend(&mut counts, changing);
-        self.calm[block] = are_many(&counts, stuck);
         self.left.set_block(block, &counts);
         last
     }

@@ -1,11 +1,11 @@
-use Rattle.std.proofs.Common.{◌≡◌, ℕ, ◌+◌, ◌-◌, ◌*◌, ◌&&◌, ◌/◌, ◌≤◌, ◌<◌, false, cond, eqb, rules, slice_index, refl, sym, ◌∙◌, ap, arith}
+use Rattle.std.proofs.Common.{◌≡◌, ℕ, ◌+◌, ◌-◌, ◌*◌, ◌&&◌, ◌/◌, ◌≤◌, ◌<◌, false, true≢false, cond, eqb, rules, slice_index, refl, sym, ◌∙◌, ap, arith}
 use Rattle.std.specs.Prelude.{nat_le}
 use Rattle.std.proofs.lemmas.Nat.Bits.{bit_at-zero}
 use Rattle.pcm_cells.specs.Rows.{cell}
 use Rattle.pcm_cells.specs.Planes.{bit_in, digit}
 use Rattle.pcm_cells.specs.Counts.{count}
 use Rattle.pcm_cells.proofs.ByteLemmas.{digit_and}
-use Rattle.pcm_cells.proofs.SeededLemmas.{left_is, left_kept, calm_last, calm_here, level_here, calm_kept, both_false}
+use Rattle.pcm_cells.proofs.SeededLemmas.{left_is, left_kept, calm_last, calm_here, calm_level, less_none, level_here, calm_kept, both_false}
 use Rattle.pcm_cells.proofs.seeded.SeededLine.spend.Goals as goal
 
 pub advance-requires : goal.advance-requires
@@ -55,13 +55,49 @@ returns-then-full-changing-eq0-clause-others g c n apart =
     rw (← c.self.view_is)
     (left_kept c.self.inside.spent c.advance.new.self c.self.inside.left c.self.inside.left n refl (c.advance.ensures.others n apart))
 
+pub returns-then-calm-clause-last : goal.returns-then-calm-clause-last
+returns-then-calm-clause-last g c i low =
+    let n : ℕ = 64 * c.args.block + i in
+    let none : bit_in 0 i ≡ false = ap (λ x. eqb x 1) (bit_at-zero i) in
+    let levelled : slice_index c.level.new.left i ≡ count c.self.inside.left n - digit c.self.inside.spent n =
+    c.level.ensures i low ∙ rw (c.planes-low.ensures i low, c.block-counts.ensures i low) refl in
+    rw (← c.self.view_is)
+    (none ∙ calm_last (bit_in c.args.changing i) (slice_index c.level.new.left i) 0
+    (λ more.
+    c.are_many-calm.ensures c.if-calm.true i low
+    (c.block-stuck.ensures i low ∙ ap (λ s. cell s.line.stuck n) c.self.view_is ∙ c.requires.live i low more))
+    (λ more. omega arith)
+    ∙ ap (λ k. bit_in c.args.changing i && nat_le k 1) (less_none (slice_index c.level.new.left i) ∙ levelled ∙ sym (left_is c.self.inside.spent c.self.inside.left n (omega arith))))
+
+pub returns-then-calm-clause-here : goal.returns-then-calm-clause-here
+returns-then-calm-clause-here g c i low =
+    let n : ℕ = 64 * c.args.block + i in
+    let none : bit_in 0 i ≡ false = ap (λ x. eqb x 1) (bit_at-zero i) in
+    let within : n < 8 * (g.row.B + g.row.M) = omega arith in
+    let levelled : slice_index c.level.new.left i ≡ count c.self.inside.left n - digit c.self.inside.spent n =
+    c.level.ensures i low ∙ rw (c.planes-low.ensures i low, c.block-counts.ensures i low) refl in
+    let grown : digit c.advance-then-calm.new.self n ≡ cond (bit_in c.args.changing i) (digit c.clear.new.self n + 1) (digit c.clear.new.self n) =
+    c.advance-then-calm.ensures.here i low ∙ ap (λ b. cond b 0 (cond (bit_in c.args.changing i) (digit c.clear.new.self n + 1) (digit c.clear.new.self n))) none in
+    rw (← c.self.view_is)
+    (left_is c.advance-then-calm.new.self c.set_block.new.self n within
+    ∙ calm_level (bit_in c.args.changing i) (count c.self.inside.left n) (digit c.self.inside.spent n)
+    (count c.set_block.new.self n) (digit c.clear.new.self n) (digit c.advance-then-calm.new.self n)
+    (c.set_block.ensures.here i low ∙ levelled) (c.clear.ensures.here i low) grown
+    ∙ ap (λ k. cond (bit_in c.args.changing i) (k - 1) k) (sym (left_is c.self.inside.spent c.self.inside.left n within)))
+
+pub returns-then-calm-clause-others : goal.returns-then-calm-clause-others
+returns-then-calm-clause-others g c n apart =
+    rw (← c.self.view_is)
+    (left_kept c.self.inside.spent c.advance-then-calm.new.self c.self.inside.left c.set_block.new.self n (c.set_block.ensures.others n apart)
+    (c.advance-then-calm.ensures.others n apart ∙ c.clear.ensures.others n apart))
+
 pub invariant_of-self-2 : goal.invariant_of-self-2
 invariant_of-self-2 g c = (
   c.self.invariant.0,
-  calm_kept c.self.inside.calm (cell c.self.inside.stuck) (count c.self.inside.left) (count c.set_block.new.self) c.args.block c.are_many.result
+  calm_kept c.self.inside.calm (cell c.self.inside.stuck) (count c.self.inside.left) (count c.set_block-2.new.self) c.args.block c.are_many-calm.result
       (search rules) c.self.invariant.1
-      (λ many i low live. rw (c.set_block.ensures.here i low) (c.are_many.ensures many i low (c.block-stuck.ensures i low ∙ live)))
-      c.set_block.ensures.others,
+      (λ many. absurd (true≢false (sym many ∙ c.if-calm.false)))
+      c.set_block-2.ensures.others,
 )
 
 pub returns-clause-last : goal.returns-clause-last
@@ -80,13 +116,13 @@ returns-clause-here g c i low =
     let levelled : slice_index c.level.new.left i ≡ count c.self.inside.left n - digit c.self.inside.spent n =
     c.level.ensures i low ∙ rw (c.planes-low.ensures i low, c.block-counts.ensures i low) refl in
     rw (← c.self.view_is)
-    (left_is c.clear.new.self c.set_block.new.self n within
+    (left_is c.clear.new.self c.set_block-2.new.self n within
     ∙ level_here (bit_in c.args.changing i) (count c.self.inside.left n) (slice_index c.level.new.left i)
-    (count c.set_block.new.self n) (digit c.self.inside.spent n) (digit c.clear.new.self n)
-    levelled (c.set_block.ensures.here i low ∙ c.spend-last.ensures.here i low) (c.clear.ensures.here i low)
+    (count c.set_block-2.new.self n) (digit c.self.inside.spent n) (digit c.clear.new.self n)
+    levelled (c.set_block-2.ensures.here i low ∙ c.spend-last.ensures.here i low) (c.clear.ensures.here i low)
     ∙ ap (λ k. cond (bit_in c.args.changing i) (k - 1) k) (sym (left_is c.self.inside.spent c.self.inside.left n within)))
 
 pub returns-clause-others : goal.returns-clause-others
 returns-clause-others g c n apart =
     rw (← c.self.view_is)
-    (left_kept c.self.inside.spent c.clear.new.self c.self.inside.left c.set_block.new.self n (c.set_block.ensures.others n apart) (c.clear.ensures.others n apart))
+    (left_kept c.self.inside.spent c.clear.new.self c.self.inside.left c.set_block-2.new.self n (c.set_block-2.ensures.others n apart) (c.clear.ensures.others n apart))
