@@ -11,13 +11,14 @@ pub(crate) struct Counts<const B: usize, const M: usize> {
 }
 
 // The numbers of a block of 64.
-fn read_counts(rows: &[[u32; 8]], block: usize) -> [u32; 64]
+fn read_counts(rows: &[[u32; 8]], block: usize) -> &[u32; 64]
     requires { 8 * block + 8 ≤ length rows.now }
-    ensures { (i : ℕ) → i < 64 → slice_index result i ≡ count_in rows.now (64 * block + i) }
+    ensures { (i : ℕ) → i < 64 → slice_index result.now i ≡ count_in rows.now (64 * block + i) }
 {
-    let mut counts = [0; 64];
     let all = rows.as_flattened();
-    counts.copy_from_slice(&all[64 * block..64 * block + 64]);
+    let Some(counts) = all[64 * block..].first_chunk() else {
+        unreachable!()
+    };
     counts
 }
 
@@ -69,10 +70,10 @@ impl<const B: usize, const M: usize> Counts<B, M> {
     }
 
     // The numbers of the cells of a block of 64.
-    pub(crate) fn block(&self, block: usize) -> [u32; 64]
+    pub(crate) fn block(&self, block: usize) -> &[u32; 64]
         requires whole { IsWhole B M }
         requires exists { 8 * block < B + M }
-        ensures { (i : ℕ) → i < 64 → slice_index result i ≡ count self.now (64 * block + i) }
+        ensures { (i : ℕ) → i < 64 → slice_index result.now i ≡ count self.now (64 * block + i) }
     {
         if 8 * block < B {
             read_counts(&self.bits, block)

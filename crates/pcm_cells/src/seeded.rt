@@ -143,7 +143,7 @@ impl<const B: usize, const M: usize> SeededLine<B, M> {
         }
         let stuck = self.stuck.block(block);
         let (low, middle, high) = self.spent.planes(block);
-        let mut counts = self.left.block(block);
+        let mut counts = *self.left.block(block);
         level(&mut counts, low, middle, high);
         self.spent.clear(block);
         let calm = are_many(&counts, stuck);

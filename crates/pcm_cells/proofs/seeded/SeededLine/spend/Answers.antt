@@ -104,7 +104,7 @@ pub returns-clause-last : goal.returns-clause-last
 returns-clause-last g c i low =
     let n : ℕ = 64 * c.args.block + i in
     let levelled : slice_index c.level.new.left i ≡ count c.self.inside.left n - digit c.self.inside.spent n =
-    c.level.ensures i low ∙ rw (c.planes-low.ensures i low, c.block-counts.ensures i low) refl in
+    c.level.ensures i low ∙ rw (c.planes-low.ensures i low, c.block.ensures i low) refl in
     rw (← c.self.view_is)
     (c.spend-last.ensures.last i low
     ∙ ap (λ k. bit_in c.args.changing i && nat_le k 1) (levelled ∙ sym (left_is c.self.inside.spent c.self.inside.left n (omega arith))))
@@ -114,7 +114,7 @@ returns-clause-here g c i low =
     let n : ℕ = 64 * c.args.block + i in
     let within : n < 8 * (g.row.B + g.row.M) = omega arith in
     let levelled : slice_index c.level.new.left i ≡ count c.self.inside.left n - digit c.self.inside.spent n =
-    c.level.ensures i low ∙ rw (c.planes-low.ensures i low, c.block-counts.ensures i low) refl in
+    c.level.ensures i low ∙ rw (c.planes-low.ensures i low, c.block.ensures i low) refl in
     rw (← c.self.view_is)
     (left_is c.clear.new.self c.set_block-2.new.self n within
     ∙ level_here (bit_in c.args.changing i) (count c.self.inside.left n) (slice_index c.level.new.left i)
