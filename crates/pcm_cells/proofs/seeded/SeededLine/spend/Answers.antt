@@ -60,7 +60,7 @@ returns-then-calm-clause-last g c i low =
     let n : ℕ = 64 * c.args.block + i in
     let none : bit_in 0 i ≡ false = ap (λ x. eqb x 1) (bit_at-zero i) in
     let levelled : slice_index c.level.new.left i ≡ count c.self.inside.left n - digit c.self.inside.spent n =
-    c.level.ensures i low ∙ rw (c.planes-low.ensures i low, c.block-counts.ensures i low) refl in
+    c.level.ensures i low ∙ rw (c.planes-low.ensures i low, c.block.ensures i low) refl in
     rw (← c.self.view_is)
     (none ∙ calm_last (bit_in c.args.changing i) (slice_index c.level.new.left i) 0
     (λ more.
@@ -75,7 +75,7 @@ returns-then-calm-clause-here g c i low =
     let none : bit_in 0 i ≡ false = ap (λ x. eqb x 1) (bit_at-zero i) in
     let within : n < 8 * (g.row.B + g.row.M) = omega arith in
     let levelled : slice_index c.level.new.left i ≡ count c.self.inside.left n - digit c.self.inside.spent n =
-    c.level.ensures i low ∙ rw (c.planes-low.ensures i low, c.block-counts.ensures i low) refl in
+    c.level.ensures i low ∙ rw (c.planes-low.ensures i low, c.block.ensures i low) refl in
     let grown : digit c.advance-then-calm.new.self n ≡ cond (bit_in c.args.changing i) (digit c.clear.new.self n + 1) (digit c.clear.new.self n) =
     c.advance-then-calm.ensures.here i low ∙ ap (λ b. cond b 0 (cond (bit_in c.args.changing i) (digit c.clear.new.self n + 1) (digit c.clear.new.self n))) none in
     rw (← c.self.view_is)
