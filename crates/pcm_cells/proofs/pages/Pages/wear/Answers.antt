@@ -1,9 +1,9 @@
-use Rattle.std.proofs.Common.{◌≡◌, ◌<◌, ◌∙◌, cond, sym, ap, arith, length, set, get_or-set_same}
+use Rattle.std.proofs.Common.{◌≡◌, ◌<◌, ◌∙◌, cond, sym, ap, arith, length, length-set, set, get_or-set_same}
 use Rattle.pcm_cells.specs.Rows.{cell}
 use Rattle.pcm_cells.specs.Device.{counted}
 use Rattle.pcm_cells.specs.Seeded.{seeded, seeded_cell}
 use Rattle.pcm_cells.specs.Pages.{line_seen, drawn_line}
-use Rattle.pcm_cells.proofs.PagingLemmas.{seen-some, seen_at, written_others}
+use Rattle.pcm_cells.proofs.PagingLemmas.{paging_kept, seen-some, seen_at, written_others}
 use Rattle.pcm_cells.proofs.pages.Pages.wear.Goals as goal
 
 pub returns-clause-cells : goal.returns-clause-cells
@@ -40,3 +40,11 @@ returns-clause-others g c n apart =
     let p = c.page-place.new.self in
     written_others p.wear p.table.items p.pages.items c.wear.new.self c.args.line c.page-place.result _ n p.paging c.page-place.ensures.made apart
     ∙ c.page-place.ensures.others n apart
+
+pub invariant_of-self : goal.invariant_of-self
+invariant_of-self g c =
+    let p = c.page-place.new.self in
+    record {
+      wears = p.wears;
+      paging = paging_kept p.table.items p.pages.items _ _ p.paging (length-set p.pages.items c.page-place.result c.wear.new.self);
+    }
