@@ -17,3 +17,4 @@ pub mod Pulses
 pub mod Moved
 mod Places
 mod GapMoves
+mod Worked
