@@ -164,7 +164,7 @@ module _ {n m : ℕ} (shape : BankShape) (pace : Pacing) (e at : ℕ) where
       by (Core (Cut tearing)) false is may few = omega (arith, few, one-few (in_progress (core xs) && target_after shape (core xs) == at))
 
 -- all line writes, as often as each may be begun, where one more would end if one is at hand
-by-policy : (policy : Pausing) (works ended broken cuts held most : ℕ) → works ≡ ended + broken → ended + cuts ≤ most → (is_cancelling policy ≡ false → broken ≤ cuts)
+pub by-policy : (policy : Pausing) (works ended broken cuts held most : ℕ) → works ≡ ended + broken → ended + cuts ≤ most → (is_cancelling policy ≡ false → broken ≤ cuts)
     → broken ≤ 4 * (ended + cuts) + cuts + held → held ≤ 4 → (1 ≤ held → ended + cuts + 1 ≤ most) → works ≤ tries policy * most
 by-policy Pause works ended broken cuts held most is few plain more four room = omega (arith, is, few, plain refl)
 by-policy Plain works ended broken cuts held most is few plain more four room = omega (arith, is, few, plain refl)

@@ -7,9 +7,9 @@ use Rattle.pcm_cells.specs.Rows.{cell, members}
 use Rattle.ecp_line.specs.Layout.{IsLayout, width, some_below, full_cell, activity_cell}
 use Rattle.ecp_line.specs.Reading.{is_worn_line}
 use Rattle.lifetime_laws.proofs.Counting.{one}
-use Rattle.lifetime_laws.specs.Endurance.{UnwornLaw, ControlsLaw}
-use Rattle.bank_shape.specs.Shape.{slots_of, control_line, lines_in}
-use Rattle.bank_laws.specs.Places.{pulses_among}
+use Rattle.lifetime_laws.specs.Endurance.{UnwornLaw}
+use Rattle.lifetime_laws.specs.Lifetime.{ControlsLaw}
+use Rattle.bank_shape.specs.Shape.{control_line}
 
 pub members-none : (has : ℕ → Bool) (n : ℕ) → ((k : ℕ) → k < n → has k ≡ false) → members has n ≡ 0
 unfolding members
@@ -56,18 +56,8 @@ unworn_law B M e array lo line l endures exists few =
     live-line e (array.line line).held (array.line line).stuck l
     (λ n within. false_from_ne_true ((array.line line).stuck n) (λ is. let le : lo ≤ (array.line line).pulses = endures line n exists within is in absurd (omega (arith, le, few))))
 
--- one line's pulses are some of all
-among-each : (f : ℕ → ℕ) (from count k : ℕ) → k < count → f (from + k) ≤ pulses_among f from count
-among-each f from zero k lt = absurd (omega (arith, lt))
-among-each f from (suc count) zero lt = let same : f (from + 0) ≡ f from = ap f (omega arith) in omega (arith, same)
-among-each f from (suc count) (suc k) lt =
-    let same : f (from + suc k) ≡ f (from + 1 + k) = ap f (omega arith) in
-    omega (arith, same, among-each f (from + 1) count k (omega (arith, lt)))
-
 pub controls_law : ControlsLaw
-controls_law n m e lo shape array rules rows layout endures within places few item lt =
-    let at : ℕ = control_line shape item in
-    let some : (array.line (shape.base + (slots_of shape + shape.spares + item))).pulses ≤ pulses_among (λ line. (array.line line).pulses) shape.base (lines_in shape) =
-    among-each (λ line. (array.line line).pulses) shape.base (lines_in shape) (slots_of shape + shape.spares + item) (omega (arith, lt)) in
-    let same : (array.line at).pulses ≡ (array.line (shape.base + (slots_of shape + shape.spares + item))).pulses = ap (λ line. (array.line line).pulses) (omega arith) in
-    unworn_law n m e array lo at layout endures (omega (arith, within, lt)) (omega (arith, some, same, places.pulses, few))
+controls_law n m e lo shape array rules rows layout endures within lines bears item lt =
+    let few = lines.controls item lt in
+    let spared = bears item lt in
+    unworn_law n m e array lo (control_line shape item) layout endures (omega (arith, within, lt)) (omega (arith, few, spared))

@@ -8,6 +8,8 @@ mod Writing
 mod Landing
 mod Ended
 mod Broken
+mod Keeping
+mod Changed
 mod Living
 mod Going
 mod Owning

@@ -16,9 +16,7 @@ use Rattle.row_laws.specs.Rows.{each_row, asks_write, asks_write_of, line_of}
 use Rattle.row_laws.specs.Rules.{Rules}
 use Rattle.row_laws.specs.Ticking.{is_in_time, tries}
 use Rattle.bank_shape.specs.declared.BankShape.{BankShape}
-use Rattle.bank_shape.specs.declared.Home.{Home}
-use Rattle.bank_shape.specs.declared.Home.TheVariants as home
-use Rattle.bank_shape.specs.Shape.{slots_of, slot_moved, is_array, if_array, control_line}
+use Rattle.bank_shape.specs.Shape.{slots_of, slot_moved}
 use Rattle.bank_model.specs.Timing.{core}
 use Rattle.bank_model.specs.History.{in_progress, iterated, waits}
 use Rattle.bank_model.specs.After.{target_after}
@@ -26,7 +24,7 @@ use Rattle.bank_model.specs.Changes.{change_after, keeping_after}
 use Rattle.bank_model.specs.Running.{busy_by, busy_after, gives_way, choice_after}
 use Rattle.bank_laws.proofs.Changing.{changed-idle}
 use Rattle.bank_model.specs.Timing.{is_empty}
-use Rattle.bank_laws.specs.Places.{region_stores, is_place_after, is_placed, most_pulses}
+use Rattle.bank_laws.specs.Places.{region_stores, is_place_after, is_placed}
 use Rattle.lifetime_laws.specs.Endurance.{KeepsControls}
 use Rattle.bank_laws.specs.Laws.{is_worn_at}
 use Rattle.bank_laws.specs.Outcomes.{table_of}
@@ -34,7 +32,7 @@ use Rattle.place_laws.proofs.WornOut.{none-ready}
 use Rattle.bank_model.specs.Sensing.{most_steps, pulses_of}
 use Rattle.lifetime_laws.specs.Spread.{is_stored_on, stores_on, most_at, finding_at, stay}
 use Rattle.lifetime_laws.specs.Works.{stores_at, works_on, held_on, most_works, most_each, LinePulsesLaw}
-use Rattle.lifetime_laws.specs.Lifetime.{own_stores, other_stores, most_hot_works, AttackLaw, HotLinesLaw, KeptLinesLaw, LifetimeLaw}
+use Rattle.lifetime_laws.specs.Lifetime.{BearsControls, own_stores, other_stores, most_hot_works, AttackLaw, HotLinesLaw, KeptLinesLaw, LifetimeLaw}
 use Rattle.lifetime_laws.proofs.Counting.{one, passing-none}
 use Rattle.lifetime_laws.proofs.Ranks.{count-cons, count-sum, Each}
 use Rattle.lifetime_laws.proofs.Stays.{stay_law, even_law}
@@ -43,12 +41,7 @@ use Rattle.lifetime_laws.proofs.Enduring.{unworn_law, controls_law}
 use Rattle.lifetime_laws.proofs.Sound.{sound_rows_law}
 use Rattle.lifetime_laws.proofs.Writing.{pulses_on_law}
 use Rattle.lifetime_laws.proofs.Broken.{works_law}
-
-as_often : (steps times works most : ℕ) → works ≤ times * most → steps * works ≤ times * steps * most
-as_often steps times works most le =
-    let more : steps * works ≤ steps * (times * most) = mul-le-mul_left steps le in
-    let swap : steps * (times * most) ≡ times * steps * most = grind arith in
-    omega (arith, more, swap)
+use Rattle.lifetime_laws.proofs.Changed.{as_often, control_pulses_law}
 
 -- a bank that rests has no line write of its own in progress: while a change stands none is
 core-rests : (change : Option ℕ) (keeping busy : Bool) → (is_some change ≡ true → busy ≡ false) → busy_by change keeping busy ≡ false → busy ≡ false
@@ -68,8 +61,10 @@ line_pulses_law n m e shape pace xs array slot sized l idle leaves exists =
     omega (arith, few, none, more, same)
 
 pub kept_lines_law : KeptLinesLaw
-kept_lines_law n m e shape pace xs array sized l idle leaves =
-    record { pulses = λ slot exists. line_pulses_law n m e shape pace xs array slot sized l idle leaves exists }
+kept_lines_law n m e shape pace xs array sized l idle leaves = record {
+  pulses = λ slot exists. line_pulses_law n m e shape pace xs array slot sized l idle leaves exists;
+  controls = λ item exists. control_pulses_law n m e shape pace xs array item sized l idle leaves exists;
+}
 
 -- a slot's line is of the slot's region
 slot-region : (shape : BankShape) (line slot moves : ℕ) → (slot_moved shape line moves == slot) ≡ true → line / shape.lines ≡ slot / (shape.lines + 1)
@@ -237,17 +232,12 @@ lifetime_law n m e lo shape array rules rows hot layout endures within some each
     record {
       unworn = unworn;
       taken = tells.taken;
-      finished = λ fewer. tells.finished (unworn_controls fewer);
-      leaves = λ fewer. tells.leaves (unworn_controls fewer);
+      finished = λ bears. tells.finished (unworn_controls bears);
+      leaves = λ bears. tells.leaves (unworn_controls bears);
     }
   where
-    by : {item : ℕ} (where_ : Home) → shape.home ≡ where_ → item < if_array shape.home (shape.regions + shape.spares + 1)
-        → (is_array shape.home ≡ true → is_worn_at e array (control_line shape item) ≡ false) → is_worn_at e array (control_line shape item) ≡ false
-    by home.Guarded is lt its = absurd (let none : if_array shape.home (shape.regions + shape.spares + 1) ≡ 0 = ap (λ h. if_array h (shape.regions + shape.spares + 1)) is in omega (arith, lt, none))
-    by home.Array is lt its = its (ap is_array is)
-
-    unworn_controls : (is_array shape.home ≡ true → most_pulses rules rows < lo) → KeepsControls shape (is_worn_at e array)
-    unworn_controls fewer item lt = by shape.home refl lt (λ is. controls_law n m e lo shape array rules rows layout endures within places (fewer is) item lt)
+    unworn_controls : BearsControls lo shape rules rows → KeepsControls shape (is_worn_at e array)
+    unworn_controls bears = controls_law n m e lo shape array rules rows layout endures within lines bears
 
     unworn : (slot : ℕ) → slot < slots_of shape → is_worn_at e array (shape.base + slot) ≡ false
     unworn slot exists =

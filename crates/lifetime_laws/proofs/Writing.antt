@@ -44,7 +44,7 @@ zeros false true = refl
 zeros false false = refl
 
 -- one more pulse, where the line is the one that was pulsed
-pulse-more : (b : Bool) (k : ℕ) → cond b (counted k) k ≤ k + one b
+pub pulse-more : (b : Bool) (k : ℕ) → cond b (counted k) k ≤ k + one b
 pulse-more true k = counted-few k
 pulse-more false k = omega arith
 

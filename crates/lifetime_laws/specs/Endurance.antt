@@ -1,6 +1,5 @@
--- What a bank over cells that endure never shows: a worn line of a slot, a write that is refused, one that stays in the queue. Where
--- registers are kept in the array, a region's control line takes a line write for each of its stores and moves: it wears out first.
-use Rattle.std.specs.Prelude.{◌≡◌, ℕ, ◌+◌, ◌<◌, ◌≤◌, ◌&&◌, not, Bool, IsTrue, IsFalse, List, []}
+-- What a bank over cells that endure never shows: a worn line of a slot, a write that is refused, one that stays in the queue.
+use Rattle.std.specs.Prelude.{◌≡◌, ℕ, ◌+◌, ◌<◌, ◌&&◌, not, Bool, IsTrue, IsFalse, List, []}
 use Rattle.pcm_cells.specs.Device.{ArrayState}
 use Rattle.ecp_line.specs.Layout.{IsLayout}
 use Rattle.row_laws.specs.declared.Row.{Row}
@@ -9,9 +8,9 @@ use Rattle.row_laws.specs.Rows.{RowTest, each_row, asks_write}
 use Rattle.row_laws.specs.Rules.{Rules}
 use Rattle.row_laws.specs.Wearing.{worn_row}
 use Rattle.bank_shape.specs.declared.BankShape.{BankShape}
-use Rattle.bank_shape.specs.Shape.{slots_of, controls_of, control_line, lines_in}
+use Rattle.bank_shape.specs.Shape.{slots_of, controls_of, control_line}
 use Rattle.bank_laws.specs.Laws.{KeepsPlaces, is_worn_at}
-use Rattle.bank_laws.specs.Places.{most_pulses, may_leave}
+use Rattle.bank_laws.specs.Places.{may_leave}
 use Rattle.end_laws.specs.Ends.{BankEnd, EndsWith}
 use Rattle.end_laws.specs.Roles.{used_spares}
 use Rattle.lifetime_laws.specs.Endures.{EnduresAtLeast}
@@ -50,13 +49,6 @@ SoundRowsLaw =
     (n m e : ℕ) (shape : BankShape) (array : ArrayState n m) (rules : Rules) (rows : List (Row n)) → KeepsPlaces e shape array rules rows
     → ((slot : ℕ) → slot < slots_of shape → IsFalse (is_worn_at e array (shape.base + slot)))
     → TellsNoWear shape (is_worn_at e array) rows
-
--- where all pulses of a bank together are fewer than its cells endure, no control line is worn
-abbrev pub ControlsLaw : Type 0
-ControlsLaw =
-    (n m e lo : ℕ) (shape : BankShape) (array : ArrayState n m) (rules : Rules) (rows : List (Row n))
-    → IsLayout n m e → EnduresAtLeast lo array → shape.base + lines_in shape ≤ array.lines
-    → KeepsPlaces e shape array rules rows → most_pulses rules rows < lo → KeepsControls shape (is_worn_at e array)
 
 -- and each slot has its own line: none was retired, and no spare is used
 abbrev pub NoneRetiredLaw : Type 0

@@ -1,5 +1,5 @@
 -- How long a module lives under the rotation: a bank whose hot lines are few keeps every slot's own line.
-use Rattle.std.specs.Prelude.{ℕ, ◌+◌, ◌*◌, ◌/◌, ◌<◌, ◌≤◌, ◌==◌, ◌&&◌, not, Bool, IsTrue, IsFalse, List, [], ◌∷◌, length, count_by}
+use Rattle.std.specs.Prelude.{ℕ, ◌+◌, ◌*◌, ◌/◌, ◌<◌, ◌≤◌, ◌==◌, ◌&&◌, not, nat_lt, Bool, if◌then◌else◌, IsTrue, IsFalse, List, [], ◌∷◌, length, count_by}
 use Rattle.std.specs.List.{list_any}
 use Rattle.pcm_cells.specs.Device.{ArrayState}
 use Rattle.ecp_line.specs.Layout.{IsLayout}
@@ -10,16 +10,16 @@ use Rattle.row_laws.specs.Rules.{Rules}
 use Rattle.row_laws.specs.Table.{KeepsRows}
 use Rattle.row_laws.specs.Ticking.{is_in_time}
 use Rattle.bank_shape.specs.declared.BankShape.{BankShape}
-use Rattle.bank_shape.specs.Shape.{slots_of, lines_in, is_array}
+use Rattle.bank_shape.specs.Shape.{slots_of, lines_in, controls_of, control_line}
 use Rattle.bank_model.specs.Timing.{Pacing, Timed}
 use Rattle.bank_model.specs.Lawful.{Lawful, IsIdle}
 use Rattle.bank_laws.specs.Laws.{IsSized, LeavesArray, KeepsPlaces, is_worn_at, rules_of}
 use Rattle.bank_laws.specs.Outcomes.{table_of}
-use Rattle.bank_laws.specs.Places.{region_stores, is_placed, most_pulses, may_leave}
+use Rattle.bank_laws.specs.Places.{region_stores, is_placed, may_leave}
 use Rattle.lifetime_laws.specs.Spread.{most_at, most_moves, stay, stores_on}
-use Rattle.lifetime_laws.specs.Works.{most_works, most_each, stores_at}
+use Rattle.lifetime_laws.specs.Works.{most_works, most_each, most_kept, stores_at}
 use Rattle.lifetime_laws.specs.Endures.{EnduresAtLeast}
-use Rattle.lifetime_laws.specs.Endurance.{is_unrefused, is_unqueued}
+use Rattle.lifetime_laws.specs.Endurance.{KeepsControls, is_unrefused, is_unqueued}
 
 -- the stores of a region that are of none of these lines
 abbrev pub other_stores : {n : ℕ} → BankShape → ℕ → List ℕ → List (Row n) → ℕ
@@ -51,10 +51,12 @@ AttackLaw =
     → (shape.lines + 1) * stores_on line (shape.base + slot) rows
     ≤ own_stores line rows + other_stores shape (line / shape.lines) (line ∷ []) rows + shape.lines * stay shape.lines shape.psi
 
--- what the pulses of each slot's own array line are to the rows of a bank's table
+-- what the pulses of each slot's own array line, and of each control line, are to the rows of a bank's table
 pub record KeepsLines {n m : ℕ} (shape : BankShape) (array : ArrayState n m) (rules : Rules) (rows : List (Row n)) : Type 0 where
   pub pulses : (slot : ℕ) → slot < slots_of shape
       → (array.line (shape.base + slot)).pulses ≤ most_each rules * most_works shape rows slot
+  pub controls : (item : ℕ) → item < controls_of shape
+      → (array.line (control_line shape item)).pulses ≤ most_each rules * most_kept shape rows item
 
 -- so it is for every history of a bank
 abbrev pub KeptLinesLaw : Type 0
@@ -77,25 +79,43 @@ abbrev pub other_asked : {n : ℕ} → BankShape → ℕ → List ℕ → List (
 other_asked shape region hot rows =
     count_by (λ q. asks_write q.asks && (line_of q.asks / shape.lines == region && not (list_any (λ h. h == line_of q.asks) hot))) rows
 
--- the same bound by what a trace asks for, whatever becomes of it
+-- the same bounds by what a trace asks for, whatever becomes of it
 abbrev pub most_asked_works : {n : ℕ} → BankShape → ℕ → List ℕ → List (Row n) → ℕ
 most_asked_works shape region hot rows =
     length hot * most_at shape.lines shape.psi (asked_writes shape region rows) + other_asked shape region hot rows
     + most_moves shape.lines (asked_writes shape region rows / shape.psi) + 1 + count_by is_cut rows
 
-abbrev pub AskedLaw : Type 0
-AskedLaw =
-    (n : ℕ) (shape : BankShape) (region : ℕ) (hot : List ℕ) (rows : List (Row n)) → 1 ≤ shape.lines → 1 ≤ shape.psi
-    → most_hot_works shape region hot rows ≤ most_asked_works shape region hot rows
+abbrev pub most_asked_kept : {n : ℕ} → BankShape → List (Row n) → ℕ → ℕ
+most_asked_kept shape rows item =
+    (if nat_lt item shape.regions then asked_writes shape item rows + asked_writes shape item rows / shape.psi else 1)
+    + count_by is_cut rows
 
--- what a bank shows in which no slot's own line is worn: no row is refused for want of a spare, and none is left in the queue, nor has
--- the bank a reason to leave one. Where registers are kept in the array the last needs that no control line is worn, which rotation
--- doesn't spare: all pulses of the bank together are to be fewer than cells endure
+pub record AsksNoLess {n : ℕ} (shape : BankShape) (rows : List (Row n)) : Type 0 where
+  pub works : (region : ℕ) (hot : List ℕ) → most_hot_works shape region hot rows ≤ most_asked_works shape region hot rows
+  pub kept : (item : ℕ) → most_kept shape rows item ≤ most_asked_kept shape rows item
+
+abbrev pub AskedLaw : Type 0
+AskedLaw = (n : ℕ) (shape : BankShape) (rows : List (Row n)) → 1 ≤ shape.lines → 1 ≤ shape.psi → AsksNoLess shape rows
+
+-- cells endure what the changes of each item may bring its control line. A bank whose registers are guarded has none; where they are
+-- kept in the array, that of a region is written for each of its stores and moves, and no gap moves it: it wears out first
+abbrev pub BearsControls : {n : ℕ} → ℕ → BankShape → Rules → List (Row n) → Type 0
+BearsControls lo shape rules rows = (item : ℕ) → item < controls_of shape → most_each rules * most_kept shape rows item < lo
+
+-- then no control line is worn
+abbrev pub ControlsLaw : Type 0
+ControlsLaw =
+    (n m e lo : ℕ) (shape : BankShape) (array : ArrayState n m) (rules : Rules) (rows : List (Row n))
+    → IsLayout n m e → EnduresAtLeast lo array → shape.base + lines_in shape ≤ array.lines
+    → KeepsLines shape array rules rows → BearsControls lo shape rules rows → KeepsControls shape (is_worn_at e array)
+
+-- what a bank shows in which no slot's own line is worn: no row is refused for want of a spare; and where cells bear its control lines
+-- too, none is left in the queue, nor has the bank a reason to leave one
 pub record LivesOn {n m : ℕ} (e lo : ℕ) (shape : BankShape) (array : ArrayState n m) (rules : Rules) (rows : List (Row n)) : Type 0 where
   pub unworn : (slot : ℕ) → slot < slots_of shape → IsFalse (is_worn_at e array (shape.base + slot))
   pub taken : IsTrue (each_row is_unrefused rows [])
-  pub finished : (IsTrue (is_array shape.home) → most_pulses rules rows < lo) → IsTrue (each_row is_unqueued rows [])
-  pub leaves : (IsTrue (is_array shape.home) → most_pulses rules rows < lo) → IsFalse (may_leave shape (is_worn_at e array))
+  pub finished : BearsControls lo shape rules rows → IsTrue (each_row is_unqueued rows [])
+  pub leaves : BearsControls lo shape rules rows → IsFalse (may_leave shape (is_worn_at e array))
 
 -- over cells that endure as many pulses as a slot's own line may take, no such line wears out
 abbrev pub LifetimeLaw : Type 0

@@ -1,6 +1,6 @@
--- How many line writes one array line of a slot takes, and how many pulses. Control lines are written by line writes of their own, which
--- nothing here counts.
-use Rattle.std.specs.Prelude.{ℕ, ◌+◌, ◌*◌, ◌/◌, ◌<◌, ◌≤◌, ◌==◌, ◌&&◌, not, Bool, if◌then◌else◌, List, [], ◌∷◌, count_by}
+-- How many line writes one array line takes, and how many pulses: a slot's own line, and a control line, which is written by line writes
+-- of its own.
+use Rattle.std.specs.Prelude.{ℕ, ◌+◌, ◌*◌, ◌/◌, ◌<◌, ◌≤◌, ◌==◌, ◌&&◌, not, nat_lt, Bool, if◌then◌else◌, List, [], ◌∷◌, count_by}
 use Rattle.pcm_cells.specs.Device.{ArrayState}
 use Rattle.row_laws.specs.declared.Row.{Row}
 use Rattle.row_laws.specs.Answers.{is_stored}
@@ -8,7 +8,7 @@ use Rattle.row_laws.specs.Rows.{asks_write, is_cut}
 use Rattle.row_laws.specs.Rules.{Rules}
 use Rattle.row_laws.specs.Ticking.{tries}
 use Rattle.bank_shape.specs.declared.BankShape.{BankShape}
-use Rattle.bank_shape.specs.Shape.{slots_of, controls_from}
+use Rattle.bank_shape.specs.Shape.{slots_of, controls_from, controls_of, control_line}
 use Rattle.bank_model.specs.declared.answer.Step.{Step}
 use Rattle.bank_model.specs.Events.{Event, Begin, Iterate, Cut}
 use Rattle.bank_model.specs.History.{goes_on, in_progress, iterated}
@@ -74,3 +74,23 @@ LinePulsesLaw =
     (n m e : ℕ) (shape : BankShape) (pace : Pacing) (xs : List (Timed n m)) (array : ArrayState n m) (slot : ℕ)
     → IsSized shape pace → Lawful shape pace e xs → IsIdle shape pace xs → LeavesArray e shape xs array → slot < slots_of shape
     → (array.line (shape.base + slot)).pulses ≤ most_each (rules_of e shape pace) * most_works shape (table_of shape xs) slot
+
+-- ---- control lines
+
+-- the most changes of an item by the rows: of a region's one for each of its stores and moves, of a spare's and of the mark one
+abbrev pub most_changes : {n : ℕ} → BankShape → List (Row n) → ℕ → ℕ
+most_changes shape rows item =
+    if nat_lt item shape.regions
+    then region_stores is_stored shape item rows + region_stores is_stored shape item rows / shape.psi
+    else 1
+
+-- the most line writes of an item's control line, each begun once: one for each change, and one for each cut
+abbrev pub most_kept : {n : ℕ} → BankShape → List (Row n) → ℕ → ℕ
+most_kept shape rows item = most_changes shape rows item + count_by is_cut rows
+
+-- the pulses of a control line
+abbrev pub ControlPulsesLaw : Type 0
+ControlPulsesLaw =
+    (n m e : ℕ) (shape : BankShape) (pace : Pacing) (xs : List (Timed n m)) (array : ArrayState n m) (item : ℕ)
+    → IsSized shape pace → Lawful shape pace e xs → IsIdle shape pace xs → LeavesArray e shape xs array → item < controls_of shape
+    → (array.line (control_line shape item)).pulses ≤ most_each (rules_of e shape pace) * most_kept shape (table_of shape xs) item

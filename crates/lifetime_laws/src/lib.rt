@@ -7,10 +7,10 @@
 mod worked;
 
 ghost use Rattle.lifetime_laws.specs.Spread.{AnyLineLaw, CopiesLaw, EvenLaw, FoundLaw, OneStayLaw, SpreadLaw, StayLaw, TightLaw};
-ghost use Rattle.lifetime_laws.specs.Endurance.{ControlsLaw, NoneRetiredLaw, SoundRowsLaw, UnwornLaw};
-ghost use Rattle.lifetime_laws.specs.Works.{LinePulsesLaw, PulsesOnLaw, WorksLaw};
+ghost use Rattle.lifetime_laws.specs.Endurance.{NoneRetiredLaw, SoundRowsLaw, UnwornLaw};
+ghost use Rattle.lifetime_laws.specs.Works.{ControlPulsesLaw, LinePulsesLaw, PulsesOnLaw, WorksLaw};
 ghost use Rattle.lifetime_laws.specs.Going.{FineWriteLaw};
-ghost use Rattle.lifetime_laws.specs.Lifetime.{AskedLaw, AttackLaw, HotLinesLaw, KeptLinesLaw, LifetimeLaw};
+ghost use Rattle.lifetime_laws.specs.Lifetime.{AskedLaw, AttackLaw, ControlsLaw, HotLinesLaw, KeptLinesLaw, LifetimeLaw};
 
 /// Whatever the trace: of the first so many stores of a region at most so many find a line at one slot.
 pub fn lines_stay_for_a_while()
@@ -73,7 +73,7 @@ pub fn unworn_banks_take_all()
     ensures { SoundRowsLaw }
 {}
 
-/// Where all pulses of a bank together are fewer than its cells endure, no control line is worn.
+/// Over cells that endure what the changes of each item may bring its control line, no control line is worn.
 pub fn spared_controls_are_unworn()
     ensures { ControlsLaw }
 {}
@@ -97,6 +97,12 @@ pub fn line_writes_are_few()
 /// So its pulses are few.
 pub fn line_pulses_are_few()
     ensures { LinePulsesLaw }
+{}
+
+/// And those of a control line: it is written for each store and move of its region, and again after a cut; that of a spare or of
+/// the mark is written once.
+pub fn control_pulses_are_few()
+    ensures { ControlPulsesLaw }
 {}
 
 /// The same as a law of a bank's finished table and array.

@@ -31,5 +31,5 @@ asked_alive_law asked lifetime retired n m e lo raw seed rows array ends hot ban
     let fewer : most_each (rules_in e raw bank) * most_hot_works (bank_shape (module_of raw) bank) region hot (table_in raw seed bank rows)
     ≤ most_each (rules_in e raw bank) * most_asked_works (bank_shape (module_of raw) bank) region hot (table_in raw seed bank rows) =
     mul-le-mul_left (most_each (rules_in e raw bank))
-    (asked n (bank_shape (module_of raw) bank) region hot (table_in raw seed bank rows) (omega (arith, shape.some_lines)) (omega (arith, shape.some_psi))) in
+    ((asked n (bank_shape (module_of raw) bank) (table_in raw seed bank rows) (omega (arith, shape.some_lines)) (omega (arith, shape.some_psi))).works region hot) in
     omega (arith, fewer, few region lt))

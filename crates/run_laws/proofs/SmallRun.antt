@@ -87,10 +87,10 @@ few_pulses at = by (at == 17)
     by false = lit≤ tt
 
 first_lines : KeepsLines (bank_shape (module_of small) 0) ended (rules_in 1 small 0) (first_bank 0)
-first_lines = record { pulses = λ slot exists. omega (arith, few_pulses ((bank_shape (module_of small) 0).base + slot)) }
+first_lines = record { pulses = λ slot exists. omega (arith, few_pulses ((bank_shape (module_of small) 0).base + slot)); controls = λ item exists. absurd (omega (arith, exists)) }
 
 second_lines : KeepsLines (bank_shape (module_of small) 1) ended (rules_in 1 small 1) (second_bank 0x11)
-second_lines = record { pulses = λ slot exists. omega (arith, few_pulses ((bank_shape (module_of small) 1).base + slot)) }
+second_lines = record { pulses = λ slot exists. omega (arith, few_pulses ((bank_shape (module_of small) 1).base + slot)); controls = λ item exists. absurd (omega (arith, exists)) }
 
 -- a line of a bank is shown by the log
 abbrev shows : ℕ → List (Row 2) → ℕ → Bool
