@@ -18,7 +18,10 @@ returns c i within =
           ap (slice_index c.level_half-2.new.left) (sym number)
           ∙ c.level_half-2.ensures.here k few
           ∙ rw (
-            c.level_half.ensures.after (32 + k) (omega arith), c.halves-low.ensures.high k few, c.halves-middle.ensures.high k few,
-            c.halves-high.ensures.high k few, number
+            c.level_half.ensures.after (32 + k) (omega arith),
+            c.halves-low.ensures.high k few,
+            c.halves-middle.ensures.high k few,
+            c.halves-high.ensures.high k few,
+            number,
           ) refl
     ]
