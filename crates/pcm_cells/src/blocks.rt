@@ -147,10 +147,24 @@ fn lacks(bits: u64, place: u32) -> bool
     bits >> place & 1 == 0
 }
 
+// Whether each count is at least eight.
+fn are_all_many(left: &[u32; 64]) -> bool
+    ensures { IsTrue result → (i : ℕ) → i < 64 → 8 ≤ slice_index left.now i }
+{
+    let mut few = false;
+    for place in 0..64 {
+        few |= left[place] < 8;
+    }
+    !few
+}
+
 // Whether each count is at least eight that isn't in the mask.
 pub(crate) fn are_many(left: &[u32; 64], mask: u64) -> bool
     ensures { IsTrue result → (i : ℕ) → i < 64 → bit_in mask i ≡ false → 8 ≤ slice_index left.now i }
 {
+    if are_all_many(left) {
+        return true;
+    }
     let mut few = false;
     for place in 0..64 {
         few |= (left[place as usize] < 8) & lacks(mask, place);
