@@ -96,13 +96,24 @@ fn halves(bits: u64) -> (u32, u32)
     ((bits & 0xffff_ffff) as u32, (bits >> 32) as u32)
 }
 
+// At each place the number whose only digit 1 is there. By a table, since a shift by the place has no lanes.
+const ONES: [u32; 32] = [
+    1, 2, 4, 8, 0x10, 0x20, 0x40, 0x80, 0x100, 0x200, 0x400, 0x800, 0x1000, 0x2000, 0x4000, 0x8000,
+    0x10000, 0x20000, 0x40000, 0x80000, 0x100000, 0x200000, 0x400000, 0x800000, 0x1000000,
+    0x2000000, 0x4000000, 0x8000000, 0x10000000, 0x20000000, 0x40000000, 0x80000000,
+];
+
 // The digit that a number has at a place.
 fn digit_at(bits: u32, place: u32) -> u32
     requires { place < 32 }
     ensures is { result ≡ (if bit_in bits place then 1 else 0) }
     ensures few { result ≤ 1 }
 {
-    if bits >> place & 1 == 1 { 1 } else { 0 }
+    if bits & ONES[place as usize] != 0 {
+        1
+    } else {
+        0
+    }
 }
 
 // Takes from each of 32 counts the number whose binary digits these are, the lowest first.
@@ -136,10 +147,24 @@ fn lacks(bits: u64, place: u32) -> bool
     bits >> place & 1 == 0
 }
 
+// Whether each count is at least eight.
+fn are_all_many(left: &[u32; 64]) -> bool
+    ensures { IsTrue result → (i : ℕ) → i < 64 → 8 ≤ slice_index left.now i }
+{
+    let mut few = false;
+    for place in 0..64 {
+        few |= left[place] < 8;
+    }
+    !few
+}
+
 // Whether each count is at least eight that isn't in the mask.
 pub(crate) fn are_many(left: &[u32; 64], mask: u64) -> bool
     ensures { IsTrue result → (i : ℕ) → i < 64 → bit_in mask i ≡ false → 8 ≤ slice_index left.now i }
 {
+    if are_all_many(left) {
+        return true;
+    }
     let mut few = false;
     for place in 0..64 {
         few |= (left[place as usize] < 8) & lacks(mask, place);
