@@ -1,5 +1,5 @@
 -- Worked gap moves of a region of four lines, computed. The newest move is first.
-use Rattle.std.proofs.Common.{◌≡◌, ℕ, List, [], ◌∷◌, refl}
+use Rattle.std.proofs.Common.{◌≡◌, ℕ, [], ◌∷◌, refl}
 use Rattle.std.specs.Prelude.{count_by, map}
 use Rattle.start_gap.specs.declared.Move.{Move}
 use Rattle.bank_model.specs.Timing.{core}
