@@ -1,6 +1,7 @@
 -- What a bank over cells that endure never shows: a worn line of a slot, a write that is refused, one that stays in the queue.
 use Rattle.std.specs.Prelude.{◌≡◌, ℕ, ◌+◌, ◌<◌, ◌&&◌, not, Bool, IsTrue, IsFalse, List, []}
 use Rattle.pcm_cells.specs.Device.{ArrayState}
+use Rattle.pcm_cells.specs.Endurance.{EnduresAtLeast}
 use Rattle.ecp_line.specs.Layout.{IsLayout}
 use Rattle.row_laws.specs.declared.Row.{Row}
 use Rattle.row_laws.specs.Answers.{is_queued}
@@ -13,7 +14,6 @@ use Rattle.bank_laws.specs.Laws.{KeepsPlaces, is_worn_at}
 use Rattle.bank_laws.specs.Places.{may_leave}
 use Rattle.end_laws.specs.Ends.{BankEnd, EndsWith}
 use Rattle.end_laws.specs.Roles.{used_spares}
-use Rattle.lifetime_laws.specs.Endures.{EnduresAtLeast}
 
 -- ---- lines
 

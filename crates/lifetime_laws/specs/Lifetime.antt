@@ -2,6 +2,7 @@
 use Rattle.std.specs.Prelude.{ℕ, ◌+◌, ◌*◌, ◌/◌, ◌<◌, ◌≤◌, ◌==◌, ◌&&◌, not, nat_lt, Bool, if◌then◌else◌, IsTrue, IsFalse, List, [], ◌∷◌, length, count_by}
 use Rattle.std.specs.List.{list_any}
 use Rattle.pcm_cells.specs.Device.{ArrayState}
+use Rattle.pcm_cells.specs.Endurance.{EnduresAtLeast}
 use Rattle.ecp_line.specs.Layout.{IsLayout}
 use Rattle.row_laws.specs.declared.Row.{Row}
 use Rattle.row_laws.specs.Answers.{is_stored}
@@ -18,7 +19,6 @@ use Rattle.bank_laws.specs.Outcomes.{table_of}
 use Rattle.bank_laws.specs.Places.{region_stores, is_placed, may_leave}
 use Rattle.lifetime_laws.specs.Spread.{most_at, most_moves, stay, stores_on}
 use Rattle.lifetime_laws.specs.Works.{most_works, most_each, most_kept, stores_at}
-use Rattle.lifetime_laws.specs.Endures.{EnduresAtLeast}
 use Rattle.lifetime_laws.specs.Endurance.{KeepsControls, is_unrefused, is_unqueued}
 
 -- the stores of a region that are of none of these lines

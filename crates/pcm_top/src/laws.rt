@@ -1,7 +1,12 @@
-//! The laws of the program. A law is what a function here ensures; the functions do nothing when they run.
-ghost use Rattle.pcm_top.specs.Lasting.{LastingLaw, LastingTraceLaw};
+//! The laws of the program. A law is what a function here ensures; the functions do nothing when they run, but for the one that
+//! tells a number.
+ghost use Rattle.std.specs.Prelude.{◌≡◌};
+ghost use Rattle.pcm_cells.specs.Endurance.{least_endurance};
+ghost use Rattle.pcm_cells.specs.Seeded.{seeded_state};
+ghost use Rattle.pcm_top.specs.Lasting.{LastingLaw, LastingTraceLaw, TracesLastLaw};
 ghost use Rattle.pcm_top.specs.Laws.{CompletenessLaw, DrawnLaw, PrintableLaw};
 
+use pcm_cells::MemArray;
 use run_laws::{
     array_lines_are_few, array_lines_have_one_role, lasting_traces_live_on, no_row_falls_short,
     places_are_array_lines, reads_are_not_lost_without_cuts, room_is_taken,
@@ -48,10 +53,20 @@ pub fn runs_last()
     runs_live_on();
 }
 
-/// So it is by the options and the trace alone: over an array whose cells endure as the wear says that the options ask for, where
-/// the writes that the trace asks for bring no slot's own line of a bank as many pulses, whatever becomes of them.
+/// So it is by the options and the trace alone: over an array that sticks no earlier than the wear of the options says, where the
+/// writes that the trace asks for bring no slot's own line of a bank as many pulses, whatever becomes of them.
 pub fn traces_last()
-    ensures { LastingTraceLaw }
+    ensures { TracesLastLaw }
 {
     lasting_traces_live_on();
+}
+
+/// The least number of pulses of an array line with a stuck cell, by which every run lasts that is made over the seeded array,
+/// whatever was done to it.
+pub fn seeded_runs_last<const B: usize, const M: usize>(array: &MemArray<B, M>) -> u32
+    ensures least { result ≡ least_endurance (seeded_state array.now).wear }
+    ensures last { LastingTraceLaw (seeded_state array.now) }
+{
+    traces_last();
+    array.endurance()
 }

@@ -1,6 +1,7 @@
 -- A finished run whose hot lines are few, over cells that endure.
 use Rattle.std.specs.Prelude.{◌≡◌, ℕ, ◌+◌, ◌*◌, ◌<◌, List}
 use Rattle.pcm_cells.specs.Device.{ArrayState}
+use Rattle.pcm_cells.specs.Endurance.{EnduresAtLeast}
 use Rattle.ecp_line.specs.Layout.{IsLayout}
 use Rattle.row_laws.specs.declared.Row.{Row}
 use Rattle.bank_shape.specs.Shape.{slots_of}
@@ -9,7 +10,6 @@ use Rattle.module_shape.specs.Limits.{IsShape}
 use Rattle.module_shape.specs.Addresses.{module_of, bank_shape}
 use Rattle.end_laws.specs.Ends.{BankEnd}
 use Rattle.end_laws.specs.Roles.{used_spares}
-use Rattle.lifetime_laws.specs.Endures.{EnduresAtLeast}
 use Rattle.lifetime_laws.specs.Works.{most_each}
 use Rattle.lifetime_laws.specs.Lifetime.{LivesOn, most_hot_works, most_asked_works}
 use Rattle.run_laws.specs.Runs.{table_in, rules_in, RunsRight}
