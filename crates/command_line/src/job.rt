@@ -14,6 +14,8 @@ pub enum Job {
     Map(MapJob),
     /// Tell the gap moves of a full turn of a region.
     Moves(MovesJob),
+    /// Tell the newest bytes of every line of a saved module.
+    Show,
 }
 
 /// A run of a trace.

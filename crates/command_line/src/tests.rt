@@ -121,6 +121,16 @@ fn a_map_and_moves_are_told(rt: HostRuntime) -> Result<(), Fail> {
 }
 
 #[test]
+fn a_saved_module_is_shown(rt: HostRuntime) -> Result<(), Fail> {
+    for line in ["show", "show --"] {
+        let Ok(Job::Show) = read(rt.alloc(), line)? else {
+            panic!(rt; "no show");
+        };
+    }
+    Ok(())
+}
+
+#[test]
 fn policies_and_homes_are_named(rt: HostRuntime) -> Result<(), Fail> {
     let Ok(Job::Run(job)) = read(
         rt.alloc(),
@@ -139,7 +149,7 @@ fn policies_and_homes_are_named(rt: HostRuntime) -> Result<(), Fail> {
     Ok(())
 }
 
-static REFUSED: [&str; 32] = [
+static REFUSED: [&str; 34] = [
     "",
     "walk",
     "ru",
@@ -172,6 +182,8 @@ static REFUSED: [&str; 32] = [
     "moves --lines 512",
     "moves --lines 24",
     "moves --from 16781313",
+    "show x",
+    "show --seed 0",
 ];
 
 #[test]
