@@ -5,6 +5,7 @@ pub mod Inputs
 pub mod Rows
 pub mod Ready
 pub mod RunText
+pub mod Showing
 pub mod Running
 pub mod Statuses
 pub mod Laws
