@@ -84,6 +84,8 @@ pub enum Print {
     Summary,
     /// A row for each array line.
     Wear,
+    /// The module as it stands in the end, as bytes.
+    Image,
 }
 
 /// Where a run takes its trace from.

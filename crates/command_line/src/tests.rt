@@ -121,6 +121,15 @@ fn a_map_and_moves_are_told(rt: HostRuntime) -> Result<(), Fail> {
 }
 
 #[test]
+fn a_run_may_print_its_image(rt: HostRuntime) -> Result<(), Fail> {
+    let Ok(Job::Run(job)) = read(rt.alloc(), "run --print image")? else {
+        panic!(rt; "no run");
+    };
+    assert!(rt; job.print == Print::Image);
+    Ok(())
+}
+
+#[test]
 fn a_saved_module_is_shown(rt: HostRuntime) -> Result<(), Fail> {
     for line in ["show", "show --"] {
         let Ok(Job::Show) = read(rt.alloc(), line)? else {
