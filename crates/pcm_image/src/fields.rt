@@ -14,7 +14,9 @@ use std::alloc::{AllocError, AllocFailed};
 /// Why an image gives no module.
 #[derive(Clone, Copy, Debug, PartialEq, Eq)]
 pub enum ReadImage {
+    /// A field fails.
     Bad(ImageFault),
+    /// Memory ran out.
     NoMemory,
 }
 
@@ -34,14 +36,16 @@ impl<T: Drop> From<AllocFailed<T>> for ReadImage {
     }
 }
 
-/// What is left of an image, and how many bytes are before it.
+/// What is left to read of an image.
 #[derive(Clone, Copy)]
 pub struct Fields<'a> {
+    /// How many bytes are before it.
     pub at: u32,
+    /// The bytes that are left.
     pub left: &'a [u8],
 }
 
-/// The numbers of an image's head.
+/// The numbers at the beginning of an image, but for the size of its lines.
 #[derive(Clone, Copy)]
 pub struct HeadImage {
     pub banks: u8,
@@ -52,6 +56,7 @@ pub struct HeadImage {
     pub home: u8,
 }
 
+/// That the next field fails so.
 pub fn bad(fields: &Fields<'_>, kind: ImageKind) -> ReadImage
     ensures { result ≡ ReadImage.Bad (record { at = fields.now.at; kind = kind }) }
 {
@@ -61,6 +66,7 @@ pub fn bad(fields: &Fields<'_>, kind: ImageKind) -> ReadImage
     })
 }
 
+/// The next byte.
 pub fn u8_at<'a>(fields: Fields<'a>) -> Result<(u8, Fields<'a>), ReadImage>
     requires { fields.at < 2 ^ 31 }
     ensures gives { Gives (λ x. (x.0, cursor x.1)) result (byte_at kind.Short any (cursor fields.entry)) }
@@ -78,6 +84,7 @@ pub fn u8_at<'a>(fields: Fields<'a>) -> Result<(u8, Fields<'a>), ReadImage>
     }
 }
 
+/// The next number of two bytes, the lowest byte first, as every number of an image.
 pub fn u16_at<'a>(fields: Fields<'a>) -> Result<(u16, Fields<'a>), ReadImage>
     requires { fields.at < 2 ^ 31 }
     ensures gives { Gives (λ x. (x.0, cursor x.1)) result (number_at w16 kind.Short any (cursor fields.entry)) }
@@ -97,6 +104,7 @@ pub fn u16_at<'a>(fields: Fields<'a>) -> Result<(u16, Fields<'a>), ReadImage>
     ))
 }
 
+// Whether a number is a power of two between two others.
 fn is_power_in(number: u32, least: u32, most: u32) -> bool
     ensures is { result ≡ is_power_between least most number }
     ensures most { IsTrue result → number ≤ most }
@@ -118,6 +126,7 @@ fn few_at<'a>(fields: Fields<'a>) -> Result<(u8, Fields<'a>), ReadImage>
     Ok((number, rest))
 }
 
+// The number of spares of a bank.
 fn spares_at<'a>(fields: Fields<'a>) -> Result<(u16, Fields<'a>), ReadImage>
     requires { fields.at < 2 ^ 31 }
     ensures gives { Gives (λ x. (x.0, cursor x.1)) result (number_at w16 kind.Shape (λ n. nat_le n 1024) (cursor fields.entry)) }
@@ -131,6 +140,7 @@ fn spares_at<'a>(fields: Fields<'a>) -> Result<(u16, Fields<'a>), ReadImage>
     Ok((number, rest))
 }
 
+/// The next number of four bytes.
 pub fn u32_at<'a>(fields: Fields<'a>) -> Result<(u32, Fields<'a>), ReadImage>
     requires { fields.at < 2 ^ 31 }
     ensures gives { Gives (λ x. (x.0, cursor x.1)) result (number_at w32 kind.Short any (cursor fields.entry)) }
@@ -150,6 +160,7 @@ pub fn u32_at<'a>(fields: Fields<'a>) -> Result<(u32, Fields<'a>), ReadImage>
     ))
 }
 
+/// The next number of eight bytes.
 pub fn u64_at<'a>(fields: Fields<'a>) -> Result<(u64, Fields<'a>), ReadImage>
     requires { fields.at < 2 ^ 31 }
     ensures gives { Gives (λ x. (x.0, cursor x.1)) result (number_at w64 kind.Shape any (cursor fields.entry)) }
@@ -171,6 +182,7 @@ pub fn u64_at<'a>(fields: Fields<'a>) -> Result<(u64, Fields<'a>), ReadImage>
     ))
 }
 
+// Whether a region may have so many lines, in a module of so many banks of so many regions.
 fn is_lines_of(banks: u8, regions: u8, lines: u16) -> bool
     requires { (banks ≤ 16) × (regions ≤ 16) }
     ensures is { result ≡ is_lines banks regions lines }
@@ -179,6 +191,7 @@ fn is_lines_of(banks: u8, regions: u8, lines: u16) -> bool
     is_power_in(lines as u32, 4, 4096) && banks as u32 * regions as u32 * lines as u32 <= 65_536
 }
 
+// The number of lines of a region.
 fn lines_at<'a>(fields: Fields<'a>, banks: u8, regions: u8) -> Result<(u16, Fields<'a>), ReadImage>
     requires at { fields.at < 2 ^ 31 }
     requires few { (banks ≤ 16) × (regions ≤ 16) }
@@ -193,6 +206,7 @@ fn lines_at<'a>(fields: Fields<'a>, banks: u8, regions: u8) -> Result<(u16, Fiel
     Ok((number, rest))
 }
 
+// Where the registers are kept.
 fn home_at<'a>(fields: Fields<'a>) -> Result<(u8, Fields<'a>), ReadImage>
     requires { fields.at < 2 ^ 31 }
     ensures gives { Gives (λ x. (x.0, cursor x.1)) result (byte_at kind.Shape (λ n. nat_lt n 2) (cursor fields.entry)) }
@@ -205,6 +219,7 @@ fn home_at<'a>(fields: Fields<'a>) -> Result<(u8, Fields<'a>), ReadImage>
     Ok((number, rest))
 }
 
+// The first two fields: an image's first eight bytes, and the size of its lines, which is the one that is asked for.
 #[tactic(auto, unfolding(crate::specs::Reading::size_at))]
 fn size_is<'a>(fields: Fields<'a>, size: usize) -> Result<(u8, Fields<'a>), ReadImage>
     requires { fields.at < 2 ^ 31 - 8 }
@@ -229,6 +244,7 @@ fn size_is<'a>(fields: Fields<'a>, size: usize) -> Result<(u8, Fields<'a>), Read
     Ok((number, rest))
 }
 
+/// The numbers at the beginning of an image, over lines of so many bytes.
 #[tactic(auto, unfolding(crate::specs::Reading::head_at))]
 pub fn head<'a>(fields: Fields<'a>, size: usize) -> Result<(HeadImage, Fields<'a>), ReadImage>
     requires { fields.at ≡ 0 }

@@ -18,8 +18,11 @@ pub use writing::{
 /// The registers of a region, and its stores since the last move of its gap.
 #[derive(Clone, Copy, Debug, PartialEq, Eq)]
 pub struct RegionImage {
+    /// Below the number of lines.
     pub start: u16,
+    /// At most the number of lines.
     pub gap: u16,
+    /// Stores since the gap last moved.
     pub counter: u16,
 }
 

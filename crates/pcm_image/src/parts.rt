@@ -14,6 +14,7 @@ use crate::{BankImage, EntryImage, Image, ImageFault, ImageKind, RegionImage};
 use pcm_cells::Cells;
 use std::alloc::Global;
 
+// The mark of a bank.
 fn mark_at<'a>(fields: Fields<'a>) -> Result<(u8, Fields<'a>), ReadImage>
     requires { fields.at < 2 ^ 31 }
     ensures gives { Gives (λ x. (x.0, cursor x.1)) result (byte_at kind.Bank (λ n. nat_lt n 2) (cursor fields.entry)) }
@@ -40,6 +41,7 @@ fn up_to<'a>(fields: Fields<'a>, most: u16) -> Result<(u16, Fields<'a>), ReadIma
     Ok((number, rest))
 }
 
+// The register Start of a region of so many lines.
 fn start_at<'a>(fields: Fields<'a>, lines: u16) -> Result<(u16, Fields<'a>), ReadImage>
     requires { fields.at < 2 ^ 31 }
     ensures gives { Gives (λ x. (x.0, cursor x.1)) result (number_at w16 kind.Bank (λ n. nat_lt n lines) (cursor fields.entry)) }
@@ -52,6 +54,7 @@ fn start_at<'a>(fields: Fields<'a>, lines: u16) -> Result<(u16, Fields<'a>), Rea
     Ok((number, rest))
 }
 
+// The stores of a region since its last move.
 fn counter_at<'a>(fields: Fields<'a>) -> Result<(u16, Fields<'a>), ReadImage>
     requires { fields.at < 2 ^ 31 }
     ensures gives { Gives (λ x. (x.0, cursor x.1)) result (number_at w16 kind.Bank any (cursor fields.entry)) }
@@ -60,6 +63,7 @@ fn counter_at<'a>(fields: Fields<'a>) -> Result<(u16, Fields<'a>), ReadImage>
     u16_at(fields)
 }
 
+// The slot of a used spare.
 fn slot_at<'a>(fields: Fields<'a>, slots: u32) -> Result<(u32, Fields<'a>), ReadImage>
     requires { fields.at < 2 ^ 31 }
     ensures gives { Gives (λ x. (x.0, cursor x.1)) result (number_at w32 kind.Bank (λ n. nat_lt n slots) (cursor fields.entry)) }
@@ -72,6 +76,7 @@ fn slot_at<'a>(fields: Fields<'a>, slots: u32) -> Result<(u32, Fields<'a>), Read
     Ok((number, rest))
 }
 
+// The registers of a region.
 #[tactic(auto, unfolding(crate::specs::Reading::region_at))]
 fn region_of<'a>(
     fields: Fields<'a>,
@@ -94,6 +99,7 @@ fn region_of<'a>(
     ))
 }
 
+// The line of a write.
 fn entry_line<'a>(fields: Fields<'a>, lines: u32) -> Result<(u32, Fields<'a>), ReadImage>
     requires { fields.at < 2 ^ 31 }
     ensures gives { Gives (λ x. (x.0, cursor x.1)) result (number_at w32 kind.Entry (λ n. nat_lt n lines) (cursor fields.entry)) }
@@ -106,6 +112,7 @@ fn entry_line<'a>(fields: Fields<'a>, lines: u32) -> Result<(u32, Fields<'a>), R
     Ok((number, rest))
 }
 
+// The bytes of a write.
 fn bytes_at<'a, const B: usize>(fields: Fields<'a>) -> Result<([u8; B], Fields<'a>), ReadImage>
     requires at { fields.at < 2 ^ 31 }
     requires few { B ≤ 128 }
@@ -127,6 +134,7 @@ fn bytes_at<'a, const B: usize>(fields: Fields<'a>) -> Result<([u8; B], Fields<'
     ))
 }
 
+// A bit of some bytes, the lowest of a byte first.
 fn bit(bytes: &[u8], number: usize) -> bool
     requires { number < 8 * length bytes.now }
     ensures { result ≡ bit_of bytes.now number }
@@ -134,6 +142,7 @@ fn bit(bytes: &[u8], number: usize) -> bool
     bytes[number / 8] >> (number % 8) & 1 == 1
 }
 
+// Which bytes are given, by their bits.
 fn given_of<const B: usize>(bits: &[u8]) -> [bool; B]
     requires { B ≤ 8 * length bits.now }
     ensures { result ≡ given_from bits.now 0 B }
@@ -145,12 +154,14 @@ fn given_of<const B: usize>(bits: &[u8]) -> [bool; B]
     given
 }
 
+// Whether some byte is given.
 fn some_given(given: &[bool]) -> bool
     ensures { result ≡ gives_some given.now }
 {
     given.iter().any(|g| *g)
 }
 
+// Whether a byte is given or 0.
 fn is_free(given: bool, byte: u8) -> bool
     ensures { result ≡ (given || byte == 0) }
 {
@@ -171,6 +182,7 @@ fn zeros(bytes: &[u8], given: &[bool]) -> bool
     true
 }
 
+// Which bytes of a write are given.
 fn given_at<'a, const B: usize>(
     fields: Fields<'a>,
     bytes: &[u8; B],
@@ -198,6 +210,7 @@ fn given_at<'a, const B: usize>(
     ))
 }
 
+// A write of a queue.
 #[tactic(auto, unfolding(crate::specs::Reading::entry_at))]
 fn entry_of<'a, const B: usize>(
     fields: Fields<'a>,
@@ -221,6 +234,7 @@ fn entry_of<'a, const B: usize>(
     Ok((EntryImage { line, bytes, given }, rest))
 }
 
+// The slots of the used spares.
 fn slots_of<'a>(
     alloc: Global,
     fields: Fields<'a>,
@@ -241,6 +255,7 @@ fn slots_of<'a>(
     Ok((items, rest))
 }
 
+// The registers of the regions.
 fn regions_of<'a>(
     alloc: Global,
     fields: Fields<'a>,
@@ -260,6 +275,7 @@ fn regions_of<'a>(
     Ok((items, rest))
 }
 
+// The writes of a queue.
 fn entries_of<'a, const B: usize>(
     alloc: Global,
     fields: Fields<'a>,
@@ -285,7 +301,7 @@ fn entries_of<'a, const B: usize>(
     Ok((items, rest))
 }
 
-// A bank has at most 42,093 bytes.
+// What a bank keeps: at most 42,093 bytes.
 #[tactic(auto, unfolding(crate::specs::Reading::bank_at))]
 fn bank_of<'a, const B: usize>(
     alloc: Global,
@@ -321,6 +337,7 @@ fn bank_of<'a, const B: usize>(
     ))
 }
 
+// The banks, the first one behind the 24 bytes of the module's numbers.
 fn banks_of<'a, const B: usize>(
     alloc: Global,
     fields: Fields<'a>,
@@ -343,6 +360,7 @@ fn banks_of<'a, const B: usize>(
     Ok((items, rest))
 }
 
+// The cells of an array line.
 #[tactic(auto, unfolding(crate::specs::Reading::cells_at))]
 fn row_at<'a, const B: usize, const M: usize>(
     fields: Fields<'a>,
@@ -370,6 +388,7 @@ fn row_at<'a, const B: usize, const M: usize>(
     ))
 }
 
+// The cells of so many array lines.
 fn rows_of<'a, const B: usize, const M: usize>(
     alloc: Global,
     fields: Fields<'a>,
@@ -395,6 +414,7 @@ fn rows_of<'a, const B: usize, const M: usize>(
     Ok((items, rest))
 }
 
+// How many array lines a module has.
 fn array_lines(head: HeadImage) -> u32
     requires { IsSmall (head_view head) }
     ensures is { result ≡ head.banks * array_lines_in (head_view head) }
@@ -409,6 +429,7 @@ fn array_lines(head: HeadImage) -> u32
         * (head.regions as u32 * (head.lines as u32 + 1) + head.spares as u32 + controls)
 }
 
+// The whole of an image.
 #[tactic(auto, unfolding(crate::specs::Reading::image_of))]
 fn whole<const B: usize, const M: usize>(
     alloc: Global,

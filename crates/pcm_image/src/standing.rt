@@ -129,6 +129,7 @@ impl<const B: usize> BankImage<B> {
 }
 
 impl<const B: usize, const M: usize> Image<B, M> {
+    // The numbers at its beginning.
     fn head(&self) -> HeadImage
         ensures { head_view result ≡ self.now.head }
     {

@@ -27,6 +27,7 @@ pub fn write_head(
     write_limits(text, lines, spares, seed, home);
 }
 
+// The bytes at an image's beginning and its first three numbers.
 fn write_sizes(text: &mut Text, size: u8, banks: u8, regions: u8)
     requires { 11 ≤ room_in text.old }
     ensures after { text.new ≡ appended text.old (magic ++ (u8 size ++ (u8 banks ++ u8 regions))) }
@@ -36,6 +37,7 @@ fn write_sizes(text: &mut Text, size: u8, banks: u8, regions: u8)
     text.push(&[size, banks, regions]);
 }
 
+// The other numbers of a module.
 fn write_limits(text: &mut Text, lines: u16, spares: u16, seed: u64, home: u8)
     requires { 13 ≤ room_in text.old }
     ensures after { text.new ≡ appended text.old (u16 lines ++ (u16 spares ++ (u64 seed ++ u8 home))) }
@@ -100,6 +102,7 @@ fn packed_byte(given: &[bool], byte: usize) -> u8
     bits
 }
 
+// Which bytes are given, a bit each.
 #[tactic(auto, using(crate::proofs::Steps::bytes_more))]
 fn write_given<const B: usize>(text: &mut Text, given: &[bool; B])
     requires { B / 8 ≤ room_in text.old }
