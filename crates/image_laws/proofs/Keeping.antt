@@ -51,8 +51,8 @@ head-right raw seed is low =
       banks = within 1 16 raw.banks (first-test _ raw.banks raw.regions raw.lines power) is.some_banks is.few_banks;
       regions = within 1 16 raw.regions (second-test _ raw.banks raw.regions raw.lines power) is.some_regions is.few_regions;
       lines = both (is_power_between 4 4096 raw.lines) (nat_le (raw.banks * raw.regions * raw.lines) 65536)
-        (within 4 4096 raw.lines (third-test _ raw.banks raw.regions raw.lines power) is.some_lines is.few_lines)
-        (le-test (raw.banks * raw.regions * raw.lines) 65536 is.few_in_all);
+          (within 4 4096 raw.lines (third-test _ raw.banks raw.regions raw.lines power) is.some_lines is.few_lines)
+          (le-test (raw.banks * raw.regions * raw.lines) 65536 is.few_in_all);
       spares = is.few_spares;
       seed = low;
       home = home-low raw.home;

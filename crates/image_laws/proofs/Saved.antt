@@ -60,17 +60,17 @@ module _ (by_bank : BankTableLaw) (lines_law : LinesLaw) {n m : ℕ} (e : ℕ) (
     head = head-right raw seed is low;
     one_each = length-map-range_with_len (λ b. saved_bank (kept b)) 0 raw.banks;
     parts = All-from_get_or (IsSavedBank (head_of raw seed)) (saved_banks kept raw.banks) (no_bank n)
-      (λ bank lt.
-       let few : bank < raw.banks = omega (arith, lt, length-map-range_with_len (λ b. saved_bank (kept b)) 0 raw.banks) in
-       rw (part-at bank few) (part-right bank few));
+        (λ bank lt.
+        let few : bank < raw.banks = omega (arith, lt, length-map-range_with_len (λ b. saved_bank (kept b)) 0 raw.banks) in
+        rw (part-at bank few) (part-right bank few));
     all_lines =
-      length-map-range_with_len (λ l. (left.before.line l).held) 0 left.before.lines ∙ left.finished.size
-      ∙ ap (λ k. raw.banks * k) (sym (lines-same raw seed));
+        length-map-range_with_len (λ l. (left.before.line l).held) 0 left.before.lines ∙ left.finished.size
+        ∙ ap (λ k. raw.banks * k) (sym (lines-same raw seed));
     rows = All-from_get_or (IsSavedRow n m) (saved_cells left.before left.before.lines) (zero_row n m)
-      (λ line lt.
-       let few : line < left.before.lines = omega (arith, lt, length-map-range_with_len (λ l. (left.before.line l).held) 0 left.before.lines) in
-       let some : line < array.lines = omega (arith, few, left.since.lines) in
-       rw (cells-at line few) (subst (λ l. IsSavedRow n m l.held) (left.since.line line) (are line some)));
+        (λ line lt.
+        let few : line < left.before.lines = omega (arith, lt, length-map-range_with_len (λ l. (left.before.line l).held) 0 left.before.lines) in
+        let some : line < array.lines = omega (arith, few, left.since.lines) in
+        rw (cells-at line few) (subst (λ l. IsSavedRow n m l.held) (left.since.line line) (are line some)));
   }
 
   cells : (line : ℕ) → line < array.lines → get_or saved.cells line (zero_row n m) ≡ (array.line line).held

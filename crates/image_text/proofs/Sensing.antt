@@ -15,6 +15,7 @@ sensed-none {n} {m} array = record {
   line = λ number. refl;
   lines = refl;
   tears = refl;
+  wear = refl;
   log = λ log told. (log, [], told, sym (append-nil log), All-nil (λ (s : Sense n m). s ≡ sense_of s.line 0 (array.line s.line)));
 }
 
@@ -23,14 +24,19 @@ sensed-more {n} {m} first old new line since senses = record {
   line = λ number. senses.line number ∙ since.line number;
   lines = senses.lines ∙ since.lines;
   tears = senses.tears ∙ since.tears;
+  wear = senses.wear ∙ since.wear;
   log = λ log told.
       let last = senses.log log told in
       let had = since.log last.0 last.1 in
       let one : Sense n m = sense_of line 0 (old.line line) in
       let shows : one ≡ sense_of one.line 0 (first.line one.line) = ap (λ l. sense_of line 0 l) (since.line line) in
-      let Of : Sense n m → Type 0 = λ s. s ≡ sense_of s.line 0 (first.line s.line) in
-      (had.0, had.1 ++ one ∷ [], had.2, last.2 ∙ ap (λ l. l ++ one ∷ []) had.3 ∙ append_assoc had.0 had.1 (one ∷ []),
-        All-append Of had.1 (one ∷ []) had.4 (All-cons Of one [] shows (All-nil Of)));
+      let Of : Sense n m → Type 0 = λ s. s ≡ sense_of s.line 0 (first.line s.line) in (
+        had.0,
+        had.1 ++ one ∷ [],
+        had.2,
+        last.2 ∙ ap (λ l. l ++ one ∷ []) had.3 ∙ append_assoc had.0 had.1 (one ∷ []),
+        All-append Of had.1 (one ∷ []) had.4 (All-cons Of one [] shows (All-nil Of)),
+      );
 }
 
 -- the rows that were sensed so far have the bytes of a line, and so have all in the end

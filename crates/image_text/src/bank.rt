@@ -62,7 +62,11 @@ fn print_slots<K: Sink>(remap: &Remap, text: &mut Text, out: &mut K) -> Result<(
 }
 
 // The registers of the regions, in order.
-fn print_regions<const B: usize, K: Sink>(kept: &Kept<B>, text: &mut Text, out: &mut K) -> Result<(), WriteFault>
+fn print_regions<const B: usize, K: Sink>(
+    kept: &Kept<B>,
+    text: &mut Text,
+    out: &mut K,
+) -> Result<(), WriteFault>
     requires { ROW_ROOM ≤ text.old.limit }
     ensures printed { OnOk result (PrintsMore text.old text.new (K.written out.old) (K.written out.new) (flat_map region_bytes (map saved_region kept.now.regions))) }
     ensures part { OnErr result (PrintsPart text.old (K.written out.old) (K.written out.new) (flat_map region_bytes (map saved_region kept.now.regions))) }
@@ -77,7 +81,11 @@ fn print_regions<const B: usize, K: Sink>(kept: &Kept<B>, text: &mut Text, out: 
 }
 
 // The writes of the queue, the oldest first.
-fn print_entries<const B: usize, K: Sink>(kept: &Kept<B>, text: &mut Text, out: &mut K) -> Result<(), WriteFault>
+fn print_entries<const B: usize, K: Sink>(
+    kept: &Kept<B>,
+    text: &mut Text,
+    out: &mut K,
+) -> Result<(), WriteFault>
     requires limit { ROW_ROOM ≤ text.old.limit }
     requires small { B ≤ 128 }
     ensures printed { OnOk result (PrintsMore text.old text.new (K.written out.old) (K.written out.new) (flat_map entry_bytes (map saved_entry kept.now.entries))) }
@@ -96,7 +104,11 @@ fn print_entries<const B: usize, K: Sink>(kept: &Kept<B>, text: &mut Text, out: 
 }
 
 // What a bank keeps: its mark, the slots of its used spares, its registers and the writes of its queue.
-pub(crate) fn print_bank<const B: usize, K: Sink>(kept: &Kept<B>, text: &mut Text, out: &mut K) -> Result<(), WriteFault>
+pub(crate) fn print_bank<const B: usize, K: Sink>(
+    kept: &Kept<B>,
+    text: &mut Text,
+    out: &mut K,
+) -> Result<(), WriteFault>
     requires limit { ROW_ROOM ≤ text.old.limit }
     requires small { B ≤ 128 }
     requires in_range { IsKept kept.now }

@@ -9,7 +9,8 @@ ghost use Rattle.image_text.specs.Printing.{PrintsMore, PrintsPart};
 use module_shape::{Home, Shape};
 use pcm_cells::Cells;
 use pcm_image::{
-    EntryImage, RegionImage, write_bank, write_cells, write_count, write_entry, write_head, write_region, write_slot,
+    EntryImage, RegionImage, write_bank, write_cells, write_count, write_entry, write_head,
+    write_region, write_slot,
 };
 use pcm_io::{Sink, Text, WriteFault};
 use run_text::{ROW_ROOM, make_room};
@@ -31,11 +32,26 @@ fn push_head(size: u8, shape: &Shape, seed: u64, text: &mut Text)
 {
     let raw = shape.raw();
     let home = number_of_home(raw.home);
-    write_head(text, size, raw.banks as u8, raw.regions as u8, raw.lines as u16, raw.spares as u16, seed, home);
+    write_head(
+        text,
+        size,
+        raw.banks as u8,
+        raw.regions as u8,
+        raw.lines as u16,
+        raw.spares as u16,
+        seed,
+        home,
+    );
 }
 
 // The numbers of a module of these sizes, with lines of so many bytes.
-pub(crate) fn print_head<K: Sink>(size: u8, shape: &Shape, seed: u64, text: &mut Text, out: &mut K) -> Result<(), WriteFault>
+pub(crate) fn print_head<K: Sink>(
+    size: u8,
+    shape: &Shape,
+    seed: u64,
+    text: &mut Text,
+    out: &mut K,
+) -> Result<(), WriteFault>
     requires { ROW_ROOM ≤ text.old.limit }
     ensures printed { OnOk result (PrintsMore text.old text.new (K.written out.old) (K.written out.new) (head_bytes size (head_of shape.now seed))) }
     ensures part { OnErr result (PrintsPart text.old (K.written out.old) (K.written out.new) (head_bytes size (head_of shape.now seed))) }
@@ -49,7 +65,12 @@ pub(crate) fn print_head<K: Sink>(size: u8, shape: &Shape, seed: u64, text: &mut
 }
 
 // The mark of a bank, and how many of its spares are used.
-pub(crate) fn print_mark<K: Sink>(mark: u8, used: u16, text: &mut Text, out: &mut K) -> Result<(), WriteFault>
+pub(crate) fn print_mark<K: Sink>(
+    mark: u8,
+    used: u16,
+    text: &mut Text,
+    out: &mut K,
+) -> Result<(), WriteFault>
     requires limit { ROW_ROOM ≤ text.old.limit }
     ensures printed { OnOk result (PrintsMore text.old text.new (K.written out.old) (K.written out.new) (u8 mark ++ u16 used)) }
     ensures part { OnErr result (PrintsPart text.old (K.written out.old) (K.written out.new) (u8 mark ++ u16 used)) }
@@ -77,7 +98,11 @@ pub(crate) fn print_slot<K: Sink>(slot: u32, text: &mut Text, out: &mut K) -> Re
 }
 
 // The registers of a region.
-pub(crate) fn print_region<K: Sink>(region: &RegionImage, text: &mut Text, out: &mut K) -> Result<(), WriteFault>
+pub(crate) fn print_region<K: Sink>(
+    region: &RegionImage,
+    text: &mut Text,
+    out: &mut K,
+) -> Result<(), WriteFault>
     requires limit { ROW_ROOM ≤ text.old.limit }
     ensures printed { OnOk result (PrintsMore text.old text.new (K.written out.old) (K.written out.new) (region_bytes region.now)) }
     ensures part { OnErr result (PrintsPart text.old (K.written out.old) (K.written out.new) (region_bytes region.now)) }
@@ -91,7 +116,11 @@ pub(crate) fn print_region<K: Sink>(region: &RegionImage, text: &mut Text, out: 
 }
 
 // How many writes stand in a queue.
-pub(crate) fn print_count<K: Sink>(entries: u16, text: &mut Text, out: &mut K) -> Result<(), WriteFault>
+pub(crate) fn print_count<K: Sink>(
+    entries: u16,
+    text: &mut Text,
+    out: &mut K,
+) -> Result<(), WriteFault>
     requires limit { ROW_ROOM ≤ text.old.limit }
     ensures printed { OnOk result (PrintsMore text.old text.new (K.written out.old) (K.written out.new) (u16 entries)) }
     ensures part { OnErr result (PrintsPart text.old (K.written out.old) (K.written out.new) (u16 entries)) }
@@ -105,7 +134,11 @@ pub(crate) fn print_count<K: Sink>(entries: u16, text: &mut Text, out: &mut K) -
 }
 
 // A write of a queue.
-pub(crate) fn print_entry<const B: usize, K: Sink>(entry: &EntryImage<B>, text: &mut Text, out: &mut K) -> Result<(), WriteFault>
+pub(crate) fn print_entry<const B: usize, K: Sink>(
+    entry: &EntryImage<B>,
+    text: &mut Text,
+    out: &mut K,
+) -> Result<(), WriteFault>
     requires limit { ROW_ROOM ≤ text.old.limit }
     requires small { B ≤ 128 }
     ensures printed { OnOk result (PrintsMore text.old text.new (K.written out.old) (K.written out.new) (entry_bytes entry.now)) }
@@ -120,7 +153,11 @@ pub(crate) fn print_entry<const B: usize, K: Sink>(entry: &EntryImage<B>, text: 
 }
 
 // The cells of an array line.
-pub(crate) fn print_cells<const B: usize, const M: usize, K: Sink>(cells: &Cells<B, M>, text: &mut Text, out: &mut K) -> Result<(), WriteFault>
+pub(crate) fn print_cells<const B: usize, const M: usize, K: Sink>(
+    cells: &Cells<B, M>,
+    text: &mut Text,
+    out: &mut K,
+) -> Result<(), WriteFault>
     requires limit { ROW_ROOM ≤ text.old.limit }
     requires small { B ≤ 128 }
     requires checks { M ≤ 16 }

@@ -11,9 +11,11 @@ use Rattle.rotation_reports.specs.MapText.{map_text}
 use Rattle.rotation_reports.specs.MovesText.{moves_text}
 use Rattle.end_laws.specs.Ends.{BankEnd}
 use Rattle.run_laws.specs.Runs.{RunsRight}
+use Rattle.image_laws.specs.SavedRuns.{AreRows}
 use Rattle.command_line.specs.declared.job.Job.{Job}
 use Rattle.command_line.specs.declared.job.Job.TheVariants.{Run, Gen, Map, Moves, Show}
 use Rattle.command_line.specs.declared.job.RunJob.{RunJob}
+use Rattle.command_line.specs.declared.job.Print.TheVariants.{Image}
 use Rattle.command_line.specs.declared.job.LineSize.{LineSize}
 use Rattle.command_line.specs.declared.job.LineSize.TheVariants.{Bytes64, Bytes128}
 use Rattle.command_line.specs.declared.job.Refusal.{Refusal}
@@ -53,15 +55,16 @@ module _ (n m e : ℕ) (job : RunJob) (s : SourceChange) (array : ArrayState n m
 
   -- this is its text
   abbrev pub IsTextOf : Runs → List ℕ → Type 0
-  IsTextOf run text = IsRunText job.shape job.seed run.events run.outcomes run.ends array job.print text
+  IsTextOf run text = IsRunText job.shape job.seed e run.events run.outcomes run.ends array job.print text
 
-  -- it was made, and exactly its text was written
+  -- it was made, and exactly its text was written; where that is an image, each row of the array has the bytes of a line
   pub record RunIsWritten (before now : Option (List ℕ)) (done : Done) : Type 0 where
     pub run : Runs
     pub text : List ℕ
     pub is_text : IsTextOf run text
     pub written : Appends before now text
     pub ending : done ≡ done_by run.outcomes
+    pub rows : job.print ≡ Image → AreRows array
 
   -- it was made, and first bytes of its text were written
   pub record RunIsWrittenInPart (before now : Option (List ℕ)) : Type 0 where

@@ -1,5 +1,6 @@
 //! The laws of the program. A law is what a function here ensures; the functions do nothing when they run.
 ghost use Rattle.pcm_top.specs.Laws.{CompletenessLaw, DrawnLaw, PrintableLaw};
+ghost use Rattle.pcm_top.specs.ShownRuns.{ShownLaw};
 
 use run_laws::{
     array_lines_are_few, array_lines_have_one_role, no_row_falls_short, places_are_array_lines,
@@ -36,3 +37,8 @@ pub fn drawn_runs_are_runs_of_their_text()
     gen_text_reads_back();
     gen_text_is_short();
 }
+
+/// What `show` writes of the bytes that a run wrote as its image is each line's newest bytes.
+pub fn images_show_the_newest()
+    ensures { ShownLaw }
+{}

@@ -72,7 +72,10 @@ fn print_lines<const B: usize, const M: usize, const E: usize, K: Sink>(
 }
 
 // The module that the bytes spell.
-fn read_saved<const B: usize, const M: usize>(alloc: Global, bytes: &[u8]) -> Result<Image<B, M>, Fault>
+fn read_saved<const B: usize, const M: usize>(
+    alloc: Global,
+    bytes: &[u8],
+) -> Result<Image<B, M>, Fault>
     requires { IsSize B M }
     ensures saved { IfOk result (λ image. IsSaved image) }
     ensures exact { IfOk result (λ image. image_of B M bytes.now ≡ Ok image) }
