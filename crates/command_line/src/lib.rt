@@ -1,4 +1,4 @@
-//! The words of the program: the commands `run`, `gen`, `map` and `moves` with their options, as `clap` reads them.
+//! The words of the program: the commands `run`, `gen`, `map`, `moves` and `show` with their options, as `clap` reads them.
 #![tactic(auto)]
 
 mod job;

@@ -87,6 +87,7 @@ fn named(name: &str, matches: &ArgMatches<'_>) -> Option<Job>
         "gen" => generate(matches),
         "map" => map_lines(matches),
         "moves" => moves(matches),
+        "show" => Some(Job::Show),
         _ => None,
     }
 }

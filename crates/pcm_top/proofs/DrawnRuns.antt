@@ -85,6 +85,7 @@ module _ (texts : GeneratedTextLaw) (sizes : GeneratedSizeLaw) (job : RunJob) (m
     is_text = is.is_text;
     written = is.written;
     ending = is.ending;
+    rows = is.rows;
   }
 
   same-part : (n m e : ℕ) (drawn : SourceChange) (array : ArrayState n m) (before now : Option (List ℕ)) → TakesBytes read (text_of n) → length (text_of n) ≤ trace_room n

@@ -14,7 +14,7 @@ told r a b xs ys e h = rw (← e) h
 pub told_part : {T E : Type 0} (r : Result T E) (a b : Option (List ℕ)) (xs ys : List ℕ) → xs ≡ ys → OnErr r (AppendsPrefix a b xs) → OnErr r (AppendsPrefix a b ys)
 told_part r a b xs ys e h = rw (← e) h
 
-pub usage_line : (f : Fault) → f ≡ Usage → codes "usage: pcm run|gen|map|moves [options]\n" ≡ fault_line f
+pub usage_line : (f : Fault) → f ≡ Usage → codes "usage: pcm run|gen|map|moves|show [options]\n" ≡ fault_line f
 unfolding fault_line
 usage_line f e = rw e refl
 

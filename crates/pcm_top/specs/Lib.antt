@@ -4,8 +4,11 @@ pub mod Reading
 pub mod Inputs
 pub mod Rows
 pub mod Ready
+pub mod Played
 pub mod RunText
+pub mod Showing
 pub mod Running
 pub mod Statuses
 pub mod Laws
 pub mod Lasting
+pub mod ShownRuns

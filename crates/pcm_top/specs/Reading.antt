@@ -7,7 +7,7 @@ use Rattle.trace_reader.specs.Trace.{trace_of}
 use Rattle.trace_reader.specs.declared.event.Event.{Event}
 use Rattle.trace_reader.specs.declared.fault.ParseFault.TheVariants as parsing
 use Rattle.pcm_top.specs.declared.fault.Fault.{Fault}
-use Rattle.pcm_top.specs.declared.fault.Fault.TheVariants.{Usage, Trace, Read, Write, TooLong, NoMemory}
+use Rattle.pcm_top.specs.declared.fault.Fault.TheVariants.{Usage, Trace, Image, Read, Write, TooLong, NoMemory}
 
 -- a source before and after a call: what is left, how much was taken, and how often it failed
 pub record SourceChange : Type 0 where
@@ -72,6 +72,7 @@ module _ (n lines : ℕ) where
   IsReadFault Read s = Rose s.faults_before s.faults_now × TakesSome n s
   IsReadFault TooLong s = (NeverFails s × TakesMore n s) ⊎ ((bytes : List ℕ) × ReadsWhole n s bytes × (trace_of n lines bytes ≡ Err parsing.TooMany))
   IsReadFault NoMemory s = NeverFails s × TakesSome n s
+  IsReadFault (Image f) s = ⊥
   IsReadFault Usage s = ⊥
   IsReadFault Write s = ⊥
 

@@ -6,13 +6,15 @@ use Rattle.trace_reader.specs.declared.fault.ParseFault.{ParseFault}
 use Rattle.trace_reader.specs.declared.fault.ParseFault.TheVariants as parsing
 use Rattle.module_shape.specs.Limits.{total_of}
 use Rattle.command_line.specs.declared.job.Job.{Job}
-use Rattle.command_line.specs.declared.job.Job.TheVariants.{Run, Gen, Map, Moves}
+use Rattle.command_line.specs.declared.job.Job.TheVariants.{Run, Gen, Map, Moves, Show}
 use Rattle.command_line.specs.declared.job.RunJob.{RunJob}
 use Rattle.command_line.specs.declared.job.Input.{Input}
 use Rattle.command_line.specs.declared.job.Input.TheVariants.{Source, Drawn}
 use Rattle.command_line.specs.declared.job.Refusal.{Refusal}
 use Rattle.pcm_top.specs.Jobs.{bytes_in}
+use Rattle.pcm_image.specs.declared.ImageFault.{ImageFault}
 use Rattle.pcm_top.specs.Reading.{trace_room}
+use Rattle.pcm_top.specs.Showing.{shown_of}
 
 -- that of a run: its rows say which of the two it is
 abbrev pub IsRunStatus : ℕ → Type 0
@@ -34,6 +36,16 @@ abbrev pub IsInputStatus : RunJob → List ℕ → ℕ → Input → Type 0
 IsInputStatus job bytes status Source = IsSourceStatus (bytes_in job.line) (total_of job.shape) bytes status
 IsInputStatus job bytes status (Drawn mix) = IsRunStatus status
 
+-- by the text of an image, or the first of its fields that fails
+abbrev pub IsImageStatus : Result (List ℕ) ImageFault → ℕ → Type 0
+IsImageStatus (Ok text) status = status ≡ 0
+IsImageStatus (Err f) status = status ≡ 3
+
+-- by the bytes of a source, which are too many or an image
+abbrev pub IsShowStatus : List ℕ → ℕ → Type 0
+IsShowStatus bytes status =
+    ((trace_room 64 < length bytes) × (status ≡ 6)) ⊎ ((length bytes ≤ trace_room 64) × IsImageStatus (shown_of bytes) status)
+
 -- the status for a job, where the source gives these bytes
 abbrev pub IsStatusFor : Result Job Refusal → List ℕ → ℕ → Type 0
 IsStatusFor (Err e) bytes status = status ≡ 2
@@ -41,3 +53,4 @@ IsStatusFor (Ok (Run job)) bytes status = IsInputStatus job bytes status job.inp
 IsStatusFor (Ok (Gen job)) bytes status = status ≡ 0
 IsStatusFor (Ok (Map job)) bytes status = status ≡ 0
 IsStatusFor (Ok (Moves job)) bytes status = status ≡ 0
+IsStatusFor (Ok Show) bytes status = IsShowStatus bytes status

@@ -5,6 +5,7 @@ ghost use Rattle.pcm_cells.specs.Endurance.{least_endurance};
 ghost use Rattle.pcm_cells.specs.Seeded.{seeded_state};
 ghost use Rattle.pcm_top.specs.Lasting.{LastingLaw, LastingTraceLaw, TracesLastLaw};
 ghost use Rattle.pcm_top.specs.Laws.{CompletenessLaw, DrawnLaw, PrintableLaw};
+ghost use Rattle.pcm_top.specs.ShownRuns.{ShownLaw};
 
 use pcm_cells::MemArray;
 use run_laws::{
@@ -70,3 +71,8 @@ pub fn seeded_runs_last<const B: usize, const M: usize>(array: &MemArray<B, M>) 
     traces_last();
     array.endurance()
 }
+
+/// What `show` writes of the bytes that a run wrote as its image is each line's newest bytes.
+pub fn images_show_the_newest()
+    ensures { ShownLaw }
+{}

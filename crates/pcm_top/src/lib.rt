@@ -12,6 +12,7 @@ mod program;
 mod replay;
 mod report;
 mod run;
+mod show;
 mod wear;
 
 pub use fault::Fault;

@@ -1,4 +1,4 @@
-use Rattle.std.proofs.Common.{◌≡◌, ◌∙◌, Some, length, refl, arith}
+use Rattle.std.proofs.Common.{◌≡◌, ◌∙◌, ◌++◌, Some, length, refl, arith}
 use Rattle.std.specs.Prelude.{slice_get}
 use Rattle.std.proofs.lemmas.Option.{slice_get_read}
 use Rattle.pcm_top.proofs.Replaying.{next-event, next-open, replayed-all, replayed-more, replayed-none}
@@ -61,3 +61,11 @@ returns-clause-right g c =
 
 pub returns-clause-wear : goal.returns-clause-wear
 returns-clause-wear g c = c.finish.ensures.stays.wear ∙ c.loop-i.invariant.1
+
+pub returns-clause-played : goal.returns-clause-played
+returns-clause-played g c =
+    let all =
+    replayed-all c.args.pcm.now.shape c.args.pcm.now.seed c.args.events.now c.loop-i.i c.loop-i.pcm (g.A.CellArray.state c.loop-i.array) c.loop-i.results
+    c.loop-i-test.false c.loop-i.invariant.0 in
+    let done = c.finish.ensures.finishes all.0 _ all.1 in
+    record { history = λ bank. done.0 bank ++ all.0 bank; finished = done.1 }
