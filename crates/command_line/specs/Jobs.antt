@@ -9,11 +9,12 @@ use Rattle.module_shape.specs.Limits.{IsShape}
 use Rattle.command_line.specs.Table.{pcm_app}
 use Rattle.command_line.specs.Options.{with_some, number_option, line_of, shape_of, seed_of, wear_of, mix_of, print_of, input_of, from_of}
 use Rattle.command_line.specs.declared.job.Job.{Job}
-use Rattle.command_line.specs.declared.job.Job.TheVariants.{Run, Gen, Map, Moves, Show}
+use Rattle.command_line.specs.declared.job.Job.TheVariants.{Run, Gen, Map, Moves, Show, Check}
 use Rattle.command_line.specs.declared.job.RunJob.{RunJob}
 use Rattle.command_line.specs.declared.job.GenJob.{GenJob}
 use Rattle.command_line.specs.declared.job.MapJob.{MapJob}
 use Rattle.command_line.specs.declared.job.MovesJob.{MovesJob}
+use Rattle.command_line.specs.declared.job.CheckJob.{CheckJob}
 use Rattle.command_line.specs.declared.job.Input.{Input}
 use Rattle.command_line.specs.declared.job.Input.TheVariants.{Source, Drawn}
 use Rattle.command_line.specs.declared.job.Refusal.{Refusal}
@@ -54,6 +55,13 @@ moves_of rows =
     with_some (from_of rows) (λ from.
     if is_power_of_two lines then Some (Moves (record { lines = lines; from = from })) else None))
 
+-- the job of `check`
+unfoldable pub check_of : List Row → Option Job
+check_of rows =
+    with_some (line_of (first_of (codes "line") rows)) (λ line.
+    with_some (shape_of rows) (λ shape.
+    with_some (seed_of rows) (λ seed. Some (Check (record { line = line; shape = shape; seed = seed })))))
+
 -- the job of a command with its options
 unfoldable pub job_named : Text → List Row → Option Job
 job_named name rows =
@@ -61,7 +69,8 @@ job_named name rows =
     else (if bytes_eq name (codes "gen") then gen_of rows
     else (if bytes_eq name (codes "map") then map_of rows
     else (if bytes_eq name (codes "moves") then moves_of rows
-    else (if bytes_eq name (codes "show") then Some Show else None))))
+    else (if bytes_eq name (codes "show") then Some Show
+    else (if bytes_eq name (codes "check") then check_of rows else None)))))
 
 -- a job, or a faulty command line: where there is none, or where `clap` refuses the words for some cause
 abbrev pub or_usage : Option Job → Result Job Refusal
@@ -118,9 +127,13 @@ pub record IsMap (job : MapJob) : Type 0 where
   pub shape : IsShape job.shape
   pub few_moves : job.from ≤ 16781312
 
+abbrev pub IsCheck : CheckJob → Type 0
+IsCheck job = IsShape job.shape
+
 abbrev pub IsJob : Job → Type 0
 IsJob (Run job) = IsRun job
 IsJob (Gen job) = IsGen job
 IsJob (Map job) = IsMap job
 IsJob (Moves job) = IsMoves job
 IsJob Show = Unit {0}
+IsJob (Check job) = IsCheck job

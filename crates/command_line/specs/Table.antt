@@ -36,18 +36,24 @@ map_options =
 abbrev pub moves_options : List Text
 moves_options = codes "lines" ∷ codes "from" ∷ []
 
+abbrev pub check_options : List Text
+check_options =
+    codes "banks" ∷ codes "regions" ∷ codes "lines" ∷ codes "line" ∷ codes "spares" ∷ codes "write-queue"
+    ∷ codes "read-queue" ∷ codes "read-ticks" ∷ codes "iter-ticks" ∷ codes "policy" ∷ codes "registers" ∷ codes "seed" ∷ []
+
 -- the program: it has no help
 abbrev pub top_app : App
 top_app = record (new_app (codes "pcm")) {
   top = record (new_app (codes "pcm")).top { disable_help_flag = true; disable_help_subcommand = true };
 }
 
--- with its five commands; `show` has no option
+-- with its six commands; `show` has no option
 unfoldable pub pcm_app : App
 pcm_app =
-    with_subcommand (with_subcommand (with_subcommand (with_subcommand (with_subcommand top_app
+    with_subcommand (with_subcommand (with_subcommand (with_subcommand (with_subcommand (with_subcommand top_app
     (leaf_app (codes "run") run_options).top)
     (leaf_app (codes "gen") gen_options).top)
     (leaf_app (codes "map") map_options).top)
     (leaf_app (codes "moves") moves_options).top)
-    (leaf_app (codes "show") []).top
+    (leaf_app (codes "show") []).top)
+    (leaf_app (codes "check") check_options).top

@@ -16,6 +16,8 @@ pub enum Job {
     Moves(MovesJob),
     /// Tell the newest bytes of every line of a saved module.
     Show,
+    /// Tell whether results are ones that a module may give.
+    Check(CheckJob),
 }
 
 /// A run of a trace.
@@ -66,6 +68,17 @@ pub struct MovesJob {
     pub lines: u32,
     /// How many gap moves the region made before the first one that is told.
     pub from: u64,
+}
+
+/// A check of a trace's results.
+#[derive(Clone, Copy, Drop)]
+pub struct CheckJob {
+    /// The size of a line.
+    pub line: LineSize,
+    /// The sizes and the pace of the module.
+    pub shape: Shape,
+    /// Picks the keys that mix the lines.
+    pub seed: u64,
 }
 
 /// How many bytes a line has.

@@ -1,4 +1,5 @@
-//! The words of the program: the commands `run`, `gen`, `map`, `moves` and `show` with their options, as `clap` reads them.
+//! The words of the program: the commands `run`, `gen`, `map`, `moves`, `show` and `check` with their options, as `clap` reads
+//! them.
 #![tactic(auto)]
 
 mod job;
@@ -6,7 +7,7 @@ mod options;
 mod read;
 mod table;
 
-pub use job::{GenJob, Input, Job, LineSize, MapJob, MovesJob, Print, Refusal, RunJob};
+pub use job::{CheckJob, GenJob, Input, Job, LineSize, MapJob, MovesJob, Print, Refusal, RunJob};
 pub use read::read_job;
 
 #[cfg(test)]

@@ -1,9 +1,9 @@
 // The job that the words ask for.
 ghost use Rattle.std.specs.Prelude.{◌≡◌, ◌≢◌, ◌≤◌, ◌∷◌, IfOk, IfErr, IfSome, Ok, Err, Some, map, string_bytes, codes};
 ghost use Rattle.clap.specs.Words.{found_of, kind_of, rows_of, subcommand_rows_of};
-ghost use Rattle.command_line.specs.Jobs.{IsJob, run_of, gen_of, map_of, moves_of, job_named, job_met, or_usage, job_of};
+ghost use Rattle.command_line.specs.Jobs.{IsJob, run_of, gen_of, map_of, moves_of, check_of, job_named, job_met, or_usage, job_of};
 
-use crate::job::{GenJob, Job, MapJob, MovesJob, Refusal, RunJob};
+use crate::job::{CheckJob, GenJob, Job, MapJob, MovesJob, Refusal, RunJob};
 use crate::options::{from, input, line, mix, number_of, print, seed, shape, wear};
 use crate::table::pcm_command;
 use clap::error::ErrorKind;
@@ -76,6 +76,17 @@ fn moves(matches: &ArgMatches<'_>) -> Option<Job>
     }))
 }
 
+#[tactic(auto, unfolding(crate::specs::Jobs::check_of))]
+fn check(matches: &ArgMatches<'_>) -> Option<Job>
+    ensures exact { result ≡ check_of (rows_of (found_of matches.now)) }
+    ensures in_range { IfSome result IsJob }
+{
+    let line = line(matches)?;
+    let shape = shape(matches)?;
+    let seed = seed(matches)?;
+    Some(Job::Check(CheckJob { line, shape, seed }))
+}
+
 // The job of a command with its options.
 #[tactic(auto, unfolding(crate::specs::Jobs::job_named))]
 fn named(name: &str, matches: &ArgMatches<'_>) -> Option<Job>
@@ -88,6 +99,7 @@ fn named(name: &str, matches: &ArgMatches<'_>) -> Option<Job>
         "map" => map_lines(matches),
         "moves" => moves(matches),
         "show" => Some(Job::Show),
+        "check" => check(matches),
         _ => None,
     }
 }

@@ -209,3 +209,18 @@ fn is_usage(job: &Result<Job, Refusal>) -> bool {
         _ => false,
     }
 }
+
+#[test]
+fn a_check_has_the_defaults_of_a_run(rt: HostRuntime) -> Result<(), Fail> {
+    let line = "check --line 128 --spares 3 --policy cancel --seed 7";
+    let Ok(Job::Check(job)) = read(rt.alloc(), line)? else {
+        panic!(rt; "no check");
+    };
+    let shape = job.shape.raw();
+    assert_eq!(rt; (shape.banks, shape.regions, shape.lines), (4, 2, 64));
+    assert_eq!(rt; (shape.spares, shape.writes, shape.reads), (3, 32, 32));
+    assert!(rt; shape.policy == Policy::Cancel);
+    assert!(rt; job.line == LineSize::Bytes128);
+    assert_eq!(rt; job.seed, 7);
+    Ok(())
+}

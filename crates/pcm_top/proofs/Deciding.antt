@@ -14,7 +14,7 @@ use Rattle.trace_reader.specs.declared.fault.ParseFault.TheVariants as parsing
 use Rattle.module_shape.specs.Limits.{total_of}
 use Rattle.pcm_image.specs.declared.ImageFault.{ImageFault}
 use Rattle.command_line.specs.declared.job.Job.{Job}
-use Rattle.command_line.specs.declared.job.Job.TheVariants.{Run, Gen, Map, Moves, Show}
+use Rattle.command_line.specs.declared.job.Job.TheVariants.{Run, Gen, Map, Moves, Show, Check}
 use Rattle.command_line.specs.declared.job.RunJob.{RunJob}
 use Rattle.command_line.specs.declared.job.Input.{Input}
 use Rattle.command_line.specs.declared.job.Input.TheVariants.{Source, Drawn}
@@ -24,14 +24,17 @@ use Rattle.command_line.specs.declared.job.Refusal.{Refusal}
 use Rattle.pcm_top.specs.Jobs.{bytes_in}
 use Rattle.pcm_top.specs.Reading.{IsReadFault, ReadsWhole, SourceChange, TakesNothing, TakesSome, trace_room}
 use Rattle.pcm_top.specs.Inputs.{ComeFrom, IsFaultOf, is_source}
+use Rattle.command_line.specs.declared.job.CheckJob.{CheckJob}
+use Rattle.text_check.specs.declared.fault.TextFault.TheVariants as text
+use Rattle.pcm_top.specs.Checking.{IsCheckFault, TellsVerdict, pointers_in, room_line}
 use Rattle.pcm_top.specs.FaultLines.{status_of}
 use Rattle.pcm_top.specs.Running.{Does, HasCause, IsRefused, Runs, Tells, WritesRun, reads_source, status_done}
 use Rattle.pcm_top.specs.Showing.{IsShowFault, shown_of}
-use Rattle.pcm_top.specs.Statuses.{IsImageStatus, IsInputStatus, IsRunStatus, IsShowStatus, IsSourceStatus, IsStatusFor, IsTraceStatus}
+use Rattle.pcm_top.specs.Statuses.{IsImageStatus, IsInputStatus, IsRunStatus, IsShowStatus, IsSourceStatus, IsStatusFor, IsTraceStatus, IsCheckStatus, IsTextStatus}
 use Rattle.pcm_top.specs.declared.run.Done.{Done}
 use Rattle.pcm_top.specs.declared.run.Done.TheVariants.{Whole, Short}
 use Rattle.pcm_top.specs.declared.fault.Fault.{Fault}
-use Rattle.pcm_top.specs.declared.fault.Fault.TheVariants.{Usage, Trace, Image, Read, Write, TooLong, NoMemory}
+use Rattle.pcm_top.specs.declared.fault.Fault.TheVariants.{Usage, Trace, Image, Read, Write, TooLong, NoMemory, Results}
 
 -- a source that tells its bytes and was read to its end gave just them
 whole-go : (before now : Option (List ℕ)) (bytes found : List ℕ) → before ≡ Some bytes → Consumes before now found → IsAtEnd now → found ≡ bytes
@@ -75,6 +78,7 @@ fault-status : (n lines : ℕ) (fault : Fault) (s : SourceChange) (bytes : List 
 fault-status n lines Usage s bytes is calm cause = absurd cause
 fault-status n lines Write s bytes is calm cause = absurd cause
 fault-status n lines (Image f) s bytes is calm cause = absurd cause
+fault-status n lines (Results row) s bytes is calm cause = absurd cause
 fault-status n lines Read s bytes is calm cause = absurd (calm cause.0)
 fault-status n lines NoMemory s bytes is calm cause = inr refl
 fault-status n lines (Trace f) s bytes is calm cause =
@@ -107,6 +111,36 @@ input-fault-status : (job : RunJob) (input : Input) (fault : Fault) (s : SourceC
 input-fault-status job Source fault s bytes told calm cause = fault-status (bytes_in job.line) (total_of job.shape) fault s bytes (told refl) calm cause
 input-fault-status job (Drawn mix) fault s bytes told calm cause = inr (ap status_of cause)
 
+-- the status of a check, by its bytes
+by-text : (n e : ℕ) (job : CheckJob) (bytes found : List ℕ) (status : ℕ) → found ≡ bytes → length found ≤ trace_room room_line → IsTextStatus n e job found status → IsCheckStatus n e job bytes status
+by-text n e job bytes found status same within has =
+    let With : List ℕ → Type 0 = λ bs. IsCheckStatus n e job bs status in
+    subst With same (inr (within, has))
+
+check-fault-status : (n e : ℕ) (job : CheckJob) (fault : Fault) (s : SourceChange) (bytes : List ℕ) → s.left_before ≡ Some bytes → ¬ Rose s.faults_before s.faults_now → IsCheckFault n job fault s
+    → IsCheckStatus n e job bytes (status_of fault) ⊎ (status_of fault ≡ 7)
+check-fault-status n e job Usage s bytes is calm cause = absurd cause
+check-fault-status n e job Write s bytes is calm cause = absurd cause
+check-fault-status n e job Read s bytes is calm cause = absurd (calm cause.0)
+check-fault-status n e job NoMemory s bytes is calm cause = inr refl
+check-fault-status n e job (Trace f) s bytes is calm cause =
+    inl (by-text n e job bytes cause.0 3 (reads-told room_line s bytes cause.0 is cause.1) cause.1.within (inr (text.Trace f, cause.2, refl)))
+check-fault-status n e job (Results row) s bytes is calm cause =
+    inl (by-text n e job bytes cause.0 3 (reads-told room_line s bytes cause.0 is cause.1) cause.1.within (inr (text.Results row, cause.2, refl)))
+check-fault-status n e job TooLong s bytes is calm (inl more) =
+    let size = more-go s.left_before s.left_now bytes more.0 is more.1.first in
+    let over = more.2 in
+    inl (inl (omega arith, refl))
+check-fault-status n e job TooLong s bytes is calm (inr many) =
+    inl (by-text n e job bytes many.0 6 (reads-told room_line s bytes many.0 is many.1) many.1.within (inr (text.TooMany, many.2, refl)))
+
+told-verdict-status : (n e : ℕ) (job : CheckJob) (s : SourceChange) (before now : Option (List ℕ)) (bytes : List ℕ) (done : Done) → s.left_before ≡ Some bytes
+    → TellsVerdict n e job s before now done → IsCheckStatus n e job bytes (status_done done)
+told-verdict-status n e job s before now bytes done is tells =
+    let reads = tells.reads in
+    by-text n e job bytes reads.bytes (status_done done) (reads-told room_line s bytes reads.bytes is reads.whole) reads.whole.within
+    (inl (tells.verdict, reads.has, ap status_done tells.ending))
+
 tells-status : (asked : Result Job Refusal) (s : SourceChange) (bytes : List ℕ) (fault : Fault) → (reads_source asked ≡ true → s.left_before ≡ Some bytes) → ¬ Rose s.faults_before s.faults_now → HasCause fault asked s
     → IsStatusFor asked bytes (status_of fault) ⊎ (status_of fault ≡ 7)
 tells-status (Err e) s bytes fault told calm (inl usage) = inl (ap status_of usage)
@@ -116,6 +150,7 @@ tells-status (Ok (Gen job)) s bytes fault told calm cause = inr (ap status_of ca
 tells-status (Ok (Map job)) s bytes fault told calm cause = inr (ap status_of cause)
 tells-status (Ok (Moves job)) s bytes fault told calm cause = inr (ap status_of cause)
 tells-status (Ok Show) s bytes fault told calm cause = show-fault-status fault s bytes (told refl) calm cause
+tells-status (Ok (Check job)) s bytes fault told calm cause = check-fault-status (bytes_in job.line) (pointers_in job.line) job fault s bytes (told refl) calm cause
 
 run-status : (done : Done) → IsRunStatus (status_done done)
 run-status Whole = inl refl
@@ -148,6 +183,7 @@ does-status (Ok Show) s array wide before now bytes done told does =
     let read = does.0.1 in
     subst Has (sym (ap status_done does.1))
     (by-image bytes read.bytes 0 (Ok does.0.0) (reads-told 64 s bytes read.bytes (told refl) read.whole) read.whole.within read.shown refl)
+does-status (Ok (Check job)) s array wide before now bytes done told does = told-verdict-status (bytes_in job.line) (pointers_in job.line) job s before now bytes done (told refl) does
 
 pub done-decided : (asked : Result Job Refusal) (s : SourceChange) (array : ArrayState 64 8) (wide : ArrayState 128 16) (before now : Option (List ℕ)) (bytes : List ℕ) (done : Done) (status : ℕ)
     → status ≡ status_done done → (reads_source asked ≡ true → s.left_before ≡ Some bytes) → Does s array wide before now asked done
@@ -169,6 +205,7 @@ is_write Write = inl refl
 is_write Usage = inr (λ e. cc e)
 is_write (Trace f) = inr (λ e. cc e)
 is_write (Image f) = inr (λ e. cc e)
+is_write (Results row) = inr (λ e. cc e)
 is_write Read = inr (λ e. cc e)
 is_write TooLong = inr (λ e. cc e)
 is_write NoMemory = inr (λ e. cc e)
@@ -194,6 +231,7 @@ memory-cause (Ok (Gen job)) left taken faults = refl
 memory-cause (Ok (Map job)) left taken faults = refl
 memory-cause (Ok (Moves job)) left taken faults = refl
 memory-cause (Ok Show) left taken faults = some-nothing 64 left taken faults
+memory-cause (Ok (Check job)) left taken faults = some-nothing room_line left taken faults
 
 pub refused-cause : (asked : Result Job Refusal) (fault : Fault) (left : Option (List ℕ)) (taken faults : ℕ) → IsRefused asked fault → HasCause fault asked (untouched left taken faults)
 refused-cause asked fault left taken faults (inl memory) = rw memory (memory-cause asked left taken faults)
@@ -215,6 +253,7 @@ too-much : (n lines : ℕ) (fault : Fault) (s : SourceChange) → IsReadFault n 
 too-much n lines Usage s cause low over = absurd cause
 too-much n lines Write s cause low over = absurd cause
 too-much n lines (Image f) s cause low over = absurd cause
+too-much n lines (Results row) s cause low over = absurd cause
 too-much n lines Read s cause low over = absurd (within-count n s cause.1 low over)
 too-much n lines NoMemory s cause low over = absurd (within-count n s cause.1 low over)
 too-much n lines (Trace f) s cause low over = absurd (within-count n s (cause.0, cause.1.takes, cause.1.within) low over)

@@ -3,7 +3,7 @@ use Rattle.std.proofs.Common.{◌≡◌, ℕ, List, Option, refl}
 use Rattle.std.specs.Prelude.{codes, Result, OnOk, OnErr}
 use Rattle.std.specs.Io.KnownBytes.{Appends}
 use Rattle.pcm_io.specs.Giving.{AppendsPrefix}
-use Rattle.pcm_top.specs.FaultLines.{fault_line}
+use Rattle.pcm_top.specs.FaultLines.{fault_line, usage_text}
 use Rattle.pcm_top.specs.declared.fault.Fault.{Fault}
 use Rattle.pcm_top.specs.declared.fault.Fault.TheVariants.{Usage, Read, Write, TooLong, NoMemory}
 
@@ -14,7 +14,7 @@ told r a b xs ys e h = rw (← e) h
 pub told_part : {T E : Type 0} (r : Result T E) (a b : Option (List ℕ)) (xs ys : List ℕ) → xs ≡ ys → OnErr r (AppendsPrefix a b xs) → OnErr r (AppendsPrefix a b ys)
 told_part r a b xs ys e h = rw (← e) h
 
-pub usage_line : (f : Fault) → f ≡ Usage → codes "usage: pcm run|gen|map|moves|show [options]\n" ≡ fault_line f
+pub usage_line : (f : Fault) → f ≡ Usage → usage_text ≡ fault_line f
 unfolding fault_line
 usage_line f e = rw e refl
 

@@ -2,6 +2,7 @@ pub mod Jobs
 pub mod FaultLines
 pub mod Reading
 pub mod Inputs
+pub mod Checking
 pub mod Rows
 pub mod Ready
 pub mod Played

@@ -7,7 +7,7 @@ use Rattle.trace_reader.specs.Trace.{trace_of}
 use Rattle.trace_reader.specs.declared.event.Event.{Event}
 use Rattle.trace_reader.specs.declared.fault.ParseFault.TheVariants as parsing
 use Rattle.pcm_top.specs.declared.fault.Fault.{Fault}
-use Rattle.pcm_top.specs.declared.fault.Fault.TheVariants.{Usage, Trace, Image, Read, Write, TooLong, NoMemory}
+use Rattle.pcm_top.specs.declared.fault.Fault.TheVariants.{Usage, Trace, Image, Read, Write, TooLong, NoMemory, Results}
 
 -- a source before and after a call: what is left, how much was taken, and how often it failed
 pub record SourceChange : Type 0 where
@@ -74,6 +74,7 @@ module _ (n lines : ℕ) where
   IsReadFault NoMemory s = NeverFails s × TakesSome n s
   IsReadFault (Image f) s = ⊥
   IsReadFault Usage s = ⊥
+  IsReadFault (Results row) s = ⊥
   IsReadFault Write s = ⊥
 
   -- the source was read to its end, and its bytes are a trace with these events

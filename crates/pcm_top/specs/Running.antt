@@ -13,7 +13,7 @@ use Rattle.end_laws.specs.Ends.{BankEnd}
 use Rattle.run_laws.specs.Runs.{RunsRight}
 use Rattle.image_laws.specs.SavedRuns.{AreRows}
 use Rattle.command_line.specs.declared.job.Job.{Job}
-use Rattle.command_line.specs.declared.job.Job.TheVariants.{Run, Gen, Map, Moves, Show}
+use Rattle.command_line.specs.declared.job.Job.TheVariants.{Run, Gen, Map, Moves, Show, Check}
 use Rattle.command_line.specs.declared.job.RunJob.{RunJob}
 use Rattle.command_line.specs.declared.job.Print.TheVariants.{Image}
 use Rattle.command_line.specs.declared.job.LineSize.{LineSize}
@@ -23,6 +23,7 @@ use Rattle.command_line.specs.declared.job.Refusal.TheVariants as refusal
 use Rattle.pcm_top.specs.Jobs.{bytes_in, gen_text, map_options}
 use Rattle.pcm_top.specs.Reading.{SourceChange, trace_room}
 use Rattle.pcm_top.specs.Inputs.{ComeFrom, IsFaultOf, is_source}
+use Rattle.pcm_top.specs.Checking.{IsCheckFault, TellsVerdict, TellsVerdictInPart, pointers_in, room_line}
 use Rattle.pcm_top.specs.Rows.{rows_of}
 use Rattle.pcm_top.specs.RunText.{IsRunText}
 use Rattle.pcm_top.specs.Showing.{IsShowFault, ShowsImage, ShowsImageInPart}
@@ -73,7 +74,8 @@ module _ (n m e : ℕ) (job : RunJob) (s : SourceChange) (array : ArrayState n m
     pub is_text : IsTextOf run text
     pub written : AppendsPrefix before now text
 
--- whether the words ask for a job that reads the source: a run of a trace that is read, or an image that is shown
+-- whether the words ask for what is read: a trace that is run, an image that is shown, or a trace and its results; and for a run over
+-- lines of this size
 abbrev pub reads_source : Result Job Refusal → Bool
 reads_source (Err e) = false
 reads_source (Ok (Run job)) = is_source job.input
@@ -81,6 +83,7 @@ reads_source (Ok (Gen job)) = false
 reads_source (Ok (Map job)) = false
 reads_source (Ok (Moves job)) = false
 reads_source (Ok Show) = true
+reads_source (Ok (Check job)) = true
 
 abbrev pub is_size : LineSize → LineSize → Bool
 is_size Bytes64 Bytes64 = true
@@ -96,6 +99,7 @@ runs_on size (Ok (Gen job)) = false
 runs_on size (Ok (Map job)) = false
 runs_on size (Ok (Moves job)) = false
 runs_on size (Ok Show) = false
+runs_on size (Ok (Check job)) = false
 
 -- how many bytes may be read for it; an image of whichever size may have as many as a trace over lines of 64 bytes
 abbrev pub room_of : Result Job Refusal → ℕ
@@ -105,6 +109,7 @@ room_of (Ok (Gen job)) = 0
 room_of (Ok (Map job)) = 0
 room_of (Ok (Moves job)) = 0
 room_of (Ok Show) = trace_room 64
+room_of (Ok (Check job)) = trace_room room_line
 
 -- the arrays of lines of 64 and of 128 bytes
 module _ (s : SourceChange) (array : ArrayState 64 8) (wide : ArrayState 128 16) (before now : Option (List ℕ)) where
@@ -113,7 +118,8 @@ module _ (s : SourceChange) (array : ArrayState 64 8) (wide : ArrayState 128 16)
   WritesRun job done Bytes64 = RunIsWritten 64 8 6 job s array before now done
   WritesRun job done Bytes128 = RunIsWritten 128 16 8 job s wide before now done
 
-  -- what a job does: a run is made and its text is written; a generated trace or a report is written; an image is read and shown
+  -- what a job does: a run is made and its text is written; a generated trace or a report is written; an image is read and shown;
+  -- results are checked
   abbrev pub Does : Result Job Refusal → Done → Type 0
   Does (Err e) done = ⊥
   Does (Ok (Run job)) done = WritesRun job done job.line
@@ -121,6 +127,7 @@ module _ (s : SourceChange) (array : ArrayState 64 8) (wide : ArrayState 128 16)
   Does (Ok (Map job)) done = Appends before now (map_text (map_options job)) × (done ≡ Whole)
   Does (Ok (Moves job)) done = Appends before now (moves_text job.lines job.from) × (done ≡ Whole)
   Does (Ok Show) done = ShowsImage s before now × (done ≡ Whole)
+  Does (Ok (Check job)) done = TellsVerdict (bytes_in job.line) (pointers_in job.line) job s before now done
 
   -- the same, where only first bytes could be written
   abbrev pub WritesRunInPart : RunJob → LineSize → Type 0
@@ -134,12 +141,14 @@ module _ (s : SourceChange) (array : ArrayState 64 8) (wide : ArrayState 128 16)
   DoesPart (Ok (Map job)) = AppendsPrefix before now (map_text (map_options job))
   DoesPart (Ok (Moves job)) = AppendsPrefix before now (moves_text job.lines job.from)
   DoesPart (Ok Show) = ShowsImageInPart s before now
+  DoesPart (Ok (Check job)) = TellsVerdictInPart (bytes_in job.line) (pointers_in job.line) job s before now
 
 -- why words give no job: they ask for none, or memory ran out
 abbrev pub IsRefused : Result Job Refusal → Fault → Type 0
 IsRefused asked fault = (fault ≡ NoMemory) ⊎ ((fault ≡ Usage) × (asked ≡ Err refusal.Usage))
 
--- why a call doesn't do its work: the words ask for no job, a run has no events, there is no image to show, or there is no memory
+-- why a call doesn't do its work: the words ask for no job, a run has no events, there is no image to show, results can't be checked,
+-- or there is no memory
 abbrev pub HasCause : Fault → Result Job Refusal → SourceChange → Type 0
 HasCause fault (Err e) s = (fault ≡ Usage) ⊎ (fault ≡ NoMemory)
 HasCause fault (Ok (Run job)) s = IsFaultOf (bytes_in job.line) job job.input fault s
@@ -147,6 +156,7 @@ HasCause fault (Ok (Gen job)) s = fault ≡ NoMemory
 HasCause fault (Ok (Map job)) s = fault ≡ NoMemory
 HasCause fault (Ok (Moves job)) s = fault ≡ NoMemory
 HasCause fault (Ok Show) s = IsShowFault fault s
+HasCause fault (Ok (Check job)) s = IsCheckFault (bytes_in job.line) job fault s
 
 -- a call that doesn't do its work says why, by its status and by a line
 pub record Tells (job : Result Job Refusal) (s : SourceChange) (before now : Option (List ℕ)) (status : ℕ) : Type 0 where

@@ -6,15 +6,22 @@ use Rattle.trace_reader.specs.declared.fault.ParseFault.{ParseFault}
 use Rattle.trace_reader.specs.declared.fault.ParseFault.TheVariants as parsing
 use Rattle.module_shape.specs.Limits.{total_of}
 use Rattle.command_line.specs.declared.job.Job.{Job}
-use Rattle.command_line.specs.declared.job.Job.TheVariants.{Run, Gen, Map, Moves, Show}
+use Rattle.command_line.specs.declared.job.Job.TheVariants.{Run, Gen, Map, Moves, Show, Check}
 use Rattle.command_line.specs.declared.job.RunJob.{RunJob}
+use Rattle.command_line.specs.declared.job.CheckJob.{CheckJob}
 use Rattle.command_line.specs.declared.job.Input.{Input}
 use Rattle.command_line.specs.declared.job.Input.TheVariants.{Source, Drawn}
 use Rattle.command_line.specs.declared.job.Refusal.{Refusal}
+use Rattle.row_verdict.specs.declared.Verdict.{Verdict}
+use Rattle.text_check.specs.Checked.{HasVerdict, IsTextFault}
+use Rattle.text_check.specs.declared.fault.TextFault.{TextFault}
+use Rattle.text_check.specs.declared.fault.TextFault.TheVariants as text
 use Rattle.pcm_top.specs.Jobs.{bytes_in}
 use Rattle.pcm_image.specs.declared.ImageFault.{ImageFault}
 use Rattle.pcm_top.specs.Reading.{trace_room}
 use Rattle.pcm_top.specs.Showing.{shown_of}
+use Rattle.pcm_top.specs.Checking.{done_on, pointers_in, room_line}
+use Rattle.pcm_top.specs.Running.{status_done}
 
 -- that of a run: its rows say which of the two it is
 abbrev pub IsRunStatus : ℕ → Type 0
@@ -46,6 +53,23 @@ abbrev pub IsShowStatus : List ℕ → ℕ → Type 0
 IsShowStatus bytes status =
     ((trace_room 64 < length bytes) × (status ≡ 6)) ⊎ ((length bytes ≤ trace_room 64) × IsImageStatus (shown_of bytes) status)
 
+-- that of a text without a verdict
+abbrev pub status_without : TextFault → ℕ
+status_without (text.Trace f) = 3
+status_without (text.Results row) = 3
+status_without text.TooMany = 6
+status_without text.NoMemory = 7
+
+-- that of a check: by its verdict, or by why there is none
+abbrev pub IsTextStatus : (n e : ℕ) → CheckJob → List ℕ → ℕ → Type 0
+IsTextStatus n e job bytes status =
+    ((verdict : Verdict) × HasVerdict n e job.shape job.seed bytes verdict × (status ≡ status_done (done_on verdict)))
+    ⊎ ((one : TextFault) × IsTextFault n job.shape bytes one × (status ≡ status_without one))
+
+abbrev pub IsCheckStatus : (n e : ℕ) → CheckJob → List ℕ → ℕ → Type 0
+IsCheckStatus n e job bytes status =
+    ((trace_room room_line < length bytes) × (status ≡ 6)) ⊎ ((length bytes ≤ trace_room room_line) × IsTextStatus n e job bytes status)
+
 -- the status for a job, where the source gives these bytes
 abbrev pub IsStatusFor : Result Job Refusal → List ℕ → ℕ → Type 0
 IsStatusFor (Err e) bytes status = status ≡ 2
@@ -54,3 +78,4 @@ IsStatusFor (Ok (Gen job)) bytes status = status ≡ 0
 IsStatusFor (Ok (Map job)) bytes status = status ≡ 0
 IsStatusFor (Ok (Moves job)) bytes status = status ≡ 0
 IsStatusFor (Ok Show) bytes status = IsShowStatus bytes status
+IsStatusFor (Ok (Check job)) bytes status = IsCheckStatus (bytes_in job.line) (pointers_in job.line) job bytes status

@@ -19,11 +19,13 @@ pub enum Fault {
     Trace(TraceFault),
     /// The bytes that are to be shown aren't an image.
     Image(ImageFault),
+    /// This row of the results is none, of the trace before them; row 0 is the header.
+    Results(u32),
     /// The source couldn't be read.
     Read,
     /// The output couldn't be written.
     Write,
-    /// The trace has too many bytes or too many rows.
+    /// The source has too many bytes, or the trace too many rows.
     TooLong,
     /// Memory ran out.
     NoMemory,
@@ -35,8 +37,7 @@ pub fn status(fault: Fault) -> u8
 {
     match fault {
         Fault::Usage => 2,
-        Fault::Trace(_) => 3,
-        Fault::Image(_) => 3,
+        Fault::Trace(_) | Fault::Results(_) | Fault::Image(_) => 3,
         Fault::Read => 4,
         Fault::Write => 5,
         Fault::TooLong => 6,
@@ -121,6 +122,18 @@ fn tell_image<F: Sink>(fault: ImageFault, err: &mut F) -> Result<(), WriteFault>
     write_parts(&parts, err)
 }
 
+fn tell_results<F: Sink>(row: u32, err: &mut F) -> Result<(), WriteFault>
+    ensures ok { OnOk result (Appends (F.written err.old) (F.written err.new) (fault_line (Fault.Results row))) }
+    ensures prefix { OnErr result (AppendsPrefix (F.written err.old) (F.written err.new) (fault_line (Fault.Results row))) }
+    ensures fault { OnErr result (Rose (F.faults err.old) (F.faults err.new)) }
+    ensures never_falls { F.faults err.old ≤ F.faults err.new }
+{
+    let mut digits = Buffer::new();
+    let number = digits.format(row).as_bytes();
+    let parts = [b"results row ".as_slice(), number, b"\n".as_slice()];
+    write_parts(&parts, err)
+}
+
 /// Writes the line of a fault.
 pub fn tell<F: Sink>(fault: Fault, err: &mut F) -> Result<(), WriteFault>
     ensures ok { OnOk result (Appends (F.written err.old) (F.written err.new) (fault_line fault)) }
@@ -129,8 +142,12 @@ pub fn tell<F: Sink>(fault: Fault, err: &mut F) -> Result<(), WriteFault>
     ensures never_falls { F.faults err.old ≤ F.faults err.new }
 {
     match fault {
-        Fault::Usage => write_all(err, b"usage: pcm run|gen|map|moves|show [options]\n"),
+        Fault::Usage => write_all(
+            err,
+            b"usage: pcm run|gen|map|moves|show|check [options]\n",
+        ),
         Fault::Trace(fault) => tell_trace(fault, err),
+        Fault::Results(row) => tell_results(row, err),
         Fault::Image(fault) => tell_image(fault, err),
         Fault::Read => write_all(err, b"read fault\n"),
         Fault::Write => write_all(err, b"write fault\n"),

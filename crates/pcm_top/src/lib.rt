@@ -2,6 +2,7 @@
 //! The call's contract says what every run prints and leaves in the array, and what each status means.
 #![tactic(auto)]
 
+mod check;
 mod drawn;
 mod fault;
 mod input;
@@ -15,6 +16,7 @@ mod run;
 mod show;
 mod wear;
 
+pub use check::CHECK_ROOM;
 pub use fault::Fault;
 pub use input::TRACE_ROOM;
 pub use program::pcm_run;

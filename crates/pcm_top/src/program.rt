@@ -12,6 +12,7 @@ ghost use Rattle.pcm_top.specs.Inputs.{IsFaultOf, is_source};
 ghost use Rattle.pcm_top.specs.Running.{Does, DoesPart, WritesRun, WritesRunInPart, HasCause, Tells, TellsPart, IsTried, IsRefused, is_size, reads_source, runs_on, status_done, room_of};
 ghost use Rattle.pcm_top.specs.Statuses.{IsStatusFor};
 
+use crate::check::report_check;
 use crate::drawn::write_drawn;
 use crate::fault::{Fault, status, tell};
 use crate::report::{report_map, report_moves};
@@ -120,6 +121,7 @@ fn carry_out<A: CellArray<64, 8>, V: CellArray<128, 16>, S: Source, K: Sink>(
         Job::Map(job) => whole(report_map(alloc, job, out)),
         Job::Moves(job) => whole(report_moves(alloc, job, out)),
         Job::Show => whole(show(alloc, source, out)),
+        Job::Check(job) => report_check(alloc, job, source, out),
     }
 }
 
@@ -149,8 +151,9 @@ fn work<A: CellArray<64, 8>, V: CellArray<128, 16>, S: Source, K: Sink>(
 }
 
 /// Runs the program on the words behind its name, and answers its status: 0 the work is done, 1 a run is done in which some
-/// row was refused, lost or left in a queue, 2 the words ask for no job, 3 the trace or the image has a fault, 4 reading failed, 5 writing
-/// failed, 6 there are too many bytes or rows, 7 memory ran out. A run is made on the array of its lines, which is powered up first:
+/// row was refused, lost or left in a queue, or results were checked of which a row breaks a rule, 2 the words ask for no job,
+/// 3 the trace, its results or the image have a fault, 4 reading failed, 5 writing failed, 6 there are too many bytes or rows, 7 memory
+/// ran out. A run is made on the array of its lines, which is powered up first:
 /// `array` for lines of 64 bytes, `wide` for lines of 128.
 pub fn pcm_run<A: CellArray<64, 8>, V: CellArray<128, 16>, S: Source, K: Sink, F: Sink>(
     alloc: Global,
@@ -161,8 +164,9 @@ pub fn pcm_run<A: CellArray<64, 8>, V: CellArray<128, 16>, S: Source, K: Sink, F
     out: &mut K,
     err: &mut F,
 ) -> u8
-    // The work was done: a run was made that left what is right, and exactly its text was written; or exactly a report was
-    // written. The status of a run is 1 exactly where some row falls short.
+    // The work was done: a run was made that left what is right, and exactly its text was written; or exactly a report, or the
+    // verdict on results, was written. The status of a run is 1 exactly where some row falls short, and that of a check where the
+    // verdict isn't ok.
     ensures done { result ≤ 1 → (done : Done) × Does (source_change S.left S.taken S.faults source.old source.new)
         (A.state array.new) (V.state wide.new) (K.written out.old) (K.written out.new) (job_of (map string_bytes words.now)) done × (result ≡ status_done done) }
     ensures silent { result ≤ 1 → err.new ≡ err.old }
@@ -186,7 +190,7 @@ pub fn pcm_run<A: CellArray<64, 8>, V: CellArray<128, 16>, S: Source, K: Sink, F
         × (out.new ≡ out.old)
         × (t.fault ≢ Fault.NoMemory → (array.new ≡ array.old) × (wide.new ≡ wide.old))) }
 
-    // Only a run of a trace that is read and `show` touch the source, and only a run over lines of its size touches an array.
+    // Only a run of a trace that is read, `show` and a check touch the source, and only a run over lines of its size touches an array.
     ensures unread { reads_source (job_of (map string_bytes words.now)) ≡ false → source.new ≡ source.old }
     ensures narrow { runs_on Bytes64 (job_of (map string_bytes words.now)) ≡ false → array.new ≡ array.old }
     ensures wide { runs_on Bytes128 (job_of (map string_bytes words.now)) ≡ false → wide.new ≡ wide.old }

@@ -24,9 +24,9 @@ use std::alloc::Global;
 /// How a job was done.
 #[derive(Clone, Copy, Debug, PartialEq, Eq)]
 pub enum Done {
-    /// Wholly: no row of a run fell short of what it asked for.
+    /// Wholly: no row of a run fell short of what it asked for, and each row of results that were checked keeps each rule.
     Whole,
-    /// A run was made in which some row was refused, lost or left in a queue.
+    /// A run was made in which some row was refused, lost or left in a queue, or a row of results breaks a rule.
     Short,
 }
 

@@ -1,17 +1,12 @@
-pub mod Lowest
-pub mod Apart
-pub mod Times
-pub mod Settles
-pub mod Wears
-pub mod Joins
-pub mod Numbers
-pub mod ReadJoins
-pub mod OtherJoins
-pub mod Fits
-pub mod Queueing
-pub mod Covering
-pub mod Tables
-pub mod Judged
-pub mod States
-pub mod Passing
-pub mod VerdictLaws
+mod Watching
+mod Finding
+mod Sizes
+mod Rows
+mod Lists
+mod Coming
+mod Keeping
+mod Lines
+mod Taking
+mod Meeting
+mod Going
+mod Checking

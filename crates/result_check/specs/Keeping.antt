@@ -1,48 +1,78 @@
--- The rules of a row in the words of what a checker keeps.
-use Rattle.std.specs.Prelude.{ℕ, ◌+◌, ◌==◌, ◌&&◌, Bool, true, false, not, Option, Some, None, nat_le, nat_lt, max, if◌then◌else◌}
-use Rattle.bank_shape.specs.Pausing.{Pausing, Pause, Plain, Cancel}
-use Rattle.row_laws.specs.Rules.{Rules}
-use Rattle.row_laws.specs.Ticking.{attempt}
+-- What is kept of the rows that have passed, and what a row that comes leaves.
+use Rattle.std.specs.Prelude.{◌≡◌, ◌<◌, ◌≤◌, ◌+◌, max, ℕ, Bool, true, false, IsTrue, List, [], ◌∷◌, Option, Some, None, All, length, slice_get, unwrap_or}
 use Rattle.result_rows.specs.declared.Outcome.{Outcome}
 use Rattle.result_rows.specs.declared.Outcome.TheVariants as out
+use Rattle.row_laws.specs.declared.Row.{Row}
+use Rattle.row_laws.specs.Rules.{Rules}
+use Rattle.row_judging.specs.Keys.{reach}
+use Rattle.row_judging.specs.Rising.{rising}
+use Rattle.row_judging.specs.Runs.{GivesSized}
+use Rattle.row_verdict.specs.declared.Rule.{Rule}
+use Rattle.row_verdict.specs.declared.lines.Line.{Line}
+use Rattle.row_verdict.specs.Covering.{KeptLine}
+use Rattle.row_verdict.specs.Fitting.{is_brief}
+use Rattle.row_verdict.specs.Judged.{beside}
+use Rattle.row_verdict.specs.Passing.{Passed}
+use Rattle.row_verdict.specs.States.{Facts, no_facts}
+use Rattle.row_verdict.specs.VerdictLaws.{HasKeys}
+use Rattle.row_verdict.specs.Verdicts.{all_rules, broken_by, all_have_room}
+use Rattle.row_laws.specs.Rows.{asks_cut}
+use Rattle.row_judging.specs.Cutting.{cut_ticks}
+use Rattle.result_check.specs.declared.ahead.Coming.{Coming}
+use Rattle.result_check.specs.declared.found.Found.{Found}
+use Rattle.result_check.specs.Coming.{coming_at}
 
--- a tick is no later than the first cut, if there is one
-abbrev pub before_cut : ℕ → Option ℕ → Bool
-before_cut u None = true
-before_cut u (Some cut) = nat_le u cut
+-- what is kept of a bank, these being the banks that are kept
+abbrev pub facts_in : List Facts → ℕ → Facts
+facts_in kept bank = unwrap_or (slice_get kept bank) no_facts
 
--- it is that of the first cut
-abbrev pub at_cut : ℕ → Option ℕ → Bool
-at_cut u None = false
-at_cut u (Some cut) = cut == u
+-- how many banks there are: each is below this number or one of these
+abbrev pub banks_from : ℕ → List ℕ → ℕ
+banks_from number [] = number
+banks_from number (bank ∷ banks) = banks_from (max number (bank + 1)) banks
 
--- a tick is below that at which the first worn row came, if there is one
-abbrev pub before_worn : ℕ → Option ℕ → Bool
-before_worn u None = true
-before_worn u (Some worn) = not (nat_le worn u)
+-- this is known of all banks by a tick, the last row having this line, if it has one
+pub record Knows {n : ℕ} (rules : Rules) (banks : List ℕ) (tick : ℕ) (kept : List Facts) (joined : Option ℕ) (before : List (Row n)) : Type 0 where
+  pub at : ℕ → ℕ
+  pub passed : Passed rules banks tick at (facts_in kept) joined before
 
-module _ {n : ℕ} where
-  -- a stored write is stored before the first worn row came
-  abbrev pub stored_early : Option ℕ → Outcome n → Bool
-  stored_early worn (out.Stored u place) = before_worn u worn
-  stored_early worn _ = true
+-- this is known of all lines
+abbrev pub KnowsLines : {n : ℕ} → List ℕ → ℕ → List (Line n) → List (Row n) → Type 0
+KnowsLines {n} banks tick lines before =
+    (l : ℕ) (line : Line n) → slice_get lines l ≡ Some line → KeptLine n tick l (beside banks l before) line.newest line.unclosed line.runs.items
 
-  -- a read ends in time
-  abbrev pub read_timely : ℕ → ℕ → ℕ → Option ℕ → Outcome n → Bool
-  read_timely arrived read bound cut (out.Read u place bytes) = nat_le (arrived + read) u && (nat_le u bound && before_cut u cut)
-  read_timely arrived read bound cut (out.Lost u) = at_cut u cut && nat_lt u bound
-  read_timely arrived read bound cut _ = true
+-- a row comes between these rows; this is known of the rows before it at its tick, and whether each bank has room
+pub record IsNext {n : ℕ} (rules : Rules) (banks : List ℕ) (found : Found) (before : List (Row n)) (r : Row n) (after : List (Row n)) (kept : List Facts) (joined : Option ℕ) (lines : List (Line n)) (room : Bool) : Type 0 where
+  pub knows : Knows rules banks r.tick kept joined before
+  pub seen : room ≡ true → Knows rules banks r.tick kept None before
+  pub all : all_have_room banks rules before r after ≡ room
+  pub lines_known : KnowsLines banks r.tick lines before
+  pub keys : HasKeys banks before r after found.stores.items found.reads.items found.lines.items
+  pub later : IsTrue (rising r.tick after)
+  pub brief : IsTrue (is_brief r.outcome)
+  pub sized : All (λ q. GivesSized q) (r ∷ before)
+  pub reached : r.tick < reach
+  pub few : length before ≤ 400000
+  pub exist : All (λ bank. bank < length kept) banks
 
-  -- a write is stored in time
-  abbrev pub write_timely : ℕ → ℕ → Outcome n → Bool
-  write_timely arrived latest (out.Stored u place) = nat_lt arrived u && nat_le u latest
-  write_timely arrived latest _ = true
+-- the rule that the row breaks first, and what is known behind it where it breaks none
+pub record HasPassed {n : ℕ} (rules : Rules) (banks : List ℕ) (before : List (Row n)) (r : Row n) (after : List (Row n)) (broken : Option Rule) (kept : List Facts) (joined : Option ℕ) (lines : List (Line n)) : Type 0 where
+  pub told : broken ≡ broken_by rules banks all_rules before r after
+  pub knows : broken ≡ None → Knows rules banks r.tick kept joined (r ∷ before)
+  pub lines_known : broken ≡ None → KnowsLines banks r.tick lines (r ∷ before)
 
--- how long a read may find its bank busy with something else than reads, where four reads came since the last store or not
-abbrev pub delay_by : Rules → Pausing → Bool → ℕ
-delay_by rules Pause four_came = max rules.read rules.iter
-delay_by rules Plain four_came = attempt rules
-delay_by rules Cancel four_came = if four_came then max rules.read rules.iter else 0
-
-abbrev pub delay_kept : Rules → Bool → ℕ
-delay_kept rules four_came = delay_by rules rules.policy four_came
+-- a row comes between these rows, of which this was known behind the last one before it; this is what the rows behind it bring
+pub record Meets {n : ℕ} (rules : Rules) (banks : List ℕ) (found : Found) (before : List (Row n)) (r : Row n) (after : List (Row n)) (kept : List Facts) (joined : Option ℕ) (lines : List (Line n)) (cuts : List ℕ) (coming : Coming) : Type 0 where
+  pub from : ℕ
+  pub passed_by : from ≤ r.tick
+  pub knows : Knows rules banks from kept joined before
+  pub lines_known : KnowsLines banks from lines before
+  pub keys : HasKeys banks before r after found.stores.items found.reads.items found.lines.items
+  pub later : IsTrue (rising r.tick after)
+  pub brief : IsTrue (is_brief r.outcome)
+  pub sized : All (λ q. GivesSized q) (r ∷ before)
+  pub reached : r.tick < reach
+  pub few : length before ≤ 400000
+  pub exist : All (λ bank. bank < length kept) banks
+  pub brings : coming ≡ coming_at banks r.asks after
+  pub cuts_are : asks_cut r.asks ≡ false → cuts ≡ cut_ticks after

@@ -1,68 +1,43 @@
--- What sorted keys of a whole table tell of a row of it, and what the reads that came tell.
-use Rattle.std.specs.Prelude.{◌≡◌, ℕ, ◌+◌, ◌<◌, ◌≤◌, ◌==◌, Bool, true, false, IsTrue, List, [], ◌∷◌, ◌++◌, Option, Some, None, IsPermutation, reverse, slice_get}
+-- A whole table, as a checker goes over it.
+use Rattle.std.specs.Prelude.{◌≡◌, ℕ, ◌<◌, ◌≤◌, IsTrue, List, All, length, IsPermutation}
+use Rattle.std.specs.List.Sorted.{IsNonDecreasing}
 use Rattle.row_laws.specs.declared.Row.{Row}
-use Rattle.row_laws.specs.Rules.{Rules}
-use Rattle.row_laws.specs.Rows.{asks_write}
-use Rattle.row_laws.specs.Serving.{may_have}
-use Rattle.row_laws.specs.Table.{of_bank}
-use Rattle.row_laws.specs.Ticking.{stores_in, reads_in, delay}
-use Rattle.row_judging.specs.Coming.{came}
-use Rattle.row_judging.specs.Keys.{reach, key, up_to, store_keys, read_keys, all_short}
-use Rattle.row_judging.specs.Rising.{falling}
-use Rattle.row_judging.specs.Standing.{is_own}
-use Rattle.result_check.specs.Keeping.{delay_kept}
-use Rattle.result_check.specs.QueueLaws.{KeysTell}
+use Rattle.row_judging.specs.Cutting.{cut_ticks}
+use Rattle.row_judging.specs.Keys.{reach, store_keys, read_keys}
+use Rattle.row_judging.specs.Rising.{rising}
+use Rattle.row_judging.specs.Runs.{GivesSized}
+use Rattle.row_verdict.specs.Fitting.{all_brief}
+use Rattle.row_verdict.specs.Verdicts.{bank_in}
+use Rattle.result_check.specs.declared.found.Found.{Found}
+use Rattle.result_check.specs.Finding.{IsBelow}
 
--- a whole table, the oldest row first, around one of its rows
-abbrev pub around : {n : ℕ} → List (Row n) → Row n → List (Row n) → List (Row n)
-around before r after = reverse before ++ r ∷ after
+-- a row comes below the reach, of one of so many lines or of none
+pub record IsRowOf {n : ℕ} (lines : ℕ) (r : Row n) : Type 0 where
+  pub line : IsBelow lines r.asks
+  pub reached : r.tick < reach
 
--- in the table of a bank, the numbers of stores and of reads in a span of ticks are differences of numbers of keys
-pub record CountsTold {n : ℕ} (bank_of : ℕ → ℕ) (bank a u : ℕ) (before : List (Row n)) (r : Row n) (after : List (Row n)) (stores reads : List ℕ) : Type 0 where
-  pub stored : up_to (key bank a) stores + stores_in a u (of_bank bank_of bank before ++ of_bank bank_of bank (r ∷ after)) ≡ up_to (key bank u) stores
-  pub read : up_to (key bank a) reads + reads_in a u (of_bank bank_of bank before ++ of_bank bank_of bank (r ∷ after)) ≡ up_to (key bank u) reads
+-- rows of a table over so many lines, the oldest first
+pub record IsTable {n : ℕ} (lines : ℕ) (rows : List (Row n)) : Type 0 where
+  pub rises : IsTrue (rising 0 rows)
+  pub brief : IsTrue (all_brief rows)
+  pub sized : All (λ r. GivesSized r) rows
+  pub each : All (λ r. IsRowOf lines r) rows
+  pub few : length rows ≤ 400000
 
-abbrev pub CountsToldLaw : Type 0
-CountsToldLaw =
-    (n : ℕ) (bank_of : ℕ → ℕ) (bank a u : ℕ) (before : List (Row n)) (r : Row n) (after : List (Row n)) (stores reads : List ℕ)
-    → IsPermutation (store_keys bank_of (around before r after)) stores → IsPermutation (read_keys bank_of (around before r after)) reads
-    → a ≤ u → u < reach → IsTrue (all_short (around before r after))
-    → CountsTold bank_of bank a u before r after stores reads
+-- these are the sorted keys of a table, and its cuts
+pub record IsFound {n : ℕ} (banks : List ℕ) (rows : List (Row n)) (found : Found) : Type 0 where
+  pub stores : IsPermutation (store_keys (bank_in banks) rows) found.stores.items
+  pub stores_sorted : IsNonDecreasing found.stores.items
+  pub reads : IsPermutation (read_keys (bank_in banks) rows) found.reads.items
+  pub reads_sorted : IsNonDecreasing found.reads.items
+  pub lines : IsPermutation (store_keys (λ line. line) rows) found.lines.items
+  pub lines_sorted : IsNonDecreasing found.lines.items
+  pub cuts : found.cuts.items ≡ cut_ticks rows
 
--- around a row that is no write, the keys of all lines' stores tell of a line's
-abbrev pub LineKeysLaw : Type 0
-LineKeysLaw =
-    (n : ℕ) (bank_of : ℕ → ℕ) (line t : ℕ) (before : List (Row n)) (r : Row n) (after : List (Row n)) (keys : List ℕ)
-    → IsPermutation (store_keys (λ l. l) (around before r after)) keys → IsTrue (all_short (around before r after)) → asks_write r.asks ≡ false
-    → KeysTell keys line t (of_bank bank_of (bank_of line) before ++ of_bank bank_of (bank_of line) after)
-
--- a row that may have its outcome has one of its own operation
-abbrev pub OwnLaw : Type 0
-OwnLaw = (n : ℕ) (r : Row n) (bytes : List ℕ) → IsTrue (may_have r.tick r.asks bytes r.outcome) → IsTrue (is_own r)
-
--- the last four of the reads that came, the newest first
-pub record KeptFour {n : ℕ} (rows : List (Row n)) (first second third fourth : Option ℕ) : Type 0 where
-  pub at_1 : first ≡ slice_get (came rows) 0
-  pub at_2 : second ≡ slice_get (came rows) 1
-  pub at_3 : third ≡ slice_get (came rows) 2
-  pub at_4 : fourth ≡ slice_get (came rows) 3
-
--- four reads came since the last store up to tick a, where the fourth last came at a tick
-abbrev pub four_came : {n : ℕ} → ℕ → Option ℕ → List (Row n) → Bool
-four_came a None rows = false
-four_came a (Some d) rows = stores_in d a rows == 0
-
--- how long a read may find its bank busy, by the fourth last of the reads that came
-abbrev pub DelayLaw : Type 0
-DelayLaw =
-    (n t a : ℕ) (rules : Rules) (before after : List (Row n)) (first second third fourth : Option ℕ)
-    → KeptFour before first second third fourth → IsTrue (falling t before)
-    → delay rules rules.policy a before after ≡ delay_kept rules (four_came a fourth (before ++ after))
-
--- what is kept of the reads that came, behind one that is read or lost, and behind any other row
-abbrev pub FourLaw : Type 0
-FourLaw =
-    (n : ℕ) (r : Row n) (rows : List (Row n)) (first second third fourth : Option ℕ)
-    → KeptFour rows first second third fourth
-    → (came (r ∷ rows) ≡ r.tick ∷ came rows → KeptFour (r ∷ rows) (Some r.tick) first second third)
-    × (came (r ∷ rows) ≡ came rows → KeptFour (r ∷ rows) first second third fourth)
+-- keys are sorted and few
+pub record IsUsable (found : Found) : Type 0 where
+  pub stores_sorted : IsNonDecreasing found.stores.items
+  pub reads_sorted : IsNonDecreasing found.reads.items
+  pub lines_sorted : IsNonDecreasing found.lines.items
+  pub few_stores : length found.stores.items ≤ 400000
+  pub few_reads : length found.reads.items ≤ 400000

@@ -1,74 +1,118 @@
-//! Whether the results of a run are ones that a module may give: a verdict over the rows of a trace and their outcomes, the
-//! bank of each line, and the rules. No queue and no array is known here.
+//! Whether the results of a run are ones that a module may give: the verdict on a trace, its results, the bank of each line
+//! and the rules.
 #![tactic(auto)]
 
-ghost use Rattle.result_check.specs.Judging.{VerdictLaw};
+ghost use Rattle.std.specs.Prelude.{◌≡◌, ◌+◌, ◌≤◌, if◌then◌else◌, drop, length, slice_get, Some, ◌<◌, IfOk};
+ghost use Rattle.row_laws.specs.Rows.{asks_cut};
+ghost use Rattle.row_verdict.specs.Within.{AreWithin};
+ghost use Rattle.row_verdict.specs.Verdicts.{asks_of, rows_with, rules_by, verdict_of};
+ghost use Rattle.result_check.specs.Checkable.{IsCheckable};
+ghost use Rattle.result_check.specs.Coming.{coming_of};
+ghost use Rattle.result_check.specs.Going.{GoesOn};
+ghost use Rattle.result_check.specs.Tables.{IsTable, IsFound};
 
-pub mod bank;
-pub mod judge;
-mod judging;
-mod keys;
-pub mod lines;
-pub mod members;
-mod queue;
-mod reads;
-mod serving;
-mod settling;
-mod timing;
-mod wearing;
+mod ahead;
+mod found;
+mod kept;
+pub mod watched;
 
-/// What a row may break.
-#[derive(Clone, Copy, Debug, PartialEq)]
-pub enum Rule {
-    /// A row has an outcome of its operation, and a read that is answered has the newest bytes.
-    Serves,
-    /// What the write queue and the waiting reads hold, and what follows for a row's answer.
-    Queue,
-    /// No write is accepted behind a worn row, and none is stored at its tick or later.
-    Worn,
-    /// When a row is read or stored, or lost.
-    Tick,
+use ahead::{Coming, look_ahead};
+use found::Found;
+use kept::Kept;
+use result_rows::Results;
+pub use row_verdict::{Rule, RulePolicy, Rules, Verdict};
+use std::alloc::{AllocError, Global};
+use trace_reader::{Event, EventOp};
+
+/// How many cuts have come with this operation.
+fn cuts_with<const B: usize>(cuts: usize, op: &EventOp<B>) -> usize
+    requires { cuts ≤ 400_000 }
+    ensures { result ≡ (if asks_cut (asks_of op.now) then cuts + 1 else cuts) }
+{
+    match op {
+        EventOp::Cut => cuts + 1,
+        _ => cuts,
+    }
 }
 
-/// Whether each row keeps each rule.
-#[derive(Clone, Copy, Debug, PartialEq)]
-pub enum Verdict {
-    /// It does.
-    Yes,
-    /// This row is the lowest that breaks a rule, and this is the first rule that it breaks.
-    No { row: u32, rule: Rule },
+/// The ticks of the cuts behind so many.
+fn cuts_behind(cuts: &[u64], passed: usize) -> &[u64]
+    requires { passed ≤ length cuts.now }
+    ensures { result.now ≡ drop passed cuts.now }
+{
+    &cuts[passed..]
 }
 
-/// When a line write gives way to a read.
-#[derive(Clone, Copy, Debug, PartialEq)]
-pub enum RulePolicy {
-    Pause,
-    Plain,
-    Cancel,
+/// The item at a place.
+fn item(coming: &[Coming], place: usize) -> Coming
+    requires { place < length coming.now }
+    ensures { slice_get coming.now place ≡ Some result }
+{
+    coming[place]
 }
 
-/// How much a bank holds, and its times.
-#[derive(Clone, Copy, Debug)]
-pub struct Rules {
-    /// How many writes the queue holds.
-    pub writes: u32,
-    /// How many reads may wait.
-    pub reads: u32,
-    /// How many spare lines there are.
-    pub spares: u32,
-    /// How many ticks a serve or a begin lasts.
-    pub read_ticks: u32,
-    /// How many ticks an iteration of a line write lasts.
-    pub iter_ticks: u32,
-    /// How many iterations a line write takes at most.
-    pub steps: u32,
-    /// When a line write gives way to a read.
-    pub policy: RulePolicy,
-    /// Whether each event of a bank brings a second line write, that of its registers.
-    pub twice: bool,
+/// Lets the rows pass in their order, up to the first that breaks a rule.
+fn pass_rows<const B: usize>(
+    events: &[Event<B>],
+    results: &Results<B>,
+    banks: &[u8],
+    rules: &Rules,
+    found: &Found,
+    coming: &[Coming],
+    kept: &mut Kept<B>,
+) -> Result<Verdict, AllocError>
+    requires small { B ≤ 128 }
+    requires within { AreWithin rules.now }
+    requires few { length events.now ≤ 400_000 }
+    requires rows { length results.now ≡ length events.now }
+    requires table { IsTable (length banks.now) (rows_with events.now results.now) }
+    requires found { IsFound banks.now (rows_with events.now results.now) found.now }
+    requires coming { coming.now ≡ coming_of banks.now (rows_with events.now results.now) }
+    requires begun { GoesOn (rules_by rules.now) banks.now (rows_with events.now results.now) 0 found.now 0 kept.old.banks.items kept.old.joined kept.old.lines.items }
+    ensures exact { IfOk result (λ verdict. verdict ≡ verdict_of (rules_by rules.now) banks.now (rows_with events.now results.now)) }
+{
+    let mut cuts = 0;
+    for (i, event) in events.iter().enumerate() {
+        let outcome = results.get(i as u32 + 1);
+        cuts = cuts_with(cuts, &event.op);
+        let behind = cuts_behind(&found.cuts, cuts);
+        let ahead = item(coming, events.len() - 1 - i);
+        let broken = kept.take(
+            rules,
+            banks,
+            found,
+            behind,
+            ahead,
+            i as u32 + 1,
+            event,
+            outcome,
+        )?;
+        if let Some(rule) = broken {
+            return Ok(Verdict::No {
+                row: i as u32 + 1,
+                rule,
+            });
+        }
+    }
+    Ok(Verdict::Yes)
 }
 
-/// Yes comes exactly where each row keeps each rule, and No names the lowest row that doesn't and the first rule that it breaks.
-pub fn verdicts_are_exact()
-    ensures { VerdictLaw }
-{}
+/// The verdict on a trace and its results, where item l of `banks` is the bank of line l. Yes comes exactly where each row
+/// keeps each rule, and No names the lowest row that doesn't, counted from 1, and the first rule that it breaks
+/// (`row_verdict::verdicts_are_exact`).
+pub fn check<const B: usize>(
+    alloc: Global,
+    events: &[Event<B>],
+    results: &Results<B>,
+    banks: &[u8],
+    rules: &Rules,
+) -> Result<Verdict, AllocError>
+    requires small { B ≤ 128 }
+    requires checkable { IsCheckable events.now results.now banks.now rules.now }
+    ensures exact { IfOk result (λ verdict. verdict ≡ verdict_of (rules_by rules.now) banks.now (rows_with events.now results.now)) }
+{
+    let found = Found::of(alloc, events, results, banks)?;
+    let coming = look_ahead(alloc, events, results, banks)?;
+    let mut kept = Kept::new(alloc, banks)?;
+    pass_rows(events, results, banks, rules, &found, &coming, &mut kept)
+}

@@ -1,0 +1,133 @@
+-- What is kept of the rows that have passed.
+use Rattle.std.proofs.Common.{◌≡◌, ℕ, zero, suc, ◌+◌, ◌<◌, ◌≤◌, ◌&&◌, ◌⊎◌, inl, inr, Bool, true, false, List, [], ◌∷◌, ◌++◌, length, get_or, Option, Some, None, refl, sym, ap, ◌∙◌, cond, subst, arith}
+use Rattle.std.specs.Prelude.{All, slice_get, slice_set, unwrap_or, nat_lt}
+use Rattle.std.proofs.lemmas.Bool.{cases_eq, cases_lt, eq-eqb, ne_eqb}
+use Rattle.std.proofs.lemmas.Option.{slice_get_past, unwrap_or-slice_get}
+use Rattle.std.proofs.Math.ListN.{length-set}
+use Rattle.result_rows.specs.declared.Outcome.TheVariants as out
+use Rattle.row_laws.specs.declared.Row.{Row}
+use Rattle.row_laws.specs.Rules.{Rules}
+use Rattle.row_laws.specs.Queueing.{has_room}
+use Rattle.row_laws.specs.Table.{of_bank}
+use Rattle.row_verdict.specs.Judged.{a_cut}
+use Rattle.row_verdict.specs.Members.{never}
+use Rattle.row_verdict.specs.Passing.{Passed, put, joined_room}
+use Rattle.row_verdict.specs.States.{Facts, Stands, no_facts, settled, cut_off}
+use Rattle.row_verdict.specs.Verdicts.{bank_in}
+use Rattle.row_verdict.proofs.Passing.{all_room_law, settle_one_law, room_seen_law}
+use Rattle.result_check.specs.Keeping.{facts_in, Knows}
+use Rattle.result_check.proofs.Lists.{get_set_same, get_set_other}
+
+facts_set_same : (kept : List Facts) (bank : ℕ) (f : Facts) → bank < length kept → facts_in (slice_set kept bank f) bank ≡ f
+facts_set_same kept bank f lt = ap (λ o. unwrap_or o no_facts) (get_set_same kept bank f lt)
+
+facts_set_other : (kept : List Facts) (bank k : ℕ) (f : Facts) → (k ≡ bank → ⊥) → facts_in (slice_set kept bank f) k ≡ facts_in kept k
+facts_set_other kept bank k f off = ap (λ o. unwrap_or o no_facts) (get_set_other kept bank k f off)
+
+-- the cut has come to the first so many banks
+pub record IsCutTo (tick reached : ℕ) (old new : List Facts) : Type 0 where
+  pub below : (k : ℕ) → k < reached → facts_in new k ≡ cut_off (settled tick (facts_in old k))
+  pub above : (k : ℕ) → reached ≤ k → facts_in new k ≡ facts_in old k
+  pub number : length new ≡ length old
+
+pub cut_none : (tick : ℕ) (old : List Facts) → IsCutTo tick 0 old old
+cut_none tick old = record { below = λ k lt. absurd (omega (arith, lt)); above = λ k le. refl; number = refl }
+
+pub cut_more : (tick reached : ℕ) (old new : List Facts) (f : Facts) → reached < length new → f ≡ cut_off (settled tick (facts_in new reached))
+    → IsCutTo tick reached old new → IsCutTo tick (reached + 1) old (slice_set new reached f)
+cut_more tick reached old new f lt is had = record {
+  below = λ k less. by_below k less (cases_eq k reached);
+  above = λ k le. facts_set_other new reached k f (λ e. absurd (omega (arith, e, le))) ∙ had.above k (omega (arith, le));
+  number = length-set new reached f ∙ had.number;
+}
+  where
+    by_below : (k : ℕ) → k < reached + 1 → (k ≡ reached) ⊎ (k ≡ reached → ⊥) → facts_in (slice_set new reached f) k ≡ cut_off (settled tick (facts_in old k))
+    by_below k less (inl e) =
+        ap (facts_in (slice_set new reached f)) e ∙ facts_set_same new reached f lt ∙ is
+        ∙ ap (λ g. cut_off (settled tick g)) (had.above reached (omega arith)) ∙ ap (λ j. cut_off (settled tick (facts_in old j))) (sym e)
+    by_below k less (inr off) = facts_set_other new reached k f off ∙ had.below k (omega (arith, less, off))
+
+pub cut_every : (tick reached : ℕ) (old new : List Facts) → length new ≤ reached → IsCutTo tick reached old new → (k : ℕ) → facts_in new k ≡ cut_off (settled tick (facts_in old k))
+cut_every tick reached old new le had k = by (cases_lt k reached)
+  where
+    past : reached ≤ k → facts_in old k ≡ no_facts
+    past more = let size = had.number in ap (λ o. unwrap_or o no_facts) (slice_get_past old k (omega (arith, size, le, more)))
+
+    by : (k < reached) ⊎ (reached ≤ k) → facts_in new k ≡ cut_off (settled tick (facts_in old k))
+    by (inl lt) = had.below k lt
+    by (inr more) = had.above k more ∙ past more ∙ sym (ap (λ g. cut_off (settled tick g)) (past more))
+
+-- what is known is known of the same facts
+pub same_facts : {n : ℕ} (rules : Rules) (banks : List ℕ) (tick : ℕ) (at : ℕ → ℕ) (facts other : ℕ → Facts) (joined : Option ℕ) (before : List (Row n))
+    → ((k : ℕ) → facts k ≡ other k) → Passed rules banks tick at facts joined before → Passed rules banks tick at other joined before
+same_facts rules banks tick at facts other joined before same p = record {
+  stand = λ k. subst (λ f. Stands (at k) (of_bank (bank_in banks) k before) f) (same k) (p.stand k);
+  by = p.by;
+  room = p.room;
+  known = p.known;
+}
+
+pub put_set : (kept : List Facts) (bank : ℕ) (f : Facts) → bank < length kept → (k : ℕ) → put (facts_in kept) bank f k ≡ facts_in (slice_set kept bank f) k
+put_set kept bank f lt k = by (cases_eq k bank)
+  where
+    by : (k ≡ bank) ⊎ (k ≡ bank → ⊥) → put (facts_in kept) bank f k ≡ facts_in (slice_set kept bank f) k
+    by (inl e) = ap (λ b. cond b f (facts_in kept k)) (eq-eqb k bank e) ∙ sym (ap (facts_in (slice_set kept bank f)) e ∙ facts_set_same kept bank f lt)
+    by (inr off) = ap (λ b. cond b f (facts_in kept k)) (ne_eqb k bank off) ∙ sym (facts_set_other kept bank k f off)
+
+-- once the bank of a line is settled
+pub knows_settled : {n : ℕ} (rules : Rules) (banks : List ℕ) (from tick bank : ℕ) (kept new : List Facts) (joined : Option ℕ) (before : List (Row n))
+    → from ≤ tick → tick < never → bank < length kept → new ≡ slice_set kept bank (settled tick (facts_in kept bank))
+    → Knows rules banks from kept joined before → Knows rules banks tick new joined before
+knows_settled {n} rules banks from tick bank kept new joined before le below lt is k = record {
+  at = put k.at bank tick;
+  passed =
+      same_facts rules banks tick (put k.at bank tick) (put (facts_in kept) bank (settled tick (facts_in kept bank))) (facts_in new) joined before
+      (λ j. put_set kept bank (settled tick (facts_in kept bank)) lt j ∙ ap (λ xs. facts_in xs j) (sym is))
+      (settle_one_law n from tick bank rules banks k.at (facts_in kept) joined before k.passed le below);
+}
+
+-- once nothing happens but that time passes
+pub knows_later : {n : ℕ} (rules : Rules) (banks : List ℕ) (from tick : ℕ) (kept : List Facts) (joined : Option ℕ) (before : List (Row n))
+    → from ≤ tick → Knows rules banks from kept joined before → Knows rules banks tick kept joined before
+knows_later rules banks from tick kept joined before le k = record {
+  at = k.at;
+  passed = record { stand = k.passed.stand; by = λ j. let b = k.passed.by j in omega (arith, b, le); room = k.passed.room; known = k.passed.known };
+}
+
+-- once the bank of the last row is settled and seen to have room
+pub knows_seen : {n : ℕ} (rules : Rules) (banks : List ℕ) (from tick line : ℕ) (kept new : List Facts) (before : List (Row n))
+    → from ≤ tick → tick < never → line < length banks → bank_in banks line < length kept
+    → new ≡ slice_set kept (bank_in banks line) (settled tick (facts_in kept (bank_in banks line)))
+    → Knows rules banks from kept (Some line) before
+    → joined_room rules banks tick (facts_in kept) (Some line) ≡ true
+    → Knows rules banks tick new None before
+knows_seen {n} rules banks from tick line kept new before le below within lt is k room =
+    let bank = bank_in banks line in
+    let f = settled tick (facts_in kept bank) in
+    let cut = a_cut tick (out.Cut tick) in
+    let all = all_room_law n from rules banks k.at (facts_in kept) (Some line) before cut [] line k.passed le below within in
+    let now = eq-put k.at bank tick in
+    record {
+      at = put k.at bank tick;
+      passed =
+          same_facts rules banks tick (put k.at bank tick) (put (facts_in kept) bank f) (facts_in new) None before
+          (λ j. put_set kept bank f lt j ∙ ap (λ xs. facts_in xs j) (sym is))
+          (room_seen_law n tick line rules banks (put k.at bank tick) (put (facts_in kept) bank f) before
+          (settle_one_law n from tick bank rules banks k.at (facts_in kept) (Some line) before k.passed le below)
+          (subst (λ t. has_room rules t (of_bank (bank_in banks) bank before) ≡ true) (sym now) (all.own room)));
+    }
+  where
+    eq-put : (at : ℕ → ℕ) (bank tick : ℕ) → put at bank tick bank ≡ tick
+    eq-put at bank tick = ap (λ b. cond b tick (at bank)) (eq-eqb bank bank refl)
+
+-- the bank of a line is there
+pub bank_exists : (banks : List ℕ) (line number : ℕ) → line < length banks → All (λ bank. bank < number) banks → bank_in banks line < number
+bank_exists banks line number lt all =
+    subst (λ b. b < number) (sym (unwrap_or-slice_get banks line 0)) (all line 0 lt)
+
+-- a settled bank has what it has
+pub facts_settled : (kept new : List Facts) (bank : ℕ) (f : Facts) → bank < length kept → new ≡ slice_set kept bank f → facts_in new bank ≡ f
+facts_settled kept new bank f lt is = ap (λ xs. facts_in xs bank) is ∙ facts_set_same kept bank f lt
+
+pub facts_got : (kept : List Facts) (bank : ℕ) (f : Facts) → slice_get kept bank ≡ Some f → facts_in kept bank ≡ f
+facts_got kept bank f is = ap (λ o. unwrap_or o no_facts) is

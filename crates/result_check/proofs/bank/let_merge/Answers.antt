@@ -1,8 +1,0 @@
-use Rattle.std.proofs.Common.{rules}
-use Rattle.std.proofs.lemmas.Fn.{filter_same}
-use Rattle.result_check.specs.declared.members.Member.{Member}
-use Rattle.result_check.specs.Joined.{stays_beside}
-use Rattle.result_check.proofs.bank.let_merge.Goals as goal
-
-pub returns : goal.returns
-returns c = filter_same _ (λ (m : Member). stays_beside c.args.line m) _ (λ m r f k. search rules) _ _ c.retain.ensures.filtered

@@ -1,0 +1,23 @@
+-- The pass over all rows.
+use Rattle.std.specs.Prelude.{◌≡◌, ℕ, ◌+◌, ◌<◌, ◌≤◌, true, List, All, Option, length, take, drop, reverse}
+use Rattle.row_laws.specs.declared.Row.{Row}
+use Rattle.row_laws.specs.Rules.{Rules}
+use Rattle.row_judging.specs.Cutting.{cut_ticks}
+use Rattle.row_judging.specs.Rising.{rising}
+use Rattle.row_verdict.specs.declared.lines.Line.{Line}
+use Rattle.row_verdict.specs.States.{Facts}
+use Rattle.row_verdict.specs.Verdicts.{verdict_from, verdict_of}
+use Rattle.result_check.specs.declared.found.Found.{Found}
+use Rattle.result_check.specs.Keeping.{Knows, KnowsLines}
+
+-- some rows have passed
+pub record GoesOn {n : ℕ} (rules : Rules) (banks : List ℕ) (rows : List (Row n)) (i : ℕ) (found : Found) (cuts : ℕ) (kept : List Facts) (joined : Option ℕ) (lines : List (Line n)) : Type 0 where
+  pub from : ℕ
+  pub rises : rising from (drop i rows) ≡ true
+  pub knows : Knows rules banks from kept joined (reverse (take i rows))
+  pub lines_known : KnowsLines banks from lines (reverse (take i rows))
+  pub exist : All (λ bank. bank < length kept) banks
+  pub size : length lines ≡ length banks
+  pub cuts_left : drop cuts found.cuts.items ≡ cut_ticks (drop i rows)
+  pub cuts_within : cuts ≤ length found.cuts.items
+  pub so_far : verdict_of rules banks rows ≡ verdict_from rules banks (i + 1) (reverse (take i rows)) (drop i rows)

@@ -1,0 +1,20 @@
+-- What ends next in a bank.
+use Rattle.std.specs.Prelude.{ℕ, List, [], ◌∷◌, IsTrue, nat_le, min}
+use Rattle.std.specs.List.{list_all}
+use Rattle.row_verdict.specs.declared.members.Member.{Member}
+use Rattle.row_verdict.specs.States.{Facts}
+
+-- the least of a tick and those at which these are stored
+abbrev pub least_end : ℕ → List Member → ℕ
+least_end first [] = first
+least_end first (m ∷ ms) = least_end (min first m.end) ms
+
+-- the least of a tick and these
+abbrev pub least_of : ℕ → List ℕ → ℕ
+least_of first [] = first
+least_of first (v ∷ vs) = least_of (min first v) vs
+
+-- no write of a bank is stored below this tick, and no read is read
+pub record NoneEndsBelow (tick : ℕ) (f : Facts) : Type 0 where
+  pub stores : IsTrue (list_all (λ m. nat_le tick m.end) f.members)
+  pub reads : IsTrue (list_all (λ v. nat_le tick v) f.waits)

@@ -1,0 +1,123 @@
+//! What is kept of a bank, with a tick below which nothing of it ends: so a bank that nothing leaves is settled at once.
+
+ghost use Rattle.std.specs.Prelude.{◌≡◌, ◌<◌, ◌^◌, ◌-◌, min, IfOk};
+ghost use Rattle.row_verdict.specs.Banks.{facts_of};
+ghost use Rattle.row_verdict.specs.Members.{never};
+ghost use Rattle.row_verdict.specs.States as spec;
+ghost use Rattle.result_check.specs.Watching.{least_end, least_of};
+
+use result_rows::Outcome;
+use row_verdict::bank::Bank;
+use row_verdict::members::{Member, NEVER};
+use std::alloc::{AllocError, Global};
+use std::marker::Model;
+
+/// A bank, and what ends next there.
+#[derive(Drop)]
+pub struct Watched {
+    bank: Bank,
+    // No write is stored below this tick, and no read that waits is read.
+    next: u64,
+}
+
+impl Model for Watched {
+    ghost use Rattle.row_verdict.specs.States.{Facts};
+    ghost use Rattle.row_verdict.specs.Banks.{facts_of};
+    ghost use Rattle.result_check.specs.Watching.{NoneEndsBelow};
+
+    ghost Value = { Facts };
+
+    ghost view = { λ w. facts_of w.bank };
+
+    ghost invariant = { λ w. NoneEndsBelow w.next (facts_of w.bank) };
+}
+
+/// The lesser of two ticks.
+pub fn earlier(tick: u64, other: u64) -> u64
+    ensures { result ≡ min tick other }
+{
+    if tick < other { tick } else { other }
+}
+
+/// The least tick at which one of these is stored.
+fn first_end(members: &[Member]) -> u64
+    ensures { result ≡ least_end never members.now }
+{
+    let mut first = NEVER;
+    for member in members {
+        first = earlier(first, member.end);
+    }
+    first
+}
+
+/// The least of these ticks.
+fn first_of(ticks: &[u64]) -> u64
+    ensures { result ≡ least_of never ticks.now }
+{
+    let mut first = NEVER;
+    for tick in ticks {
+        first = earlier(first, *tick);
+    }
+    first
+}
+
+impl Watched {
+    /// A bank of which no row has passed.
+    pub fn new(alloc: Global) -> Watched
+        ensures { result ≡ spec.no_facts }
+    {
+        Watched {
+            bank: Bank::new(alloc),
+            next: 0,
+        }
+    }
+
+    /// What is kept of the bank.
+    pub fn bank(&self) -> &Bank
+        ensures { facts_of result.now ≡ self.now }
+    {
+        &self.bank
+    }
+
+    /// Lets time pass up to a tick.
+    pub fn settle(&mut self, tick: u64)
+        ensures { self.new ≡ spec.settled tick self.old }
+    {
+        if self.next <= tick {
+            self.bank.settle(tick);
+            self.next = earlier(first_end(&self.bank.members), first_of(&self.bank.waits));
+        }
+    }
+
+    /// Lets a write pass that would be this member.
+    pub fn pass_write<const B: usize>(
+        &mut self,
+        member: Member,
+        outcome: &Outcome<B>,
+    ) -> Result<(), AllocError>
+        ensures { IfOk result (λ _. self.new ≡ spec.after_write member.line member outcome.now self.old) }
+    {
+        self.next = 0;
+        self.bank.pass_write(member, outcome)
+    }
+
+    /// Lets a read pass that arrived at a tick.
+    pub fn pass_read<const B: usize>(
+        &mut self,
+        tick: u64,
+        outcome: &Outcome<B>,
+    ) -> Result<(), AllocError>
+        requires { self.old.lost < 2 ^ 32 - 1 }
+        ensures { IfOk result (λ _. self.new ≡ spec.after_read tick outcome.now self.old) }
+    {
+        self.next = 0;
+        self.bank.pass_read(tick, outcome)
+    }
+
+    /// Lets a cut pass.
+    pub fn pass_cut(&mut self)
+        ensures { self.new ≡ spec.cut_off self.old }
+    {
+        self.bank.pass_cut();
+    }
+}

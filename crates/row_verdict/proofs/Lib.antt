@@ -1,0 +1,17 @@
+pub mod Lowest
+pub mod Apart
+pub mod Times
+pub mod Settles
+pub mod Wears
+pub mod Joins
+pub mod Numbers
+pub mod ReadJoins
+pub mod OtherJoins
+pub mod Fits
+pub mod Queueing
+pub mod Covering
+pub mod Tables
+pub mod Judged
+pub mod States
+pub mod Passing
+pub mod VerdictLaws

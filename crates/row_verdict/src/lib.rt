@@ -1,0 +1,74 @@
+//! Whether the results of a run are ones that a module may give: a verdict over the rows of a trace and their outcomes, the
+//! bank of each line, and the rules. No queue and no array is known here.
+#![tactic(auto)]
+
+ghost use Rattle.row_verdict.specs.Judging.{VerdictLaw};
+
+pub mod bank;
+pub mod judge;
+mod judging;
+pub mod keys;
+pub mod lines;
+pub mod members;
+pub mod queue;
+mod reads;
+mod serving;
+mod settling;
+mod timing;
+mod wearing;
+
+/// What a row may break.
+#[derive(Clone, Copy, Debug, PartialEq)]
+pub enum Rule {
+    /// A row has an outcome of its operation, and a read that is answered has the newest bytes.
+    Serves,
+    /// What the write queue and the waiting reads hold, and what follows for a row's answer.
+    Queue,
+    /// No write is accepted behind a worn row, and none is stored at its tick or later.
+    Worn,
+    /// When a row is read or stored, or lost.
+    Tick,
+}
+
+/// Whether each row keeps each rule.
+#[derive(Clone, Copy, Debug, PartialEq)]
+pub enum Verdict {
+    /// It does.
+    Yes,
+    /// This row is the lowest that breaks a rule, and this is the first rule that it breaks.
+    No { row: u32, rule: Rule },
+}
+
+/// When a line write gives way to a read.
+#[derive(Clone, Copy, Debug, PartialEq)]
+pub enum RulePolicy {
+    Pause,
+    Plain,
+    Cancel,
+}
+
+/// How much a bank holds, and its times.
+#[derive(Clone, Copy, Debug)]
+pub struct Rules {
+    /// How many writes the queue holds.
+    pub writes: u32,
+    /// How many reads may wait.
+    pub reads: u32,
+    /// How many spare lines there are.
+    pub spares: u32,
+    /// How many ticks a serve or a begin lasts.
+    pub read_ticks: u32,
+    /// How many ticks an iteration of a line write lasts.
+    pub iter_ticks: u32,
+    /// How many iterations a line write takes at most.
+    pub steps: u32,
+    /// When a line write gives way to a read.
+    pub policy: RulePolicy,
+    /// Whether each event of a bank brings a second line write, that of its registers.
+    pub twice: bool,
+}
+
+/// Yes comes exactly where each row keeps each rule, and No names the lowest row that doesn't and the first rule that it breaks.
+pub fn verdicts_are_exact()
+    ensures { VerdictLaw }
+{}

@@ -1,0 +1,3 @@
+-- What a text that has a trace and its results is judged by.
+pub mod Checked
+pub mod VerdictText
