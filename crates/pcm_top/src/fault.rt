@@ -142,10 +142,7 @@ pub fn tell<F: Sink>(fault: Fault, err: &mut F) -> Result<(), WriteFault>
     ensures never_falls { F.faults err.old ≤ F.faults err.new }
 {
     match fault {
-        Fault::Usage => write_all(
-            err,
-            b"usage: pcm run|gen|map|moves|show|check [options]\n",
-        ),
+        Fault::Usage => write_all(err, b"usage: pcm run|gen|map|moves|show|check [options]\n"),
         Fault::Trace(fault) => tell_trace(fault, err),
         Fault::Results(row) => tell_results(row, err),
         Fault::Image(fault) => tell_image(fault, err),
