@@ -155,6 +155,7 @@ module _ {n m e : ℕ} (bank : BankState n m e) (op : Operation n m e) (before a
       record {
         lines = now.lines;
         sound = AreSound-completed e kept under after now.sound;
+        unused = now.unused;
         operation = record {
           next = is.work ∙ sym is.next ∙ sym (next_work-completed kept under);
           target = is.target ∙ ap (λ w. target_of (completed_kept under kept) w) (sym is.work);
@@ -170,6 +171,7 @@ module _ {n m e : ℕ} (bank : BankState n m e) (op : Operation n m e) (before a
       record {
         lines = now.lines;
         sound = now.sound;
+        unused = now.unused;
         operation = record {
           next = is.work ∙ sym is.next;
           target = is.target ∙ ap (λ w. target_of bank.kept w) (sym is.work);
@@ -188,6 +190,7 @@ module _ {n m e : ℕ} (bank : BankState n m e) (op : Operation n m e) (before a
       record {
         lines = now.lines;
         sound = record { apart = sound.apart; slots = sound.slots; spares = sound.spares; worn = sound.worn };
+        unused = now.unused;
         operation = tt;
         exhausted = not-worn (Store line slot) is;
       }
@@ -196,6 +199,7 @@ module _ {n m e : ℕ} (bank : BankState n m e) (op : Operation n m e) (before a
       record {
         lines = now.lines;
         sound = record { apart = now.sound.apart; slots = now.sound.slots; spares = now.sound.spares; worn = now.sound.worn };
+        unused = now.unused;
         operation = tt;
         exhausted = not-worn (Copy region step) is;
       }

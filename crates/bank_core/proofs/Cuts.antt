@@ -9,7 +9,7 @@ use Rattle.bank_invariant.specs.Tied.{IsTied, IsRunning, IsUnderWay}
 use Rattle.bank_invariant.specs.Holds.{Holds}
 use Rattle.bank_invariant.specs.Steps.{cut_off}
 use Rattle.bank_invariant.specs.Tearing.{DiffersAt}
-use Rattle.bank_invariant.proofs.Targets.{IsTargetOf, running-target, AreSound-differs, DiffersAt-tear, target-exists}
+use Rattle.bank_invariant.proofs.Targets.{IsTargetOf, running-target, AreSound-differs, AreUntouched-differs, DiffersAt-tear, target-exists}
 use Rattle.bank_invariant.proofs.Quiet.{cut_law}
 use Rattle.bank_invariant.proofs.Tearing.{torn_law}
 use Rattle.bank_core.specs.Cutting.{IsTorn, stopped, reads_lost}
@@ -59,7 +59,7 @@ module _ {n m e : ℕ} where
       → IfSome bank.running (λ op. IsTorn op before after) → DiffersAt e op.target before after
   torn-op bank before after op is torn =
       let by : IsTorn op before after = subst (λ (r : Option (Operation n m e)). IfSome r (λ op. IsTorn op before after)) is torn in
-      DiffersAt-tear e op.target op.writer.prog before after by.tear by.sound
+      DiffersAt-tear e op.target op.writer.prog before after by.tear by.sound by.unused
 
   pub cut_holds : (tearing : Bool) (bank : BankState n m e) (before after : ArrayState n m)
       → (IsTrue tearing → IsTrue (is_some bank.running)) → (IsFalse tearing → after ≡ before)
@@ -75,6 +75,7 @@ module _ {n m e : ℕ} where
   quiet_tied bank array tied = record {
     lines = tied.lines;
     sound = tied.sound;
+    unused = tied.unused;
     operation = tt;
     exhausted = λ mark. record { all_used = (tied.exhausted mark).all_used; idle = refl; worn = (tied.exhausted mark).worn };
   }
@@ -91,6 +92,7 @@ module _ {n m e : ℕ} where
       record {
         lines = omega (arith, tied.lines, differs.lines);
         sound = AreSound-differs e bank.kept bank.waiting op.target (target_slot bank.kept op.work) before after range tied.sound (target-is bank before op range tied some.1) differs;
+        unused = AreUntouched-differs e op.target _ _ before after differs tied.unused;
         operation = tt;
         exhausted = λ mark. let none : None ≡ Some op = sym (tied.exhausted mark).idle ∙ some.1 in cc;
       }

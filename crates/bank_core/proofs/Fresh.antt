@@ -5,6 +5,7 @@ use Rattle.std.proofs.Math.Nat.{zero-mod}
 use Rattle.masked_bytes.proofs.Layering.{laid-none_given}
 use Rattle.pcm_cells.specs.Device.{ArrayState}
 use Rattle.ecp_line.proofs.Blank.{Sound-blank, decode-blank}
+use Rattle.line_writer.proofs.Untouched.{untouched-blank}
 use Rattle.start_gap.specs.Rotation.{turn}
 use Rattle.region_regs.specs.Region.{RegionState, first_region}
 use Rattle.bank_shape.specs.declared.BankShape.{BankShape}
@@ -55,6 +56,7 @@ fresh_law {n} {m} {e} shape array some few limits fresh =
               rw at (Sound-blank n m e _ _ blank.held, blank.pulses);
           worn = λ line below none. absurd (none line (omega (arith, below)) refl);
         };
+        unused = λ line below. untouched-blank e (array.line (shape.base + line)) (fresh.blank line (omega (arith, below)));
         operation = tt;
         exhausted = λ mark. cc;
       };

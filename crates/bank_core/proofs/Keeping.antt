@@ -7,6 +7,7 @@ use Rattle.spare_pool.specs.Table.{used_by}
 use Rattle.line_writer.specs.declared.writer.Progress.{Progress}
 use Rattle.line_writer.specs.declared.writer.Progress.TheVariants as progress
 use Rattle.line_writer.specs.Writing.{IsProgress, IsWorn}
+use Rattle.line_writer.specs.Untouched.{AreUntouched}
 use Rattle.bank_shape.specs.declared.Work.{Work}
 use Rattle.bank_shape.specs.declared.Work.TheVariants.{Nothing, Store, Copy}
 use Rattle.bank_shape.specs.Shape.{slots_of, lines_in}
@@ -21,7 +22,7 @@ use Rattle.bank_invariant.specs.Holds.{Holds}
 use Rattle.bank_invariant.specs.Tearing.{DiffersAt}
 use Rattle.bank_invariant.specs.Iterating.{going_on}
 use Rattle.bank_invariant.specs.Retiring.{ended}
-use Rattle.bank_invariant.proofs.Targets.{IsTargetOf, running-target, AreSound-differs, DiffersAt-round, target-exists}
+use Rattle.bank_invariant.proofs.Targets.{IsTargetOf, running-target, AreSound-differs, AreUntouched-differs, DiffersAt-round, target-exists}
 use Rattle.bank_invariant.proofs.Iterating.{iterated_law, IsOf-differs}
 use Rattle.bank_invariant.proofs.Finishing.{stored_law}
 use Rattle.bank_invariant.proofs.Turned.{moved_law}
@@ -77,7 +78,7 @@ module _ {n m e : ℕ} where
 
   -- a step changes the line of the target alone
   differs_by : (tick : ℕ) (op now : Operation n m e) (before after : ArrayState n m) → IsWriterStep tick op now before after → DiffersAt e op.target before after
-  differs_by tick op now before after step = DiffersAt-round e op.target tick op.writer.prog step.round.0 before after step.round.1 step.sound
+  differs_by tick op now before after step = DiffersAt-round e op.target tick op.writer.prog step.round.0 before after step.round.1 step.sound step.unused
 
   -- The invariant
 
@@ -153,6 +154,11 @@ module _ {n m e : ℕ} where
       → IsTied bank before → IsWriterStep tick op now before after → bank.kept.shape.base + lines_in bank.kept.shape ≤ after.lines
   tied-lines tick bank op now before after tied step = let differs = differs_by tick op now before after step in omega (arith, tied.lines, differs.lines)
 
+  tied-unused : (tick : ℕ) (bank : BankState n m e) (op now : Operation n m e) (before after : ArrayState n m)
+      → IsTied bank before → IsWriterStep tick op now before after → AreUntouched e after bank.kept.shape.base (slots_of bank.kept.shape + bank.kept.shape.spares)
+  tied-unused tick bank op now before after tied step =
+      AreUntouched-differs e op.target _ _ before after (differs_by tick op now before after step) tied.unused
+
   tied-later : (tick : ℕ) (bank : BankState n m e) (op now : Operation n m e) (before after : ArrayState n m)
       → IsKept bank.kept → IsTied bank before → bank.running ≡ Some op → IsWriterStep tick op now before after → now.writer.progress ≡ progress.More
       → IsRunning bank.kept after bank.waiting now
@@ -177,6 +183,7 @@ module _ {n m e : ℕ} where
   tied-done tick bank op now before after Nothing range tied is step = record {
     lines = tied-lines tick bank op now before after tied step;
     sound = tied-sound tick bank op now before after range tied is step;
+    unused = tied-unused tick bank op now before after tied step;
     operation = tt;
     exhausted = λ mark. absurd (tied-going bank before op tied is mark);
   }
@@ -185,6 +192,7 @@ module _ {n m e : ℕ} where
       record {
         lines = tied-lines tick bank op now before after tied step;
         sound = record { apart = sound.apart; slots = sound.slots; spares = sound.spares; worn = sound.worn };
+        unused = tied-unused tick bank op now before after tied step;
         operation = tt;
         exhausted = λ mark. absurd (tied-going bank before op tied is mark);
       }
@@ -193,6 +201,7 @@ module _ {n m e : ℕ} where
       record {
         lines = tied-lines tick bank op now before after tied step;
         sound = record { apart = sound.apart; slots = sound.slots; spares = sound.spares; worn = sound.worn };
+        unused = tied-unused tick bank op now before after tied step;
         operation = tt;
         exhausted = λ mark. absurd (tied-going bank before op tied is mark);
       }
@@ -218,6 +227,7 @@ module _ {n m e : ℕ} where
         lines = tied-lines tick bank op now before after tied step;
         sound = AreSound-retired e bank.kept (target_slot bank.kept op.work) after range (tied-sound tick bank op now before after range tied is step)
             (subst (λ (line : ℕ). IsWornLine e (after.line line)) at.place worn) at.exists (omega (arith, few, range.spares));
+        unused = tied-unused tick bank op now before after tied step;
         operation = tt;
         exhausted = λ mark. absurd (tied-going bank before op tied is mark);
       }
@@ -227,6 +237,7 @@ module _ {n m e : ℕ} where
       record {
         lines = tied-lines tick bank op now before after tied step;
         sound = record { apart = sound.apart; slots = sound.slots; spares = sound.spares; worn = sound.worn };
+        unused = tied-unused tick bank op now before after tied step;
         operation = tt;
         exhausted = λ mark. record {
           all_used = omega (arith, none, range.spares, range.table.within);
@@ -241,6 +252,7 @@ module _ {n m e : ℕ} where
   tied-step tick bank op now before after progress.More range tied is step at = record {
     lines = tied-lines tick bank op now before after tied step;
     sound = tied-sound tick bank op now before after range tied is step;
+    unused = tied-unused tick bank op now before after tied step;
     operation = tied-later tick bank op now before after range tied is step at;
     exhausted = λ mark. absurd (tied-going bank before op tied is mark);
   }

@@ -20,7 +20,7 @@ module _ {n m : ℕ} where
   pub touches-nothing : (tick : ℕ) (old new : ArrayState n m) → new ≡ old → Touches tick [] None false old new
   touches-nothing tick old new same =
       subst (λ (a : ArrayState n m). Touches tick [] None false old a) (sym same)
-      (record { lines = refl; others = λ at off. refl; pulses = λ at on. cc; tears = refl; log = λ after is. (after, is, sym (append-nil after)) })
+      (record { lines = refl; others = λ at off. refl; pulses = λ at on. cc; tears = refl; log = λ after is. (after, is, sym (append-nil after)); wear = refl })
 
   -- one sense
   pub touches-sense : (tick line : ℕ) (old new : ArrayState n m) → Senses (sense_of line tick (old.line line)) old new → Touches tick (line ∷ []) None false old new
@@ -29,6 +29,7 @@ module _ {n m : ℕ} where
     others = λ at off. sense.line at;
     pulses = λ at on. cc;
     tears = sense.tears;
+    wear = sense.wear;
     log = λ after is.
         let was = sense.log after is in
         (was.0, was.1, was.2 ∙ ap (λ (l : LineState n m). was.0 ++ sense_of line tick l ∷ []) (sym (sense.line line)));
@@ -42,6 +43,7 @@ module _ {n m : ℕ} where
     others = λ at off. second.line at ∙ first.line at;
     pulses = λ at on. cc;
     tears = second.tears ∙ first.tears;
+    wear = second.wear ∙ first.wear;
     log = λ after is.
         let late = second.log after is in
         let early = first.log late.0 late.1 in (
@@ -65,6 +67,7 @@ module _ {n m : ℕ} where
         let P : ℕ → Type 0 = λ at. (new.line at).pulses ≡ counted (old.line at).pulses in
         subst P (eqb-true line at on) (ap (λ (l : LineState n m). l.pulses) (round.sense.line line) ∙ round.pulse.pulses);
     tears = round.sense.tears ∙ round.tears;
+    wear = round.sense.wear ∙ round.others.wear;
     log = λ after is.
         let was = round.sense.log after is in
         let pulses : (new.line line).pulses ≡ (round.between.line line).pulses = ap (λ (l : LineState n m). l.pulses) (round.sense.line line) in
@@ -80,6 +83,7 @@ module _ {n m : ℕ} where
         let P : ℕ → Type 0 = λ at. (new.line at).pulses ≡ counted (old.line at).pulses in
         subst P (eqb-true line at on) tear.tear.pulses;
     tears = tear.tears;
+    wear = tear.others.wear;
     log = λ after is. (after, sym tear.others.log ∙ is, sym (append-nil after));
   }
 

@@ -2,6 +2,7 @@
 use Rattle.std.specs.Prelude.{ℕ, Bool, true, false, [], ◌++◌, map, Option, None, Some}
 use Rattle.pcm_cells.specs.Device.{ArrayState}
 use Rattle.program_verify.specs.Programming.{IsTear}
+use Rattle.line_writer.specs.Untouched.{LeavesUnused}
 use Rattle.bank_invariant.specs.State.{BankState, Operation}
 use Rattle.bank_invariant.specs.Tied.{IsSoundLine}
 
@@ -20,7 +21,9 @@ module _ {n m e : ℕ} where
   torn_line true None = None
   torn_line false running = None
 
-  -- a tear of the line write: one pulse that breaks off, of the cells that its step would pulse; its line is sound
+  -- a tear of the line write: one pulse that breaks off, of the cells that its step would pulse, none of which is an unused check cell;
+  -- its line is sound
   pub record IsTorn (op : Operation n m e) (before after : ArrayState n m) : Type 0 where
     pub tear : IsTear op.target op.writer.prog before after
+    pub unused : LeavesUnused e op.writer.prog
     pub sound : IsSoundLine e (after.line op.target)

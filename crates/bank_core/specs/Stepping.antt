@@ -11,6 +11,7 @@ use Rattle.bank_shape.specs.Shape.{slots_of}
 use Rattle.line_writer.specs.declared.writer.Progress.{Progress}
 use Rattle.line_writer.specs.declared.writer.Progress.TheVariants as progress
 use Rattle.line_writer.specs.Writing.{Writes, IsWorn, steps_left}
+use Rattle.line_writer.specs.Untouched.{LeavesUnused}
 use Rattle.power_recovery.specs.Kept.{KeptState, target_slot}
 use Rattle.power_recovery.specs.Events.{stored_kept, moved_kept, retired_kept, exhausted_kept}
 use Rattle.bank_model.specs.declared.answer.Step.{Step}
@@ -53,11 +54,12 @@ module _ {n m e : ℕ} where
   step_from kept op progress.Stored = done_from kept op.work op.target
   step_from kept op (progress.Worn cause) = worn_from kept (target_slot kept op.work)
 
-  -- a step of the writer: one pulse and one sense of the line, after which the writer is this
+  -- a step of the writer: one pulse, of no unused check cell, and one sense of the line, after which the writer is this
   pub record IsWriterStep (tick : ℕ) (old new : Operation n m e) (before after : ArrayState n m) : Type 0 where
     pub work : new.work ≡ old.work
     pub target : new.target ≡ old.target
     pub round : (prog : Prog n m) × IsRound old.target tick old.writer.prog prog before after × ((after.line old.target).held ≡ prog.seen)
+    pub unused : LeavesUnused e old.writer.prog
     pub writes : Writes new.writer (after.line old.target)
     pub sound : IsSoundLine e (after.line old.target)
     pub worn : IsWorn new.writer.progress → IsWornLine e (after.line old.target)

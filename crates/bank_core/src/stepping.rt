@@ -53,19 +53,22 @@ impl<const B: usize, const M: usize, const E: usize> Bank<B, M, E> {
         ensures in_range { IsKept self.old.kept }
         ensures step { IfSome self.old.running (λ op. IsIteration tick op self.old self.new result (A.state array.old) (A.state array.new)) }
     {
-        match self.running.take() {
-            Some(mut running) => match running.step(array, tick) {
-                Progress::More => {
-                    self.running = Some(running);
-                    Step::More
-                }
-                Progress::Stored => self.done(running.work, running.target),
-                Progress::Worn(_) => {
-                    let slot = self.slot_written(running.work);
-                    self.worn(slot)
-                }
-            },
-            None => unreachable!(),
+        let Some(running) = &mut self.running else {
+            unreachable!();
+        };
+        let progress = running.step(array, tick);
+        let (work, target) = (running.work, running.target);
+        match progress {
+            Progress::More => Step::More,
+            Progress::Stored => {
+                self.running = None;
+                self.done(work, target)
+            }
+            Progress::Worn(_) => {
+                self.running = None;
+                let slot = self.slot_written(work);
+                self.worn(slot)
+            }
         }
     }
 

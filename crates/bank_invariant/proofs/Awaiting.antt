@@ -1,5 +1,5 @@
 -- Reads that begin to wait and are served, and arrays that were only sensed.
-use Rattle.std.proofs.Common.{◌≡◌, ◌≢◌, ℕ, ◌*◌, ◌<◌, ◌≤◌, ◌==◌, cond, refl, sym, ap, subst, ◌∙◌, arith, Bool, true, false, List, [], ◌∷◌, ◌++◌, map, length, drop, get_or, slice_get, length-append, eq-eqb, Option, Some, None, IfSome, IsTrue}
+use Rattle.std.proofs.Common.{◌≡◌, ◌≢◌, ℕ, ◌+◌, ◌*◌, ◌<◌, ◌≤◌, ◌==◌, cond, refl, sym, ap, subst, ◌∙◌, arith, Bool, true, false, List, [], ◌∷◌, ◌++◌, map, length, drop, get_or, slice_get, length-append, eq-eqb, Option, Some, None, IfSome, IsTrue}
 use Rattle.std.specs.Prelude.{IsSomeAnd, All}
 use Rattle.std.proofs.lemmas.Bool.{eqb-false}
 use Rattle.std.proofs.lemmas.List.{length-replicate, map_push, length-map, drop-map}
@@ -11,6 +11,7 @@ use Rattle.masked_bytes.proofs.Layering.{length-laid, laid-all_given, joined-all
 use Rattle.masked_bytes.proofs.Queueing.{IsLayer-layer_of}
 use Rattle.pcm_cells.specs.Device.{ArrayState, LineState}
 use Rattle.ecp_line.specs.Reading.{decode}
+use Rattle.line_writer.proofs.Untouched.{AreUntouched-same}
 use Rattle.bank_shape.specs.declared.BankShape.{BankShape}
 use Rattle.bank_shape.specs.declared.Work.{Work}
 use Rattle.bank_shape.specs.declared.Work.TheVariants.{Nothing, Store, Copy}
@@ -66,6 +67,7 @@ module _ {n m : ℕ} (e : ℕ) (old new : ArrayState n m) (same : (line : ℕ) �
   tied_sensed kept running waiting many tied = record {
     lines = omega (arith, tied.lines, many);
     sound = sound_sensed kept tied.sound;
+    unused = AreUntouched-same e old new _ _ (λ line below. same (kept.shape.base + line)) tied.unused;
     operation = running_sensed kept waiting running tied.operation;
     exhausted = λ mark.
         let own = tied.exhausted mark in
@@ -128,6 +130,7 @@ module _ {n m : ℕ} (e : ℕ) (kept : KeptState n) (array : ArrayState n m) whe
   tied_waiting running ws xs off tied = record {
     lines = tied.lines;
     sound = tied.sound;
+    unused = tied.unused;
     operation = running_waiting running ws xs off tied.operation;
     exhausted = tied.exhausted;
   }

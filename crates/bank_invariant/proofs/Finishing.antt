@@ -31,7 +31,7 @@ use Rattle.bank_invariant.specs.Tied.{decoded, AreSound, IsOf}
 use Rattle.bank_invariant.specs.Holds.{Holds, IsRegionAfter, stands_for}
 use Rattle.bank_invariant.specs.Tearing.{DiffersAt}
 use Rattle.bank_invariant.specs.Storing.{StoredLaw, BegunStoredLaw, resting}
-use Rattle.bank_invariant.proofs.Targets.{length-decode, next_store-slot, decoded-other, AreSound-differs}
+use Rattle.bank_invariant.proofs.Targets.{length-decode, next_store-slot, decoded-other, AreSound-differs, AreUntouched-differs}
 use Rattle.bank_invariant.proofs.Tearing.{running_of, target_of_running, in_progress_of}
 use Rattle.bank_invariant.proofs.Iterating.{under_way-steps, served-differs}
 use Rattle.bank_invariant.proofs.Agreeing.{agree_law}
@@ -261,6 +261,7 @@ stored_law n m e line slot h bank old new op holds is stores differs reads =
         lines = omega (arith, holds.tied.lines, differs.lines);
         sound = AreSound-stored e bank.kept new
             (AreSound-differs e bank.kept bank.waiting op.target (target_slot bank.kept op.work) old new holds.kept holds.tied.sound at differs);
+        unused = AreUntouched-differs e op.target _ _ old new differs holds.tied.unused;
         operation = tt;
         exhausted = λ mark. absurd (exhausted_stored line slot h bank old new head holds end mark);
       };
@@ -290,7 +291,7 @@ begun_stored_law n m e line slot h bank old new head holds may next first many s
     let end : IsEnd e line slot bank.kept new new head = record {
       next = sym next;
       first = first;
-      differs = record { others = λ l off. refl; lines = refl; sound = now.tied.sound.slots slot exists };
+      differs = record { others = λ l off. refl; lines = refl; sound = now.tied.sound.slots slot exists; unused = λ own. own };
       reads = read ∙ sym reads ∙ ap (λ bytes. laid head.bytes head.given bytes) (sym read);
     } in
     let agrees = agree_law n m e h bank new now in
@@ -308,6 +309,7 @@ begun_stored_law n m e line slot h bank old new head holds may next first many s
       tied = record {
         lines = now.tied.lines;
         sound = AreSound-stored e bank.kept new now.tied.sound;
+        unused = now.tied.unused;
         operation = tt;
         exhausted = λ mark. absurd (exhausted_stored line slot h bank new new head now end mark);
       };

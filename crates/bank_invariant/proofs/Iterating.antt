@@ -29,7 +29,7 @@ use Rattle.bank_invariant.specs.Tied.{decoded, AreSound, IsOf, IsRunning, IsUnde
 use Rattle.bank_invariant.specs.Holds.{Holds, waiting_of}
 use Rattle.bank_invariant.specs.Tearing.{DiffersAt}
 use Rattle.bank_invariant.specs.Iterating.{IteratedLaw, IsLater}
-use Rattle.bank_invariant.proofs.Targets.{next_copy-region, decoded-other, decoded-off, stands_for-differs, AreSound-differs}
+use Rattle.bank_invariant.proofs.Targets.{next_copy-region, decoded-other, decoded-off, stands_for-differs, AreSound-differs, AreUntouched-differs}
 use Rattle.bank_invariant.proofs.Tearing.{running_of, target_of_running, in_progress_of, not_exhausted_of}
 
 -- each read that waits is of a line of the bank
@@ -160,6 +160,7 @@ iterated_law n m e h bank old new op after holds is differs later under =
       tied = record {
         lines = omega (arith, holds.tied.lines, differs.lines);
         sound = AreSound-differs e bank.kept bank.waiting op.target (target_slot bank.kept op.work) old new holds.kept holds.tied.sound at differs;
+        unused = AreUntouched-differs e op.target _ _ old new differs holds.tied.unused;
         operation = IsRunning-later h bank old new op after holds is differs later under;
         exhausted = λ mark. absurd (not_exhausted_of h bank old op holds is mark);
       };

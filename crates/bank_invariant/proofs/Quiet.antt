@@ -105,6 +105,7 @@ cut_law n m e h bank array holds = record {
   tied = record {
     lines = holds.tied.lines;
     sound = holds.tied.sound;
+    unused = holds.tied.unused;
     operation = tt;
     exhausted = λ mark. record {
       all_used = (holds.tied.exhausted mark).all_used;

@@ -150,6 +150,7 @@ begun_store_law n m e line slot h bank old new op holds may next many same work 
       tied = record {
         lines = now.tied.lines;
         sound = AreSound-completed e kept under new now.tied.sound;
+        unused = now.tied.unused;
         operation = record {
           next = work ∙ sym next ∙ sym (next_work-completed kept under);
           target = target ∙ ap (λ work. target_of (completed_kept under kept) work) (sym work);
@@ -189,6 +190,7 @@ begun_copy_law n m e region step h bank old new op holds may next many same work
       tied = record {
         lines = now.tied.lines;
         sound = now.tied.sound;
+        unused = now.tied.unused;
         operation = record {
           next = work ∙ sym next;
           target = target;

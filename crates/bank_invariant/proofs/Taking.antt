@@ -208,6 +208,7 @@ module _ {n m : ℕ} where
   tied-taken {e} kept array waiting busy entry running is going tied = record {
     lines = tied.lines;
     sound = record { apart = tied.sound.apart; slots = tied.sound.slots; spares = tied.sound.spares; worn = tied.sound.worn };
+    unused = tied.unused;
     operation = operation-taken kept array waiting busy entry running is tied.operation;
     exhausted = λ mark. let no : kept.exhausted ≡ true = mark in absurd cc;
   }

@@ -13,6 +13,8 @@ use Rattle.pcm_cells.specs.declared.row.Cells.{Cells}
 use Rattle.ecp_line.specs.Reading.{bytes_from, decode}
 use Rattle.program_verify.specs.declared.prog.Prog.{Prog}
 use Rattle.program_verify.specs.Programming.{IsRound, IsTear}
+use Rattle.line_writer.specs.Untouched.{AreUntouched, LeavesUnused}
+use Rattle.line_writer.proofs.Untouched.{untouched-round, untouched-tear, AreUntouched-beside}
 use Rattle.spare_pool.specs.Table.{line_by, used_by}
 use Rattle.spare_pool.proofs.Lines.{line_by-within}
 use Rattle.bank_shape.specs.declared.Work.{Work}
@@ -177,21 +179,33 @@ module _ {n m : ℕ} where
             subst (λ (l : LineState n m). IsWornLine e l) (sym (differs.others (kept.shape.base + line) off)) (sound.worn line below unowned);
       }
 
+  -- and no unused check cell is touched
+  pub AreUntouched-differs : (e target from lines : ℕ) (old new : ArrayState n m) → DiffersAt e target old new
+      → AreUntouched e old from lines → AreUntouched e new from lines
+  AreUntouched-differs e target from lines old new differs own =
+      AreUntouched-beside e old new target from lines differs.others differs.unused own
+
   -- Where the premises come from
 
   -- a step of a line write changes no other line
   pub DiffersAt-round : (e line tick : ℕ) (before after : Prog n m) (old new : ArrayState n m) → IsRound line tick before after old new
-      → IsSoundLine e (new.line line) → DiffersAt e line old new
-  DiffersAt-round e line tick before after old new round sound = record {
+      → IsSoundLine e (new.line line) → LeavesUnused e before → DiffersAt e line old new
+  DiffersAt-round e line tick before after old new round sound leaves = record {
     others = λ at off. round.sense.line at ∙ round.others.others at off;
     lines = round.sense.lines ∙ round.others.lines;
     sound = sound;
+    unused = untouched-round e line tick before after old new round leaves;
   }
 
   -- nor does a tear of one
   pub DiffersAt-tear : (e line : ℕ) (prog : Prog n m) (old new : ArrayState n m) → IsTear line prog old new → IsSoundLine e (new.line line)
-      → DiffersAt e line old new
-  DiffersAt-tear e line prog old new tear sound = record { others = tear.others.others; lines = tear.others.lines; sound = sound }
+      → LeavesUnused e prog → DiffersAt e line old new
+  DiffersAt-tear e line prog old new tear sound leaves = record {
+    others = tear.others.others;
+    lines = tear.others.lines;
+    sound = sound;
+    unused = untouched-tear e line prog old new tear leaves;
+  }
 
   -- the line that is written is one of the array
   pub target-exists : (kept : KeptState n) (waiting : List (Waiting n)) (target slot : ℕ) (array : ArrayState n m)

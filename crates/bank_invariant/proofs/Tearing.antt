@@ -9,7 +9,7 @@ use Rattle.bank_invariant.specs.State.{BankState, Operation}
 use Rattle.bank_invariant.specs.Tied.{IsRunning}
 use Rattle.bank_invariant.specs.Holds.{Holds}
 use Rattle.bank_invariant.specs.Tearing.{TornLaw}
-use Rattle.bank_invariant.proofs.Targets.{IsTargetOf, running-target, stands_for-differs, AreSound-differs}
+use Rattle.bank_invariant.proofs.Targets.{IsTargetOf, running-target, stands_for-differs, AreSound-differs, AreUntouched-differs}
 
 module _ {n m e : ℕ} where
   -- the line write in progress is that of the next work
@@ -48,6 +48,7 @@ torn_law n m e h bank old new op holds is differs =
       tied = record {
         lines = omega (arith, holds.tied.lines, differs.lines);
         sound = AreSound-differs e bank.kept bank.waiting op.target (target_slot bank.kept op.work) old new holds.kept holds.tied.sound at differs;
+        unused = AreUntouched-differs e op.target _ _ old new differs holds.tied.unused;
         operation = tt;
         exhausted = λ mark. absurd (not_exhausted_of h bank old op holds is mark);
       };

@@ -11,6 +11,7 @@ use Rattle.start_gap.specs.Rotation.{StandsFor, place_by, move_by, advanced}
 use Rattle.start_gap.proofs.Turning.{stands-advanced}
 use Rattle.region_regs.specs.Region.{RegionState, after_move}
 use Rattle.line_writer.specs.Writing.{steps_left, most_steps}
+use Rattle.line_writer.specs.Untouched.{HasUntouched}
 use Rattle.bank_shape.specs.declared.Work.{Work}
 use Rattle.bank_shape.specs.declared.Work.TheVariants.{Copy}
 use Rattle.bank_shape.specs.Shape.{slots_of, slot_at}
@@ -30,7 +31,7 @@ use Rattle.bank_invariant.specs.Tied.{decoded, IsSoundLine, AreTied}
 use Rattle.bank_invariant.specs.Holds.{Holds, IsRegionAfter, stands_for}
 use Rattle.bank_invariant.specs.Tearing.{DiffersAt}
 use Rattle.bank_invariant.specs.Moving.{MovedLaw, MovedAtOnceLaw, moved}
-use Rattle.bank_invariant.proofs.Targets.{IsTargetOf, next_copy-region, running-target, decoded-other, AreSound-differs}
+use Rattle.bank_invariant.proofs.Targets.{IsTargetOf, next_copy-region, running-target, decoded-other, AreSound-differs, AreUntouched-differs}
 use Rattle.bank_invariant.proofs.Tearing.{running_of, in_progress_of}
 use Rattle.bank_invariant.proofs.Iterating.{waits-known, under_way-steps}
 use Rattle.bank_invariant.proofs.Agreeing.{agree_law}
@@ -151,6 +152,7 @@ module _ {n m e : ℕ} (region : ℕ) (step : Move) (h : List (Event n)) (bank :
       record {
         lines = omega (arith, holds.tied.lines, differs.lines);
         sound = record { apart = sound.apart; slots = sound.slots; spares = sound.spares; worn = sound.worn };
+        unused = AreUntouched-differs e (target_of bank.kept (Copy region step)) _ _ old new differs holds.tied.unused;
         operation = tt;
         exhausted = λ mark. let none : false ≡ true = sym not_exhausted ∙ mark in cc;
       }
@@ -289,5 +291,6 @@ moved_at_once_law n m e region step h bank old new holds idle next lines same co
       lines = lines;
       sound = subst (λ (l : LineState n m). IsSoundLine e l) (sym (same (target_of bank.kept (Copy region step))))
           (holds.tied.sound.slots (slot_at bank.kept.shape region step.to) (gap-within bank.kept region step holds.kept next));
+      unused = λ own. subst (λ (l : LineState n m). HasUntouched e l) (sym (same (target_of bank.kept (Copy region step)))) own;
     } in
     moved_by_beginning region step h bank old new holds next differs copied idle

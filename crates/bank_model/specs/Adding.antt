@@ -36,3 +36,4 @@ pub record Adds {n m : ℕ} (shape : BankShape) (added : List (Timed n m)) (old 
   pub tears : new.tears ≡ tears_on added old.tears
   pub log : (after : List (Sense n m)) → new.log ≡ Some after
       → (before : List (Sense n m)) × (old.log ≡ Some before) × (after ≡ before ++ senses_of added)
+  pub wear : new.wear ≡ old.wear

@@ -38,6 +38,7 @@ module _ {n m e : ℕ} (kept : KeptState n) (regs : RegsState n m e) (array : Ar
     held = record {
       exist = rw (sym control.own.base, sym control.own.items) control.held.exist;
       sound = λ item below. rw (sym control.own.base) (control.held.sound item (rw control.own.items below));
+      unused = λ item below. rw (sym control.own.base) (control.held.unused item (rw control.own.items below));
       writing = tt;
       halted = λ yes. cc;
     };

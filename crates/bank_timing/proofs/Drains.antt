@@ -19,9 +19,9 @@ use Rattle.clock_laws.specs.Leads.{Leads}
 use Rattle.clock_laws.proofs.Absent.{queue-lacks}
 use Rattle.clock_laws.proofs.Others.{apart_law}
 use Rattle.clock_laws.proofs.Passing.{idle_law}
-use Rattle.bank_timing.specs.Extending.{RunsOn, LeavesOthers, EndsAction, IsQuiet, outcome_in}
+use Rattle.bank_timing.specs.Extending.{RunsDown, LeavesOthers, EndsAction, IsQuiet, outcome_in}
 use Rattle.bank_timing.specs.Draining.{Drains, AreQueueable, AreQueued, queued_outcome}
-use Rattle.bank_timing.proofs.Running.{end-brings_none, ran-others}
+use Rattle.bank_timing.proofs.Running.{end-brings_none, ran-others, runs-on}
 use Rattle.bank_timing.proofs.Queued.{none-left, queued-told}
 
 -- A row that doesn't stand in the queue does not come to stand there where actions end
@@ -52,7 +52,7 @@ module _ {n m e : ℕ} where
       → clock.arrivals ≡ map (λ (entry : Entry n). tick_of_row entry.row xs) clock.bank.kept.entries
   ticks-are xs clock array leads = leads.told.arrived ∙ ap (λ (es : List (Entry n)). map (λ (entry : Entry n). tick_of_row entry.row xs) es) (sym leads.holds.entries)
 
-  module _ (old clock : ClockState n m e) (before after : ArrayState n m) (results between : List (Outcome n)) (ran : RunsOn old clock before after results between) where
+  module _ (old clock : ClockState n m e) (before after : ArrayState n m) (results between : List (Outcome n)) (ran : RunsDown old clock before after results between) where
     -- what stands in the queue of a settled bank may be queued
     pub queueable : AreQueueable clock.bank.kept.entries clock.arrivals between
     queueable = record {
@@ -71,6 +71,7 @@ module _ {n m e : ℕ} where
             record {
               leads = still-leads (added ++ xs) clock after by.1.leads;
               quiet = by.2;
+              now = by.3;
               idle = idle_law n m e (added ++ xs) clock after by.1.leads rests;
               shape = by.1.shape;
               pace = by.1.pace;
@@ -95,4 +96,4 @@ module _ {n m e : ℕ} where
           ap (λ (es : List (Entry n)). has_row es row) by.1.leads.holds.entries ∙ ap (λ (shape : BankShape). has_row (queue shape (core (by.0 ++ led.0))) row) by.1.shape ∙ none in
           let same = by.1.rows in
           none-left clock.bank.kept.entries clock.arrivals between recorded row (record { above = there.above; within = omega (arith, same, there.within) }) lacks queued
-          ∙ ran-others old clock before after results between led ran row there unqueued unawaited
+          ∙ ran-others old clock before after results between led (runs-on old clock before after results between ran) row there unqueued unawaited

@@ -1,5 +1,5 @@
 -- A bank runs on: action after action, and time between them.
-use Rattle.std.proofs.Common.{◌≡◌, ℕ, ◌+◌, ◌^◌, ◌<◌, ◌≤◌, false, List, [], ◌∷◌, ◌++◌, refl, ap, subst, ◌∙◌, arith}
+use Rattle.std.proofs.Common.{◌≡◌, ℕ, ◌+◌, ◌^◌, ◌<◌, ◌≤◌, false, List, [], ◌∷◌, ◌++◌, Some, refl, sym, ap, subst, ◌∙◌, arith}
 use Rattle.std.specs.Prelude.{IsTrue, unwrap_or}
 use Rattle.std.proofs.lemmas.List.Elements.{All-nil, All-cons, All-head, All-tail}
 use Rattle.pcm_cells.specs.Device.{ArrayState}
@@ -18,9 +18,10 @@ use Rattle.clock_laws.specs.Leads.{Leads}
 use Rattle.clock_laws.specs.Passing.{at_tick}
 use Rattle.clock_laws.specs.Standing.{is_arrival_of, arrives_with}
 use Rattle.clock_laws.proofs.Deciding.{or_none}
+use Rattle.clock_laws.proofs.Draining.{ends-at}
 use Rattle.clock_laws.proofs.Extending.{nothing_added_law, both_added_law}
 use Rattle.clock_laws.proofs.Others.{other_rows_law}
-use Rattle.bank_timing.specs.Extending.{Extends, RunsOn, AreOpen, EndsAction, IsQuiet, LeavesOthers, outcome_in}
+use Rattle.bank_timing.specs.Extending.{Extends, RunsOn, RunsDown, AreOpen, EndsAction, IsQuiet, LeavesOthers, outcome_in}
 use Rattle.bank_timing.specs.Completing.{Completes}
 
 pub le-same : (a : ℕ) → a ≤ a
@@ -89,6 +90,37 @@ module _ {n m e : ℕ} where
         let first = ran.extends xs leads in
         let second = step.extends (first.0 ++ xs) first.1.leads in
         (second.0 ∷ first.0, one-more xs first.0 second.0 old now new before mid after results between recorded first.1 second.1, All-cons Ends second.0 first.0 (All-head Ends second.0 [] second.2) first.2);
+    unset = step.unset;
+    bound = step.bound ∙ ran.bound;
+  }
+
+  -- a bank that ran down ran on
+  pub runs-on : (old new : ClockState n m e) (before after : ArrayState n m) (results recorded : List (Outcome n)) → RunsDown old new before after results recorded → RunsOn old new before after results recorded
+  runs-on old new before after results recorded down =
+      record { led = down.led; extends = λ xs leads. (let by = down.extends xs leads in (by.0, by.1, by.2)); unset = down.unset; bound = down.bound }
+
+  pub down-none : (clock : ClockState n m e) (array : ArrayState n m) (results : List (Outcome n)) → ((xs : List (Timed n m)) × Leads xs clock array) → AreOpen clock.bank results
+      → RunsDown clock clock array array results results
+  down-none clock array results led unset = record { led = led; extends = λ xs leads. ([], no-events xs clock array results leads, All-nil Ends, refl); unset = unset; bound = refl }
+
+  pub down-more : (action : Action) (old now new : ClockState n m e) (before mid after : ArrayState n m) (results between recorded : List (Outcome n))
+      → 1 ≤ now.pace.read → 1 ≤ now.pace.iter → next_action now ≡ Some action
+      → RunsDown old now before mid results between → Completes now new action mid after between recorded → RunsDown old new before after results recorded
+  down-more action old now new before mid after results between recorded read iter next ran step = record {
+    led =
+        let by = step.extends ran.led.0 ran.led.1 in
+        (by.0 ∷ ran.led.0, by.1.leads);
+    extends = λ xs leads.
+        let first = ran.extends xs leads in
+        let second = step.extends (first.0 ++ xs) first.1.leads in
+        let ends = All-head Ends second.0 [] second.2 in
+        let lawful : Lawful now.bank.kept.shape now.pace e (second.0 ∷ (first.0 ++ xs)) =
+        subst (λ (shape : BankShape). Lawful shape now.pace e (second.0 ∷ (first.0 ++ xs))) second.1.shape (subst (λ (pace : Pacing). Lawful new.bank.kept.shape pace e (second.0 ∷ (first.0 ++ xs))) second.1.pace second.1.leads.lawful) in (
+          second.0 ∷ first.0,
+          one-more xs first.0 second.0 old now new before mid after results between recorded first.1 second.1,
+          All-cons Ends second.0 first.0 ends first.2,
+          step.now ∙ sym (ends-at (first.0 ++ xs) now mid read iter first.1.leads second.0 action lawful ends next),
+        );
     unset = step.unset;
     bound = step.bound ∙ ran.bound;
   }

@@ -13,7 +13,7 @@ use Rattle.bank_model.specs.Lawful.{IsIdle}
 use Rattle.clock_laws.specs.State.{ClockState}
 use Rattle.clock_laws.specs.Leads.{Leads}
 use Rattle.clock_laws.specs.Recording.{outcome_on}
-use Rattle.bank_timing.specs.Extending.{outcome_in, IsOpen, IsQuiet}
+use Rattle.bank_timing.specs.Extending.{outcome_in, IsOpen, IsQuiet, ended_at}
 
 -- the outcome of the row of an entry that stays in the queue, with its arrival tick
 abbrev pub queued_outcome : {n : ℕ} → List (Entry n) → List ℕ → ℕ → Option (Outcome n)
@@ -32,11 +32,12 @@ pub record AreQueued {n : ℕ} (es : List (Entry n)) (ticks : List ℕ) (results
   pub rows : length recorded ≡ length results
   pub outcomes : (row : ℕ) → HasRow results row → outcome_in recorded row ≡ unwrap_or (queued_outcome es ticks row) (outcome_in results row)
 
--- these events end actions, and extend the history to one after which the bank has nothing left to do; each row has the outcome that they make of
--- it, but a write that stands in the queue in the end is queued, with the tick of its arrival
+-- these events end actions, and extend the history to one after which the bank has nothing left to do, at the tick of the last of them;
+-- each row has the outcome that they make of it, but a write that stands in the queue in the end is queued, with the tick of its arrival
 pub record Drains {n m e : ℕ} (xs added : List (Timed n m)) (old new : ClockState n m e) (before after : ArrayState n m) (results recorded : List (Outcome n)) : Type 0 where
   pub leads : Leads (added ++ xs) new after
   pub quiet : IsQuiet added
+  pub now : new.tick ≡ ended_at old.tick added
   pub idle : IsIdle new.bank.kept.shape new.pace (added ++ xs)
   pub shape : new.bank.kept.shape ≡ old.bank.kept.shape
   pub pace : new.pace ≡ old.pace

@@ -1,5 +1,5 @@
 -- What a call makes of a bank with its clock, of its array and of the results, by the events that it adds to the history.
-use Rattle.std.specs.Prelude.{◌≡◌, ◌≢◌, ℕ, ◌^◌, true, false, IsTrue, List, [], ◌++◌, length, None, Some, All, unwrap_or}
+use Rattle.std.specs.Prelude.{◌≡◌, ◌≢◌, ℕ, ◌^◌, true, false, IsTrue, List, [], ◌∷◌, ◌++◌, length, None, Some, All, unwrap_or}
 use Rattle.pcm_cells.specs.Device.{ArrayState}
 use Rattle.result_rows.specs.declared.Outcome.{Outcome}
 use Rattle.result_rows.specs.declared.Outcome.TheVariants.{Unset}
@@ -88,5 +88,18 @@ pub record RunsOn {n m e : ℕ} (old new : ClockState n m e) (before after : Arr
   pub led : (xs : List (Timed n m)) × Leads xs new after
   pub extends : (xs : List (Timed n m)) → Leads xs old before
       → (added : List (Timed n m)) × Extends xs added old new before after results recorded × IsQuiet added
+  pub unset : AreOpen new.bank recorded
+  pub bound : new.bank.rows_below ≡ old.bank.rows_below
+
+-- the tick of the last of these events, or this one where there is none
+abbrev pub ended_at : {n m : ℕ} → ℕ → List (Timed n m) → ℕ
+ended_at tick [] = tick
+ended_at tick (x ∷ added) = x.tick
+
+-- so a bank ran on, and its clock stands where the last of these events came
+pub record RunsDown {n m e : ℕ} (old new : ClockState n m e) (before after : ArrayState n m) (results recorded : List (Outcome n)) : Type 0 where
+  pub led : (xs : List (Timed n m)) × Leads xs new after
+  pub extends : (xs : List (Timed n m)) → Leads xs old before
+      → (added : List (Timed n m)) × Extends xs added old new before after results recorded × IsQuiet added × (new.tick ≡ ended_at old.tick added)
   pub unset : AreOpen new.bank recorded
   pub bound : new.bank.rows_below ≡ old.bank.rows_below

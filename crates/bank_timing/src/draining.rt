@@ -1,11 +1,12 @@
 // The end of a run.
-ghost use Rattle.std.specs.Prelude.{◌≡◌, ◌<◌, ◌≤◌, List, length, None, IsSomeAnd, slice_get, true, false};
+ghost use Rattle.std.specs.Prelude.{◌≡◌, ℕ, ◌<◌, ◌≤◌, List, length, None, IsSomeAnd, slice_get, true, false};
 ghost use Rattle.result_rows.specs.Table.{with_outcome};
 ghost use Rattle.result_rows.specs.declared.Outcome.TheVariants.{Queued};
 ghost use Rattle.bank_model.specs.Timing.{Timed as TimedEvent};
 ghost use Rattle.clock_laws.specs.State.{next_action};
+ghost use Rattle.clock_laws.specs.Draining.{FollowsStores};
 ghost use Rattle.clock_laws.specs.Leads.{Leads};
-ghost use Rattle.bank_timing.specs.Extending.{RunsOn, AreOpen, IsOpen, LeavesOthers, last_tick};
+ghost use Rattle.bank_timing.specs.Extending.{RunsDown, AreOpen, IsOpen, LeavesOthers, last_tick};
 ghost use Rattle.bank_timing.specs.Laws.{KeepsLaws};
 ghost use Rattle.bank_timing.specs.Draining.{Drains, AreQueueable, AreQueued};
 
@@ -18,8 +19,9 @@ use table_laws::{logs_keep_their_laws, places_keep_their_laws, tables_keep_their
 
 impl<const B: usize, const M: usize, const E: usize> Timed<B, M, E> {
     /// The clock goes on until nothing runs and nothing would be chosen; the writes that stand in the queue then are queued, with
-    /// the ticks of their arrival. Nothing may come any more. The rows of every history that leads to the drained bank keep the
-    /// laws of rows, of places and wear, and of the log.
+    /// the ticks of their arrival. The present tick is that of the last event, or still that of before where none came. Nothing may
+    /// come any more. The rows of every history that leads to the drained bank keep the laws of rows, of places and wear, and of the
+    /// log, and each region's registers stand for the gap moves that its stores give.
     pub fn drain<A: CellArray<B, M>>(&mut self, array: &mut A, results: &mut Results<B>)
         requires going { self.old.drained ≡ false }
         requires led { (xs : List (TimedEvent B M)) × Leads xs self.old (A.state array.old) }
@@ -31,6 +33,8 @@ impl<const B: usize, const M: usize, const E: usize> Timed<B, M, E> {
             → (added : List (TimedEvent B M)) × Drains xs added self.old self.new (A.state array.old) (A.state array.new) results.old results.new }
         ensures others { LeavesOthers self.old.bank results.old results.new }
         ensures laws { (xs : List (TimedEvent B M)) → Leads xs self.new (A.state array.new) → KeepsLaws E self.new.bank.kept.shape self.new.pace xs (A.state array.new) }
+        ensures registers { (xs : List (TimedEvent B M)) → Leads xs self.new (A.state array.new)
+            → (region : ℕ) → region < self.new.bank.kept.shape.regions → FollowsStores xs self.new (A.state array.new) region }
     {
         tables_keep_their_laws();
         places_keep_their_laws();
@@ -45,7 +49,7 @@ impl<const B: usize, const M: usize, const E: usize> Timed<B, M, E> {
         requires led { (xs : List (TimedEvent B M)) × Leads xs self.old (A.state array.old) }
         requires within { self.old.tick ≤ last_tick }
         requires unset { AreOpen self.old.bank results.old }
-        ensures ran { RunsOn self.old self.new (A.state array.old) (A.state array.new) results.old results.new }
+        ensures ran { RunsDown self.old self.new (A.state array.old) (A.state array.new) results.old results.new }
         ensures rests { next_action self.new ≡ None }
     {
         // A field that is read makes known what is true of every clock.

@@ -1,5 +1,5 @@
 //! A bank with its clock.
-ghost use Rattle.std.specs.Prelude.{◌≡◌, ◌+◌, ◌*◌, ◌^◌, ◌<◌, ◌≤◌, List, [], ◌++◌, IfOk, IfSome, false};
+ghost use Rattle.std.specs.Prelude.{◌≡◌, ◌+◌, ◌*◌, ◌^◌, ◌<◌, ◌≤◌, ◌&&◌, not, List, [], ◌++◌, IfOk, IfSome, false};
 ghost use Rattle.pcm_cells.specs.Device.{ArrayState};
 ghost use Rattle.ecp_line.specs.Layout.{IsLayout};
 ghost use Rattle.bank_shape.specs.Shape.{IsBankShape};
@@ -143,11 +143,14 @@ impl<const B: usize, const M: usize, const E: usize> Timed<B, M, E> {
         if let Some(action) = self.action {
             return Some(action);
         }
+        let read_waits = self.bank.waiting() > 0;
+        let in_progress = self.is_busy();
+        let may_start = self.starts_next(read_waits || in_progress);
         let chosen = choose(
             self.pace.policy.gives_way(),
-            self.bank.waiting() > 0,
-            self.is_busy(),
-            self.may_start(),
+            read_waits,
+            in_progress,
+            may_start,
         );
         match chosen {
             None => None,
@@ -156,6 +159,13 @@ impl<const B: usize, const M: usize, const E: usize> Timed<B, M, E> {
                 first: self.tick,
             }),
         }
+    }
+
+    // Whether a line write may begin, which is asked only where nothing goes before it.
+    fn starts_next(&self, goes_before: bool) -> bool
+        ensures { result ≡ not goes_before && may_start self.now.bank self.now.regs }
+    {
+        !goes_before && self.may_start()
     }
 
     // Whether a line write is in progress: that of the change that stands, or else the bank's.

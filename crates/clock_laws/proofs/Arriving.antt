@@ -110,6 +110,7 @@ untouched tick array = record {
   others = λ line off. refl;
   pulses = λ line is. absurd (cc);
   tears = refl;
+  wear = refl;
   log = λ after is. (after, is, sym (append-nil after));
 }
 

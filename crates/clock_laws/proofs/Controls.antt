@@ -8,6 +8,7 @@ use Rattle.ecp_line.specs.Reading.{decode, is_worn_line}
 use Rattle.bank_shape.specs.declared.BankShape.{BankShape}
 use Rattle.bank_shape.specs.Shape.{controls_of, controls_from, control_line}
 use Rattle.line_writer.specs.declared.writer.LineWriter.{LineWriter}
+use Rattle.line_writer.proofs.Untouched.{AreUntouched-same}
 use Rattle.power_recovery.specs.Kept.{KeptState}
 use Rattle.reg_lines.specs.declared.Change.{Change}
 use Rattle.reg_lines.specs.Regs.{RegsState, AreHeld, IsWritingOf, values_by}
@@ -40,6 +41,7 @@ module _ {n m e : ℕ} (regs : RegsState n m e) (old new : ArrayState n m) (many
   held-elsewhere known = record {
     exist = subst (λ (lines : ℕ). regs.base + regs.items ≤ lines) (sym many) held.exist;
     sound = λ item below. subst (λ (l : LineState n m). Sound n m e (cell l.held) l.stuck) (sym (same item below)) (held.sound item below);
+    unused = AreUntouched-same e old new _ _ same held.unused;
     writing = writes regs.writer regs.change known held.writing;
     halted = λ is. worn regs.change known (held.halted is);
   }

@@ -5,6 +5,7 @@ use Rattle.masked_bytes.specs.Masked.{laid}
 use Rattle.masked_bytes.specs.Entries.{Layer, layer_of}
 use Rattle.pcm_cells.specs.Device.{ArrayState, LineState}
 use Rattle.ecp_line.specs.Reading.{decode}
+use Rattle.line_writer.proofs.Untouched.{AreUntouched-same}
 use Rattle.bank_shape.specs.declared.Work.{Work}
 use Rattle.bank_shape.specs.declared.Work.TheVariants.{Nothing, Store, Copy}
 use Rattle.bank_shape.specs.Shape.{slots_of, slot_at, control_line}
@@ -62,6 +63,7 @@ module _ {n m : ℕ} (e : ℕ) (kept : KeptState n) (range : IsKept kept) (old n
   tied-same running waiting tied = record {
     lines = omega (arith, tied.lines, many);
     sound = sound-same tied.sound;
+    unused = AreUntouched-same e old new _ _ (λ line below. same (kept.shape.base + line) (omega arith, omega (arith, below))) tied.unused;
     operation = running-same running waiting tied.operation;
     exhausted = λ mark.
         let own = tied.exhausted mark in

@@ -23,3 +23,5 @@ pub mod Settled
 pub mod Fitting
 pub mod Remaining
 pub mod Passing
+pub mod Unused
+pub mod Draining

@@ -14,3 +14,4 @@ pub mod Extending
 pub mod Recording
 pub mod Standing
 pub mod Ending
+pub mod Draining

@@ -1,7 +1,7 @@
 //! How the events of several calls add up, what a bank does not touch, and what its history leaves.
 
 ghost use Rattle.clock_laws.specs.Extending.{NothingAddedLaw, OneAddedLaw, ArrivalAddedLaw, BothAddedLaw, ElsewhereLaw, BeforeLaw, BehindLaw, ControlsStayLaw, BankStaysLaw};
-ghost use Rattle.clock_laws.specs.Ending.{LeavingLaw};
+ghost use Rattle.clock_laws.specs.Ending.{LeavingLaw, UntouchedLaw};
 
 /// No event leaves an array as it was.
 pub fn no_event_adds_nothing()
@@ -31,6 +31,11 @@ pub fn other_lines_do_not_matter()
 /// A history leaves the array with its pulses, and with its retired lines worn.
 pub fn histories_leave_the_array()
     ensures { LeavingLaw }
+{}
+
+/// A history leaves every unused check cell of the bank's lines untouched.
+pub fn unused_cells_stay_untouched()
+    ensures { UntouchedLaw }
 {}
 
 /// What touches nothing adds nothing to what comes behind it.

@@ -4,6 +4,7 @@ ghost use Rattle.clock_laws.specs.Passing.{PassingLaw, IdleLaw, EndingLaterLaw};
 ghost use Rattle.clock_laws.specs.Fitting.{NeedsLaw, ChosenLaw, RestLaw};
 ghost use Rattle.clock_laws.specs.Remaining.{FallingLaw, OneWriteLaw};
 ghost use Rattle.clock_laws.specs.Starting.{StartLaw};
+ghost use Rattle.clock_laws.specs.Draining.{NoGapLaw, RestingRegistersLaw};
 
 /// No event leads to a bank that was just made.
 pub fn banks_start()
@@ -48,4 +49,16 @@ pub fn one_line_write_is_in_progress()
 /// Where no action runs from now on, no read waits, and no line write is in progress or to be begun.
 pub fn banks_rest()
     ensures { RestLaw }
+{}
+
+/// Where nothing comes, each action begins at the tick at which the one before it ended: so the last event comes as many ticks
+/// after the begin of the action that runs from now on as all of them last.
+pub fn actions_follow_without_a_gap()
+    ensures { NoGapLaw }
+{}
+
+/// Where no action runs from now on, each region's registers stand for one move for each so many of its stores; or for one less,
+/// where one more move is due, and the bank is worn out or a control line is worn.
+pub fn resting_registers_follow_stores()
+    ensures { RestingRegistersLaw }
 {}

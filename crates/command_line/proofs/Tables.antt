@@ -1,5 +1,5 @@
 -- A command that gets its options one by one.
-use Rattle.std.proofs.Common.{◌≡◌, ℕ, suc, ◌+◌, ◌<◌, List, map, length, get_or, drop, Bor, refl, ap, ◌∙◌, false, arith}
+use Rattle.std.proofs.Common.{◌≡◌, ℕ, suc, ◌+◌, ◌<◌, List, [], map, length, get_or, drop, Bor, refl, ap, ◌∙◌, false, arith}
 use Rattle.std.specs.Prelude.{codes, Result, Ok, Err, IfOk}
 use Rattle.std.proofs.Math.Seq.{drop-cons}
 use Rattle.clap.specs.Words.{App, Text, AddsSubcommand, app_of, new_app, with_rule, with_subcommand}
@@ -24,14 +24,15 @@ subcommand-added old sub s (Ok new) globals is adds =
     adds.shape globals ∙ ap (λ (t : App). with_subcommand (app_of old) t.top) is
 subcommand-added old sub s (Err e) globals is adds = tt
 
--- the five subcommands, added to the program's command in turn
-pub five-added : {E : Type 0} (r : Result Command E) (a b c d e : App) → a ≡ top_app
+-- the six subcommands, added to the program's command in turn
+pub six-added : {E : Type 0} (r : Result Command E) (a b c d e f : App) → a ≡ top_app
     → b ≡ with_subcommand a (leaf_app (codes "run") run_options).top
     → c ≡ with_subcommand b (leaf_app (codes "gen") gen_options).top
     → d ≡ with_subcommand c (leaf_app (codes "map") map_options).top
     → e ≡ with_subcommand d (leaf_app (codes "moves") moves_options).top
-    → IfOk r (λ new. app_of new ≡ with_subcommand e (leaf_app (codes "check") check_options).top)
+    → f ≡ with_subcommand e (leaf_app (codes "show") []).top
+    → IfOk r (λ new. app_of new ≡ with_subcommand f (leaf_app (codes "check") check_options).top)
     → IfOk r (λ new. app_of new ≡ pcm_app)
 unfolding pcm_app
-five-added (Ok new) a b c d e top run gen map moves last = last ∙ rw (moves, map, gen, run, top) refl
-five-added (Err fault) a b c d e _ _ _ _ _ last = tt
+six-added (Ok new) a b c d e f top run gen map_ moves show last = last ∙ rw (show, moves, map_, gen, run, top) refl
+six-added (Err fault) a b c d e f _ _ _ _ _ _ last = tt

@@ -9,7 +9,7 @@ use Rattle.module_shape.specs.Limits.{IsShape}
 use Rattle.command_line.specs.Table.{pcm_app}
 use Rattle.command_line.specs.Options.{with_some, number_option, line_of, shape_of, seed_of, wear_of, mix_of, print_of, input_of, from_of}
 use Rattle.command_line.specs.declared.job.Job.{Job}
-use Rattle.command_line.specs.declared.job.Job.TheVariants.{Run, Gen, Map, Moves, Check}
+use Rattle.command_line.specs.declared.job.Job.TheVariants.{Run, Gen, Map, Moves, Show, Check}
 use Rattle.command_line.specs.declared.job.RunJob.{RunJob}
 use Rattle.command_line.specs.declared.job.GenJob.{GenJob}
 use Rattle.command_line.specs.declared.job.MapJob.{MapJob}
@@ -69,7 +69,8 @@ job_named name rows =
     else (if bytes_eq name (codes "gen") then gen_of rows
     else (if bytes_eq name (codes "map") then map_of rows
     else (if bytes_eq name (codes "moves") then moves_of rows
-    else (if bytes_eq name (codes "check") then check_of rows else None))))
+    else (if bytes_eq name (codes "show") then Some Show
+    else (if bytes_eq name (codes "check") then check_of rows else None)))))
 
 -- a job, or a faulty command line: where there is none, or where `clap` refuses the words for some cause
 abbrev pub or_usage : Option Job → Result Job Refusal
@@ -134,4 +135,5 @@ IsJob (Run job) = IsRun job
 IsJob (Gen job) = IsGen job
 IsJob (Map job) = IsMap job
 IsJob (Moves job) = IsMoves job
+IsJob Show = Unit {0}
 IsJob (Check job) = IsCheck job

@@ -68,7 +68,8 @@ print_of None = Some print.Results
 print_of (Some text) =
     if bytes_eq text (codes "results") then Some print.Results
     else (if bytes_eq text (codes "summary") then Some print.Summary
-    else (if bytes_eq text (codes "wear") then Some print.Wear else None))
+    else (if bytes_eq text (codes "wear") then Some print.Wear
+    else (if bytes_eq text (codes "image") then Some print.Image else None)))
 
 -- the sizes of the module that the options ask for
 unfoldable pub raw_of : List Row → Option RawShape

@@ -47,12 +47,13 @@ top_app = record (new_app (codes "pcm")) {
   top = record (new_app (codes "pcm")).top { disable_help_flag = true; disable_help_subcommand = true };
 }
 
--- with its five commands
+-- with its six commands; `show` has no option
 unfoldable pub pcm_app : App
 pcm_app =
-    with_subcommand (with_subcommand (with_subcommand (with_subcommand (with_subcommand top_app
+    with_subcommand (with_subcommand (with_subcommand (with_subcommand (with_subcommand (with_subcommand top_app
     (leaf_app (codes "run") run_options).top)
     (leaf_app (codes "gen") gen_options).top)
     (leaf_app (codes "map") map_options).top)
     (leaf_app (codes "moves") moves_options).top)
+    (leaf_app (codes "show") []).top)
     (leaf_app (codes "check") check_options).top

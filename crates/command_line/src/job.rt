@@ -14,6 +14,8 @@ pub enum Job {
     Map(MapJob),
     /// Tell the gap moves of a full turn of a region.
     Moves(MovesJob),
+    /// Tell the newest bytes of every line of a saved module.
+    Show,
     /// Tell whether results are ones that a module may give.
     Check(CheckJob),
 }
@@ -95,6 +97,8 @@ pub enum Print {
     Summary,
     /// A row for each array line.
     Wear,
+    /// The module as it stands in the end, as bytes.
+    Image,
 }
 
 /// Where a run takes its trace from.

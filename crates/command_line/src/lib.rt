@@ -1,4 +1,5 @@
-//! The words of the program: the commands `run`, `gen`, `map`, `moves` and `check` with their options, as `clap` reads them.
+//! The words of the program: the commands `run`, `gen`, `map`, `moves`, `show` and `check` with their options, as `clap` reads
+//! them.
 #![tactic(auto)]
 
 mod job;

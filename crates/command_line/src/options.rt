@@ -120,6 +120,7 @@ pub fn print(matches: &ArgMatches<'_>) -> Option<Print>
         Some("results") => Some(Print::Results),
         Some("summary") => Some(Print::Summary),
         Some("wear") => Some(Print::Wear),
+        Some("image") => Some(Print::Image),
         Some(_) => None,
     }
 }

@@ -98,6 +98,7 @@ fn named(name: &str, matches: &ArgMatches<'_>) -> Option<Job>
         "gen" => generate(matches),
         "map" => map_lines(matches),
         "moves" => moves(matches),
+        "show" => Some(Job::Show),
         "check" => check(matches),
         _ => None,
     }
@@ -118,6 +119,7 @@ fn with_program_name<'a>(alloc: Global, words: &'a [String]) -> Result<Vec<&'a s
 // Why clap refused the words.
 fn refusal(error: &Error) -> Refusal
     ensures told { result ≢ Refusal.NoMemory → kind_of error.now ≢ ErrorKind.OutOfMemory }
+    ensures memory { result ≡ Refusal.NoMemory → kind_of error.now ≡ ErrorKind.OutOfMemory }
     ensures usage { result ≢ Refusal.NoMemory → result ≡ Refusal.Usage }
 {
     match error.kind() {

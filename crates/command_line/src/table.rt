@@ -58,6 +58,8 @@ static MAP_OPTIONS: [&str; 7] = [
 
 static MOVES_OPTIONS: [&str; 2] = ["lines", "from"];
 
+static SHOW_OPTIONS: [&str; 0] = [];
+
 static CHECK_OPTIONS: [&str; 12] = [
     "banks",
     "regions",
@@ -119,7 +121,7 @@ fn top_command<'a>(alloc: Global) -> Command<'a>
         .disable_help_subcommand(true)
 }
 
-/// The program's command with its five subcommands.
+/// The program's command with its six subcommands.
 #[tactic(auto, unfolding(crate::specs::Table::pcm_app))]
 pub fn pcm_command<'a>(alloc: Global) -> Result<Command<'a>, AllocError>
     ensures { IfOk result (λ c. app_of c ≡ pcm_app) }
@@ -129,5 +131,6 @@ pub fn pcm_command<'a>(alloc: Global) -> Result<Command<'a>, AllocError>
     let command = with_leaf(alloc, command, "gen", &GEN_OPTIONS)?;
     let command = with_leaf(alloc, command, "map", &MAP_OPTIONS)?;
     let command = with_leaf(alloc, command, "moves", &MOVES_OPTIONS)?;
+    let command = with_leaf(alloc, command, "show", &SHOW_OPTIONS)?;
     with_leaf(alloc, command, "check", &CHECK_OPTIONS)
 }

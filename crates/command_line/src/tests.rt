@@ -121,6 +121,25 @@ fn a_map_and_moves_are_told(rt: HostRuntime) -> Result<(), Fail> {
 }
 
 #[test]
+fn a_run_may_print_its_image(rt: HostRuntime) -> Result<(), Fail> {
+    let Ok(Job::Run(job)) = read(rt.alloc(), "run --print image")? else {
+        panic!(rt; "no run");
+    };
+    assert!(rt; job.print == Print::Image);
+    Ok(())
+}
+
+#[test]
+fn a_saved_module_is_shown(rt: HostRuntime) -> Result<(), Fail> {
+    for line in ["show", "show --"] {
+        let Ok(Job::Show) = read(rt.alloc(), line)? else {
+            panic!(rt; "no show");
+        };
+    }
+    Ok(())
+}
+
+#[test]
 fn policies_and_homes_are_named(rt: HostRuntime) -> Result<(), Fail> {
     let Ok(Job::Run(job)) = read(
         rt.alloc(),
@@ -139,7 +158,7 @@ fn policies_and_homes_are_named(rt: HostRuntime) -> Result<(), Fail> {
     Ok(())
 }
 
-static REFUSED: [&str; 32] = [
+static REFUSED: [&str; 34] = [
     "",
     "walk",
     "ru",
@@ -172,6 +191,8 @@ static REFUSED: [&str; 32] = [
     "moves --lines 512",
     "moves --lines 24",
     "moves --from 16781313",
+    "show x",
+    "show --seed 0",
 ];
 
 #[test]

@@ -1,11 +1,12 @@
 -- A line of an array that was just powered up.
 use Rattle.std.proofs.Common.{ℕ, ◌<◌}
+use Rattle.pcm_cells.specs.declared.array.Wear.{Wear}
 use Rattle.pcm_cells.specs.Rows.{cell}
 use Rattle.pcm_cells.specs.Device.{ArrayState, IsFresh}
 use Rattle.ecp_line.specs.Layout.{Sound}
 use Rattle.ecp_line.proofs.Blank.{Sound-blank}
 
 -- is sound, so that a write of it can begin
-pub fresh_sound : {B M : ℕ} (E lines line : ℕ) (array : ArrayState B M) → IsFresh lines array → line < lines → Sound B M E (cell (array.line line).held) (array.line line).stuck
-fresh_sound {B} {M} E lines line array fresh exists =
+pub fresh_sound : {B M : ℕ} (E lines line : ℕ) (wear : Wear) (array : ArrayState B M) → IsFresh lines wear array → line < lines → Sound B M E (cell (array.line line).held) (array.line line).stuck
+fresh_sound {B} {M} E lines line wear array fresh exists =
     Sound-blank B M E (cell (array.line line).held) (array.line line).stuck ((fresh.blank line exists).held)

@@ -5,3 +5,4 @@ pub mod Settling
 pub mod Going
 pub mod Rounds
 pub mod Fresh
+pub mod Untouched

@@ -3,9 +3,10 @@ ghost use Rattle.std.specs.Prelude.{◌≡◌, ℕ, ◌+◌, ◌-◌, ◌*◌, �
 ghost use Rattle.pcm_cells.specs.Device.{LineState};
 ghost use Rattle.pcm_cells.specs.Rows.{cell};
 ghost use Rattle.program_verify.specs.Programming.{is_wrong, IsRound, IsTear, IsStatus, IsStuckWhereWrong};
-ghost use Rattle.ecp_line.specs.Layout.{IsLayout, Sound, full_cell};
+ghost use Rattle.ecp_line.specs.Layout.{IsLayout, Sound};
 ghost use Rattle.ecp_line.specs.Reading.{is_worn_line};
 ghost use Rattle.line_writer.specs.Writing.{IsWriting, HasRound, IsDone, Writes, IsFillable, IsInOrder, IsPointable, IsSwitchable, IsProgress, HasBegun, IsWorn, steps_left, most_steps, most_entries};
+ghost use Rattle.line_writer.specs.Untouched.{LeavesUnused};
 
 use ecp_line::{Ecp, lowest};
 use pcm_cells::{CellArray, Cells};
@@ -98,7 +99,7 @@ impl<const B: usize, const M: usize, const E: usize> LineWriter<B, M, E> {
         ensures progress { IsProgress self.new ((A.state array.new).line line) result }
         ensures sound { Sound B M E (cell ((A.state array.new).line line).held) ((A.state array.new).line line).stuck }
         ensures round { (after : Prog B M) × IsRound line tick self.old.prog after (A.state array.old) (A.state array.new) × (((A.state array.new).line line).held ≡ after.seen) }
-        ensures unused { (n : ℕ) → full_cell B E < n → is_wrong self.old.prog n ≡ false }
+        ensures unused { LeavesUnused E self.old.prog }
         ensures worn { IsWorn result → is_worn_line E ((A.state array.new).line line).held ((A.state array.new).line line).stuck ≡ true }
         ensures bytes { self.new.bytes ≡ self.old.bytes }
         ensures steps { steps_left self.new < steps_left self.old }
@@ -116,7 +117,7 @@ impl<const B: usize, const M: usize, const E: usize> LineWriter<B, M, E> {
         requires writes { Writes self ((A.state array.old).line line) }
         ensures tear { IsTear line self.entry.prog (A.state array.old) (A.state array.new) }
         ensures sound { Sound B M E (cell ((A.state array.new).line line).held) ((A.state array.new).line line).stuck }
-        ensures unused { (n : ℕ) → full_cell B E < n → is_wrong self.entry.prog n ≡ false }
+        ensures unused { LeavesUnused E self.entry.prog }
     {
         self.prog.tear(array, line, tick);
     }

@@ -1,5 +1,5 @@
 mod Chains
-mod Targets
+pub mod Targets
 mod Unworn
 mod Firsts
 mod Breaking

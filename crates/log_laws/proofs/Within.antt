@@ -32,7 +32,7 @@ use Rattle.place_laws.proofs.WornOut.{change-within}
 use Rattle.log_laws.specs.Laws.{WithinLaw}
 
 -- a line of a bank
-abbrev IsIn : BankShape → ℕ → Type 0
+abbrev pub IsIn : BankShape → ℕ → Type 0
 IsIn shape line = (shape.base ≤ line) × (line < shape.base + lines_in shape)
 
 some_product : (a b : ℕ) → 1 ≤ a → 1 ≤ b → 0 < a * b
@@ -54,7 +54,7 @@ below_gap-within n gap few = by (gap == 0)
 
 module _ {n : ℕ} (shape : BankShape) (r : 1 ≤ shape.regions) (l : 1 ≤ shape.lines) (most : ℕ) where
   -- every write is of one of the bank's lines
-  row_line-within : (h : List (Event n)) (row : ℕ) → MayAll shape most h → line_of_row row h < shape.regions * shape.lines
+  pub row_line-within : (h : List (Event n)) (row : ℕ) → MayAll shape most h → line_of_row row h < shape.regions * shape.lines
   row_line-within [] row may = some_product shape.regions shape.lines r l
   row_line-within (Write at line bytes given answer ∷ h) row may = by (at == row) (row_line-within h row may.1)
     where
@@ -68,7 +68,7 @@ module _ {n : ℕ} (shape : BankShape) (r : 1 ≤ shape.regions) (l : 1 ≤ shap
   row_line-within (Cut tearing ∷ h) row may = row_line-within h row may.1
 
   -- and so is the last store
-  last-within : (h : List (Event n)) → MayAll shape most h → first_or 0 (stores h) < shape.regions * shape.lines
+  pub last-within : (h : List (Event n)) → MayAll shape most h → first_or 0 (stores h) < shape.regions * shape.lines
   last-within [] may = some_product shape.regions shape.lines r l
   last-within (Write row line bytes given answer ∷ h) may = last-within h may.1
   last-within (Read row line answer ∷ h) may = last-within h may.1
@@ -93,10 +93,10 @@ module _ {n : ℕ} (shape : BankShape) (r : 1 ≤ shape.regions) (l : 1 ≤ shap
         (omega arith, omega (arith, line_by-within table slot below, retired-few shape most h may))
 
     -- a work writes a slot of the bank, and copies none or one
-    abbrev IsOwn : Work → Type 0
+    abbrev pub IsOwn : Work → Type 0
     IsOwn work = (slot_of_work shape h work < slots_of shape) × All (IsIn shape) (sources_of shape h work)
 
-    work-own : (next : ℕ) → RowsBelow h next → IsOwn (work_after shape h)
+    pub work-own : (next : ℕ) → RowsBelow h next → IsOwn (work_after shape h)
     work-own next b = by (has_exhausted h) (due_after shape h) (queue shape h) refl refl
       where
         first : 0 < slots_of shape

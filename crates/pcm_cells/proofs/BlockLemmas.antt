@@ -1,9 +1,11 @@
 -- Blocks of 64 cells as the bits of a number.
-use Rattle.std.proofs.Common.{◌≡◌, ℕ, ◌+◌, ◌-◌, ◌*◌, ◌/◌, ◌%◌, ◌^◌, ◌<◌, ◌≤◌, ◌&&◌, Bool, true, false, not, cond, eqb, List, length, get_or, set, refl, sym, ◌∙◌, ap, inl, inr, arith, true≢false, bit_and, bit_or, zero, suc, w64}
+use Rattle.std.proofs.Common.{◌≡◌, ◌≢◌, ℕ, ◌+◌, ◌-◌, ◌*◌, ◌/◌, ◌%◌, ◌^◌, ◌<◌, ◌≤◌, ◌&&◌, Bool, true, false, not, cond, eqb, eq-eqb, ne_eqb, List, length, map, get_or, set, refl, sym, ◌∙◌, ap, inl, inr, arith, true≢false, bit_and, bit_or, zero, suc, w64}
 use Rattle.std.proofs.lemmas.Bool.{cases_eq, cases_lt}
 use Rattle.std.proofs.lemmas.Nat.{shr-shr, shr_split, and_le_l, and_mask, pow_pos}
-use Rattle.std.proofs.lemmas.Nat.Bits.{bit_at-zero, bit_at_above, bit_at_cat_low, bit_at_cat_high, bit_at_clear_same}
+use Rattle.std.proofs.lemmas.Nat.Bits.{and_pow, bit_at-zero, bit_at-lt, bit_at_above, bit_at_cat_low, bit_at_cat_high, bit_at_clear_same}
+use Rattle.std.proofs.lemmas.List.FromFn.{get_or-map-range_with_len}
 use Rattle.std.specs.Int.{bit_at, bit_not}
+use Rattle.std.specs.List.{range_with_len}
 use Rattle.pcm_cells.specs.Rows.{bit_of}
 use Rattle.pcm_cells.specs.Planes.{bit_in}
 use Rattle.pcm_cells.proofs.ByteLemmas.{digit_and, digit_or, swapped, bit_of_byte, bit_of_written, bit_of_kept}
@@ -80,6 +82,38 @@ byte_of bits place i low =
     ∙ ap (λ x. eqb x 1)
     (sym (bit_at_cat_low (up / 2 ^ 8) 8 (up % 2 ^ 8) i low) ∙ ap (λ x. bit_at x i) (shr_split up 8)
     ∙ ap (λ x. x % 2) (shr-shr bits (8 * place) i))
+
+-- half of a number has its bits
+pub low_half : (bits i : ℕ) → i < 32 → bit_in (bit_and bits 4294967295) i ≡ bit_in bits i
+low_half bits i low =
+    ap (λ x. bit_in x i) (and_mask bits 32)
+    ∙ ap (λ x. eqb x 1) (sym (bit_at_cat_low (bits / 2 ^ 32) 32 (bits % 2 ^ 32) i low) ∙ ap (λ x. bit_at x i) (shr_split bits 32))
+
+pub high_half : (bits i : ℕ) → bit_in (bits / 2 ^ 32) i ≡ bit_in bits (32 + i)
+high_half bits i = ap (λ x. eqb (x % 2) 1) (shr-shr bits 32 i)
+
+-- the numbers with one digit 1, in order
+pub one_at : (place : ℕ) → place < 32 → get_or (map (λ k. 2 ^ k) (range_with_len 0 32)) place 0 ≡ 2 ^ place
+one_at place fits = get_or-map-range_with_len (λ k. 2 ^ k) 0 32 place place 0 fits (omega arith)
+
+-- a number has a digit where it meets that digit's own number
+pub met_some : (bits place one : ℕ) → one ≡ 2 ^ place → bit_and bits one ≢ 0 → bit_in bits place ≡ true
+met_some bits place one is some =
+    elim (cases_eq (bit_at bits place) 1) as (λ _. bit_in bits place ≡ true) [
+      | inl has ↦ eq-eqb _ 1 has
+      | inr other ↦
+          let none : bit_at bits place ≡ 0 = omega (arith, bit_at-lt bits place, other) in
+          absurd (some (ap (bit_and bits) is ∙ and_pow bits place ∙ ap (λ x. x * 2 ^ place) none ∙ omega arith))
+    ]
+
+pub met_none : (bits place one : ℕ) → one ≡ 2 ^ place → bit_and bits one ≡ 0 → bit_in bits place ≡ false
+met_none bits place one is none =
+    elim (cases_eq (bit_at bits place) 1) as (λ _. bit_in bits place ≡ false) [
+      | inl has ↦
+          let power : 1 * 2 ^ place ≡ 0 = ap (λ x. x * 2 ^ place) (sym has) ∙ sym (and_pow bits place) ∙ ap (bit_and bits) (sym is) ∙ none in
+          absurd (omega (arith, power, pow_pos place))
+      | inr other ↦ ne_eqb _ 1 other
+    ]
 
 -- one byte more is written
 pub write_more : (bytes : List ℕ) (block place bits byte i : ℕ) → 8 * block + place < length bytes → place < 8

@@ -4,7 +4,11 @@ pub mod RowLemmas
 pub mod FollowsLemmas
 pub mod LineLemmas
 pub mod PlaneLemmas
+pub mod CountLemmas
 pub mod ScriptedLemmas
 pub mod WordLemmas
 pub mod SeededLemmas
+pub mod PageLemmas
+pub mod PagingLemmas
+pub mod EnduranceLemmas
 pub mod LoggingLemmas

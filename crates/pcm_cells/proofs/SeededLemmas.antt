@@ -1,12 +1,16 @@
 -- A seeded array keeps what every array keeps.
-use Rattle.std.proofs.Common.{◌≡◌, ℕ, ◌+◌, ◌-◌, ◌%◌, ◌≤◌, ◌&&◌, ◌<◌, Bool, true, false, not, true≢false, cond, eqb, slice_index, refl, sym, subst, ◌∙◌, ap, inl, inr, arith, List, [], ◌∷◌, zero, suc, ◌*◌, ◌/◌, ◌≢◌, length, replicate, get_or, set, get_or-set_same, get_or-set_other}
-use Rattle.std.proofs.lemmas.Bool.{ltb-true, leb-true, lt-leb, cases_eq}
+use Rattle.std.proofs.Common.{◌≡◌, ℕ, ◌+◌, ◌-◌, ◌%◌, ◌≤◌, ◌&&◌, ◌<◌, Bool, true, false, not, true≢false, cond, eqb, slice_index, refl, sym, subst, ◌∙◌, ap, inl, inr, arith, List, zero, suc, ◌*◌, ◌/◌, ◌≢◌, length, replicate, get_or, set, get_or-set_same, get_or-set_other}
+use Rattle.std.proofs.lemmas.Bool.{ltb-true, leb-true, lt-leb, cases_eq, cases_lt}
+use Rattle.std.proofs.lemmas.List.{get_or_past}
+use Rattle.std.proofs.lemmas.List.FromFn.{get_or-map-range_with_len, length-map-range_with_len}
 use Rattle.std.specs.Prelude.{nat_lt, nat_le}
 use Rattle.pcm_cells.specs.declared.row.Cells.{Cells}
 use Rattle.pcm_cells.specs.declared.line.CellState.{CellState}
 use Rattle.pcm_cells.specs.declared.array.Wear.{Wear}
 use Rattle.pcm_cells.specs.declared.seeded.SeededCell.{SeededCell}
 use Rattle.pcm_cells.specs.declared.digits.Digits.{Digits}
+use Rattle.pcm_cells.specs.declared.counts.Counts.{Counts}
+use Rattle.pcm_cells.specs.Counts.{count}
 use Rattle.pcm_cells.specs.Rows.{cell}
 use Rattle.pcm_cells.specs.Device.{DeviceStep, TornStep, IsBlank, counted}
 use Rattle.pcm_cells.specs.Cell.{cell_state}
@@ -163,20 +167,26 @@ pub missing_few : {B M : ℕ} (misses limits : Digits B M) (n : ℕ) (live missi
 missing_few misses limits n live missing is h =
     omega (arith, ltb-true _ _ (and_second live _ (sym is ∙ h)), digit_few limits n)
 
-pub left_at : {B M : ℕ} (first : ℕ) (spent : Digits B M) (counts : List ℕ) (n : ℕ) → slice_index (left_of first spent counts) n ≡ slice_index counts n - digit spent (first + n)
-unfolding left_of
-left_at first spent [] zero = omega arith
-left_at first spent [] (suc n) = omega arith
-left_at first spent (count ∷ counts) zero = let here : first ≡ first + 0 = omega arith in ap (λ k. count - digit spent k) here
-left_at first spent (count ∷ counts) (suc n) =
-    let next : suc first + n ≡ first + suc n = omega arith in
-    left_at (suc first) spent counts n ∙ ap (λ k. slice_index counts n - digit spent k) next
-
 -- what is left of the count of a cell
-pub left_is : {B M : ℕ} (spent : Digits B M) (counts : List ℕ) (n : ℕ) → slice_index (left_of 0 spent counts) n ≡ slice_index counts n - digit spent n
-left_is spent counts n =
-    let from : 0 + n ≡ n = omega arith in
-    left_at 0 spent counts n ∙ ap (λ k. slice_index counts n - digit spent k) from
+pub left_is : {B M : ℕ} (spent : Digits B M) (counts : Counts B M) (n : ℕ) → n < 8 * (B + M)
+    → slice_index (left_of spent counts) n ≡ count counts n - digit spent n
+unfolding left_of
+left_is {B} {M} spent counts n h = get_or-map-range_with_len (λ k. count counts k - digit spent k) 0 (8 * (B + M)) n n 0 h (omega arith)
+
+pub left_size : {B M : ℕ} (spent : Digits B M) (counts : Counts B M) → length (left_of spent counts) ≡ 8 * (B + M)
+unfolding left_of
+left_size {B} {M} spent counts = length-map-range_with_len (λ k. count counts k - digit spent k) 0 (8 * (B + M))
+
+-- it stays where the count and the changes since stay
+pub left_kept : {B M : ℕ} (spent spent_new : Digits B M) (counts counts_new : Counts B M) (n : ℕ) → count counts_new n ≡ count counts n
+    → digit spent_new n ≡ digit spent n → slice_index (left_of spent_new counts_new) n ≡ slice_index (left_of spent counts) n
+left_kept {B} {M} spent spent_new counts counts_new n same spent_same =
+    elim (cases_lt n (8 * (B + M))) as (λ _. slice_index (left_of spent_new counts_new) n ≡ slice_index (left_of spent counts) n) [
+      | inl low ↦ left_is spent_new counts_new n low ∙ rw (same, spent_same) refl ∙ sym (left_is spent counts n low)
+      | inr high ↦
+          get_or_past (left_of spent_new counts_new) n 0 (omega (arith, left_size spent_new counts_new))
+          ∙ sym (get_or_past (left_of spent counts) n 0 (omega (arith, left_size spent counts)))
+    ]
 
 many_left : (x : ℕ) → 2 ≤ x → nat_le x 1 ≡ false
 many_left x h = lt-leb x 1 (omega (arith, h))
@@ -193,6 +203,15 @@ pub calm_here : (changing : Bool) (count spent new : ℕ) → new ≡ cond chang
 calm_here true count spent new is = omega (arith, is)
 calm_here false count spent new is = omega (arith, is)
 
+pub less_none : (x : ℕ) → x - 0 ≡ x
+less_none x = omega arith
+
+-- so it is too where the count was brought up to date first
+pub calm_level : (changing : Bool) (count spent levelled none new : ℕ) → levelled ≡ count - spent → none ≡ 0
+    → new ≡ cond changing (none + 1) none → levelled - new ≡ cond changing (count - spent - 1) (count - spent)
+calm_level true count spent levelled none new before clear is = omega (arith, before, clear, is)
+calm_level false count spent levelled none new before clear is = omega (arith, before, clear, is)
+
 -- what is left after the counts were brought up to date, and one taken of those that change
 pub level_here : (changing : Bool) (count levelled final spent new : ℕ) → levelled ≡ count - spent
     → final ≡ cond changing (levelled - 1) levelled → new ≡ 0 → final - new ≡ cond changing (count - spent - 1) (count - spent)
@@ -200,17 +219,17 @@ level_here true count levelled final spent new before after none = omega (arith,
 level_here false count levelled final spent new before after none = omega (arith, before, after, none)
 
 -- a block's word of calm is right where its counts are looked at again, and the others stay
-pub calm_kept : (calm : List Bool) (stuck : ℕ → Bool) (old new : List ℕ) (block : ℕ) (many : Bool) → block < length calm
-    → ((n : ℕ) → get_or calm (n / 64) false ≡ true → stuck n ≡ false → 8 ≤ slice_index old n)
-    → (many ≡ true → (i : ℕ) → i < 64 → stuck (64 * block + i) ≡ false → 8 ≤ slice_index new (64 * block + i))
-    → ((n : ℕ) → n / 64 ≢ block → slice_index new n ≡ slice_index old n)
-    → (n : ℕ) → get_or (set calm block many) (n / 64) false ≡ true → stuck n ≡ false → 8 ≤ slice_index new n
+pub calm_kept : (calm : List Bool) (stuck : ℕ → Bool) (old new : ℕ → ℕ) (block : ℕ) (many : Bool) → block < length calm
+    → ((n : ℕ) → get_or calm (n / 64) false ≡ true → stuck n ≡ false → 8 ≤ old n)
+    → (many ≡ true → (i : ℕ) → i < 64 → stuck (64 * block + i) ≡ false → 8 ≤ new (64 * block + i))
+    → ((n : ℕ) → n / 64 ≢ block → new n ≡ old n)
+    → (n : ℕ) → get_or (set calm block many) (n / 64) false ≡ true → stuck n ≡ false → 8 ≤ new n
 calm_kept calm stuck old new block many within before here others n is live =
-    elim (cases_eq (n / 64) block) as (λ _. 8 ≤ slice_index new n) [
+    elim (cases_eq (n / 64) block) as (λ _. 8 ≤ new n) [
       | inl same ↦
           let number : 64 * block + (n - 64 * block) ≡ n = omega arith in
           let yes : many ≡ true = sym (get_or-set_same calm block many false within) ∙ ap (λ k. get_or (set calm block many) k false) (sym same) ∙ is in
-          subst (λ k. 8 ≤ slice_index new k) number (here yes (n - 64 * block) (omega arith) (ap stuck number ∙ live))
+          subst (λ k. 8 ≤ new k) number (here yes (n - 64 * block) (omega arith) (ap stuck number ∙ live))
       | inr apart ↦
           let kept = get_or-set_other calm block (n / 64) many false (λ e. apart (omega arith)) in
           rw (others n apart) (before n (sym kept ∙ is) live)

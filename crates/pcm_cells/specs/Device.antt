@@ -18,12 +18,14 @@ pub record LineState (B M : ℕ) : Type 0 where
   pub misses : ℕ → ℕ
   pub pulses : ℕ
 
--- a whole array: its lines, how many there are, how often it was torn, and the log of its senses, where it is told
+-- a whole array: its lines, how many there are, how often it was torn, the log of its senses, where it is told, and the wear that it was
+-- last powered up with, of which there is none before
 pub record ArrayState (B M : ℕ) : Type 0 where
   pub line : ℕ → LineState B M
   pub lines : ℕ
   pub tears : ℕ
   pub log : Option (List (Sense B M))
+  pub wear : Option Wear
 
 -- what a sense of a line shows, as a log keeps it
 abbrev pub sense_of : {B M : ℕ} → ℕ → ℕ → LineState B M → Sense B M
@@ -64,11 +66,12 @@ pub record TornStep {B M : ℕ} (mask : Cells B M) (old new : LineState B M) : T
   pub live : (n : ℕ) → cell mask n ≡ true → old.stuck n ≡ false → CellTorn new n
   pub pulses : new.pulses ≡ counted old.pulses
 
--- only the line with this number may have changed; the array has as many lines, and its log stands
+-- only the line with this number may have changed; the array has as many lines, and its log and its wear stand
 pub record ChangesOnly {B M : ℕ} (number : ℕ) (old new : ArrayState B M) : Type 0 where
   pub others : (n : ℕ) → n ≢ number → new.line n ≡ old.line n
   pub lines : new.lines ≡ old.lines
   pub log : new.log ≡ old.log
+  pub wear : new.wear ≡ old.wear
 
 -- a sense changes no line, and a log that is told was told before and has gained this sense
 pub record Senses {B M : ℕ} (sensed : Sense B M) (old new : ArrayState B M) : Type 0 where
@@ -76,6 +79,7 @@ pub record Senses {B M : ℕ} (sensed : Sense B M) (old new : ArrayState B M) : 
   pub lines : new.lines ≡ old.lines
   pub tears : new.tears ≡ old.tears
   pub log : (after : List (Sense B M)) → new.log ≡ Some after → (before : List (Sense B M)) × (old.log ≡ Some before) × (after ≡ before ++ sensed ∷ [])
+  pub wear : new.wear ≡ old.wear
 
 -- a line with every cell 0, none stuck, and no miss and no pulse
 pub record IsBlank {B M : ℕ} (line : LineState B M) : Type 0 where
@@ -84,9 +88,10 @@ pub record IsBlank {B M : ℕ} (line : LineState B M) : Type 0 where
   pub misses : (n : ℕ) → line.misses n ≡ 0
   pub pulses : line.pulses ≡ 0
 
--- an array that was just powered up
-pub record IsFresh {B M : ℕ} (lines : ℕ) (array : ArrayState B M) : Type 0 where
+-- an array that was just powered up with this wear
+pub record IsFresh {B M : ℕ} (lines : ℕ) (given : Wear) (array : ArrayState B M) : Type 0 where
   pub count : array.lines ≡ lines
   pub blank : (l : ℕ) → l < lines → IsBlank (array.line l)
   pub tears : array.tears ≡ 0
   pub log : (senses : List (Sense B M)) → array.log ≡ Some senses → senses ≡ []
+  pub wear : array.wear ≡ Some given

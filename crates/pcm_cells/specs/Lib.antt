@@ -9,4 +9,8 @@ pub mod Logging
 pub mod Logged
 pub mod Words
 pub mod Planes
+pub mod Counts
 pub mod Seeded
+pub mod Pages
+pub mod Paging
+pub mod Endurance

@@ -3,6 +3,7 @@ use Rattle.std.specs.Prelude.{ℕ, ◌≡◌, ◌≢◌, ◌+◌, ◌-◌, ◌*�
 use Rattle.std.specs.declared.alloc.Global.{Global}
 use Rattle.pcm_cells.specs.declared.row.Cells.{Cells}
 use Rattle.pcm_cells.specs.declared.line.CellState.{CellState}
+use Rattle.pcm_cells.specs.declared.array.Wear.{Wear}
 use Rattle.pcm_cells.specs.declared.script.Script.{Script}
 use Rattle.pcm_cells.specs.declared.script.Act.{Act}
 use Rattle.pcm_cells.specs.declared.script.Act.TheVariants.{Miss, Stick}
@@ -58,11 +59,12 @@ abbrev pub scripted_lines : {B M : ℕ} → Option (Vec (ScriptedLine B M) Globa
 scripted_lines None = []
 scripted_lines (Some lines) = lines.items
 
--- the array: its lines, its script, and how often it was torn
+-- the array: its lines, its script, how often it was torn, and the wear that it was last powered up with
 pub record ScriptedArray (B M : ℕ) : Type 0 where
   pub lines : List (ScriptedLine B M)
   pub script : List Script
   pub tears : ℕ
+  pub wear : Option Wear
 
 -- the line with this number
 abbrev pub scripted_line : {B M : ℕ} → ScriptedArray B M → ℕ → ScriptedLine B M
@@ -75,6 +77,7 @@ scripted_state array = record {
   lines = length array.lines;
   tears = array.tears;
   log = None;
+  wear = array.wear;
 }
 
 -- a pulse or a tear of the line: each masked cell takes its next turn, the pulse is counted, and all else stays

@@ -1,13 +1,15 @@
 -- The array whose cells wear out as a seed says.
-use Rattle.std.specs.Prelude.{ℕ, ◌≡◌, ◌≢◌, ◌+◌, ◌≤◌, ◌-◌, ◌*◌, ◌/◌, ◌%◌, ◌^◌, ◌<◌, min, Bool, true, false, ◌&&◌, nat_eq, nat_lt, nat_le, bit_xor, if◌then◌else◌, List, [], ◌∷◌, suc, length, slice_index, slice_index_or, Option, None, Some, Vec}
+use Rattle.std.specs.Prelude.{ℕ, ◌≡◌, ◌≢◌, ◌+◌, ◌≤◌, ◌-◌, ◌*◌, ◌/◌, ◌%◌, ◌^◌, ◌<◌, min, Bool, true, false, ◌&&◌, nat_eq, nat_lt, nat_le, bit_xor, if◌then◌else◌, List, [], length, map, slice_index, slice_index_or, Option, None}
 use Rattle.std.specs.Int.{bit_at}
-use Rattle.std.specs.declared.alloc.Global.{Global}
+use Rattle.std.specs.List.{range_with_len}
 use Rattle.pcm_cells.specs.declared.row.Cells.{Cells}
 use Rattle.pcm_cells.specs.declared.array.Wear.{Wear}
 use Rattle.pcm_cells.specs.declared.seeded.SeededCell.{SeededCell}
 use Rattle.pcm_cells.specs.Rows.{cell, zero_row}
 use Rattle.pcm_cells.specs.Device.{ArrayState, counted}
 use Rattle.pcm_cells.specs.declared.digits.Digits.{Digits}
+use Rattle.pcm_cells.specs.declared.counts.Counts.{Counts}
+use Rattle.pcm_cells.specs.Counts.{count}
 use Rattle.pcm_cells.specs.Cell.{cell_state}
 use Rattle.pcm_cells.specs.Planes.{PlaneLine, plane_state, blank_planes, digit, zero_digits}
 use Rattle.pcm_cells.specs.Follows.{Follows}
@@ -59,14 +61,13 @@ pub record LifeLine (B M : ℕ) : Type 0 where
   pub limits : Digits B M
   pub ends : Cells B M
 
--- what is left of each count from cell `first` on, where a cell changed so often since its count was brought up to date
-unfoldable pub left_of : {B M : ℕ} → ℕ → Digits B M → List ℕ → List ℕ
-left_of first spent [] = []
-left_of first spent (count ∷ counts) = (count - digit spent first) ∷ left_of (suc first) spent counts
+-- what is left of each cell's count, where it changed so often since the count was brought up to date
+unfoldable pub left_of : {B M : ℕ} → Digits B M → Counts B M → List ℕ
+left_of {B} {M} spent counts = map (λ n. count counts n - digit spent n) (range_with_len 0 (8 * (B + M)))
 
 -- each live cell of a calm block has a count of at least eight
-abbrev pub IsCalm : {B M : ℕ} → List Bool → Cells B M → List ℕ → Type 0
-IsCalm calm stuck counts = (n : ℕ) → slice_index_or calm (n / 64) false ≡ true → cell stuck n ≡ false → 8 ≤ slice_index counts n
+abbrev pub IsCalm : {B M : ℕ} → List Bool → Cells B M → (ℕ → ℕ) → Type 0
+IsCalm calm stuck counts = (n : ℕ) → slice_index_or calm (n / 64) false ≡ true → cell stuck n ≡ false → 8 ≤ counts n
 
 abbrev pub seeded_cell : {B M : ℕ} → LifeLine B M → ℕ → SeededCell
 seeded_cell row number = record {
@@ -85,15 +86,11 @@ pub record IsDrawn {B M : ℕ} (wear : Wear) (number : ℕ) (row : LifeLine B M)
   pub line : row.line ≡ blank_planes B M
   pub cells : (n : ℕ) → n < 8 * (B + M) → seeded_cell row n ≡ fresh_cell wear (word_at n (xoshiro_of (bit_xor wear.seed number)))
 
--- the lines, of which there are none before the array is powered up
-abbrev pub seeded_lines : {B M : ℕ} → Option (Vec (LifeLine B M) Global) → List (LifeLine B M)
-seeded_lines None = []
-seeded_lines (Some lines) = lines.items
-
--- the array: its lines, and how often it was torn
+-- the array: its lines, how often it was torn, and the wear that it was last powered up with
 pub record SeededArray (B M : ℕ) : Type 0 where
   pub lines : List (LifeLine B M)
   pub tears : ℕ
+  pub wear : Option Wear
 
 -- the line with this number
 abbrev pub seeded_line : {B M : ℕ} → SeededArray B M → ℕ → LifeLine B M
@@ -106,6 +103,7 @@ seeded_state array = record {
   lines = length array.lines;
   tears = array.tears;
   log = None;
+  wear = array.wear;
 }
 
 -- a pulse or a tear of the line: each masked cell wears as its life says, the pulse is counted, and all else stays

@@ -38,11 +38,11 @@ pub trait CellArray<const B: usize, const M: usize> {
 
     ghost state: { Self → ArrayState B M };
 
-    /// Makes `lines` new lines in place of those that were there.
+    /// Makes `lines` new lines in place of those that were there, which wear out so. `state` tells the wear until the next power-up.
     fn power_up(&mut self, alloc: Global, lines: u32, wear: Wear) -> Result<(), AllocError>
         requires wear { IsWear wear }
         requires shape { IsShape B M }
-        ensures ok { OnOk result (IsFresh lines (state self.new)) }
+        ensures ok { OnOk result (IsFresh lines wear (state self.new)) }
         ensures err { OnErr result ((state self.new).lines ≡ 0) };
 
     /// The number of lines.

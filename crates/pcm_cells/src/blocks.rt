@@ -71,18 +71,16 @@ fn cleared(bits: u64, place: u32) -> u64
     bits & !(1 << place)
 }
 
-// Takes one from each count of a block that is in the mask, and answers those of them that were at most one.
-pub(crate) fn spend(left: &mut [u32], block: usize, mask: u64) -> u64
-    requires { 64 * block + 64 ≤ length left.old }
-    ensures last { (i : ℕ) → i < 64 → bit_in result i ≡ bit_in mask i && nat_le (slice_index left.old (64 * block + i)) 1 }
-    ensures here { (i : ℕ) → i < 64 → slice_index left.new (64 * block + i) ≡ (if bit_in mask i then slice_index left.old (64 * block + i) - 1 else slice_index left.old (64 * block + i)) }
-    ensures others { (n : ℕ) → n / 64 ≢ block → slice_index left.new n ≡ slice_index left.old n }
+// Takes one from each count that is in the mask, and answers those of them that were at most one.
+pub(crate) fn spend(left: &mut [u32; 64], mask: u64) -> u64
+    ensures last { (i : ℕ) → i < 64 → bit_in result i ≡ bit_in mask i && nat_le (slice_index left.old i) 1 }
+    ensures here { (i : ℕ) → i < 64 → slice_index left.new i ≡ (if bit_in mask i then slice_index left.old i - 1 else slice_index left.old i) }
 {
     let mut last = 0;
     let mut rest = mask;
     while rest != 0 {
         let place = rest.trailing_zeros();
-        let count = &mut left[64 * block + place as usize];
+        let count = &mut left[place as usize];
         last = joined(last, place, *count <= 1);
         *count = count.saturating_sub(1);
         rest = cleared(rest, place);
@@ -90,37 +88,86 @@ pub(crate) fn spend(left: &mut [u32], block: usize, mask: u64) -> u64
     last
 }
 
+// The 32 lowest bits of a number, and the highest.
+fn halves(bits: u64) -> (u32, u32)
+    ensures low { (i : ℕ) → i < 32 → bit_in result.0 i ≡ bit_in bits i }
+    ensures high { (i : ℕ) → i < 32 → bit_in result.1 i ≡ bit_in bits (32 + i) }
+{
+    ((bits & 0xffff_ffff) as u32, (bits >> 32) as u32)
+}
+
+// At each place the number whose only digit 1 is there. By a table, since a shift by the place has no lanes.
+const ONES: [u32; 32] = [
+    1, 2, 4, 8, 0x10, 0x20, 0x40, 0x80, 0x100, 0x200, 0x400, 0x800, 0x1000, 0x2000, 0x4000, 0x8000,
+    0x10000, 0x20000, 0x40000, 0x80000, 0x100000, 0x200000, 0x400000, 0x800000, 0x1000000,
+    0x2000000, 0x4000000, 0x8000000, 0x10000000, 0x20000000, 0x40000000, 0x80000000,
+];
+
 // The digit that a number has at a place.
-fn digit_at(bits: u64, place: u32) -> u32
-    requires { place < 64 }
+fn digit_at(bits: u32, place: u32) -> u32
+    requires { place < 32 }
     ensures is { result ≡ (if bit_in bits place then 1 else 0) }
     ensures few { result ≤ 1 }
 {
-    if bits >> place & 1 == 1 { 1 } else { 0 }
+    if bits & ONES[place as usize] != 0 {
+        1
+    } else {
+        0
+    }
 }
 
-// Takes from each count of a block the number whose binary digits these are, the lowest first.
-pub(crate) fn level(left: &mut [u32], block: usize, low: u64, middle: u64, high: u64)
-    requires { 64 * block + 64 ≤ length left.old }
-    ensures here { (i : ℕ) → i < 64 → slice_index left.new (64 * block + i) ≡ slice_index left.old (64 * block + i) - number_of (bit_in low i) (bit_in middle i) (bit_in high i) }
-    ensures others { (n : ℕ) → n / 64 ≢ block → slice_index left.new n ≡ slice_index left.old n }
+// Takes from each of 32 counts the number whose binary digits these are, the lowest first.
+fn level_half(left: &mut [u32; 64], first: usize, low: u32, middle: u32, high: u32)
+    requires { first ≤ 32 }
+    ensures here { (i : ℕ) → i < 32 → slice_index left.new (first + i) ≡ slice_index left.old (first + i) - number_of (bit_in low i) (bit_in middle i) (bit_in high i) }
+    ensures before { (n : ℕ) → n < first → slice_index left.new n ≡ slice_index left.old n }
+    ensures after { (n : ℕ) → first + 32 ≤ n → slice_index left.new n ≡ slice_index left.old n }
 {
-    for place in 0..64 {
+    for place in 0..32 {
         let less = digit_at(low, place) + 2 * digit_at(middle, place) + 4 * digit_at(high, place);
-        let count = &mut left[64 * block + place as usize];
+        let count = &mut left[first + place as usize];
         *count = count.saturating_sub(less);
     }
 }
 
-// Whether each count of a block is at least eight that isn't in the mask.
-pub(crate) fn are_many(left: &[u32], block: usize, mask: u64) -> bool
-    requires { 64 * block + 64 ≤ length left.now }
-    ensures { IsTrue result → (i : ℕ) → i < 64 → bit_in mask i ≡ false → 8 ≤ slice_index left.now (64 * block + i) }
+// Takes from each count the number whose binary digits these are, the lowest first.
+pub(crate) fn level(left: &mut [u32; 64], low: u64, middle: u64, high: u64)
+    ensures { (i : ℕ) → i < 64 → slice_index left.new i ≡ slice_index left.old i - number_of (bit_in low i) (bit_in middle i) (bit_in high i) }
 {
+    let (low, middle, high) = (halves(low), halves(middle), halves(high));
+    level_half(left, 0, low.0, middle.0, high.0);
+    level_half(left, 32, low.1, middle.1, high.1);
+}
+
+// Whether the number has the digit 0 at a place.
+fn lacks(bits: u64, place: u32) -> bool
+    requires { place < 64 }
+    ensures { result ≡ not (bit_in bits place) }
+{
+    bits >> place & 1 == 0
+}
+
+// Whether each count is at least eight.
+fn are_all_many(left: &[u32; 64]) -> bool
+    ensures { IsTrue result → (i : ℕ) → i < 64 → 8 ≤ slice_index left.now i }
+{
+    let mut few = false;
     for place in 0..64 {
-        if left[64 * block + place as usize] < 8 && digit_at(mask, place) == 0 {
-            return false;
-        }
+        few |= left[place] < 8;
     }
-    true
+    !few
+}
+
+// Whether each count is at least eight that isn't in the mask.
+pub(crate) fn are_many(left: &[u32; 64], mask: u64) -> bool
+    ensures { IsTrue result → (i : ℕ) → i < 64 → bit_in mask i ≡ false → 8 ≤ slice_index left.now i }
+{
+    if are_all_many(left) {
+        return true;
+    }
+    let mut few = false;
+    for place in 0..64 {
+        few |= (left[place as usize] < 8) & lacks(mask, place);
+    }
+    !few
 }

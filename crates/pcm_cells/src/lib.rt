@@ -5,9 +5,11 @@
 mod array;
 mod blocks;
 mod bytes;
+mod counts;
 mod digits;
 mod line;
 mod logged;
+mod pages;
 mod row;
 mod script;
 mod seeded;

@@ -82,9 +82,12 @@ impl<A: CellArray<B, M> + Drop, const B: usize, const M: usize> CellArray<B, M>
     fn power_up(&mut self, alloc: Global, lines: u32, wear: Wear) -> Result<(), AllocError>
         requires wear { IsWear wear }
         requires shape { IsShape B M }
-        ensures ok { OnOk result (IsFresh lines (logged_state (A.state self.new.inner) self.new)) }
+        ensures ok { OnOk result (IsFresh lines wear (logged_state (A.state self.new.inner) self.new)) }
         ensures err { OnErr result ((A.state self.new.inner).lines ≡ 0) }
         ensures log { told_log self.new ≡ Some [] }
+
+        // the inner array is powered up with the same lines and wear
+        ensures passed { OnOk result (IsFresh lines wear (A.state self.new.inner)) }
         ensures cap { self.new.cap ≡ self.old.cap }
     {
         self.log.clear();
@@ -102,6 +105,9 @@ impl<A: CellArray<B, M> + Drop, const B: usize, const M: usize> CellArray<B, M>
         ensures cells { result ≡ ((A.state self.old.inner).line line).held }
         ensures step { Senses (sense_of line tick ((A.state self.old.inner).line line)) (logged_state (A.state self.old.inner) self.old) (logged_state (A.state self.new.inner) self.new) }
         ensures log { told_log self.new ≡ logged self.old.cap (sense_of line tick ((A.state self.old.inner).line line)) (told_log self.old) }
+
+        // the inner array senses the same line at the same tick
+        ensures passed { Senses (sense_of line tick ((A.state self.old.inner).line line)) (A.state self.old.inner) (A.state self.new.inner) }
         ensures cap { self.new.cap ≡ self.old.cap }
     {
         let sense = Sense {
@@ -121,6 +127,7 @@ impl<A: CellArray<B, M> + Drop, const B: usize, const M: usize> CellArray<B, M>
         ensures step { DeviceStep mask.now want.now ((A.state self.old.inner).line line) ((A.state self.new.inner).line line) }
         ensures others { ChangesOnly line (logged_state (A.state self.old.inner) self.old) (logged_state (A.state self.new.inner) self.new) }
         ensures tears { (A.state self.new.inner).tears ≡ (A.state self.old.inner).tears }
+        ensures passed { ChangesOnly line (A.state self.old.inner) (A.state self.new.inner) }
         ensures cap { self.new.cap ≡ self.old.cap }
     {
         self.inner.pulse(line, mask, want, tick);
@@ -133,6 +140,7 @@ impl<A: CellArray<B, M> + Drop, const B: usize, const M: usize> CellArray<B, M>
         ensures step { TornStep mask.now ((A.state self.old.inner).line line) ((A.state self.new.inner).line line) }
         ensures others { ChangesOnly line (logged_state (A.state self.old.inner) self.old) (logged_state (A.state self.new.inner) self.new) }
         ensures tears { (A.state self.new.inner).tears ≡ counted (A.state self.old.inner).tears }
+        ensures passed { ChangesOnly line (A.state self.old.inner) (A.state self.new.inner) }
         ensures cap { self.new.cap ≡ self.old.cap }
     {
         self.inner.tear(line, mask, want, tick);

@@ -185,13 +185,14 @@ fn blank_lines<const B: usize, const M: usize>(
     Ok(rows)
 }
 
-/// An array whose cells miss and stick exactly as its script says. It ignores `Wear` and tells no log.
+/// An array whose cells miss and stick exactly as its script says. It only keeps its `Wear`, and tells no log.
 /// Contracts see it as a `ScriptedArray`.
 #[derive(Drop)]
 pub struct ScriptArray<const B: usize, const M: usize> {
     lines: Option<Vec<ScriptLine<B, M>>>,
     script: Vec<Script>,
     tears: u64,
+    wear: Option<Wear>,
 }
 
 impl<const B: usize, const M: usize> Model for ScriptArray<B, M> {
@@ -201,7 +202,7 @@ impl<const B: usize, const M: usize> Model for ScriptArray<B, M> {
 
     ghost Value = { ScriptedArray B M };
 
-    ghost view = { λ a. record { lines = scripted_lines a.lines; script = a.script.items; tears = a.tears } };
+    ghost view = { λ a. record { lines = scripted_lines a.lines; script = a.script.items; tears = a.tears; wear = a.wear } };
 
     ghost invariant = { λ a. (length (scripted_lines a.lines) < 2 ^ 32) × IsShape B M };
 }
@@ -212,22 +213,24 @@ impl<const B: usize, const M: usize> ScriptArray<B, M> {
     /// An array without lines.
     pub fn new(script: Vec<Script>) -> ScriptArray<B, M>
         requires { IsShape B M }
-        ensures { result ≡ record { lines = []; script = script.items; tears = 0 } }
+        ensures { result ≡ record { lines = []; script = script.items; tears = 0; wear = None } }
     {
         ScriptArray {
             lines: None,
             script,
             tears: 0,
+            wear: None,
         }
     }
 
-    fn renew(&mut self, alloc: Global, lines: u32) -> Result<(), AllocError>
+    fn renew(&mut self, alloc: Global, lines: u32, wear: Wear) -> Result<(), AllocError>
         requires { IsShape B M }
-        ensures ok { OnOk result (self.new ≡ record self.old { lines = replicate lines (blank_scripted B M); tears = 0 }) }
-        ensures err { OnErr result (self.new ≡ record self.old { lines = []; tears = 0 }) }
+        ensures ok { OnOk result (self.new ≡ record self.old { lines = replicate lines (blank_scripted B M); tears = 0; wear = Some wear }) }
+        ensures err { OnErr result (self.new ≡ record self.old { lines = []; tears = 0; wear = Some wear }) }
     {
         self.lines = None;
         self.tears = 0;
+        self.wear = Some(wear);
         self.lines = Some(blank_lines(alloc, lines)?);
         Ok(())
     }
@@ -239,6 +242,7 @@ impl<const B: usize, const M: usize> ScriptArray<B, M> {
         ensures turn { Turns line tearing mask.now want.now self.old self.new }
         ensures few { (n : ℕ) → slice_index (scripted_line self.new line).line.misses n ≤ 7 }
         ensures tears { self.new.tears ≡ self.old.tears }
+        ensures wear { self.new.wear ≡ self.old.wear }
     {
         let Some(lines) = &mut self.lines else {
             unreachable!()
@@ -256,13 +260,12 @@ impl<const B: usize, const M: usize> CellArray<B, M> for ScriptArray<B, M> {
 
     fn power_up(&mut self, alloc: Global, lines: u32, wear: Wear) -> Result<(), AllocError>
         requires { IsShape B M }
-        ensures ok { OnOk result (IsFresh lines (scripted_state self.new)) }
+        ensures ok { OnOk result (IsFresh lines wear (scripted_state self.new)) }
         ensures err { OnErr result (length self.new.lines ≡ 0) }
         ensures lines { OnOk result (self.new.lines ≡ replicate lines (blank_scripted B M)) }
         ensures script { self.new.script ≡ self.old.script }
     {
-        let _ = wear;
-        self.renew(alloc, lines)
+        self.renew(alloc, lines, wear)
     }
 
     fn lines(&self) -> u32 {

@@ -2,7 +2,9 @@
 ghost use Rattle.std.specs.Prelude.{◌≡◌, ◌≢◌, ℕ, ◌+◌, ◌-◌, ◌*◌, ◌%◌, ◌<◌, ◌≤◌, true, false, length, IfOk, OnOk, OnErr, slice_index, bit_xor};
 
 use crate::blocks::{are_many, chosen, level, reached, spend, without};
+use crate::counts::Counts;
 use crate::digits::Digits;
+use crate::pages::Pages;
 use crate::{CellArray, CellState, Cells, Wear};
 use rand_core::{Rng, SeedableRng};
 use rand_xoshiro::Xoshiro256PlusPlus;
@@ -41,12 +43,12 @@ fn miss_limit(wear: Wear, word: u64) -> u8
 
 /// The cells of one line, and the life of each.
 #[derive(Drop)]
-struct SeededLine<const B: usize, const M: usize> {
+pub(crate) struct SeededLine<const B: usize, const M: usize> {
     held: Cells<B, M>,
     stuck: Cells<B, M>,
     misses: Digits<B, M>,
     pulses: u64,
-    left: Vec<u32>,
+    left: Counts<B, M>,
     limits: Digits<B, M>,
     ends: Cells<B, M>,
     // How often each cell changed since its count in `left` was last brought up to date.
@@ -56,7 +58,7 @@ struct SeededLine<const B: usize, const M: usize> {
 }
 
 impl<const B: usize, const M: usize> Model for SeededLine<B, M> {
-    ghost use Rattle.std.specs.Prelude.{◌≡◌, ℕ, ◌+◌, ◌*◌, ◌≤◌, slice_index, vec_len};
+    ghost use Rattle.pcm_cells.specs.Counts.{count};
     ghost use Rattle.pcm_cells.specs.Seeded.{LifeLine, left_of, IsCalm};
     ghost use Rattle.pcm_cells.specs.Shape.{IsShape};
 
@@ -64,40 +66,32 @@ impl<const B: usize, const M: usize> Model for SeededLine<B, M> {
 
     ghost view = { λ l. record {
       line = record { held = l.held; stuck = l.stuck; misses = l.misses; pulses = l.pulses };
-      left = left_of 0 l.spent l.left.items;
+      left = left_of l.spent l.left;
       limits = l.limits;
       ends = l.ends;
     } };
 
-    ghost invariant = { λ l. (vec_len l.left ≡ 8 * (B + M)) × IsShape B M × IsCalm l.calm l.stuck l.left.items };
+    ghost invariant = { λ l. IsShape B M × IsCalm l.calm l.stuck (count l.left) };
 }
 
 ghost use Rattle.pcm_cells.specs.Rows.{cell};
 ghost use Rattle.pcm_cells.specs.Shape.{IsShape, IsWhole};
 ghost use Rattle.pcm_cells.specs.Device.{counted};
 ghost use Rattle.pcm_cells.specs.Follows.{Follows, FollowsIn};
-ghost use Rattle.pcm_cells.specs.Seeded.{seeded_cell, IsDrawn};
-ghost use Rattle.pcm_cells.specs.Planes.{bit_in};
+ghost use Rattle.pcm_cells.specs.Seeded.{seeded_cell, left_of, IsDrawn};
+ghost use Rattle.pcm_cells.specs.Pages.{drawn_line, HaveSameLife};
+ghost use Rattle.pcm_cells.specs.Planes.{bit_in, digit, blank_planes, zero_digits};
 ghost use Rattle.std.specs.Prelude.{◌/◌, ◌&&◌, nat_le, if◌then◌else◌};
 
 impl<const B: usize, const M: usize> SeededLine<B, M> {
-    // Word n of the generator belongs to cell n.
-    fn drawn(alloc: Global, wear: Wear, number: u32) -> Result<SeededLine<B, M>, AllocError>
-        requires wear { IsWear wear }
-        requires shape { IsShape B M }
-        ensures { IfOk result (λ row. IsDrawn wear number row) }
+    // A line with these lives that was never pulsed.
+    fn new(left: Counts<B, M>, limits: Digits<B, M>, ends: Cells<B, M>) -> SeededLine<B, M>
+        requires { IsShape B M }
+        ensures is { result ≡ record { line = blank_planes B M; left = left_of (zero_digits B M) left.entry; limits = limits.entry; ends = ends.entry } }
+        ensures no_limits { (n : ℕ) → 8 * (B + M) ≤ n → digit limits.entry n ≡ 0 }
+        ensures no_ends { (n : ℕ) → 8 * (B + M) ≤ n → cell ends.entry n ≡ false }
     {
-        let mut words = Xoshiro256PlusPlus::seed_from_u64(wear.seed ^ number as u64);
-        let mut left = vec![in alloc; 0u32; 8 * (B + M)]?;
-        let mut limits = Digits::zero();
-        let mut ends = Cells::zero();
-        for cell in 0..8 * (B + M) {
-            let word = words.next_u64();
-            left[cell] = endurance(wear, word);
-            limits.set(cell as u16, miss_limit(wear, word));
-            ends.set(cell as u16, word >> 63 == 1);
-        }
-        Ok(SeededLine {
+        SeededLine {
             held: Cells::zero(),
             stuck: Cells::zero(),
             misses: Digits::zero(),
@@ -107,7 +101,26 @@ impl<const B: usize, const M: usize> SeededLine<B, M> {
             ends,
             spent: Digits::zero(),
             calm: [false; B],
-        })
+        }
+    }
+
+    // Word n of the generator belongs to cell n.
+    pub(crate) fn drawn(wear: Wear, number: u32) -> SeededLine<B, M>
+        requires wear { IsWear wear }
+        requires shape { IsShape B M }
+        ensures { HaveSameLife (drawn_line B M wear number) result }
+    {
+        let mut words = Xoshiro256PlusPlus::seed_from_u64(wear.seed ^ number as u64);
+        let mut left = Counts::zero();
+        let mut limits = Digits::zero();
+        let mut ends = Cells::zero();
+        for cell in 0..8 * (B + M) {
+            let word = words.next_u64();
+            left.set(cell, endurance(wear, word));
+            limits.set(cell as u16, miss_limit(wear, word));
+            ends.set(cell as u16, word >> 63 == 1);
+        }
+        SeededLine::new(left, limits, ends)
     }
 
     // Takes one from each count of a block that is in the mask, and answers those of them that were at most one.
@@ -130,10 +143,18 @@ impl<const B: usize, const M: usize> SeededLine<B, M> {
         }
         let stuck = self.stuck.block(block);
         let (low, middle, high) = self.spent.planes(block);
-        level(self.left.as_mut_slice(), block, low, middle, high);
+        let mut counts = *self.left.block(block);
+        level(&mut counts, low, middle, high);
         self.spent.clear(block);
-        let last = spend(self.left.as_mut_slice(), block, changing);
-        self.calm[block] = are_many(self.left.as_slice(), block, stuck);
+        let calm = are_many(&counts, stuck);
+        self.calm[block] = calm;
+        if calm {
+            self.left.set_block(block, &counts);
+            self.spent.advance(block, changing, 0);
+            return 0;
+        }
+        let last = spend(&mut counts, changing);
+        self.left.set_block(block, &counts);
         last
     }
 
@@ -158,7 +179,7 @@ impl<const B: usize, const M: usize> SeededLine<B, M> {
     }
 
     // A pulse or a tear of the line.
-    fn wear(&mut self, tearing: bool, mask: &Cells<B, M>, want: &Cells<B, M>)
+    pub(crate) fn wear(&mut self, tearing: bool, mask: &Cells<B, M>, want: &Cells<B, M>)
         requires shape { IsShape B M }
         requires whole { IsWhole B M }
         ensures cells { Follows (cell mask.now) (seeded tearing (cell want.now)) (seeded_cell self.old) (seeded_cell self.new) }
@@ -171,58 +192,73 @@ impl<const B: usize, const M: usize> SeededLine<B, M> {
         }
         self.pulses = self.pulses.saturating_add(1);
     }
-}
 
-ghost use Rattle.std.specs.Prelude.{[], slice_index_or};
-ghost use Rattle.pcm_cells.specs.Seeded.{lifeless, seeded_line, seeded_state, Wears};
-
-fn drawn_lines<const B: usize, const M: usize>(
-    alloc: Global,
-    lines: u32,
-    wear: Wear,
-) -> Result<Vec<SeededLine<B, M>>, AllocError>
-    requires wear { IsWear wear }
-    requires shape { IsShape B M }
-    ensures count { IfOk result (λ rows. length rows.items ≡ lines) }
-    ensures drawn { IfOk result (λ rows. (l : ℕ) → l < lines → IsDrawn wear l (slice_index_or rows.items l (lifeless B M))) }
-{
-    let mut rows = Vec::with_capacity(alloc, lines as usize)?;
-    for number in 0..lines {
-        rows.push(SeededLine::drawn(alloc, wear, number)?)?;
+    pub(crate) fn held(&self) -> Cells<B, M>
+        ensures { result ≡ self.now.line.held }
+    {
+        self.held
     }
-    Ok(rows)
+
+    pub(crate) fn pulses(&self) -> u64
+        ensures { result ≡ self.now.line.pulses }
+    {
+        self.pulses
+    }
 }
+
+ghost use Rattle.std.specs.Prelude.{[]};
+ghost use Rattle.pcm_cells.specs.Seeded.{seeded_line, seeded_state, Wears};
 
 /// An array whose cells miss and wear out as the words of the generator xoshiro256++ say, which `Wear::seed` and the line's number seed.
 /// A tear reaches the masked cells of even number alone. It tells no log. Contracts see it as a `SeededArray`.
+///
+/// `power_up` takes room for all lines and draws no word: those of a line are drawn at its first pulse or tear.
 #[derive(Drop)]
 pub struct MemArray<const B: usize, const M: usize> {
-    lines: Option<Vec<SeededLine<B, M>>>,
+    lines: Option<Pages<B, M>>,
     tears: u64,
+    wear: Option<Wear>,
 }
 
 impl<const B: usize, const M: usize> Model for MemArray<B, M> {
-    ghost use Rattle.std.specs.Prelude.{◌^◌, ◌<◌, length};
-    ghost use Rattle.pcm_cells.specs.Seeded.{SeededArray, seeded_lines};
+    ghost use Rattle.std.specs.Prelude.{◌^◌, ◌<◌};
+    ghost use Rattle.pcm_cells.specs.Endurance.{Spares, least_endurance};
+    ghost use Rattle.pcm_cells.specs.Paging.{seeded_lines};
+    ghost use Rattle.pcm_cells.specs.Seeded.{SeededArray};
     ghost use Rattle.pcm_cells.specs.Shape.{IsShape, IsWhole};
 
     ghost Value = { SeededArray B M };
 
-    ghost view = { λ a. record { lines = seeded_lines a.lines; tears = a.tears } };
+    ghost view = { λ a. record { lines = seeded_lines a.lines; tears = a.tears; wear = a.wear } };
 
-    ghost invariant = { λ a. (length (seeded_lines a.lines) < 2 ^ 32) × IsShape B M × IsWhole B M };
+    ghost invariant = { λ a. IsShape B M × IsWhole B M × (least_endurance a.wear < 2 ^ 64) × Spares (least_endurance a.wear) (seeded_lines a.lines) };
 }
 
 impl<const B: usize, const M: usize> MemArray<B, M> {
+    ghost use Rattle.pcm_cells.specs.Endurance.{EnduresAtLeast, least_endurance};
+
     /// An array without lines, whose rows are to be whole blocks of 64 cells.
     pub fn new() -> MemArray<B, M>
         requires shape { IsShape B M }
         requires whole { IsWhole B M }
-        ensures { result ≡ record { lines = []; tears = 0 } }
+        ensures { result ≡ record { lines = []; tears = 0; wear = None } }
     {
         MemArray {
             lines: None,
             tears: 0,
+            wear: None,
+        }
+    }
+
+    /// The least number of pulses and tears of a line with a stuck cell: `lo` of the wear that the array was last powered up with,
+    /// and before that 0.
+    pub fn endurance(&self) -> u32
+        ensures is { result ≡ least_endurance (seeded_state self.now).wear }
+        ensures endures { EnduresAtLeast result (seeded_state self.now) }
+    {
+        match self.wear {
+            Some(wear) => wear.lo,
+            None => 0,
         }
     }
 
@@ -232,12 +268,12 @@ impl<const B: usize, const M: usize> MemArray<B, M> {
         requires shape { IsShape B M }
         ensures wears { Wears line tearing mask.now want.now self.old self.new }
         ensures tears { self.new.tears ≡ self.old.tears }
+        ensures wear { self.new.wear ≡ self.old.wear }
     {
         let Some(lines) = &mut self.lines else {
             unreachable!()
         };
-        let row = &mut lines[line as usize];
-        row.wear(tearing, mask, want);
+        lines.wear(line, tearing, mask, want);
     }
 }
 
@@ -250,19 +286,20 @@ impl<const B: usize, const M: usize> CellArray<B, M> for MemArray<B, M> {
     fn power_up(&mut self, alloc: Global, lines: u32, wear: Wear) -> Result<(), AllocError>
         requires wear { IsWear wear }
         requires shape { IsShape B M }
-        ensures ok { OnOk result (IsFresh lines (seeded_state self.new)) }
+        ensures ok { OnOk result (IsFresh lines wear (seeded_state self.new)) }
         ensures err { OnErr result (length self.new.lines ≡ 0) }
         ensures drawn { OnOk result ((l : ℕ) → l < lines → IsDrawn wear l (seeded_line self.new l)) }
     {
         self.lines = None;
         self.tears = 0;
-        self.lines = Some(drawn_lines(alloc, lines, wear)?);
+        self.wear = Some(wear);
+        self.lines = Some(Pages::blank(alloc, lines, wear)?);
         Ok(())
     }
 
     fn lines(&self) -> u32 {
         match &self.lines {
-            Some(lines) => lines.len() as u32,
+            Some(lines) => lines.len(),
             None => 0,
         }
     }
@@ -277,7 +314,7 @@ impl<const B: usize, const M: usize> CellArray<B, M> for MemArray<B, M> {
         let Some(lines) = &self.lines else {
             unreachable!()
         };
-        lines[line as usize].held
+        lines.held(line)
     }
 
     fn pulse(&mut self, line: u32, mask: &Cells<B, M>, want: &Cells<B, M>, tick: u64)
@@ -309,6 +346,6 @@ impl<const B: usize, const M: usize> CellArray<B, M> for MemArray<B, M> {
         let Some(lines) = &self.lines else {
             unreachable!()
         };
-        lines[line as usize].pulses
+        lines.pulses(line)
     }
 }

@@ -180,3 +180,28 @@ fn a_tear_reaches_even_cells_alone(rt: HostRuntime) -> Result<(), Fail> {
     assert_eq!(rt; array.pulses(0), 2);
     Ok(())
 }
+
+#[test]
+fn a_line_is_drawn_by_its_number_whichever_is_pulsed_first(rt: HostRuntime) -> Result<(), Fail> {
+    let mut array: MemArray<64, 8> = MemArray::new();
+    let mut other: MemArray<64, 8> = MemArray::new();
+    assert_eq!(rt; array.endurance(), 0);
+    array.power_up(rt.alloc(), 3, SHORT)?;
+    other.power_up(rt.alloc(), 3, SHORT)?;
+    let ones = Cells {
+        bits: [0xff; 64],
+        meta: [0xff; 8],
+    };
+    overwrite(&mut array, 0, &ones, 0);
+    overwrite(&mut array, 2, &ones, 0);
+    overwrite(&mut other, 2, &ones, 0);
+    assert!(rt; other.sense(0, 1).is_none());
+    overwrite(&mut other, 0, &ones, 2);
+    assert!(rt; array.sense(0, 3).differ(&other.sense(0, 3)).is_none());
+    assert!(rt; array.sense(2, 3).differ(&other.sense(2, 3)).is_none());
+    assert!(rt; !array.sense(0, 3).differ(&array.sense(2, 3)).is_none());
+    assert!(rt; other.sense(1, 3).is_none());
+    assert_eq!(rt; other.pulses(1), 0);
+    assert_eq!(rt; other.endurance(), 1);
+    Ok(())
+}

@@ -1,5 +1,5 @@
 // Where bytes come from.
-ghost use Rattle.std.specs.Prelude.{◌≡◌, ℕ, ◌<◌, ◌≤◌, List, length, Some, Option, IsErr, OnErr, MatchResult, MatchBool};
+ghost use Rattle.std.specs.Prelude.{◌≡◌, ℕ, ◌<◌, ◌≤◌, List, length, Some, Option, IsErr, OnOk, OnErr, MatchResult, MatchBool};
 ghost use Rattle.std.specs.Io.{ReadsAtMost};
 ghost use Rattle.std.specs.Io.KnownBytes.{ReadConsumes};
 ghost use Rattle.pcm_io.specs.Faults.{Rose, raised_by};
@@ -31,6 +31,7 @@ pub trait Source {
         ensures next { ReadConsumes (left self.old) (left self.new) result buf.new }
         ensures counted { MatchResult result (λ n. taken self.new ≡ raised_by (taken self.old) n) (λ _. taken self.new ≡ taken self.old) }
         ensures fault { OnErr result (Rose (faults self.old) (faults self.new)) }
+        ensures no_fault { OnOk result (faults self.new ≡ faults self.old) }
         ensures never_falls { faults self.old ≤ faults self.new };
 }
 
@@ -76,6 +77,7 @@ impl Source for MemSource {
             (λ n. self.new.stock.taken ≡ raised_by self.old.stock.taken n)
             (λ _. self.new.stock.taken ≡ self.old.stock.taken) }
         ensures fault { OnErr result (Rose self.old.calls.faults self.new.calls.faults) }
+        ensures no_fault { OnOk result (self.new.calls.faults ≡ self.old.calls.faults) }
         ensures never_falls { self.old.calls.faults ≤ self.new.calls.faults }
 
         // Which call fails, what it answers otherwise, and what is there afterwards, exactly.

@@ -1,5 +1,5 @@
 // Whole contents, read to the end and written to the last byte.
-ghost use Rattle.std.specs.Prelude.{◌≡◌, ◌↔◌, ℕ, ◌+◌, ◌<◌, ◌≤◌, ◌^◌, ◌-◌, List, length, vec_len, Ok, Err, IfOk, IfErr, OnOk, OnErr};
+ghost use Rattle.std.specs.Prelude.{◌≡◌, ◌≢◌, ◌↔◌, ℕ, ◌+◌, ◌<◌, ◌≤◌, ◌^◌, ◌-◌, List, length, vec_len, Ok, Err, IfOk, IfErr, OnOk, OnErr};
 ghost use Rattle.std.specs.Io.KnownBytes.{Appends, IsAtEnd};
 ghost use Rattle.pcm_io.specs.Faults.{Rose};
 ghost use Rattle.pcm_io.specs.Taking.{Takes};
@@ -33,6 +33,7 @@ pub fn read_all<S: Source>(
     ensures too_long { S.taken source.old + limit < 2 ^ 64 - 1 →
         ((result ≡ Err ReadAllFault.TooLong) ↔ (S.taken source.old + limit < S.taken source.new)) }
     ensures read { result ≡ Err ReadAllFault.Read → Rose (S.faults source.old) (S.faults source.new) }
+    ensures no_fault { result ≢ Err ReadAllFault.Read → S.faults source.new ≡ S.faults source.old }
     ensures never_falls { S.faults source.old ≤ S.faults source.new }
 {
     let mut bytes = Vec::new(alloc);

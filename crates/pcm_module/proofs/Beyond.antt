@@ -15,6 +15,7 @@ module _ {n m : ℕ} (own : ℕ) where
     lines = refl;
     beyond = λ line above. refl;
     log = λ told is. (told, [], is, sym (append-nil told));
+    wear = refl;
   }
 
   pub stays_both : (first between last : ArrayState n m) → StaysBeyond own first between → StaysBeyond own between last → StaysBeyond own first last
@@ -25,6 +26,7 @@ module _ {n m : ℕ} (own : ℕ) where
         let later = two.log told is in
         let earlier = one.log later.0 later.2 in
         (earlier.0, earlier.1 ++ later.1, earlier.2, later.3 ∙ ap (λ (l : List (Sense n m)). l ++ later.1) earlier.3 ∙ append_assoc earlier.0 earlier.1 later.1);
+    wear = two.wear ∙ one.wear;
   }
 
 -- a bank of the module has no line beyond those of all banks
@@ -37,4 +39,5 @@ stays_by {n = n} {m = m} shape bank own added before after exists is adds =
       lines = here.lines;
       beyond = λ line above. here.others line (inr (omega (arith, ends, above)));
       log = λ told told_is. let was = here.log told told_is in (was.0, senses_of added, was.1, was.2);
+      wear = here.wear;
     }

@@ -4,6 +4,7 @@ use Rattle.std.specs.Prelude.{slice_get}
 use Rattle.std.proofs.lemmas.Bool.{cases_eq}
 use Rattle.std.proofs.lemmas.List.Elements.{All-nil}
 use Rattle.circular_buffer.proofs.Places.{slice_get-append_left, slice_get-last}
+use Rattle.pcm_cells.specs.declared.array.Wear.{Wear}
 use Rattle.pcm_cells.specs.Device.{ArrayState, IsFresh}
 use Rattle.ecp_line.specs.Layout.{IsLayout}
 use Rattle.result_rows.specs.declared.Outcome.{Outcome}
@@ -96,9 +97,9 @@ module _ (n m e : ℕ) (raw : RawShape) where
       }
 
 -- a bank's lines are fresh, if the whole array is
-part_fresh : {n m : ℕ} (shape : ModuleShape) (bank : ℕ) (array : ArrayState n m) → bank < shape.banks → IsFresh (shape.banks * array_lines_of shape) array
+part_fresh : {n m : ℕ} (shape : ModuleShape) (bank : ℕ) (array : ArrayState n m) (wear : Wear) → bank < shape.banks → IsFresh (shape.banks * array_lines_of shape) wear array
     → IsFreshFor (bank_shape shape bank) array
-part_fresh shape bank array h fresh =
+part_fresh shape bank array wear h fresh =
     let l : ℕ = array_lines_of shape in
     let ends : bank * l + l ≤ shape.banks * l = ends_before bank shape.banks l h in
     record {
@@ -112,16 +113,16 @@ module _ (n m e : ℕ) (raw : RawShape) (seed : ℕ) where
   made_module banks = record { shape = raw; seed = seed; banks = banks; tick = 0; rows_below = 0; finished = false }
 
   -- a history with no event leads to a bank that was just made
-  first_replays : (bank : ℕ) (array : ArrayState n m) (results : List (Outcome n)) → bank < raw.banks
-      → IsFresh (raw.banks * array_lines_of (module_of raw)) array → IsFirst n m e raw bank
+  first_replays : (bank : ℕ) (array : ArrayState n m) (wear : Wear) (results : List (Outcome n)) → bank < raw.banks
+      → IsFresh (raw.banks * array_lines_of (module_of raw)) wear array → IsFirst n m e raw bank
       → BankReplays (bank_shape (module_of raw) bank) (pacing_in raw) 0 0 [] [] array results (one n m e raw bank)
-  first_replays bank array results h fresh first = record {
+  first_replays bank array wear results h fresh first = record {
     shaped = refl;
     paced = refl;
     going = refl;
     in_time = omega arith;
     below = omega arith;
-    leads = first.leads array (part_fresh (module_of raw) bank array h fresh);
+    leads = first.leads array (part_fresh (module_of raw) bank array wear h fresh);
     logged = λ log is. ap (log_of (bank_shape (module_of raw) bank)) (fresh.log log is);
     open_rows = record { queued = λ row there. absurd (cc); waiting = λ row there. absurd (cc) };
     arrived = refl;
@@ -132,13 +133,13 @@ module _ (n m e : ℕ) (raw : RawShape) (seed : ℕ) where
     made_at : (bank : ℕ) → bank < raw.banks → slice_get banks bank ≡ Some (one n m e raw bank)
     made_at bank h = ap (λ (cs : List (ClockState n m e)). slice_get cs bank) made.made ∙ bank_made_at n m e raw raw.banks bank h
 
-    pub made_replays : (array : ArrayState n m) (results : List (Outcome n))
-        → IsFresh (raw.banks * array_lines_of (module_of raw)) array → Replays (λ bank. []) [] (made_module banks) array results
-    made_replays array results fresh = record {
+    pub made_replays : (array : ArrayState n m) (wear : Wear) (results : List (Outcome n))
+        → IsFresh (raw.banks * array_lines_of (module_of raw)) wear array → Replays (λ bank. []) [] (made_module banks) array results
+    made_replays array wear results fresh = record {
       size = fresh.count;
       banks = λ bank h.
           at_get (ReplaysIn (made_module banks) bank [] [] array results) (slice_get banks bank) (one n m e raw bank) (made_at bank h)
-          (first_replays bank array results h fresh (made.first bank h));
+          (first_replays bank array wear results h fresh (made.first bank h));
       exist = All-nil (λ (a : Asked n). IsOfLines (total_of raw) a.asks);
       ticks = tt;
       in_time = All-nil (λ (a : Asked n). a.tick ≤ 0);

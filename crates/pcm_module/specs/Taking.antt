@@ -11,12 +11,14 @@ use Rattle.bank_timing.specs.Extending.{IsOpen, outcome_in}
 use Rattle.pcm_module.specs.State.{ModuleState, StandsNowhere}
 use Rattle.pcm_module.specs.Replaying.{Replays}
 
--- the array has as many lines as before, each line from this one on is as before, and a log that is told has kept its senses
+-- the array has as many lines as before and the same wear, each line from this one on is as before, and a log that is told has kept
+-- its senses
 pub record StaysBeyond {n m : ℕ} (own : ℕ) (before after : ArrayState n m) : Type 0 where
   pub lines : after.lines ≡ before.lines
   pub beyond : (line : ℕ) → own ≤ line → after.line line ≡ before.line line
   pub log : (told : List (Sense n m)) → after.log ≡ Some told
       → (was : List (Sense n m)) × (more : List (Sense n m)) × (before.log ≡ Some was) × (told ≡ was ++ more)
+  pub wear : after.wear ≡ before.wear
 
 -- a row was taken: the histories that replayed what was asked before go on, and replay it with this row; a row that stood nowhere keeps
 -- its outcome, and one behind this one stays open

@@ -6,5 +6,3 @@ mod finishing;
 pub mod module;
 mod roles;
 mod taking;
-#[cfg(test)]
-mod tests;

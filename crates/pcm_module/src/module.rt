@@ -1,5 +1,6 @@
 //! A module of banks.
 ghost use Rattle.std.specs.Prelude.{◌≡◌, ◌*◌, ◌+◌, ◌<◌, ◌≤◌, ℕ, List, [], IfOk, Some, slice_get, false};
+ghost use Rattle.pcm_cells.specs.declared.array.Wear.{Wear};
 ghost use Rattle.pcm_cells.specs.Device.{ArrayState, IsFresh};
 ghost use Rattle.ecp_line.specs.Layout.{IsLayout};
 ghost use Rattle.bank_shape.specs.declared.Home.TheVariants.{Array};
@@ -54,7 +55,7 @@ impl<const B: usize, const M: usize, const E: usize> Module<B, M, E> {
         requires wide { shape.home ≡ Array → 16 ≤ B }
         ensures shape { IfOk result (λ m. (m.shape ≡ shape) × (m.seed ≡ seed) × (m.tick ≡ 0) × (m.rows_below ≡ 0) × (m.finished ≡ false)) }
         ensures banks { IfOk result (λ m. m.banks ≡ banks_from shape shape.banks 0) }
-        ensures begins { IfOk result (λ m. (array : ArrayState B M) (results : List (Outcome B)) → IsFresh (shape.banks * array_lines_of (module_of shape)) array
+        ensures begins { IfOk result (λ m. (array : ArrayState B M) (wear : Wear) (results : List (Outcome B)) → IsFresh (shape.banks * array_lines_of (module_of shape)) wear array
             → Replays (λ bank. []) [] m array results) }
     {
         let feistel = Feistel::new(shape.address_bits(), seed);
@@ -117,6 +118,13 @@ impl<const B: usize, const M: usize, const E: usize> Module<B, M, E> {
         ensures { slice_get self.now.banks bank ≡ Some result.now }
     {
         &self.banks[bank as usize]
+    }
+
+    /// The tick of the last row that came, 0 before the first.
+    pub fn tick(&self) -> u64
+        ensures { result ≡ self.now.tick }
+    {
+        self.tick
     }
 
     /// The sizes of the module.

@@ -12,8 +12,9 @@ use Rattle.trace_reader.specs.declared.event.Event.{Event}
 use Rattle.trace_reader.specs.declared.fault.ParseFault.{ParseFault}
 use Rattle.trace_reader.specs.declared.fault.ParseFault.TheVariants as parsing
 use Rattle.module_shape.specs.Limits.{total_of}
+use Rattle.pcm_image.specs.declared.ImageFault.{ImageFault}
 use Rattle.command_line.specs.declared.job.Job.{Job}
-use Rattle.command_line.specs.declared.job.Job.TheVariants.{Run, Gen, Map, Moves, Check}
+use Rattle.command_line.specs.declared.job.Job.TheVariants.{Run, Gen, Map, Moves, Show, Check}
 use Rattle.command_line.specs.declared.job.RunJob.{RunJob}
 use Rattle.command_line.specs.declared.job.Input.{Input}
 use Rattle.command_line.specs.declared.job.Input.TheVariants.{Source, Drawn}
@@ -28,11 +29,12 @@ use Rattle.text_check.specs.declared.fault.TextFault.TheVariants as text
 use Rattle.pcm_top.specs.Checking.{IsCheckFault, TellsVerdict, pointers_in, room_line}
 use Rattle.pcm_top.specs.FaultLines.{status_of}
 use Rattle.pcm_top.specs.Running.{Does, HasCause, IsRefused, Runs, Tells, WritesRun, reads_source, status_done}
-use Rattle.pcm_top.specs.Statuses.{IsCheckStatus, IsTextStatus, IsInputStatus, IsRunStatus, IsSourceStatus, IsStatusFor, IsTraceStatus}
+use Rattle.pcm_top.specs.Showing.{IsShowFault, shown_of}
+use Rattle.pcm_top.specs.Statuses.{IsImageStatus, IsInputStatus, IsRunStatus, IsShowStatus, IsSourceStatus, IsStatusFor, IsTraceStatus, IsCheckStatus, IsTextStatus}
 use Rattle.pcm_top.specs.declared.run.Done.{Done}
 use Rattle.pcm_top.specs.declared.run.Done.TheVariants.{Whole, Short}
 use Rattle.pcm_top.specs.declared.fault.Fault.{Fault}
-use Rattle.pcm_top.specs.declared.fault.Fault.TheVariants.{Usage, Trace, Results, Read, Write, TooLong, NoMemory}
+use Rattle.pcm_top.specs.declared.fault.Fault.TheVariants.{Usage, Trace, Image, Read, Write, TooLong, NoMemory, Results}
 
 -- a source that tells its bytes and was read to its end gave just them
 whole-go : (before now : Option (List ℕ)) (bytes found : List ℕ) → before ≡ Some bytes → Consumes before now found → IsAtEnd now → found ≡ bytes
@@ -63,21 +65,45 @@ by-trace n lines bytes found status trace same within is has =
     let With : List ℕ → Type 0 = λ bs. IsSourceStatus n lines bs status in
     subst With same (inr (within, subst Of (sym is) has))
 
+-- the status of bytes that are an image's, or not
+by-image : (bytes found : List ℕ) (status : ℕ) (shown : Result (List ℕ) ImageFault)
+    → found ≡ bytes → length found ≤ trace_room 64 → shown_of found ≡ shown → IsImageStatus shown status → IsShowStatus bytes status
+by-image bytes found status shown same within is has =
+    let Of : Result (List ℕ) ImageFault → Type 0 = λ t. IsImageStatus t status in
+    let With : List ℕ → Type 0 = λ bs. IsShowStatus bs status in
+    subst With same (inr (within, subst Of (sym is) has))
+
 fault-status : (n lines : ℕ) (fault : Fault) (s : SourceChange) (bytes : List ℕ) → s.left_before ≡ Some bytes → ¬ Rose s.faults_before s.faults_now → IsReadFault n lines fault s
     → IsSourceStatus n lines bytes (status_of fault) ⊎ (status_of fault ≡ 7)
 fault-status n lines Usage s bytes is calm cause = absurd cause
 fault-status n lines Write s bytes is calm cause = absurd cause
+fault-status n lines (Image f) s bytes is calm cause = absurd cause
 fault-status n lines (Results row) s bytes is calm cause = absurd cause
 fault-status n lines Read s bytes is calm cause = absurd (calm cause.0)
 fault-status n lines NoMemory s bytes is calm cause = inr refl
 fault-status n lines (Trace f) s bytes is calm cause =
     inl (by-trace n lines bytes cause.0 3 (Err (parsing.Trace f)) (reads-told n s bytes cause.0 is cause.1) cause.1.within cause.2 refl)
 fault-status n lines TooLong s bytes is calm (inl more) =
-    let size = more-go s.left_before s.left_now bytes more.0 is more.1.first in
-    let over = more.2 in
+    let size = more-go s.left_before s.left_now bytes more.1.0 is more.1.1.first in
+    let over = more.1.2 in
     inl (inl (omega arith, refl))
 fault-status n lines TooLong s bytes is calm (inr many) =
     inl (by-trace n lines bytes many.0 6 (Err parsing.TooMany) (reads-told n s bytes many.0 is many.1) many.1.within many.2 refl)
+
+-- why nothing is shown
+show-fault-status : (fault : Fault) (s : SourceChange) (bytes : List ℕ) → s.left_before ≡ Some bytes → ¬ Rose s.faults_before s.faults_now → IsShowFault fault s
+    → IsShowStatus bytes (status_of fault) ⊎ (status_of fault ≡ 7)
+show-fault-status Usage s bytes is calm cause = absurd cause
+show-fault-status Write s bytes is calm cause = absurd cause
+show-fault-status (Trace f) s bytes is calm cause = absurd cause
+show-fault-status Read s bytes is calm cause = absurd (calm cause.0)
+show-fault-status NoMemory s bytes is calm cause = inr refl
+show-fault-status (Image f) s bytes is calm cause =
+    inl (by-image bytes cause.0 3 (Err f) (reads-told 64 s bytes cause.0 is cause.1) cause.1.within cause.2 refl)
+show-fault-status TooLong s bytes is calm more =
+    let size = more-go s.left_before s.left_now bytes more.0 is more.1.first in
+    let over = more.2 in
+    inl (inl (omega arith, refl))
 
 -- why a run has no events, by where they come from
 input-fault-status : (job : RunJob) (input : Input) (fault : Fault) (s : SourceChange) (bytes : List ℕ) → (is_source input ≡ true → s.left_before ≡ Some bytes) → ¬ Rose s.faults_before s.faults_now
@@ -123,6 +149,7 @@ tells-status (Ok (Run job)) s bytes fault told calm cause = input-fault-status j
 tells-status (Ok (Gen job)) s bytes fault told calm cause = inr (ap status_of cause)
 tells-status (Ok (Map job)) s bytes fault told calm cause = inr (ap status_of cause)
 tells-status (Ok (Moves job)) s bytes fault told calm cause = inr (ap status_of cause)
+tells-status (Ok Show) s bytes fault told calm cause = show-fault-status fault s bytes (told refl) calm cause
 tells-status (Ok (Check job)) s bytes fault told calm cause = check-fault-status (bytes_in job.line) (pointers_in job.line) job fault s bytes (told refl) calm cause
 
 run-status : (done : Done) → IsRunStatus (status_done done)
@@ -151,6 +178,11 @@ does-status (Ok (Run job)) s array wide before now bytes done told does = writte
 does-status (Ok (Gen job)) s array wide before now bytes done told does = ap status_done does.1
 does-status (Ok (Map job)) s array wide before now bytes done told does = ap status_done does.1
 does-status (Ok (Moves job)) s array wide before now bytes done told does = ap status_done does.1
+does-status (Ok Show) s array wide before now bytes done told does =
+    let Has : ℕ → Type 0 = λ n. IsShowStatus bytes n in
+    let read = does.0.1 in
+    subst Has (sym (ap status_done does.1))
+    (by-image bytes read.bytes 0 (Ok does.0.0) (reads-told 64 s bytes read.bytes (told refl) read.whole) read.whole.within read.shown refl)
 does-status (Ok (Check job)) s array wide before now bytes done told does = told-verdict-status (bytes_in job.line) (pointers_in job.line) job s before now bytes done (told refl) does
 
 pub done-decided : (asked : Result Job Refusal) (s : SourceChange) (array : ArrayState 64 8) (wide : ArrayState 128 16) (before now : Option (List ℕ)) (bytes : List ℕ) (done : Done) (status : ℕ)
@@ -172,6 +204,7 @@ pub is_write : (fault : Fault) → (fault ≡ Write) ⊎ (fault ≢ Write)
 is_write Write = inl refl
 is_write Usage = inr (λ e. cc e)
 is_write (Trace f) = inr (λ e. cc e)
+is_write (Image f) = inr (λ e. cc e)
 is_write (Results row) = inr (λ e. cc e)
 is_write Read = inr (λ e. cc e)
 is_write TooLong = inr (λ e. cc e)
@@ -188,7 +221,7 @@ pub drawn-nothing : (left : Option (List ℕ)) (taken faults : ℕ) → TakesNot
 drawn-nothing left taken faults = record { left = refl; taken = refl; faults = refl }
 
 input-memory : (n : ℕ) (job : RunJob) (input : Input) (left : Option (List ℕ)) (taken faults : ℕ) → IsFaultOf n job input NoMemory (untouched left taken faults)
-input-memory n job Source left taken faults = some-nothing n left taken faults
+input-memory n job Source left taken faults = (refl, some-nothing n left taken faults)
 input-memory n job (Drawn mix) left taken faults = refl
 
 memory-cause : (asked : Result Job Refusal) (left : Option (List ℕ)) (taken faults : ℕ) → HasCause NoMemory asked (untouched left taken faults)
@@ -197,6 +230,7 @@ memory-cause (Ok (Run job)) left taken faults = input-memory (bytes_in job.line)
 memory-cause (Ok (Gen job)) left taken faults = refl
 memory-cause (Ok (Map job)) left taken faults = refl
 memory-cause (Ok (Moves job)) left taken faults = refl
+memory-cause (Ok Show) left taken faults = some-nothing 64 left taken faults
 memory-cause (Ok (Check job)) left taken faults = some-nothing room_line left taken faults
 
 pub refused-cause : (asked : Result Job Refusal) (fault : Fault) (left : Option (List ℕ)) (taken faults : ℕ) → IsRefused asked fault → HasCause fault asked (untouched left taken faults)
@@ -218,9 +252,10 @@ within-count n s some low over =
 too-much : (n lines : ℕ) (fault : Fault) (s : SourceChange) → IsReadFault n lines fault s → s.taken_before + trace_room n < 2 ^ 64 - 1 → s.taken_before + trace_room n < s.taken_now → fault ≡ TooLong
 too-much n lines Usage s cause low over = absurd cause
 too-much n lines Write s cause low over = absurd cause
+too-much n lines (Image f) s cause low over = absurd cause
 too-much n lines (Results row) s cause low over = absurd cause
 too-much n lines Read s cause low over = absurd (within-count n s cause.1 low over)
-too-much n lines NoMemory s cause low over = absurd (within-count n s cause low over)
+too-much n lines NoMemory s cause low over = absurd (within-count n s cause.1 low over)
 too-much n lines (Trace f) s cause low over = absurd (within-count n s (cause.0, cause.1.takes, cause.1.within) low over)
 too-much n lines TooLong s cause low over = refl
 

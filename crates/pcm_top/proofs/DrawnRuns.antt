@@ -73,6 +73,7 @@ module _ (texts : GeneratedTextLaw) (sizes : GeneratedSizeLaw) (job : RunJob) (m
     one_each = made.one_each;
     ends = made.ends;
     right = made.right;
+    wear = made.wear;
   }
 
   same-written : (n m e : ℕ) (drawn : SourceChange) (array : ArrayState n m) (before now : Option (List ℕ)) (done : Done) → TakesBytes read (text_of n) → length (text_of n) ≤ trace_room n
@@ -84,6 +85,7 @@ module _ (texts : GeneratedTextLaw) (sizes : GeneratedSizeLaw) (job : RunJob) (m
     is_text = is.is_text;
     written = is.written;
     ending = is.ending;
+    rows = is.rows;
   }
 
   same-part : (n m e : ℕ) (drawn : SourceChange) (array : ArrayState n m) (before now : Option (List ℕ)) → TakesBytes read (text_of n) → length (text_of n) ≤ trace_room n

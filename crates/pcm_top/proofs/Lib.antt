@@ -7,6 +7,8 @@ pub mod Deciding
 mod Replaying
 mod Printable
 mod Wearing
+mod Saving
+mod Shown
 mod DrawnRuns
 mod Sizes
 mod Making

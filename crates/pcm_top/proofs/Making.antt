@@ -1,5 +1,5 @@
 -- What a run that was made is, and that what is written of it is its text.
-use Rattle.std.proofs.Common.{◌≡◌, ℕ, List, length, Option, sym, subst}
+use Rattle.std.proofs.Common.{◌≡◌, ℕ, List, length, Option, Some, sym, subst}
 use Rattle.std.specs.Io.KnownBytes.{Appends}
 use Rattle.pcm_io.specs.Giving.{AppendsPrefix}
 use Rattle.pcm_cells.specs.Device.{ArrayState}
@@ -10,7 +10,9 @@ use Rattle.module_shape.specs.declared.raw.RawShape.{RawShape}
 use Rattle.module_shape.specs.Limits.{IsShape, total_of}
 use Rattle.end_laws.specs.Ends.{BankEnd}
 use Rattle.run_laws.specs.Runs.{RunsRight}
+use Rattle.image_laws.specs.SavedRuns.{AreRows}
 use Rattle.pcm_module.specs.State.{AreEndsOf, ModuleState}
+use Rattle.command_line.specs.declared.job.Print.TheVariants.{Image}
 use Rattle.command_line.specs.declared.job.RunJob.{RunJob}
 use Rattle.pcm_top.specs.Reading.{SourceChange}
 use Rattle.pcm_top.specs.Inputs.{ComeFrom}
@@ -36,27 +38,27 @@ module _ {n m e : ℕ} (job : RunJob) (array : ArrayState n m) (events : List (E
       let Seeded : ℕ → Type 0 = λ seed. RunsRight e job.shape seed (rows_of events outcomes) array left.0 in
       subst Seeded seeded (subst Shaped shape left.2)
 
-  module _ (s : SourceChange) (come : ComeFrom n job job.input s events) where
+  module _ (s : SourceChange) (come : ComeFrom n job job.input s events) (wear : array.wear ≡ Some job.wear) where
     abbrev made : Runs n m e job s array
-    made = record { events = events; come = come; outcomes = outcomes; one_each = size; ends = left.0; right = of-job }
+    made = record { events = events; come = come; outcomes = outcomes; one_each = size; ends = left.0; right = of-job; wear = wear }
 
-    text-of-job : (whole : List ℕ) → IsRunText pcm.shape pcm.seed events outcomes left.0 array job.print whole → IsRunText job.shape job.seed events outcomes left.0 array job.print whole
+    text-of-job : (whole : List ℕ) → IsRunText pcm.shape pcm.seed e events outcomes left.0 array job.print whole → IsRunText job.shape job.seed e events outcomes left.0 array job.print whole
     text-of-job whole is =
-        let Shaped : RawShape → Type 0 = λ raw. IsRunText raw pcm.seed events outcomes left.0 array job.print whole in
-        let Seeded : ℕ → Type 0 = λ seed. IsRunText job.shape seed events outcomes left.0 array job.print whole in
+        let Shaped : RawShape → Type 0 = λ raw. IsRunText raw pcm.seed e events outcomes left.0 array job.print whole in
+        let Seeded : ℕ → Type 0 = λ seed. IsRunText job.shape seed e events outcomes left.0 array job.print whole in
         subst Seeded seeded (subst Shaped shape is)
 
-    pub run-written : (before now : Option (List ℕ)) (done : Done) → done ≡ done_by outcomes → HaveRoles pcm.shape pcm.seed left.0
+    pub run-written : (before now : Option (List ℕ)) (done : Done) → done ≡ done_by outcomes → (job.print ≡ Image → AreRows array) → HaveRoles pcm.shape pcm.seed left.0
         → ((ends : ℕ → BankEnd) → AreEndsOf pcm ends → HaveRoles pcm.shape pcm.seed ends
-        → (whole : List ℕ) × IsRunText pcm.shape pcm.seed events outcomes ends array job.print whole × Appends before now whole)
+        → (whole : List ℕ) × IsRunText pcm.shape pcm.seed e events outcomes ends array job.print whole × Appends before now whole)
         → RunIsWritten n m e job s array before now done
-    run-written before now done is roles writes =
+    run-written before now done is rows roles writes =
         let text = writes left.0 left.1 roles in
-        record { run = made; text = text.0; is_text = text-of-job text.0 text.1; written = text.2; ending = is }
+        record { run = made; text = text.0; is_text = text-of-job text.0 text.1; written = text.2; ending = is; rows = rows }
 
     pub run-part : (before now : Option (List ℕ)) → HaveRoles pcm.shape pcm.seed left.0
         → ((ends : ℕ → BankEnd) → AreEndsOf pcm ends → HaveRoles pcm.shape pcm.seed ends
-        → (whole : List ℕ) × IsRunText pcm.shape pcm.seed events outcomes ends array job.print whole × AppendsPrefix before now whole)
+        → (whole : List ℕ) × IsRunText pcm.shape pcm.seed e events outcomes ends array job.print whole × AppendsPrefix before now whole)
         → RunIsWrittenInPart n m e job s array before now
     run-part before now roles writes =
         let text = writes left.0 left.1 roles in

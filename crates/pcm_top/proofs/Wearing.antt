@@ -161,11 +161,11 @@ pub lines-of-bank : (banks lines all : ℕ) → 1 ≤ banks → all ≡ banks * 
 lines-of-bank banks lines all some is = rw is (mul-div_cancel_left lines (omega arith))
 
 -- so the text of a run that prints a wear report is written
-pub wear-text : {n m e : ℕ} (pcm : ModuleState n m e) (array : ArrayState n m) (events : List (Event n)) (outcomes : List (Outcome n)) (print : Print) (P : List ℕ → Type 0)
+pub wear-text : {n m e : ℕ} (entries : ℕ) (pcm : ModuleState n m e) (array : ArrayState n m) (events : List (Event n)) (outcomes : List (Outcome n)) (print : Print) (P : List ℕ → Type 0)
     → print ≡ Wear
     → ((ends : ℕ → BankEnd) → AreEndsOf pcm ends → HaveRoles pcm.shape pcm.seed ends → (rows : List (ℕ × ℕ × Role)) × IsWearReport pcm.shape pcm.seed ends array rows × P (wear_text rows))
-    → (ends : ℕ → BankEnd) → AreEndsOf pcm ends → HaveRoles pcm.shape pcm.seed ends → (whole : List ℕ) × IsRunText pcm.shape pcm.seed events outcomes ends array print whole × P whole
-wear-text pcm array events outcomes print P is writes ends are roles =
+    → (ends : ℕ → BankEnd) → AreEndsOf pcm ends → HaveRoles pcm.shape pcm.seed ends → (whole : List ℕ) × IsRunText pcm.shape pcm.seed entries events outcomes ends array print whole × P whole
+wear-text entries pcm array events outcomes print P is writes ends are roles =
     let report = writes ends are roles in
-    let Of : Print → Type 0 = λ p. IsRunText pcm.shape pcm.seed events outcomes ends array p (wear_text report.0) in
+    let Of : Print → Type 0 = λ p. IsRunText pcm.shape pcm.seed entries events outcomes ends array p (wear_text report.0) in
     (wear_text report.0, subst Of (sym is) ((report.0, report.1, refl)), report.2)

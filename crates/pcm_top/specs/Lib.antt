@@ -5,7 +5,11 @@ pub mod Inputs
 pub mod Checking
 pub mod Rows
 pub mod Ready
+pub mod Played
 pub mod RunText
+pub mod Showing
 pub mod Running
 pub mod Statuses
 pub mod Laws
+pub mod Lasting
+pub mod ShownRuns

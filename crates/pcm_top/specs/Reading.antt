@@ -7,7 +7,7 @@ use Rattle.trace_reader.specs.Trace.{trace_of}
 use Rattle.trace_reader.specs.declared.event.Event.{Event}
 use Rattle.trace_reader.specs.declared.fault.ParseFault.TheVariants as parsing
 use Rattle.pcm_top.specs.declared.fault.Fault.{Fault}
-use Rattle.pcm_top.specs.declared.fault.Fault.TheVariants.{Usage, Trace, Results, Read, Write, TooLong, NoMemory}
+use Rattle.pcm_top.specs.declared.fault.Fault.TheVariants.{Usage, Trace, Image, Read, Write, TooLong, NoMemory, Results}
 
 -- a source before and after a call: what is left, how much was taken, and how often it failed
 pub record SourceChange : Type 0 where
@@ -42,13 +42,18 @@ pub record TakesNothing (s : SourceChange) : Type 0 where
   pub taken : s.taken_now ≡ s.taken_before
   pub faults : s.faults_now ≡ s.faults_before
 
+-- no call of the source failed
+abbrev pub NeverFails : SourceChange → Type 0
+NeverFails s = s.faults_now ≡ s.faults_before
+
 -- a trace over lines of n bytes
 module _ (n : ℕ) where
-  -- the source was read to its end and gave these bytes, no more than a trace may have
+  -- the source was read to its end, no call failed, and it gave these bytes, no more than a trace may have
   pub record ReadsWhole (s : SourceChange) (bytes : List ℕ) : Type 0 where
     pub takes : TakesBytes s bytes
     pub ended : IsAtEnd s.left_now
     pub within : length bytes ≤ trace_room n
+    pub unfailing : NeverFails s
 
   -- some bytes were taken, no more than a trace may have
   abbrev pub TakesSome : SourceChange → Type 0
@@ -61,12 +66,13 @@ module _ (n : ℕ) where
 -- one for so many lines
 module _ (n lines : ℕ) where
   -- why a trace gave no events: the source was read to its end and the bytes have this fault, or too many rows;
-  -- or it failed; or it gave too many bytes
+  -- or it failed; or it gave too many bytes; or memory ran out, and no call failed
   abbrev pub IsReadFault : Fault → SourceChange → Type 0
   IsReadFault (Trace f) s = (bytes : List ℕ) × ReadsWhole n s bytes × (trace_of n lines bytes ≡ Err (parsing.Trace f))
   IsReadFault Read s = Rose s.faults_before s.faults_now × TakesSome n s
-  IsReadFault TooLong s = TakesMore n s ⊎ ((bytes : List ℕ) × ReadsWhole n s bytes × (trace_of n lines bytes ≡ Err parsing.TooMany))
-  IsReadFault NoMemory s = TakesSome n s
+  IsReadFault TooLong s = (NeverFails s × TakesMore n s) ⊎ ((bytes : List ℕ) × ReadsWhole n s bytes × (trace_of n lines bytes ≡ Err parsing.TooMany))
+  IsReadFault NoMemory s = NeverFails s × TakesSome n s
+  IsReadFault (Image f) s = ⊥
   IsReadFault Usage s = ⊥
   IsReadFault (Results row) s = ⊥
   IsReadFault Write s = ⊥

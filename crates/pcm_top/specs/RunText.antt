@@ -14,9 +14,13 @@ use Rattle.end_laws.specs.Ends.{BankEnd}
 use Rattle.end_laws.specs.Roles.{HasOneRole, IsRole}
 use Rattle.run_laws.specs.Runs.{line_named}
 use Rattle.run_text.specs.ResultText.{results_text}
+use Rattle.pcm_image.specs.Saved.{Saved}
+use Rattle.pcm_image.specs.Spelling.{image_bytes}
+use Rattle.image_laws.specs.SavedRuns.{IsLeft, SavesRun}
 use Rattle.pcm_module.specs.Roles.{spares_used}
+use Rattle.pcm_top.specs.Rows.{rows_of}
 use Rattle.command_line.specs.declared.job.Print.{Print}
-use Rattle.command_line.specs.declared.job.Print.TheVariants.{Results, Summary, Wear}
+use Rattle.command_line.specs.declared.job.Print.TheVariants.{Results, Summary, Wear, Image}
 
 -- the bank of an array line of a module of these sizes
 abbrev pub bank_with : RawShape → ℕ → ℕ
@@ -40,9 +44,12 @@ module _ {n m : ℕ} (raw : RawShape) (seed : ℕ) where
     pub one_each : length rows ≡ array.lines
     pub each : (line : ℕ) → line < array.lines → IsSomeAnd (slice_get rows line) (IsWearRow ends array line)
 
-  -- what is written of these events and their outcomes, of these ends, and of the array: the results, the summary or the wear report
-  abbrev pub IsRunText : List (Event n) → List (Outcome n) → (ℕ → BankEnd) → ArrayState n m → Print → List ℕ → Type 0
-  IsRunText events outcomes ends array Results text = text ≡ results_text events outcomes
-  IsRunText events outcomes ends array Summary text =
+  -- what is written of these events and their outcomes, of these ends, and of the array, whose lines have e error-correcting pointers:
+  -- the results, the summary, the wear report, or the image of what the run left
+  abbrev pub IsRunText : ℕ → List (Event n) → List (Outcome n) → (ℕ → BankEnd) → ArrayState n m → Print → List ℕ → Type 0
+  IsRunText e events outcomes ends array Results text = text ≡ results_text events outcomes
+  IsRunText e events outcomes ends array Summary text =
       text ≡ summary_text (length events) (counts_of outcomes) (spares_used raw ends) (pulses_in_all array)
-  IsRunText events outcomes ends array Wear text = (rows : List (ℕ × ℕ × Role)) × IsWearReport ends array rows × (text ≡ wear_text rows)
+  IsRunText e events outcomes ends array Wear text = (rows : List (ℕ × ℕ × Role)) × IsWearReport ends array rows × (text ≡ wear_text rows)
+  IsRunText e events outcomes ends array Image text =
+      (s : Saved n m) × IsLeft e raw seed (rows_of events outcomes) array s × SavesRun e raw seed (rows_of events outcomes) array ends s × (text ≡ image_bytes s)

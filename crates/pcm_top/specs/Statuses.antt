@@ -6,7 +6,7 @@ use Rattle.trace_reader.specs.declared.fault.ParseFault.{ParseFault}
 use Rattle.trace_reader.specs.declared.fault.ParseFault.TheVariants as parsing
 use Rattle.module_shape.specs.Limits.{total_of}
 use Rattle.command_line.specs.declared.job.Job.{Job}
-use Rattle.command_line.specs.declared.job.Job.TheVariants.{Run, Gen, Map, Moves, Check}
+use Rattle.command_line.specs.declared.job.Job.TheVariants.{Run, Gen, Map, Moves, Show, Check}
 use Rattle.command_line.specs.declared.job.RunJob.{RunJob}
 use Rattle.command_line.specs.declared.job.CheckJob.{CheckJob}
 use Rattle.command_line.specs.declared.job.Input.{Input}
@@ -17,7 +17,9 @@ use Rattle.text_check.specs.Checked.{HasVerdict, IsTextFault}
 use Rattle.text_check.specs.declared.fault.TextFault.{TextFault}
 use Rattle.text_check.specs.declared.fault.TextFault.TheVariants as text
 use Rattle.pcm_top.specs.Jobs.{bytes_in}
+use Rattle.pcm_image.specs.declared.ImageFault.{ImageFault}
 use Rattle.pcm_top.specs.Reading.{trace_room}
+use Rattle.pcm_top.specs.Showing.{shown_of}
 use Rattle.pcm_top.specs.Checking.{done_on, pointers_in, room_line}
 use Rattle.pcm_top.specs.Running.{status_done}
 
@@ -40,6 +42,16 @@ IsSourceStatus n lines bytes status =
 abbrev pub IsInputStatus : RunJob → List ℕ → ℕ → Input → Type 0
 IsInputStatus job bytes status Source = IsSourceStatus (bytes_in job.line) (total_of job.shape) bytes status
 IsInputStatus job bytes status (Drawn mix) = IsRunStatus status
+
+-- by the text of an image, or the first of its fields that fails
+abbrev pub IsImageStatus : Result (List ℕ) ImageFault → ℕ → Type 0
+IsImageStatus (Ok text) status = status ≡ 0
+IsImageStatus (Err f) status = status ≡ 3
+
+-- by the bytes of a source, which are too many or an image
+abbrev pub IsShowStatus : List ℕ → ℕ → Type 0
+IsShowStatus bytes status =
+    ((trace_room 64 < length bytes) × (status ≡ 6)) ⊎ ((length bytes ≤ trace_room 64) × IsImageStatus (shown_of bytes) status)
 
 -- that of a text without a verdict
 abbrev pub status_without : TextFault → ℕ
@@ -65,4 +77,5 @@ IsStatusFor (Ok (Run job)) bytes status = IsInputStatus job bytes status job.inp
 IsStatusFor (Ok (Gen job)) bytes status = status ≡ 0
 IsStatusFor (Ok (Map job)) bytes status = status ≡ 0
 IsStatusFor (Ok (Moves job)) bytes status = status ≡ 0
+IsStatusFor (Ok Show) bytes status = IsShowStatus bytes status
 IsStatusFor (Ok (Check job)) bytes status = IsCheckStatus (bytes_in job.line) (pointers_in job.line) job bytes status

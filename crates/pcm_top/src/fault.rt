@@ -3,9 +3,10 @@ ghost use Rattle.std.specs.Prelude.{◌≡◌, ◌≤◌, OnOk, OnErr, length, d
 ghost use Rattle.std.specs.Io.KnownBytes.{Appends};
 ghost use Rattle.pcm_io.specs.Faults.{Rose};
 ghost use Rattle.pcm_io.specs.Giving.{AppendsPrefix};
-ghost use Rattle.pcm_top.specs.FaultLines.{kind_word, fault_line, status_of, joined};
+ghost use Rattle.pcm_top.specs.FaultLines.{kind_word, image_word, fault_line, status_of, joined};
 
 use itoa::Buffer;
+use pcm_image::{ImageFault, ImageKind};
 use pcm_io::{Sink, WriteFault, write_all};
 use trace_reader::{Kind, TraceFault};
 
@@ -16,6 +17,8 @@ pub enum Fault {
     Usage,
     /// The trace has a fault.
     Trace(TraceFault),
+    /// The bytes that are to be shown aren't an image.
+    Image(ImageFault),
     /// This row of the results is none, of the trace before them; row 0 is the header.
     Results(u32),
     /// The source couldn't be read.
@@ -34,7 +37,7 @@ pub fn status(fault: Fault) -> u8
 {
     match fault {
         Fault::Usage => 2,
-        Fault::Trace(_) | Fault::Results(_) => 3,
+        Fault::Trace(_) | Fault::Results(_) | Fault::Image(_) => 3,
         Fault::Read => 4,
         Fault::Write => 5,
         Fault::TooLong => 6,
@@ -53,6 +56,20 @@ fn word(kind: Kind) -> &'static [u8]
         Kind::Op => b"op",
         Kind::Line => b"line",
         Kind::Payload => b"payload",
+    }
+}
+
+fn image_word_of(kind: ImageKind) -> &'static [u8]
+    ensures { result.now ≡ image_word kind }
+{
+    match kind {
+        ImageKind::Short => b"short",
+        ImageKind::Magic => b"magic",
+        ImageKind::Size => b"size",
+        ImageKind::Shape => b"shape",
+        ImageKind::Bank => b"bank",
+        ImageKind::Entry => b"entry",
+        ImageKind::Extra => b"extra",
     }
 }
 
@@ -87,6 +104,24 @@ fn tell_trace<F: Sink>(fault: TraceFault, err: &mut F) -> Result<(), WriteFault>
     write_parts(&parts, err)
 }
 
+fn tell_image<F: Sink>(fault: ImageFault, err: &mut F) -> Result<(), WriteFault>
+    ensures ok { OnOk result (Appends (F.written err.old) (F.written err.new) (fault_line (Fault.Image fault))) }
+    ensures prefix { OnErr result (AppendsPrefix (F.written err.old) (F.written err.new) (fault_line (Fault.Image fault))) }
+    ensures fault { OnErr result (Rose (F.faults err.old) (F.faults err.new)) }
+    ensures never_falls { F.faults err.old ≤ F.faults err.new }
+{
+    let mut digits = Buffer::new();
+    let at = digits.format(fault.at).as_bytes();
+    let parts = [
+        b"image byte ".as_slice(),
+        at,
+        b": ".as_slice(),
+        image_word_of(fault.kind),
+        b"\n".as_slice(),
+    ];
+    write_parts(&parts, err)
+}
+
 fn tell_results<F: Sink>(row: u32, err: &mut F) -> Result<(), WriteFault>
     ensures ok { OnOk result (Appends (F.written err.old) (F.written err.new) (fault_line (Fault.Results row))) }
     ensures prefix { OnErr result (AppendsPrefix (F.written err.old) (F.written err.new) (fault_line (Fault.Results row))) }
@@ -107,9 +142,10 @@ pub fn tell<F: Sink>(fault: Fault, err: &mut F) -> Result<(), WriteFault>
     ensures never_falls { F.faults err.old ≤ F.faults err.new }
 {
     match fault {
-        Fault::Usage => write_all(err, b"usage: pcm run|gen|map|moves|check [options]\n"),
+        Fault::Usage => write_all(err, b"usage: pcm run|gen|map|moves|show|check [options]\n"),
         Fault::Trace(fault) => tell_trace(fault, err),
         Fault::Results(row) => tell_results(row, err),
+        Fault::Image(fault) => tell_image(fault, err),
         Fault::Read => write_all(err, b"read fault\n"),
         Fault::Write => write_all(err, b"write fault\n"),
         Fault::TooLong => write_all(err, b"trace too long\n"),

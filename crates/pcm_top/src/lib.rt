@@ -13,6 +13,7 @@ mod program;
 mod replay;
 mod report;
 mod run;
+mod show;
 mod wear;
 
 pub use check::CHECK_ROOM;

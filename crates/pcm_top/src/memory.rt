@@ -1,5 +1,5 @@
 // The memory of a run.
-ghost use Rattle.std.specs.Prelude.{◌≡◌, ◌≤◌, IfOk};
+ghost use Rattle.std.specs.Prelude.{◌≡◌, ◌≤◌, IfOk, Some};
 ghost use Rattle.pcm_io.specs.Reserved.{reserved};
 ghost use Rattle.ecp_line.specs.Layout.{IsLayout};
 ghost use Rattle.command_line.specs.Jobs.{IsRun};
@@ -26,6 +26,7 @@ pub fn take_memory<const B: usize, const M: usize, const E: usize, A: CellArray<
     requires wide { 16 ≤ B }
     requires job { IsRun job.now }
     ensures ready { IfOk result (λ taken. IsReady job.now.shape job.now.seed rows taken.0 (A.state array.new) taken.1) }
+    ensures wear { IfOk result (λ taken. (A.state array.new).wear ≡ Some job.now.wear) }
     ensures text { IfOk result (λ taken. taken.2 ≡ reserved TEXT_ROOM) }
 {
     array.power_up(alloc, job.shape.array_lines(), job.wear)?;

@@ -8,10 +8,16 @@ ghost use Rattle.module_shape.specs.Addresses.{array_lines_of, module_of};
 ghost use Rattle.end_laws.specs.Ends.{BankEnd};
 ghost use Rattle.run_text.specs.ResultText.{ArePrintable};
 ghost use Rattle.pcm_module.specs.State.{AreEndsOf};
+ghost use Rattle.ecp_line.specs.Layout.{IsLayout};
+ghost use Rattle.module_shape.specs.Limits.{IsShape};
+ghost use Rattle.image_laws.specs.SavedRuns.{AreRows, SensedSince};
+ghost use Rattle.pcm_top.specs.Played.{IsPlayed};
 ghost use Rattle.pcm_top.specs.RunText.{HaveRoles, IsRunText};
 
 use crate::wear::print_wear;
 use command_line::Print;
+use image_laws::images_are_of_their_runs;
+use image_text::print_image;
 use pcm_cells::CellArray;
 use pcm_io::{Sink, Text, WriteFault};
 use pcm_module::module::Module;
@@ -20,33 +26,42 @@ use result_summary::sum_pulses;
 use run_text::{TEXT_ROOM, print_counts, print_results};
 use trace_reader::{Event, MOST_ROWS};
 
-/// Writes what is asked for of a run that was made: its results, its summary or its wear report.
+/// Writes what is asked for of a run that was made: its results, its summary, its wear report or its image. For an image each
+/// line of the array is sensed once more; otherwise nothing happens to the array.
 pub fn print_run<const B: usize, const M: usize, const E: usize, A: CellArray<B, M>, K: Sink>(
     print: Print,
     pcm: &Module<B, M, E>,
-    array: &A,
+    seed: u64,
+    array: &mut A,
     events: &[Event<B>],
     results: &Results<B>,
     text: &mut Text,
     out: &mut K,
 ) -> Result<(), WriteFault>
-    requires small { B ≤ 128 }
+    requires layout { IsLayout B M E }
     requires room { text.old ≡ reserved TEXT_ROOM }
     requires rows { length events.now ≤ MOST_ROWS }
     requires printable { ArePrintable events.now results.now }
-    requires size { (A.state array.now).lines ≡ pcm.now.shape.banks * array_lines_of (module_of pcm.now.shape) }
+    requires seed { seed ≡ pcm.now.seed }
+    requires shape { IsShape pcm.now.shape }
+    requires played { IsPlayed pcm.now events.now results.now (A.state array.old) }
+    requires size { (A.state array.old).lines ≡ pcm.now.shape.banks * array_lines_of (module_of pcm.now.shape) }
     ensures ok { OnOk result ((ends : ℕ → BankEnd) → AreEndsOf pcm.now ends → HaveRoles pcm.now.shape pcm.now.seed ends
-        → (whole : List ℕ) × IsRunText pcm.now.shape pcm.now.seed events.now results.now ends (A.state array.now) print whole
+        → (whole : List ℕ) × IsRunText pcm.now.shape pcm.now.seed E events.now results.now ends (A.state array.new) print whole
         × Appends (K.written out.old) (K.written out.new) whole) }
     ensures prefix { OnErr result ((ends : ℕ → BankEnd) → AreEndsOf pcm.now ends → HaveRoles pcm.now.shape pcm.now.seed ends
-        → (whole : List ℕ) × IsRunText pcm.now.shape pcm.now.seed events.now results.now ends (A.state array.now) print whole
+        → (whole : List ℕ) × IsRunText pcm.now.shape pcm.now.seed E events.now results.now ends (A.state array.new) print whole
         × AppendsPrefix (K.written out.old) (K.written out.new) whole) }
+    ensures sensed { SensedSince (A.state array.old) (A.state array.new) }
+    ensures rows { OnOk result (print ≡ Print.Image → AreRows (A.state array.new)) }
     ensures fault { OnErr result (Rose (K.faults out.old) (K.faults out.new)) }
     ensures never_falls { K.faults out.old ≤ K.faults out.new }
 {
+    images_are_of_their_runs();
     match print {
         Print::Results => print_results(events, results, text, out),
         Print::Summary => print_counts(results, pcm.retired(), sum_pulses(array), text, out),
         Print::Wear => print_wear(pcm, array, text, out),
+        Print::Image => print_image(pcm, seed, array, text, out),
     }
 }

@@ -17,6 +17,7 @@ use crate::drawn::write_drawn;
 use crate::fault::{Fault, status, tell};
 use crate::report::{report_map, report_moves};
 use crate::run::{Done, run};
+use crate::show::show;
 use command_line::{Job, LineSize, Refusal, RunJob, read_job};
 use pcm_cells::CellArray;
 use pcm_io::{Sink, Source};
@@ -119,6 +120,7 @@ fn carry_out<A: CellArray<64, 8>, V: CellArray<128, 16>, S: Source, K: Sink>(
         Job::Gen(job) => whole(write_drawn(alloc, job, out)),
         Job::Map(job) => whole(report_map(alloc, job, out)),
         Job::Moves(job) => whole(report_moves(alloc, job, out)),
+        Job::Show => whole(show(alloc, source, out)),
         Job::Check(job) => report_check(alloc, job, source, out),
     }
 }
@@ -150,7 +152,8 @@ fn work<A: CellArray<64, 8>, V: CellArray<128, 16>, S: Source, K: Sink>(
 
 /// Runs the program on the words behind its name, and answers its status: 0 the work is done, 1 a run is done in which some
 /// row was refused, lost or left in a queue, or results were checked of which a row breaks a rule, 2 the words ask for no job,
-/// 3 the trace or its results have a fault, 4 reading failed, 5 writing failed, 6 the trace is too long, 7 memory ran out. A run is made on the array of its lines, which is powered up first:
+/// 3 the trace, its results or the image have a fault, 4 reading failed, 5 writing failed, 6 there are too many bytes or rows, 7 memory
+/// ran out. A run is made on the array of its lines, which is powered up first:
 /// `array` for lines of 64 bytes, `wide` for lines of 128.
 pub fn pcm_run<A: CellArray<64, 8>, V: CellArray<128, 16>, S: Source, K: Sink, F: Sink>(
     alloc: Global,
@@ -187,7 +190,7 @@ pub fn pcm_run<A: CellArray<64, 8>, V: CellArray<128, 16>, S: Source, K: Sink, F
         × (out.new ≡ out.old)
         × (t.fault ≢ Fault.NoMemory → (array.new ≡ array.old) × (wide.new ≡ wide.old))) }
 
-    // Only a run of a trace that is read and a check touch the source, and only a run over lines of its size touches an array.
+    // Only a run of a trace that is read, `show` and a check touch the source, and only a run over lines of its size touches an array.
     ensures unread { reads_source (job_of (map string_bytes words.now)) ≡ false → source.new ≡ source.old }
     ensures narrow { runs_on Bytes64 (job_of (map string_bytes words.now)) ≡ false → array.new ≡ array.old }
     ensures wide { runs_on Bytes128 (job_of (map string_bytes words.now)) ≡ false → wide.new ≡ wide.old }

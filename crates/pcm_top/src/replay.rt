@@ -8,6 +8,7 @@ ghost use Rattle.run_laws.specs.Runs.{RunsRight};
 ghost use Rattle.pcm_module.specs.State.{AreEndsOf};
 ghost use Rattle.pcm_top.specs.Ready.{IsReady};
 ghost use Rattle.pcm_top.specs.Rows.{rows_of};
+ghost use Rattle.pcm_top.specs.Played.{IsPlayed};
 
 use pcm_cells::CellArray;
 use pcm_module::module::Module;
@@ -30,6 +31,8 @@ pub fn replay<const B: usize, const M: usize, const E: usize, A: CellArray<B, M>
     ensures table { length results.new ≡ length events.now }
     ensures right { (ends : ℕ → BankEnd) × AreEndsOf pcm.new ends
         × RunsRight E pcm.new.shape pcm.new.seed (rows_of events.now results.new) (A.state array.new) ends }
+    ensures played { IsPlayed pcm.new events.now results.new (A.state array.new) }
+    ensures wear { (A.state array.new).wear ≡ (A.state array.old).wear }
 {
     for (i, event) in events.iter().enumerate() {
         pcm.event(array, i as u32 + 1, event, results);

@@ -14,6 +14,7 @@ use crate::memory::take_memory;
 use crate::print::print_run;
 use crate::replay::replay;
 use command_line::RunJob;
+use image_laws::sensed_runs_stay_right;
 use pcm_cells::CellArray;
 use pcm_io::{Sink, Source};
 use result_rows::Results;
@@ -75,10 +76,12 @@ pub fn run<const B: usize, const M: usize, const E: usize, A: CellArray<B, M>, S
         Err(_) => return Err(Fault::NoMemory),
     };
     right_runs_can_be_printed();
+    sensed_runs_stay_right();
     replay(&mut pcm, array, events.as_slice(), &mut results);
     let written = print_run(
         job.print,
         &pcm,
+        job.seed,
         array,
         events.as_slice(),
         &results,

@@ -1,8 +1,8 @@
 pub mod Asked
-mod Counts
-mod Working
+pub mod Counts
+pub mod Working
 pub mod Moves
-mod Storing
+pub mod Storing
 pub mod Tables
 pub mod Slots
 pub mod Splits
@@ -10,9 +10,11 @@ pub mod Placed
 mod Owners
 pub mod WornOut
 mod Taken
-mod Pulsing
-mod Trying
-mod Cancels
-mod Pulses
+pub mod Pulsing
+pub mod Trying
+pub mod Cancels
+pub mod Pulses
 pub mod Moved
 mod Places
+mod GapMoves
+mod Worked

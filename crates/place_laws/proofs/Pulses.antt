@@ -63,7 +63,7 @@ bounded steps times all most le =
 
 module _ {n m : ℕ} (shape : BankShape) (all : List (Timed n m)) where
   -- the cuts by the rows are those by the events
-  cuts-counted : (ys : List (Timed n m)) → sum_by (λ (r : Row n). one_if (is_cut r)) (rows_from shape all ys) ≡ cuts_in ys
+  pub cuts-counted : (ys : List (Timed n m)) → sum_by (λ (r : Row n). one_if (is_cut r)) (rows_from shape all ys) ≡ cuts_in ys
   cuts-counted [] = refl
   cuts-counted (x ∷ ys) = by x.happens x.cancels (cuts-counted ys)
     where

@@ -70,7 +70,7 @@ module _ {n : ℕ} (shape : BankShape) where
       by true = omega arith
       by false = away
 
-  away-more : (event : Event n) (h : List (Event n)) (slot : ℕ) → IsAway h slot → IsAway (event ∷ h) slot
+  pub away-more : (event : Event n) (h : List (Event n)) (slot : ℕ) → IsAway h slot → IsAway (event ∷ h) slot
   away-more (Write row line bytes given answer) h slot away = away
   away-more (Read row line answer) h slot away = away
   away-more (Serve answer) h slot away = away

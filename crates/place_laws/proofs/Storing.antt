@@ -29,7 +29,7 @@ use Rattle.place_laws.proofs.Asked.{queue-wrote, wrote-line}
 use Rattle.place_laws.proofs.Counts.{one_if, writes_with, stores_with, writes-same, writes-more}
 use Rattle.place_laws.proofs.Working.{IsStoreOf, done-store}
 
-none_first : (k b : Bool) (rest all : ℕ) → b ≡ false → rest ≡ all → one_if (k && b) + rest ≡ all
+pub none_first : (k b : Bool) (rest all : ℕ) → b ≡ false → rest ≡ all → one_if (k && b) + rest ≡ all
 none_first true true rest all isnt is = absurd (cc)
 none_first true false rest all isnt is = omega (arith, is)
 none_first false b rest all isnt is = omega (arith, is)

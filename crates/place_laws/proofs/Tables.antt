@@ -25,12 +25,12 @@ ended-before t tick _ = refl
 
 module _ {n m : ℕ} (shape : BankShape) (all : List (Timed n m)) where
   -- a test of the writes of some lines by their outcomes
-  record IsOfWrites (test : Row n → Bool) (keep : ℕ → Bool) (counts : Outcome n → Bool) : Type 0 where
-    writes : (tick line : ℕ) (bytes : List ℕ) (given : List Bool) (o : Outcome n) → test (record { tick = tick; asks = Writes line bytes given; outcome = ended tick o }) ≡ (keep line && counts o)
-    reads : (tick line : ℕ) (o : Outcome n) → test (record { tick = tick; asks = Reads line; outcome = o }) ≡ false
-    cuts : (tick : ℕ) (o : Outcome n) → test (record { tick = tick; asks = Cuts; outcome = o }) ≡ false
+  pub record IsOfWrites (test : Row n → Bool) (keep : ℕ → Bool) (counts : Outcome n → Bool) : Type 0 where
+    pub writes : (tick line : ℕ) (bytes : List ℕ) (given : List Bool) (o : Outcome n) → test (record { tick = tick; asks = Writes line bytes given; outcome = ended tick o }) ≡ (keep line && counts o)
+    pub reads : (tick line : ℕ) (o : Outcome n) → test (record { tick = tick; asks = Reads line; outcome = o }) ≡ false
+    pub cuts : (tick : ℕ) (o : Outcome n) → test (record { tick = tick; asks = Cuts; outcome = o }) ≡ false
 
-  rows-counted : (test : Row n → Bool) (keep : ℕ → Bool) (counts : Outcome n → Bool) → IsOfWrites test keep counts → (ys : List (Timed n m))
+  pub rows-counted : (test : Row n → Bool) (keep : ℕ → Bool) (counts : Outcome n → Bool) → IsOfWrites test keep counts → (ys : List (Timed n m))
       → sum_by (λ r. one_if (test r)) (rows_from shape all ys) ≡ writes_with keep (λ row. counts (outcome_of shape all row)) (core ys)
   rows-counted test keep counts is [] = refl
   rows-counted test keep counts is (x ∷ ys) = by x.happens x.cancels (rows-counted test keep counts is ys)

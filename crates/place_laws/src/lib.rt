@@ -5,6 +5,7 @@
 
 ghost use Rattle.std.specs.Prelude.{ℕ};
 ghost use Rattle.bank_laws.specs.Laws.{PlaceLaw};
+ghost use Rattle.place_laws.specs.GapMoves.{FullTurnLaw, GapMovesLaw};
 ghost use Rattle.place_laws.specs.PlaceLaws.{MovedLaw, PlacedLaw, PulsesLaw, TakenLaw, WornLaw};
 
 /// Each row carries the array line where its line stood at its tick, by the closed form of the rotation at the moves that
@@ -34,6 +35,18 @@ pub fn pulses_are_few()
 /// the bank was worn out before it.
 pub fn gaps_move_with_stores()
     ensures { MovedLaw }
+{}
+
+/// Each gap move of a region is the one that the closed form of the rotation gives for the number of the region's moves before
+/// it: the same line, from the same place into the same place.
+pub fn gap_moves_are_those_of_the_rotation()
+    ensures { GapMovesLaw }
+{}
+
+/// Any n*(n+1) successive gap moves of a region of n lines copy each of its lines into each of its n+1 places exactly once, with
+/// cuts, retirements and other regions' moves between them or not.
+pub fn full_turns_copy_each_line_into_each_place_once()
+    ensures { FullTurnLaw }
 {}
 
 /// The law of the places and of wear: the first four of these together.

@@ -24,6 +24,8 @@ pub struct Case {
     pub source_fails: Vec<u32>,
     pub out_fails: Vec<u32>,
     pub err_fails: Vec<u32>,
+    /// Each sink takes one byte a call.
+    pub one_byte: bool,
     /// The array lines that are shown behind the run.
     pub shown: Vec<u32>,
     /// How many rows of the output are shown, the last ones, where not all are.
@@ -51,6 +53,7 @@ impl Case {
             source_fails: Vec::new(alloc),
             out_fails: Vec::new(alloc),
             err_fails: Vec::new(alloc),
+            one_byte: false,
             shown: Vec::new(alloc),
             last: None,
             cuts: None,
@@ -99,6 +102,7 @@ impl Case {
             "source-fails" => take_numbers(&mut self.source_fails, rest)?,
             "out-fails" => take_numbers(&mut self.out_fails, rest)?,
             "err-fails" => take_numbers(&mut self.err_fails, rest)?,
+            "one-byte" => self.one_byte = true,
             "show" => take_numbers(&mut self.shown, rest)?,
             "last" => self.last = Some(rest.parse::<usize>()?),
             "cuts" => self.cuts = Some(rest.parse::<u32>()?),

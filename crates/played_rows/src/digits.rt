@@ -1,5 +1,6 @@
 // Short forms of long digits: `[ab]` stands for the digits of a line whose bytes are all 0xab, `[ee 11]` for 0xee and then
-// 0x11 everywhere, `[ee ..]` for 0xee as the only byte given. `[cr]` is a carriage return, and `[-]` ends a text there.
+// 0x11 everywhere, `[ee ..]` for 0xee as the only byte given, `[0 * 70]` for seventy characters `0`. `[cr]` is a carriage return,
+// `[nul]` the character 0, `[bom]` a byte order mark, and `[-]` ends a text there.
 use std::alloc::{AllocError, Global};
 
 /// A line of text with the digits that its short forms stand for.
@@ -23,16 +24,27 @@ pub fn written_out(alloc: Global, line: &str, line_bytes: usize) -> Result<Strin
 fn push_digits(text: &mut String, form: &str, line_bytes: usize) -> Result<(), AllocError> {
     match form {
         "cr" => text.push('\r'),
+        "nul" => text.push('\0'),
+        "bom" => text.push('\u{feff}'),
         "-" => Ok(()),
-        _ => {
-            let (first, other) = form.split_once(' ').unwrap_or((form, form));
-            text.push_str(first)?;
-            for _ in 1..line_bytes {
-                text.push_str(other)?;
+        _ => match form.split_once(" * ") {
+            Some((repeated, times)) => {
+                push_times(text, repeated, times.parse::<usize>().unwrap_or(0))
             }
-            Ok(())
-        }
+            None => {
+                let (first, other) = form.split_once(' ').unwrap_or((form, form));
+                text.push_str(first)?;
+                push_times(text, other, line_bytes.saturating_sub(1))
+            }
+        },
     }
+}
+
+fn push_times(text: &mut String, part: &str, times: usize) -> Result<(), AllocError> {
+    for _ in 0..times {
+        text.push_str(part)?;
+    }
+    Ok(())
 }
 
 /// A field of a row, in its short form where it has one.

@@ -5,6 +5,7 @@
 mod case;
 mod digits;
 mod play;
+mod sink;
 mod tally;
 
 use case::Case;

@@ -3,15 +3,13 @@ ghost use Rattle.pcm_cells.specs.Shape.{IsShape};
 
 use crate::case::Case;
 use crate::digits::in_short;
+use crate::sink::CaseSink;
 use crate::tally::Tally;
 use pcm_cells::{CellArray, Cells, MemArray, ScriptArray};
-use pcm_io::{MemSink, MemSource};
+use pcm_io::MemSource;
 use pcm_top::pcm_run;
 use std::alloc::{AllocError, Global};
 use std::str;
-
-// Bytes that a sink has room for.
-const SINK_ROOM: usize = 4_194_304;
 
 /// What a run answered.
 #[derive(Drop)]
@@ -97,15 +95,15 @@ fn run<A: CellArray<64, 8>, V: CellArray<128, 16>>(
 #[derive(Drop)]
 struct Ends {
     source: MemSource,
-    out: MemSink,
-    err: MemSink,
+    out: CaseSink,
+    err: CaseSink,
 }
 
 impl Ends {
     fn new(alloc: Global, case: &Case, trace: &[u8]) -> Result<Ends, AllocError> {
         let source = source(alloc, case, trace)?;
-        let out = sink(alloc, &case.out_fails)?;
-        let err = sink(alloc, &case.err_fails)?;
+        let out = CaseSink::new(alloc, &case.out_fails, case.one_byte)?;
+        let err = CaseSink::new(alloc, &case.err_fails, case.one_byte)?;
         Ok(Ends { source, out, err })
     }
 
@@ -127,12 +125,7 @@ fn source(alloc: Global, case: &Case, trace: &[u8]) -> Result<MemSource, AllocEr
     Ok(MemSource::new(bytes, fails))
 }
 
-fn sink(alloc: Global, fails: &Vec<u32>) -> Result<MemSink, AllocError> {
-    let fails = Vec::from_slice(alloc, fails.as_slice())?;
-    MemSink::new(alloc, SINK_ROOM, fails)
-}
-
-fn text_in(alloc: Global, sink: &MemSink) -> Result<String, AllocError> {
+fn text_in(alloc: Global, sink: &CaseSink) -> Result<String, AllocError> {
     let text = str::from_utf8(sink.written()).unwrap_or("no text\n");
     String::from_str(alloc, text)
 }

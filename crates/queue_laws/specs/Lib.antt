@@ -1,1 +1,2 @@
 pub mod QueueLaws
+pub mod EntryLaws

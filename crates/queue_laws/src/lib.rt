@@ -4,6 +4,7 @@
 
 ghost use Rattle.std.specs.Prelude.{ℕ};
 ghost use Rattle.bank_laws.specs.Room.{RoomLaw};
+ghost use Rattle.queue_laws.specs.EntryLaws.{EntryBytesLaw, EntryLineLaw, LastWriteLaw};
 ghost use Rattle.queue_laws.specs.QueueLaws.{ForwardLaw, PairsFewLaw, QueueFairLaw, RefusalLaw};
 
 /// At each row at most two writes of one line stand in the queue, and two only where the older one came at an earlier tick, is
@@ -34,4 +35,20 @@ pub fn reads_are_forwarded_exactly()
 /// Each row finds a bank that holds no more than it may, and its own answer is the one that follows from what it finds.
 pub fn rows_are_fair_to_the_queue()
     ensures { QueueFairLaw }
+{}
+
+/// An entry of the queue has the line of its own write, which was accepted or merged.
+pub fn entries_have_the_lines_of_their_writes()
+    ensures { EntryLineLaw }
+{}
+
+/// An entry gives exactly the bytes that its own write and those before it in its entry give, the later laid over the earlier. The
+/// head alone gives every byte once a store of it was begun, and still theirs where they give one.
+pub fn entries_give_what_their_writes_give()
+    ensures { EntryBytesLaw }
+{}
+
+/// The newest entry of a line has as its own write the line's last one that was accepted or merged.
+pub fn newest_entries_are_of_last_writes()
+    ensures { LastWriteLaw }
 {}

@@ -9,6 +9,8 @@ use Rattle.line_writer.specs.declared.writer.LineWriter.{LineWriter}
 use Rattle.line_writer.specs.declared.writer.Progress.{Progress}
 use Rattle.line_writer.specs.declared.writer.Progress.TheVariants as progress
 use Rattle.line_writer.specs.Writing.{Writes, IsProgress, HasBegun, IsWorn}
+use Rattle.line_writer.specs.Untouched.{HasUntouched, AreUntouched}
+use Rattle.line_writer.proofs.Untouched.{AreUntouched-same, AreUntouched-beside}
 use Rattle.bank_model.specs.declared.answer.Keep.TheVariants as keep
 use Rattle.reg_lines.specs.declared.Change.{Change}
 use Rattle.reg_lines.specs.declared.regs.RegLines.TheInside.{Inside}
@@ -49,6 +51,7 @@ module _ {n m e : ℕ} where
     pub going : regs.halted ≡ false
     pub exist : regs.base + regs.items ≤ array.lines
     pub sound : (item : ℕ) → item < regs.items → IsSoundLine e (array.line (regs.base + item))
+    pub unused : AreUntouched e array regs.base regs.items
     pub bytes : writer.bytes ≡ encoded n change.values
     pub writes : Writes writer (array.line (regs.base + change.item))
     pub worn : IsWorn writer.progress → IsWornLine e (array.line (regs.base + change.item))
@@ -62,13 +65,15 @@ module _ {n m e : ℕ} where
       by progress.More is = record {
         exist = h.exist;
         sound = h.sound;
+        unused = h.unused;
         writing = rw h.stands (record { bytes = h.bytes; more = is; writes = h.writes });
         halted = λ yes. let no = sym h.going ∙ yes in cc;
       }
-      by progress.Stored is = record { exist = h.exist; sound = h.sound; writing = tt; halted = λ yes. let no = sym h.going ∙ yes in cc }
+      by progress.Stored is = record { exist = h.exist; sound = h.sound; unused = h.unused; writing = tt; halted = λ yes. let no = sym h.going ∙ yes in cc }
       by (progress.Worn cause) is = record {
         exist = h.exist;
         sound = h.sound;
+        unused = h.unused;
         writing = tt;
         halted = λ yes. rw h.stands (h.worn (subst IsWorn (sym is) tt));
       }
@@ -108,6 +113,7 @@ module _ {n m e : ℕ} where
   held-same regs before after held lines same item = record {
     exist = rw lines held.exist;
     sound = λ i below. subst (λ (l : LineState n m). IsSoundLine e l) (sym (same i below)) (held.sound i below);
+    unused = AreUntouched-same e before after regs.base regs.items same held.unused;
     writing = by-writer regs.writer regs.change item held.writing;
     halted = λ yes. by-halted regs.change item (held.halted yes);
   }
@@ -133,17 +139,19 @@ module _ {n m e : ℕ} where
   -- a cut ends the line write; the line that it tears is sound
   pub held-broken : (regs : RegsState n m e) (before after : ArrayState n m) (change : Change) → AreHeld regs before → regs.change ≡ Some change → regs.halted ≡ false
       → after.lines ≡ before.lines → ((at : ℕ) → at ≢ regs.base + change.item → after.line at ≡ before.line at)
-      → IsSoundLine e (after.line (regs.base + change.item)) → AreHeld (broken_off regs) after
-  held-broken regs before after change held stands going lines others sound = record {
+      → IsSoundLine e (after.line (regs.base + change.item))
+      → (HasUntouched e (before.line (regs.base + change.item)) → HasUntouched e (after.line (regs.base + change.item))) → AreHeld (broken_off regs) after
+  held-broken regs before after change held stands going lines others sound unused = record {
     exist = rw lines held.exist;
     sound = sound-beside regs before after change.item held others sound;
+    unused = AreUntouched-beside e before after (regs.base + change.item) regs.base regs.items others unused held.unused;
     writing = tt;
     halted = λ yes. let no = sym going ∙ yes in cc;
   }
 
   -- and one that tears none leaves every line
   pub held-stopped : (regs : RegsState n m e) (array : ArrayState n m) → AreHeld regs array → AreHeld (broken_off regs) array
-  held-stopped regs array held = record { exist = held.exist; sound = held.sound; writing = tt; halted = held.halted }
+  held-stopped regs array held = record { exist = held.exist; sound = held.sound; unused = held.unused; writing = tt; halted = held.halted }
 
   -- a change that is being written hasn't halted
   pub running-going : (regs : RegsState n m e) (writer : LineWriter n m e) → regs.writer ≡ Some writer → (IsTrue regs.halted → regs.writer ≡ None) → regs.halted ≡ false

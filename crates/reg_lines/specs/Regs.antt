@@ -7,6 +7,7 @@ use Rattle.ecp_line.specs.Reading.{decode, is_worn_line}
 use Rattle.line_writer.specs.declared.writer.LineWriter.{LineWriter}
 use Rattle.line_writer.specs.declared.writer.Progress.TheVariants as progress
 use Rattle.line_writer.specs.Writing.{Writes}
+use Rattle.line_writer.specs.Untouched.{AreUntouched}
 use Rattle.reg_lines.specs.declared.Change.{Change}
 use Rattle.reg_lines.specs.Values.{encoded, values_in}
 
@@ -44,10 +45,12 @@ module _ {n m e : ℕ} where
     pub more : writer.progress ≡ progress.More
     pub writes : Writes writer line
 
-  -- the control lines are sound, what is written is the change, and where it has halted its control line is worn
+  -- the control lines are sound, and their unused check cells untouched; what is written is the change, and where it has halted its
+  -- control line is worn
   pub record AreHeld (regs : RegsState n m e) (array : ArrayState n m) : Type 0 where
     pub exist : regs.base + regs.items ≤ array.lines
     pub sound : (item : ℕ) → item < regs.items → Sound n m e (cell (array.line (regs.base + item)).held) (array.line (regs.base + item)).stuck
+    pub unused : AreUntouched e array regs.base regs.items
     pub writing : IfSome regs.writer (λ writer. IsSomeAnd regs.change (λ change. IsWritingOf writer (array.line (regs.base + change.item)) change))
     pub halted : IsTrue regs.halted
         → IsSomeAnd regs.change (λ change. IsTrue (is_worn_line e (array.line (regs.base + change.item)).held (array.line (regs.base + change.item)).stuck))

@@ -3,6 +3,7 @@ use Rattle.std.proofs.Common.{◌≡◌, ◌+◌, ◌<◌, Option, Some, None, s
 use Rattle.std.specs.Prelude.{IfSome, IsSomeAnd, IsTrue}
 use Rattle.ecp_line.specs.Reading.{decode, is_worn_line}
 use Rattle.line_writer.specs.declared.writer.LineWriter.{LineWriter}
+use Rattle.line_writer.proofs.Untouched.{AreUntouched-same}
 use Rattle.bank_shape.specs.Shape.{controls_of, controls_from}
 use Rattle.reg_lines.specs.declared.Change.{Change}
 use Rattle.reg_lines.specs.Values.{values_in}
@@ -18,6 +19,7 @@ put_law n m e item old new regs before after change control none changes exists 
   held = record {
     exist = rw leaves.lines control.held.exist;
     sound = λ i below. rw (leaves.controls i below) (control.held.sound i below);
+    unused = AreUntouched-same e before after _ _ leaves.controls control.held.unused;
     writing = no-writer regs.writer control.held.writing;
     halted = λ yes. absurd (subst (λ (c : Option Change). IsSomeAnd c (λ change. IsTrue (is_worn_line e (before.line (regs.base + change.item)).held (before.line (regs.base + change.item)).stuck))) none (control.held.halted yes));
   };

@@ -4,6 +4,7 @@ use Rattle.std.specs.Prelude.{IfSome}
 use Rattle.std.proofs.lemmas.Bool.{ne_eqb}
 use Rattle.std.proofs.lemmas.List.{get_or-replicate}
 use Rattle.ecp_line.proofs.Blank.{Sound-blank, decode-blank}
+use Rattle.line_writer.proofs.Untouched.{untouched-blank}
 use Rattle.region_regs.specs.Region.{RegionState, first_region}
 use Rattle.bank_shape.specs.declared.BankShape.{BankShape}
 use Rattle.bank_shape.specs.Shape.{control_line}
@@ -65,6 +66,7 @@ start_law n m e shape array room exist blank = record {
   held = record {
     exist = omega (arith, exist);
     sound = λ item below. Sound-blank n m e _ _ (blank item below).held;
+    unused = λ item below. untouched-blank e (array.line (control_line shape item)) (blank item below);
     writing = tt;
     halted = λ yes. cc;
   };

@@ -1,18 +1,16 @@
 -- The pass over all rows.
-use Rattle.std.proofs.Common.{◌≡◌, ℕ, zero, suc, ◌+◌, ◌-◌, ◌<◌, ◌≤◌, ◌&&◌, ◌⊎◌, inl, inr, Bool, true, false, List, [], ◌∷◌, ◌++◌, length, take, drop, get_or, reverse, Option, Some, None, refl, sym, ap, ◌∙◌, cond, subst, append_assoc, arith}
+use Rattle.std.proofs.Common.{◌≡◌, ℕ, zero, suc, ◌+◌, ◌<◌, ◌≤◌, ◌&&◌, Bool, true, false, List, [], ◌∷◌, ◌++◌, length, take, drop, get_or, reverse, Option, Some, None, refl, sym, ap, ◌∙◌, cond, subst, arith}
 use Rattle.std.specs.Prelude.{All, IsPermutation, slice_get, nat_le, max, replicate}
 use Rattle.std.specs.List.Sorted.{IsNonDecreasing}
 use Rattle.std.proofs.lemmas.Bool.{leb-true, le-leb}
 use Rattle.std.proofs.lemmas.Option.{get_or_from_slice_get}
-use Rattle.std.proofs.lemmas.List.{length-drop, reverse-reverse, length-append, take_more, take_all, reverse-append, length-reverse, length-take, length-take-le, take-append-drop}
+use Rattle.std.proofs.lemmas.List.{length-drop, reverse-reverse, length-append, reverse-append, length-reverse, length-take, take-append-drop}
 use Rattle.std.proofs.lemmas.List.Elements.{All-take, All-cons}
 use Rattle.std.proofs.lemmas.List.Sorted.{All-permutation, IsPermutation-reverse, IsNonDecreasingBy-drop, length_permutation}
 use Rattle.std.proofs.Math.ListN.{get_or-append}
-use Rattle.std.proofs.Math.Seq.{get_or-append_seam, drop-cons}
-use Rattle.trace_reader.specs.declared.event.EventOp.{EventOp}
+use Rattle.std.proofs.Math.Seq.{get_or-append_seam}
 use Rattle.result_rows.specs.declared.Outcome.{Outcome}
 use Rattle.result_rows.specs.declared.Outcome.TheVariants as out
-use Rattle.row_laws.specs.declared.Asks.{Asks}
 use Rattle.row_laws.specs.declared.Row.{Row}
 use Rattle.row_laws.specs.Rules.{Rules}
 use Rattle.row_laws.specs.Rows.{asks_cut, asks_read, asks_write, is_cut, line_of}
@@ -21,14 +19,12 @@ use Rattle.row_judging.specs.Keys.{key, store_key, store_keys, read_key, read_ke
 use Rattle.row_judging.specs.Rising.{rising}
 use Rattle.row_judging.specs.Runs.{GivesSized}
 use Rattle.row_verdict.specs.declared.Rule.{Rule}
-use Rattle.row_verdict.specs.declared.Verdict.{Verdict}
 use Rattle.row_verdict.specs.declared.lines.Line.{Line}
 use Rattle.masked_bytes.specs.Masked.{none_given}
 use Rattle.row_verdict.specs.Covering.{KeptLine}
 use Rattle.row_verdict.specs.declared.lines.Run.{Run}
 use Rattle.row_verdict.specs.States.{Facts, Stands, no_facts}
 use Rattle.row_verdict.specs.Tables.{around}
-use Rattle.row_verdict.specs.VerdictLaws.{HasKeys}
 use Rattle.row_verdict.specs.Verdicts.{bank_in, all_rules, broken_by, or_later, verdict_from, verdict_of, no}
 use Rattle.result_check.specs.declared.ahead.Coming.{Coming}
 use Rattle.result_check.specs.declared.found.Found.{Found}
@@ -37,9 +33,9 @@ use Rattle.result_check.specs.Keeping.{banks_from, facts_in, Knows, KnowsLines, 
 use Rattle.result_check.specs.Going.{GoesOn}
 use Rattle.result_check.specs.Tables.{IsTable, IsRowOf, IsFound, IsUsable}
 use Rattle.result_check.proofs.Finding.{none_left}
-use Rattle.result_check.proofs.Rows.{one_of_all, one_of_every, rising_behind, all_short_of_brief}
+use Rattle.result_check.proofs.Rows.{one_of_all, one_of_every, all_short_of_brief}
 use Rattle.result_check.specs.Lines.{IsFresh, AreFresh}
-use Rattle.result_check.proofs.Lists.{get_is, some_same}
+use Rattle.result_check.proofs.Lists.{some_same}
 use Rattle.std.proofs.Math.Nat.{le-max_left, le-max_right}
 
 first_of : (a b : Bool) → (a && b) ≡ true → a ≡ true

@@ -1,6 +1,6 @@
 -- What is kept of the rows that have passed.
-use Rattle.std.proofs.Common.{◌≡◌, ℕ, zero, suc, ◌+◌, ◌<◌, ◌≤◌, ◌&&◌, ◌⊎◌, inl, inr, Bool, true, false, List, [], ◌∷◌, ◌++◌, length, get_or, Option, Some, None, refl, sym, ap, ◌∙◌, cond, subst, arith}
-use Rattle.std.specs.Prelude.{All, slice_get, slice_set, unwrap_or, nat_lt}
+use Rattle.std.proofs.Common.{◌≡◌, ℕ, ◌+◌, ◌<◌, ◌≤◌, ◌⊎◌, inl, inr, true, List, [], length, Option, Some, None, refl, sym, ap, ◌∙◌, cond, subst, arith}
+use Rattle.std.specs.Prelude.{All, slice_get, slice_set, unwrap_or}
 use Rattle.std.proofs.lemmas.Bool.{cases_eq, cases_lt, eq-eqb, ne_eqb}
 use Rattle.std.proofs.lemmas.Option.{slice_get_past, unwrap_or-slice_get}
 use Rattle.std.proofs.Math.ListN.{length-set}

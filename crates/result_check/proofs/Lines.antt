@@ -1,20 +1,18 @@
 -- What is kept of a line, behind a row.
-use Rattle.std.proofs.Common.{◌≡◌, ℕ, zero, suc, ◌+◌, ◌<◌, ◌≤◌, ◌==◌, ◌&&◌, ◌⊎◌, inl, inr, Bool, true, false, List, [], ◌∷◌, ◌++◌, length, Option, Some, None, refl, sym, ap, ◌∙◌, cond, subst, arith}
-use Rattle.std.specs.Prelude.{slice_get, slice_set}
+use Rattle.std.proofs.Common.{◌≡◌, ℕ, ◌<◌, ◌==◌, ◌&&◌, ◌⊎◌, inl, inr, Bool, true, false, List, ◌∷◌, length, Some, refl, sym, ap, ◌∙◌, cond, subst, arith}
+use Rattle.std.specs.Prelude.{slice_get}
 use Rattle.std.proofs.lemmas.Bool.{cases_eq, eq-eqb, ne_eqb}
-use Rattle.masked_bytes.specs.Masked.{joined, laid, none_given}
+use Rattle.masked_bytes.specs.Masked.{joined, laid}
 use Rattle.result_rows.specs.declared.Outcome.{Outcome}
 use Rattle.result_rows.specs.declared.Outcome.TheVariants as out
-use Rattle.row_laws.specs.declared.Asks.{Asks}
-use Rattle.row_laws.specs.declared.Asks.TheVariants.{Reads, Writes, Cuts}
 use Rattle.row_laws.specs.declared.Row.{Row}
 use Rattle.row_laws.specs.Answers.{accepts}
 use Rattle.row_laws.specs.Rows.{accepted_of}
-use Rattle.row_laws.specs.Table.{is_of, of_bank}
-use Rattle.row_verdict.specs.Covering.{KeptLine, unclosed_behind, runs_behind, closed}
+use Rattle.row_laws.specs.Table.{is_of}
+use Rattle.row_verdict.specs.Covering.{KeptLine, unclosed_behind, runs_behind}
 use Rattle.row_verdict.specs.declared.lines.Line.{Line}
 use Rattle.row_verdict.specs.declared.lines.Run.{Run}
-use Rattle.row_verdict.specs.Judged.{beside, a_write, a_read, a_cut}
+use Rattle.row_verdict.specs.Judged.{beside, a_write}
 use Rattle.row_verdict.specs.Verdicts.{bank_in}
 use Rattle.row_verdict.proofs.Covering.{line_stays_law, line_joins_law}
 use Rattle.result_check.specs.Keeping.{KnowsLines}

@@ -1,18 +1,15 @@
 -- A row meets what is known behind the last one before it.
-use Rattle.std.proofs.Common.{◌≡◌, ℕ, zero, suc, ◌+◌, ◌<◌, ◌≤◌, ◌&&◌, Bool, true, false, List, [], ◌∷◌, length, Option, Some, None, refl, sym, ap, ◌∙◌, subst, cond, arith}
-use Rattle.std.specs.Prelude.{All, IfSome, slice_get, filter}
+use Rattle.std.proofs.Common.{◌≡◌, ℕ, suc, ◌+◌, ◌<◌, ◌≤◌, Bool, true, false, List, [], ◌∷◌, length, Option, Some, None, refl, sym, ◌∙◌, subst, cond, arith}
+use Rattle.std.specs.Prelude.{IfSome}
 use Rattle.row_laws.specs.declared.Row.{Row}
 use Rattle.row_laws.specs.Rules.{Rules}
 use Rattle.row_laws.specs.Table.{is_of, of_bank}
 use Rattle.row_laws.specs.Queueing.{waiting, awaits}
-use Rattle.row_judging.specs.Coming.{came}
 use Rattle.row_judging.specs.Keys.{reach}
-use Rattle.row_verdict.specs.Covering.{KeptLine}
 use Rattle.row_verdict.specs.declared.lines.Line.{Line}
-use Rattle.row_verdict.specs.Judged.{beside}
 use Rattle.row_verdict.specs.Members.{never}
 use Rattle.row_verdict.specs.Passing.{joined_room}
-use Rattle.row_verdict.specs.States.{Facts, Stands, settled}
+use Rattle.row_verdict.specs.States.{Facts, settled}
 use Rattle.row_verdict.specs.Verdicts.{bank_in}
 use Rattle.row_verdict.proofs.Numbers.{numbers_law}
 use Rattle.row_verdict.proofs.Passing.{cut_room_law}

@@ -1,7 +1,7 @@
 -- A row comes, and passes where it breaks no rule.
-use Rattle.std.proofs.Common.{◌≡◌, ℕ, zero, suc, ◌+◌, ◌*◌, ◌^◌, ◌<◌, ◌≤◌, ◌==◌, ◌&&◌, ◌||◌, ◌⊎◌, inl, inr, Bool, true, false, List, [], ◌∷◌, ◌++◌, length, Option, Some, None, refl, sym, ap, ◌∙◌, cond, subst, arith}
-use Rattle.std.specs.Prelude.{All, slice_get, slice_set, unwrap_or, not, nat_le, nat_lt}
-use Rattle.std.proofs.lemmas.Bool.{cases_eq, eq-eqb, ne_eqb, leb-true, le-leb, ltb-true}
+use Rattle.std.proofs.Common.{◌≡◌, ℕ, suc, ◌+◌, ◌^◌, ◌<◌, ◌≤◌, ◌&&◌, ◌||◌, ◌⊎◌, inl, inr, Bool, true, false, List, [], ◌∷◌, length, Option, Some, None, refl, sym, ap, ◌∙◌, cond, subst, arith}
+use Rattle.std.specs.Prelude.{All, slice_get, slice_set, not, nat_lt}
+use Rattle.std.proofs.lemmas.Bool.{eq-eqb, leb-true, le-leb}
 use Rattle.std.proofs.lemmas.List.Elements.{All-tail, All-filter}
 use Rattle.masked_bytes.specs.Masked.{gives_all}
 use Rattle.result_rows.specs.declared.Outcome.{Outcome}
@@ -9,21 +9,19 @@ use Rattle.result_rows.specs.declared.Outcome.TheVariants as out
 use Rattle.row_laws.specs.declared.Asks.{Asks}
 use Rattle.row_laws.specs.declared.Asks.TheVariants.{Reads, Writes, Cuts}
 use Rattle.row_laws.specs.declared.Row.{Row}
-use Rattle.row_laws.specs.Answers.{accepts, is_worn}
-use Rattle.row_laws.specs.Rows.{accepted_of, newest}
+use Rattle.row_laws.specs.Answers.{is_worn}
 use Rattle.row_laws.specs.Rules.{Rules}
 use Rattle.row_laws.specs.Serving.{may_have}
 use Rattle.row_laws.specs.Table.{is_of, of_bank}
 use Rattle.row_laws.specs.Queueing.{has_room, read_fits}
 use Rattle.row_judging.specs.Cutting.{cut_ticks}
 use Rattle.row_judging.specs.Distances.{ends_behind}
-use Rattle.row_judging.specs.Keys.{reach, is_short}
 use Rattle.row_judging.specs.Rising.{rising}
 use Rattle.row_judging.specs.Runs.{GivesSized}
 use Rattle.row_judging.proofs.Sublists.{room_stays_law}
 use Rattle.row_verdict.specs.Ahead.{at_store, latest_kept, bound_kept}
 use Rattle.row_verdict.specs.Covering.{KeptLine, cover_kept, soonest}
-use Rattle.row_verdict.specs.Fitting.{is_brief, write_fits, at_head_kept}
+use Rattle.row_verdict.specs.Fitting.{write_fits, at_head_kept}
 use Rattle.row_verdict.specs.Judged.{first_broken, beside, a_write, a_read, a_cut, RoomIs}
 use Rattle.row_verdict.specs.Keeping.{stored_early, write_timely, read_timely}
 use Rattle.row_verdict.specs.Kept.{apart_kept, sight, sight_of}
@@ -31,12 +29,11 @@ use Rattle.row_verdict.specs.Members.{never}
 use Rattle.row_verdict.specs.Passing.{Passed, put}
 use Rattle.row_verdict.specs.QueueLaws.{next_accepted}
 use Rattle.row_verdict.specs.States.{Facts, Stands, settled, after_write, after_read, cut_off}
-use Rattle.row_verdict.specs.Verdicts.{bank_in, all_rules, broken_by, all_have_room}
+use Rattle.row_verdict.specs.Verdicts.{bank_in, all_rules, broken_by}
 use Rattle.row_verdict.specs.Timely.{first_of_ticks}
 use Rattle.row_verdict.specs.VerdictLaws.{Comes}
 use Rattle.row_verdict.specs.Worn.{first_worn}
 use Rattle.row_verdict.specs.declared.Rule.{Rule}
-use Rattle.row_verdict.specs.declared.Rule.TheVariants as rule
 use Rattle.row_verdict.specs.declared.lines.Line.{Line}
 use Rattle.row_verdict.specs.declared.members.Member.{Member}
 use Rattle.row_verdict.proofs.Judged.{judge_cut_law}
@@ -46,7 +43,7 @@ use Rattle.row_verdict.proofs.VerdictLaws.{write_verdict_law, read_verdict_law, 
 use Rattle.result_check.specs.declared.found.Found.{Found}
 use Rattle.result_check.specs.Keeping.{facts_in, Knows, KnowsLines, IsNext, HasPassed}
 use Rattle.result_check.proofs.Keeping.{same_facts, put_set, facts_settled, bank_exists}
-use Rattle.result_check.proofs.Lines.{lines_stay, lines_pass}
+use Rattle.result_check.proofs.Lines.{lines_stay}
 use Rattle.result_check.proofs.Rows.{short_of_brief}
 
 first_of : (a b : Bool) → (a && b) ≡ true → a ≡ true
@@ -182,10 +179,10 @@ pub write_taken : {n : ℕ} (rules : Rules) (banks : List ℕ) (found : Found) (
     → HasPassed rules banks before (a_write tick line bytes given o) after broken kept2 joined2 lines2
 write_taken {n} rules banks found before tick line bytes given o after kept kept1 kept2 joined joined2 lines lines2 room asks some next worn cuts stores reads number broken fb h within there below pos small
     asked next_is worn_is cuts_is stores_are reads_are here is size fb_is result pass joins known = record {
-  told = by_facts ∙ sym law;
-  knows = λ none. knows none;
-  lines_known = known;
-}
+      told = by_facts ∙ sym law;
+      knows = λ none. knows none;
+      lines_known = known;
+    }
   where
     r : Row n
     r = a_write tick line bytes given o
@@ -257,10 +254,10 @@ pub read_taken : {n : ℕ} (rules : Rules) (banks : List ℕ) (found : Found) (b
     → HasPassed rules banks before (a_read tick line o) after broken kept2 joined2 lines2
 read_taken {n} rules banks found before tick line o after kept kept1 kept2 joined joined2 lines lines2 room asks soon cuts stores keys number broken fb ln h within there below pos small
     asked soon_is cuts_is stores_are keys_are here is size fb_is result pass joins same_lines = record {
-  told = by_facts ∙ sym law;
-  knows = λ none. knows none;
-  lines_known = λ none. lines_stay banks tick r before lines lines2 (λ l. refl) (same_lines none) h.lines_known;
-}
+      told = by_facts ∙ sym law;
+      knows = λ none. knows none;
+      lines_known = λ none. lines_stay banks tick r before lines lines2 (λ l. refl) (same_lines none) h.lines_known;
+    }
   where
     r : Row n
     r = a_read tick line o

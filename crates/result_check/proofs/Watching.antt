@@ -1,5 +1,5 @@
 -- What ends next in a bank.
-use Rattle.std.proofs.Common.{◌≡◌, ℕ, zero, suc, ◌+◌, ◌<◌, ◌≤◌, ◌&&◌, Bool, true, false, List, [], ◌∷◌, length, take, get_or, Option, refl, sym, ap, ◌∙◌, cond, arith}
+use Rattle.std.proofs.Common.{◌≡◌, ℕ, ◌<◌, ◌≤◌, ◌&&◌, Bool, true, false, List, [], ◌∷◌, Option, refl, sym, ap, ◌∙◌, cond, arith}
 use Rattle.std.specs.Prelude.{filter, nat_le, nat_lt, not, min}
 use Rattle.std.specs.List.{list_all}
 use Rattle.std.proofs.lemmas.Bool.{leb-true, le-leb, lt-ltb, lt-leb}
@@ -91,6 +91,6 @@ module _ (tick next : ℕ) (lt : tick < next) where
   -- a bank that nothing leaves is settled
   pub settled_already : (f : Facts) → NoneEndsBelow next f → f ≡ settled tick f
   settled_already f none = sym (
-    ap (λ ms. let g : Facts = record f { members = ms; waits = filter (λ v. nat_lt tick v) f.waits; last_store = ended tick f.members f.last_store } in g) (members_stay f.members none.stores)
-    ∙ ap (λ vs. let g : Facts = record f { waits = vs; last_store = ended tick f.members f.last_store } in g) (waits_stay f.waits none.reads)
-    ∙ ap (λ last. let g : Facts = record f { last_store = last } in g) (none_ended f.members f.last_store none.stores))
+      ap (λ ms. let g : Facts = record f { members = ms; waits = filter (λ v. nat_lt tick v) f.waits; last_store = ended tick f.members f.last_store } in g) (members_stay f.members none.stores)
+      ∙ ap (λ vs. let g : Facts = record f { waits = vs; last_store = ended tick f.members f.last_store } in g) (waits_stay f.waits none.reads)
+      ∙ ap (λ last. let g : Facts = record f { last_store = last } in g) (none_ended f.members f.last_store none.stores))

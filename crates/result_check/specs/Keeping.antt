@@ -1,7 +1,5 @@
 -- What is kept of the rows that have passed, and what a row that comes leaves.
 use Rattle.std.specs.Prelude.{◌≡◌, ◌<◌, ◌≤◌, ◌+◌, max, ℕ, Bool, true, false, IsTrue, List, [], ◌∷◌, Option, Some, None, All, length, slice_get, unwrap_or}
-use Rattle.result_rows.specs.declared.Outcome.{Outcome}
-use Rattle.result_rows.specs.declared.Outcome.TheVariants as out
 use Rattle.row_laws.specs.declared.Row.{Row}
 use Rattle.row_laws.specs.Rules.{Rules}
 use Rattle.row_judging.specs.Keys.{reach}

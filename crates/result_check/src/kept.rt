@@ -208,7 +208,13 @@ impl<const B: usize> Kept<B> {
             result ≡ room_kept rules.now.writes rules.now.reads f.members f.waits f.lost }
     {
         let bank = self.banks[bank_of(banks, line) as usize].bank();
-        has_room(rules.writes, rules.reads, &bank.members, &bank.waits, bank.lost)
+        has_room(
+            rules.writes,
+            rules.reads,
+            &bank.members,
+            &bank.waits,
+            bank.lost,
+        )
     }
 
     /// Lets time pass in the bank of the last row, and tells whether each bank has room.
@@ -477,12 +483,14 @@ impl<const B: usize> Kept<B> {
             EventOp::Write(line, bytes) => {
                 let given = [true; B];
                 self.take_write(
-                    rules, banks, found, cuts, coming, room, row, tick, *line, &event.op, bytes, &given, outcome,
+                    rules, banks, found, cuts, coming, room, row, tick, *line, &event.op, bytes,
+                    &given, outcome,
                 )
             }
             EventOp::Mask(line, bytes, given) => {
                 self.take_write(
-                    rules, banks, found, cuts, coming, room, row, tick, *line, &event.op, bytes, given, outcome,
+                    rules, banks, found, cuts, coming, room, row, tick, *line, &event.op, bytes,
+                    given, outcome,
                 )
             }
             EventOp::Cut => Ok(self.take_cut(room, tick, outcome)),

@@ -73,25 +73,14 @@ fn pass_rows<const B: usize>(
 {
     let mut cuts = 0;
     for (i, event) in events.iter().enumerate() {
-        let outcome = results.get(i as u32 + 1);
+        let row = i as u32 + 1;
+        let outcome = results.get(row);
         cuts = cuts_with(cuts, &event.op);
         let behind = cuts_behind(&found.cuts, cuts);
         let ahead = item(coming, events.len() - 1 - i);
-        let broken = kept.take(
-            rules,
-            banks,
-            found,
-            behind,
-            ahead,
-            i as u32 + 1,
-            event,
-            outcome,
-        )?;
+        let broken = kept.take(rules, banks, found, behind, ahead, row, event, outcome)?;
         if let Some(rule) = broken {
-            return Ok(Verdict::No {
-                row: i as u32 + 1,
-                rule,
-            });
+            return Ok(Verdict::No { row, rule });
         }
     }
     Ok(Verdict::Yes)

@@ -1,14 +1,18 @@
 -- A finished run is right, by the laws of its banks.
-use Rattle.std.proofs.Common.{◌≡◌, ℕ, ◌<◌, List, [], map, Some, sym, ◌∙◌, subst, arith}
+use Rattle.std.proofs.Common.{◌≡◌, ℕ, ◌+◌, ◌*◌, ◌/◌, ◌%◌, ◌<◌, ◌≤◌, List, [], map, Some, sym, ◌∙◌, subst, arith}
 use Rattle.std.specs.Prelude.{All}
 use Rattle.std.proofs.lemmas.List.{append-nil}
+use Rattle.std.proofs.lemmas.Nat.{mod_below, div_below, div-add-mod'}
+use Rattle.std.proofs.Math.Nat.{one-le-mul}
 use Rattle.std.proofs.lemmas.List.Elements.{All-nil, All-map}
 use Rattle.pcm_cells.specs.Device.{ArrayState}
 use Rattle.pcm_cells.specs.declared.array.Sense.{Sense}
 use Rattle.result_rows.specs.declared.Outcome.{Outcome}
+use Rattle.line_writer.specs.Untouched.{HasUntouched, AreUntouched}
 use Rattle.row_laws.specs.declared.Row.{Row}
 use Rattle.row_laws.specs.Table.{KeepsRows}
 use Rattle.bank_shape.specs.declared.BankShape.{BankShape}
+use Rattle.bank_shape.specs.Shape.{lines_in}
 use Rattle.bank_model.specs.Adding.{senses_of}
 use Rattle.bank_model.specs.Timing.{Timed}
 use Rattle.bank_model.specs.Lawful.{Lawful}
@@ -16,15 +20,16 @@ use Rattle.bank_laws.specs.Laws.{IsSized, LeavesArray, KeepsPlaces, KeepsLog, is
 use Rattle.bank_laws.specs.Outcomes.{table_of}
 use Rattle.module_shape.specs.declared.raw.RawShape.{RawShape}
 use Rattle.module_shape.specs.Limits.{IsShape, total_of}
-use Rattle.module_shape.specs.Addresses.{module_of, bank_shape}
+use Rattle.module_shape.specs.Addresses.{module_of, array_lines_of, bank_shape}
 use Rattle.table_laws.specs.Whole.{WholeTableLaw, WholePlaceLaw, WholeLogLaw, WholeRoomLaw}
 use Rattle.module_laws.specs.Asking.{Asked, row_with}
 use Rattle.module_laws.specs.Serves.{BankTableLaw, ServedByBanksLaw, RoomByBankLaw, IsOfLines}
 use Rattle.bank_invariant.specs.Tied.{decoded}
-use Rattle.clock_laws.specs.Ending.{LeavingLaw}
+use Rattle.clock_laws.specs.Ending.{LeavingLaw, UntouchedLaw}
 use Rattle.clock_laws.specs.State.{ClockState}
 use Rattle.end_laws.specs.Ends.{EndsWith}
 use Rattle.end_laws.specs.EndLaws.{RemappedLaw, GapsLaw, KeptLaw, QueuedLaw, StillThereLaw}
+use Rattle.lifetime_laws.specs.Lifetime.{KeepsLines, KeptLinesLaw}
 use Rattle.run_laws.specs.Runs.{bank_of_line, line_in_bank, pacing_in, rules_in, table_in, Serves, RunsRight}
 use Rattle.run_laws.specs.Finishing.{IsFinished}
 use Rattle.run_laws.specs.FinishedLaws.{FinishedLaw, ends_of}
@@ -35,12 +40,14 @@ use Rattle.run_laws.proofs.Banks.{is_end, is_lawful, leaves, ends_right}
 pub record BankLaws : Type 0 where
   pub tables : WholeTableLaw
   pub places : WholePlaceLaw
+  pub lines : KeptLinesLaw
   pub logs : WholeLogLaw
   pub room : WholeRoomLaw
   pub by_bank : BankTableLaw
   pub served : ServedByBanksLaw
   pub finds : RoomByBankLaw
   pub leaving : LeavingLaw
+  pub unused : UntouchedLaw
   pub remapped : RemappedLaw
   pub gaps : GapsLaw
   pub kept : KeptLaw
@@ -58,6 +65,12 @@ sized raw bank is = record {
   read = is.some_read_ticks;
   iter = is.some_iter_ticks;
 }
+
+-- and array lines
+some_lines : (raw : RawShape) → IsShape raw → 0 < array_lines_of (module_of raw)
+some_lines raw is =
+    let slots : 1 ≤ raw.regions * (raw.lines + 1) = one-le-mul {a = raw.regions} {b = raw.lines + 1} is.some_regions (omega arith) in
+    omega (arith, slots)
 
 module _ {n m e : ℕ} (laws : BankLaws) (raw : RawShape) (seed : ℕ) (h : ℕ → List (Timed n m)) (trace : List (Asked n)) (banks : ℕ → ClockState n m e)
     (array : ArrayState n m) (outcome : ℕ → Outcome n) (is : IsShape raw) (done : IsFinished raw seed h trace banks array outcome) where
@@ -91,6 +104,11 @@ module _ {n m e : ℕ} (laws : BankLaws) (raw : RawShape) (seed : ℕ) (h : ℕ 
         subst (λ (rs : List (Row n)). KeepsPlaces e (shape_of bank) array (rules_in e raw bank) rs) (sym table)
         (laws.places n m e (shape_of bank) (pacing_in raw) (h bank) array (sized raw bank is) lawful (done.idle bank exists) left)
 
+    keeps_lines : KeepsLines (shape_of bank) array (rules_in e raw bank) (table_in raw seed bank rows)
+    keeps_lines =
+        subst (λ (rs : List (Row n)). KeepsLines (shape_of bank) array (rules_in e raw bank) rs) (sym table)
+        (laws.lines n m e (shape_of bank) (pacing_in raw) (h bank) array (sized raw bank is) lawful (done.idle bank exists) left)
+
     keeps_log : (log : List (Sense n m)) → array.log ≡ Some log → KeepsLog e (shape_of bank) array (rules_in e raw bank) (table_in raw seed bank rows) log
     keeps_log log told =
         subst (λ (rs : List (Row n)). KeepsLog e (shape_of bank) array (rules_in e raw bank) rs log) (sym table)
@@ -102,6 +120,12 @@ module _ {n m e : ℕ} (laws : BankLaws) (raw : RawShape) (seed : ℕ) (h : ℕ 
         subst (λ (rs : List (Row n)). EndsWith (shape_of bank) (is_worn_at e array) (decoded e array) rs (ends_of h banks bank)) (sym table)
         (ends_right (h bank) (banks bank) array (done.leads bank exists) (shape_of bank) (pacing_in raw) (done.shapes bank exists) (done.paces bank exists)
         laws.leaving laws.remapped laws.gaps laws.kept laws.queued laws.still (sized raw bank is) (done.idle bank exists))
+
+    -- the unused check cells of its lines are untouched
+    untouched : AreUntouched e array (shape_of bank).base (lines_in (shape_of bank))
+    untouched =
+        subst (λ (s : BankShape). AreUntouched e array s.base (lines_in s)) (done.shapes bank exists)
+        (laws.unused n m e (h bank) (banks bank) array (done.leads bank exists))
 
   -- of the whole module
   exist : All (λ r. IsOfLines (total_of raw) r.asks) rows
@@ -117,7 +141,18 @@ module _ {n m e : ℕ} (laws : BankLaws) (raw : RawShape) (seed : ℕ) (h : ℕ 
         laws.finds n m e (shape_of bank) (pacing_in raw) (bank_of_line raw seed) (line_in_bank raw seed) bank (h bank) trace outcome (laws.room n m)
         (sized raw bank is) (lawful bank few) (done.idle bank few) done.ticks (done.asked bank few) (done.recorded bank few);
     places = keeps_places;
+    lines = keeps_lines;
   }
+
+  -- and so are those of each array line, which is one of a bank
+  unused : (line : ℕ) → line < array.lines → HasUntouched e (array.line line)
+  unused line below =
+      let each : ℕ = array_lines_of (module_of raw) in
+      let within : line < raw.banks * each = omega (arith, below, done.size) in
+      let some : 0 < each = some_lines raw is in
+      let place : line / each * each + line % each ≡ line = div-add-mod' line each in
+      subst (λ (at : ℕ). HasUntouched e (array.line at)) place
+      (untouched (line / each) (div_below line each raw.banks some within) (line % each) (mod_below line each some))
 
   pub runs_right : RunsRight e raw seed rows array (ends_of h banks)
   runs_right = record {
@@ -125,6 +160,7 @@ module _ {n m e : ℕ} (laws : BankLaws) (raw : RawShape) (seed : ℕ) (h : ℕ 
     serves = serves;
     sensed = λ log told bank few. keeps_log bank few log told;
     end = ends;
+    unused = unused;
   }
 
 pub finished_law : BankLaws → FinishedLaw

@@ -5,4 +5,5 @@ pub mod Lifting
 mod Facts
 mod Rows
 mod Roles
+mod Lasting
 mod SmallRun

@@ -1,6 +1,8 @@
 -- The worked run is right, and altered ones are not.
-use Rattle.std.proofs.Common.{◌≡◌, ℕ, zero, suc, ◌+◌, ◌*◌, ◌<◌, ◌≤◌, ◌&&◌, Bool, true, false, List, [], inl, inr, lit<, lit≤, refl, sym, ap, ◌∙◌, subst, arith}
-use Rattle.std.specs.Prelude.{nat_lt}
+use Rattle.std.proofs.Common.{◌≡◌, ℕ, zero, suc, ◌+◌, ◌*◌, ◌/◌, ◌%◌, ◌<◌, ◌≤◌, ◌==◌, ◌&&◌, if◌then◌else◌, Bool, true, false, List, [], ◌∷◌, ◌++◌, inl, inr, lit<, lit≤, refl, sym, ap, ◌∙◌, subst, arith, cond}
+use Rattle.std.specs.Prelude.{nat_lt, nat_eq, slice_index}
+use Rattle.std.specs.Int.{bit_at}
+use Rattle.std.proofs.lemmas.Nat.Bits.{bit_at-zero}
 use Rattle.std.proofs.lemmas.Bool.{cases_eq}
 use Rattle.rand_core.specs.Stream.{next_u64}
 use Rattle.rand_core.specs.Steps.{stream_of}
@@ -8,7 +10,9 @@ use Rattle.pcm_cells.specs.declared.array.Sense.{Sense}
 use Rattle.ecp_line.specs.Reading.{decode}
 use Rattle.ecp_line.specs.Layout as layout
 use Rattle.pcm_cells.specs.Rows as cells
+use Rattle.line_writer.specs.Untouched.{HasUntouched}
 use Rattle.row_laws.specs.declared.Row.{Row}
+use Rattle.row_laws.specs.Worked.{whole}
 use Rattle.row_laws.specs.Rows.{each_row}
 use Rattle.row_laws.specs.Serving.{is_served}
 use Rattle.row_laws.specs.Table.{KeepsRows}
@@ -19,8 +23,9 @@ use Rattle.bank_laws.specs.Logs.{is_line_fair}
 use Rattle.bank_laws.specs.Places.{is_moved}
 use Rattle.bank_invariant.specs.Tied.{decoded}
 use Rattle.end_laws.specs.Ends.{BankEnd, EndsWith, IsRemapped, is_kept_line, place_by_table}
+use Rattle.lifetime_laws.specs.Lifetime.{KeepsLines}
 use Rattle.run_laws.specs.Runs.{bank_of_line, line_in_bank, line_named, rules_in, table_in, RunsRight}
-use Rattle.run_laws.specs.Worked.{small, reading, misplaced, first_bank, second_bank, senses, ended, forgotten, NeverRight, unmoved}
+use Rattle.run_laws.specs.Worked.{small, reading, misplaced, first_bank, second_bank, senses, holding, ended, touched, forgotten, NeverRight, unmoved, hammered}
 
 pub where_8_is : (bank_of_line small 0 8 ≡ 1) × (line_in_bank small 0 8 ≡ 5) × (line_named small 0 1 5 ≡ 8)
 unfolding next_u64 stream_of
@@ -72,6 +77,20 @@ first_places = record { worn = refl; pulses = lit≤ tt; placed = refl; taken = 
 second_places : KeepsPlaces 1 (bank_shape (module_of small) 1) ended (rules_in 1 small 1) (second_bank 0x11)
 unfolding layout.width layout.some_below cells.cell cells.members lib.Count.count_trailing_zeros
 second_places = record { worn = refl; pulses = lit≤ tt; placed = refl; taken = refl }
+
+-- the one line that was pulsed has one pulse, and one line write may take 40
+few_pulses : (at : ℕ) → (ended.line at).pulses ≤ 1
+few_pulses at = by (at == 17)
+  where
+    by : (b : Bool) → (cond b (holding 0x11 1) (holding 0 0)).pulses ≤ 1
+    by true = lit≤ tt
+    by false = lit≤ tt
+
+first_lines : KeepsLines (bank_shape (module_of small) 0) ended (rules_in 1 small 0) (first_bank 0)
+first_lines = record { pulses = λ slot exists. omega (arith, few_pulses ((bank_shape (module_of small) 0).base + slot)); controls = λ item exists. absurd (omega (arith, exists)) }
+
+second_lines : KeepsLines (bank_shape (module_of small) 1) ended (rules_in 1 small 1) (second_bank 0x11)
+second_lines = record { pulses = λ slot exists. omega (arith, few_pulses ((bank_shape (module_of small) 1).base + slot)); controls = λ item exists. absurd (omega (arith, exists)) }
 
 -- a line of a bank is shown by the log
 abbrev shows : ℕ → List (Row 2) → ℕ → Bool
@@ -141,6 +160,34 @@ room : (bank : ℕ) → bank < 2 → each_row (finds_room_in (bank_of_line small
 unfolding next_u64 stream_of
 room = each_bank (λ bank. each_row (finds_room_in (bank_of_line small 0) (line_in_bank small 0) (rules_in 1 small bank) bank) rows [] ≡ true) refl refl
 
+-- the cells behind number 21 are unused
+full_is : layout.full_cell 2 1 ≡ 21
+unfolding layout.width lib.Count.count_trailing_zeros
+full_is = refl
+
+no_more : (b byte : ℕ) → 1 < byte → slice_index (whole b ++ 0 ∷ []) byte ≡ 0
+no_more b zero past = absurd (omega (arith, past))
+no_more b (suc zero) past = absurd (omega (arith, past))
+no_more b (suc (suc zero)) past = refl
+no_more b (suc (suc (suc byte))) past = refl
+
+untouched : (b pulses : ℕ) → HasUntouched 1 (holding b pulses)
+unfolding cells.cell
+untouched b pulses number behind = record {
+  held =
+      ap (λ (x : ℕ). nat_eq (bit_at x (number % 8)) 1) (no_more b (number / 8) (omega (arith, behind, full_is)))
+      ∙ ap (λ (x : ℕ). nat_eq x 1) (bit_at-zero (number % 8));
+  live = refl;
+  unmissed = refl;
+}
+
+unused : (line : ℕ) → HasUntouched 1 (ended.line line)
+unused line = by (line == 17)
+  where
+    by : (b : Bool) → HasUntouched 1 (if b then holding 0x11 1 else holding 0 0)
+    by true = untouched 0x11 1
+    by false = untouched 0 0
+
 pub is_right : RunsRight 1 small 0 rows ended unmoved
 is_right = record {
   size = refl;
@@ -149,12 +196,14 @@ is_right = record {
     banks = each_table (λ bank rs. KeepsRows (rules_in 1 small bank) rs) first_rows second_rows;
     room = room;
     places = each_table (λ bank rs. KeepsPlaces 1 (bank_shape (module_of small) bank) ended (rules_in 1 small bank) rs) first_places second_places;
+    lines = each_table (λ bank rs. KeepsLines (bank_shape (module_of small) bank) ended (rules_in 1 small bank) rs) first_lines second_lines;
   };
   sensed = λ log told.
       let same : senses ≡ log = cc in
       subst (λ (log : List (Sense 2 1)). (bank : ℕ) → bank < 2 → KeepsLog 1 (bank_shape (module_of small) bank) ended (rules_in 1 small bank) (table_in small 0 bank rows) log) same
       (each_table (λ bank rs. KeepsLog 1 (bank_shape (module_of small) bank) ended (rules_in 1 small bank) rs senses) first_log second_log);
   end = each_table (λ bank rs. EndsWith (bank_shape (module_of small) bank) (is_worn_at 1 ended) (decoded 1 ended) rs (unmoved bank)) first_end second_end;
+  unused = λ line below. unused line;
 }
 
 -- ---- runs that aren't right
@@ -168,7 +217,17 @@ pub misplaced_is_wrong : (ends : ℕ → BankEnd) → RunsRight 1 small 0 mispla
 unfolding next_u64 stream_of layout.width layout.some_below cells.cell cells.members lib.Count.count_trailing_zeros
 misplaced_is_wrong ends right = absurd (cc ((right.serves.places 0 (lit< tt)).placed))
 
+-- an array of which an unused check cell was pulsed
+pub touched_is_wrong : RunsRight 1 small 0 rows touched unmoved → ⊥
+unfolding cells.cell
+touched_is_wrong right = let held = (right.unused 3 (lit< tt) 22 (omega (arith, full_is))).held in absurd cc
+
 -- an array that hasn't kept what was written
 pub forgotten_is_wrong : RunsRight 1 small 0 rows forgotten unmoved → ⊥
 unfolding next_u64 stream_of decode layout.number layout.source_below layout.active layout.width layout.leading layout.some_below cells.cell cells.members lib.Count.count_trailing_zeros
 forgotten_is_wrong right = absurd (cc ((right.end 1 (lit< tt)).kept 5 (lit< tt)))
+
+-- an array line that was pulsed more often than its slot's stores account for, though not more than its bank's do
+pub hammered_is_wrong : RunsRight 1 small 0 rows hammered unmoved → ⊥
+unfolding next_u64 stream_of
+hammered_is_wrong right = let many : 100 ≤ 80 = (right.serves.lines 1 (lit< tt)).pulses 6 (lit< tt) in absurd (omega (arith, many))

@@ -2,4 +2,5 @@ pub mod Runs
 pub mod Finishing
 pub mod FinishedLaws
 pub mod RowsOfRuns
+pub mod Lasting
 pub mod Worked

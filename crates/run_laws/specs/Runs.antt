@@ -5,6 +5,7 @@ use Rattle.feistel_map.specs.Log2.{log2}
 use Rattle.feistel_map.specs.Network.{network_of, feistel, unfeistel}
 use Rattle.pcm_cells.specs.Device.{ArrayState}
 use Rattle.pcm_cells.specs.declared.array.Sense.{Sense}
+use Rattle.line_writer.specs.Untouched.{HasUntouched}
 use Rattle.row_laws.specs.declared.Row.{Row}
 use Rattle.row_laws.specs.Rows.{each_row}
 use Rattle.row_laws.specs.Rules.{Rules}
@@ -20,6 +21,7 @@ use Rattle.module_laws.specs.Asking.{bank_table}
 use Rattle.module_laws.specs.Serves.{finds_room_in}
 use Rattle.bank_invariant.specs.Tied.{decoded}
 use Rattle.end_laws.specs.Ends.{BankEnd, EndsWith}
+use Rattle.lifetime_laws.specs.Lifetime.{KeepsLines}
 
 module _ (raw : RawShape) (seed : ℕ) where
   -- the number that the static randomiser gives a line of the module
@@ -58,6 +60,8 @@ module _ {n m : ℕ} (e : ℕ) (raw : RawShape) (seed : ℕ) where
         → IsTrue (each_row (finds_room_in (bank_of_line raw seed) (line_in_bank raw seed) (rules_in e raw bank) bank) rows [])
     pub places : (bank : ℕ) → bank < raw.banks
         → KeepsPlaces e (bank_shape (module_of raw) bank) array (rules_in e raw bank) (table_in raw seed bank rows)
+    pub lines : (bank : ℕ) → bank < raw.banks
+        → KeepsLines (bank_shape (module_of raw) bank) array (rules_in e raw bank) (table_in raw seed bank rows)
 
   -- where the array tells its log, each answer and each line shows in it
   abbrev pub Sensed : List (Row n) → ArrayState n m → Type 0
@@ -71,9 +75,14 @@ module _ {n m : ℕ} (e : ℕ) (raw : RawShape) (seed : ℕ) where
       (bank : ℕ) → bank < raw.banks
       → EndsWith (bank_shape (module_of raw) bank) (is_worn_at e array) (decoded e array) (table_in raw seed bank rows) (ends bank)
 
+  -- each unused check cell of every array line is untouched
+  abbrev pub Unused : ArrayState n m → Type 0
+  Unused array = (line : ℕ) → line < array.lines → HasUntouched e (array.line line)
+
   -- the headline: what a completed run leaves
   pub record RunsRight (rows : List (Row n)) (array : ArrayState n m) (ends : ℕ → BankEnd) : Type 0 where
     pub size : array.lines ≡ raw.banks * array_lines_of (module_of raw)
     pub serves : Serves rows array
     pub sensed : Sensed rows array
     pub end : Ends rows array ends
+    pub unused : Unused array

@@ -53,11 +53,22 @@ senses = holds 5 17 (whole 0) 0 ∷ holds 15 17 (whole 0x11) 1 ∷ holds 105 17 
 
 -- the array in the end
 abbrev pub ended : ArrayState 2 1
-ended = record { line = λ line. if line == 17 then holding 0x11 1 else holding 0 0; lines = 22; tears = 0; log = Some senses }
+ended = record { line = λ line. if line == 17 then holding 0x11 1 else holding 0 0; lines = 22; tears = 0; log = Some senses; wear = None }
+
+-- the same, but that the second last check cell of line 3, an unused one, holds 1
+abbrev pub touched_line : LineState 2 1
+touched_line = record (holding 0 1) { held = record { bits = whole 0; meta = 64 ∷ [] } }
+
+abbrev pub touched : ArrayState 2 1
+touched = record ended { line = λ line. if line == 3 then touched_line else ended.line line }
 
 -- the same, but that what was written is gone
 abbrev pub forgotten : ArrayState 2 1
-forgotten = record { line = λ line. if line == 17 then holding 0 1 else holding 0 0; lines = 22; tears = 0; log = Some senses }
+forgotten = record { line = λ line. if line == 17 then holding 0 1 else holding 0 0; lines = 22; tears = 0; log = Some senses; wear = None }
+
+-- the same rows over an array that tells no log, one of whose lines was pulsed 100 times
+abbrev pub hammered : ArrayState 2 1
+hammered = record { line = λ line. if line == 17 then holding 0x11 100 else holding 0 0; lines = 22; tears = 0; log = None; wear = None }
 
 -- over no array and by no ends are these rows right
 abbrev pub NeverRight : List (Row 2) → Type 0

@@ -6,12 +6,16 @@
 mod worked;
 
 ghost use Rattle.run_laws.specs.FinishedLaws.{FinishedLaw, LinesLaw, NamedLaw, RolesLaw};
+ghost use Rattle.run_laws.specs.Lasting.{AliveLaw, AskedAliveLaw};
 ghost use Rattle.run_laws.specs.RowsOfRuns.{OwnOutcomesLaw, PlacesExistLaw, FewArrayLinesLaw, NoneLostLaw, RoomIsTakenLaw, NoneShortLaw};
 
-use clock_laws::events::histories_leave_the_array;
+use clock_laws::events::{histories_leave_the_array, unused_cells_stay_untouched};
 use end_laws::{
     excepted_lines_are_queued, lines_are_kept, lines_have_one_role, registers_follow_stores,
     slots_have_their_lines, stored_rows_are_still_there,
+};
+use lifetime_laws::{
+    asked_writes_bound_stores, hot_lines_leave_banks_alive, lines_keep_their_law, unworn_lines_stay,
 };
 use module_laws::{
     bank_tables_are_those_of_histories, every_row_finds_room, modules_serve_as_their_banks,
@@ -36,12 +40,14 @@ pub fn finished_runs_are_right()
 {
     tables_keep_their_laws();
     places_keep_their_laws();
+    lines_keep_their_law();
     logs_keep_their_laws();
     banks_keep_their_room();
     bank_tables_are_those_of_histories();
     modules_serve_as_their_banks();
     every_row_finds_room();
     histories_leave_the_array();
+    unused_cells_stay_untouched();
     slots_have_their_lines();
     registers_follow_stores();
     lines_are_kept();
@@ -86,3 +92,21 @@ pub fn room_is_taken()
 pub fn no_row_falls_short()
     ensures { NoneShortLaw }
 {}
+
+/// Over cells that endure more pulses than a run's hot lines may bring any slot's own line of a bank, the bank wears out nowhere: no
+/// row is refused for want of a spare or left in the queue, each slot has its own line, and no spare is used.
+pub fn runs_live_on()
+    ensures { AliveLaw }
+{
+    hot_lines_leave_banks_alive();
+    unworn_lines_stay();
+}
+
+/// So it is where the trace asks for no more writes than that, whatever becomes of them.
+pub fn lasting_traces_live_on()
+    ensures { AskedAliveLaw }
+{
+    asked_writes_bound_stores();
+    hot_lines_leave_banks_alive();
+    unworn_lines_stay();
+}

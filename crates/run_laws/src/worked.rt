@@ -4,12 +4,13 @@
 ghost use Rattle.std.specs.Prelude.{◌≡◌, ℕ};
 ghost use Rattle.end_laws.specs.Ends.{BankEnd};
 ghost use Rattle.run_laws.specs.Runs.{RunsRight, bank_of_line, line_in_bank, line_named, table_in};
-ghost use Rattle.run_laws.specs.Worked.{small, reading, misplaced, first_bank, second_bank, ended, forgotten, unmoved, NeverRight};
+ghost use Rattle.run_laws.specs.Worked.{small, reading, misplaced, first_bank, second_bank, ended, touched, forgotten, hammered, unmoved, NeverRight};
 
 use crate::{
     array_lines_are_few, array_lines_have_one_role, finished_runs_are_right,
-    lines_have_their_banks, lines_have_their_names, no_row_falls_short, places_are_array_lines,
-    reads_are_not_lost_without_cuts, room_is_taken, rows_have_their_own_outcomes,
+    lasting_traces_live_on, lines_have_their_banks, lines_have_their_names, no_row_falls_short,
+    places_are_array_lines, reads_are_not_lost_without_cuts, room_is_taken,
+    rows_have_their_own_outcomes, runs_live_on,
 };
 
 fn worked_lines_are_mixed()
@@ -24,7 +25,9 @@ fn worked_runs_are_judged()
     ensures right { RunsRight 1 small 0 (reading 0x11 0) ended unmoved }
     ensures stale { NeverRight (reading 0 0) }
     ensures misplaced { (ends : ℕ → BankEnd) → RunsRight 1 small 0 misplaced ended ends → ⊥ }
+    ensures touched { RunsRight 1 small 0 (reading 0x11 0) touched unmoved → ⊥ }
     ensures forgotten { RunsRight 1 small 0 (reading 0x11 0) forgotten unmoved → ⊥ }
+    ensures hammered { RunsRight 1 small 0 (reading 0x11 0) hammered unmoved → ⊥ }
 {}
 
 /// The laws are facts, and cost nothing to ask for.
@@ -40,6 +43,8 @@ fn laws_hold_of_every_run() {
     reads_are_not_lost_without_cuts();
     room_is_taken();
     no_row_falls_short();
+    runs_live_on();
+    lasting_traces_live_on();
 }
 
 #[test]

@@ -2,7 +2,7 @@
 use Rattle.std.proofs.Common.{◌≡◌, ℕ, zero, suc, ◌+◌, ◌<◌, ◌≤◌, ◌==◌, ◌||◌, List, [], ◌∷◌, ◌++◌, length, Bool, true, false, Option, Some, None, Bor, refl, ap, inl, ◌∙◌, arith}
 use Rattle.std.specs.Prelude.{if◌then◌else◌, Result, Ok, Err, IfOk, OnOk, IsErrAnd, MatchResult}
 use Rattle.csv.specs.Machine.{Read, ends_at_end, field_after, fields_after, in_field, is_end, next_record, start_field, start_record, step}
-use Rattle.csv.specs.Reading.{ReadRecord, Reached, Ready, default_config, reader_state, reader_trim, records_from, records_next, took_first}
+use Rattle.csv.specs.Reading.{ReadRecord, Reached, Ready, default_config, is_flexible, reader_state, records_from, records_next, took_first}
 use Rattle.csv.specs.declared.parser.State.{State}
 use Rattle.csv.specs.declared.parser.State.TheVariants as st
 use Rattle.csv.specs.declared.parser.Action.{Action}
@@ -125,10 +125,11 @@ records_from-step : (most : ℕ) (s s2 : State) (text z : List ℕ) (fields : Li
 records_from-step most s s2 text z fields p next a b d enough = rw (a, ← b, ← d) (records_from-some most s text p next enough)
 
 -- a read finds the first of the records that are left
-finds-next : (found : Bool) (old new : Reader (Bor (List ℕ))) (fields : List (List ℕ)) (rows : List (List (List ℕ)))
-    → HasLeft old rows → ReadRecord slice_left old new found fields → took_first new ≡ true → FindsNext found fields rows new
+pub finds-next : (found : Bool) (old new : Reader (Bor (List ℕ))) (fields : List (List ℕ)) (rows : List (List (List ℕ)))
+    → HasLeft old rows → ReadRecord slice_left old new found fields → took_first new ≡ true → is_flexible new ≡ is_flexible old
+    → FindsNext found fields rows new
 unfolding Reached
-finds-next true old new fields rows h r first =
+finds-next true old new fields rows h r first same =
     let m = rows-more slice_left old new fields default_config (reader_state old) h.text h.text [] h.config h.source (refl, refl) r in
     let one = records_from-step h.most (reader_state old) (reader_state new) h.text m.0 fields m.2.0 m.2.1 m.2.2 m.2.3.0 m.2.3.1 h.enough in (
       records_from default_config one.0 (reader_state new) m.0,
@@ -137,6 +138,7 @@ finds-next true old new fields rows h r first =
         ready = inl first;
         trim = r.3 ∙ h.trim;
         config = r.2 ∙ h.config;
+        flexible = same ∙ h.flexible;
         text = m.0;
         source = m.1;
         most = one.0;
@@ -144,20 +146,5 @@ finds-next true old new fields rows h r first =
         rows_are = refl;
       },
     )
-finds-next false old new fields rows h r first =
+finds-next false old new fields rows h r first same =
     h.rows_are ∙ records_from-none h.most (reader_state old) h.text (rows-end slice_left old new fields default_config h.text h.config h.source r)
-
--- the same of a read's answer
-pub read-finds : {E : Type 0} (r : Result Bool E) (old new : Reader (Bor (List ℕ))) (fields : List (List ℕ))
-    → IfOk r (λ found. reader_trim old ≡ trim.None → Ready old → ReadRecord slice_left old new found fields)
-    → (reader_trim old ≡ trim.None → OnOk r (took_first new ≡ true))
-    → IfOk r (λ found. (rows : List (List (List ℕ))) → HasLeft old rows → FindsNext found fields rows new)
-read-finds (Ok found) old new fields reads first = λ rows h. finds-next found old new fields rows h (reads h.trim h.ready) (first h.trim)
-read-finds (Err e) old new fields reads first = tt
-
--- what an answer's value shows stays where its error was replaced
-pub map_err-value : {T E F : Type 0} (r : Result T E) (m : Result T F) (P : T → Type 0) (Q : E → F → Type 0)
-    → MatchResult r (λ x. m ≡ Ok x) (λ e. IsErrAnd m (Q e)) → IfOk r P → IfOk m P
-map_err-value (Ok x) m P Q e h = rw e h
-map_err-value (Err e) (Ok y) P Q h p = absurd h
-map_err-value (Err e) (Err f) P Q h p = tt

@@ -7,6 +7,8 @@ use Rattle.std.proofs.Math.Seq.{take-suc-set, drop-cons}
 use Rattle.std.proofs.lemmas.List.{append_assoc, append-nil, take_all, drop_all}
 use Rattle.std.proofs.lemmas.Bool.{cases_eq, cases_lt}
 use Rattle.std.proofs.lemmas.Bool.Decides.{nat_tests}
+use Rattle.std.proofs.lemmas.Nat.{or_lt, le_or_l, le_or_r}
+use Rattle.std.specs.Int.Bits.{bit_or}
 use Rattle.hex.specs.Hex.{decode_pairs, hex_digit_value, digit_or_error, ◌>>=◌}
 use Rattle.hex.specs.declared.error.FromHexError.{FromHexError}
 use Rattle.hex.specs.declared.error.FromHexError.TheVariants.{InvalidStringLength, OddLength}
@@ -82,7 +84,17 @@ bytes_before-more : (bytes : List ℕ) (byte : ℕ) (o : Option (List ℕ)) → 
 bytes_before-more bytes byte None = refl
 bytes_before-more bytes byte (Some x) = ap Some (sym (append_assoc bytes (byte ∷ []) x))
 
--- the first i pairs were read into the bytes, and this is the greatest value of their characters
+-- bits that reach beyond four are those of a number that does
+some_large : (a b c : ℕ) → 16 ≤ bit_or a (bit_or b c) → 16 ≤ max a (max b c)
+some_large a b c h =
+    elim (cases_lt (max a (max b c)) 16) as (λ _. 16 ≤ max a (max b c)) [
+      | inl small ↦
+          let less = or_lt 4 a (bit_or b c) (omega arith) (or_lt 4 b c (omega arith) (omega arith)) in
+          absurd (omega arith)
+      | inr large ↦ omega arith
+    ]
+
+-- the first i pairs were read into the bytes, and these are the bits of the values of their characters, laid together
 pub record ReadsDigits (text : List ℕ) (i : ℕ) (bytes : List ℕ) (most : ℕ) : Type 0 where
   pub read : most < 16 → read_from 0 text ≡ bytes_before (take i bytes) (read_from (2 * i) (drop (2 * i) text))
   pub bad : 16 ≤ most → read_from 0 text ≡ None
@@ -134,13 +146,17 @@ module _ (text : List ℕ) (i : ℕ) (bytes : List ℕ) (most : ℕ) where
       ]
 
   -- one pair more
-  pub reads_digits-more : (h l new : ℕ) → h ≡ high → l ≡ low → new ≡ max most (max h l) → 2 * i + 1 < length text → i < length bytes
+  pub reads_digits-more : (h l new : ℕ) → h ≡ high → l ≡ low → new ≡ bit_or most (bit_or h l) → 2 * i + 1 < length text → i < length bytes
       → ReadsDigits text i bytes most → ReadsDigits text (i + 1) (set bytes i (h % 16 * 16 + l % 16)) new
   reads_digits-more h l new e f k within in_bytes reads =
       let one : i + 1 ≡ suc i = omega arith in
+      let before = le_or_l most (bit_or high low) in
+      let pair = le_or_r most (bit_or high low) in
+      let first = le_or_l high low in
+      let second = le_or_r high low in
       rw (one, k, e, f) record {
         read = λ p. more-read within in_bytes reads (omega arith) (omega arith) (omega arith);
-        bad = λ p. more-bad within reads p;
+        bad = λ p. more-bad within reads (some_large most high low p);
       }
 
 -- a text of another length

@@ -57,14 +57,15 @@ pub fn bytes_from_digits<const B: usize>(values: &Values, text: &[u8]) -> Option
         return None;
     }
     let mut bytes = [0; B];
-    let mut most = 0;
+    // A digit's value is below 16, and so are the bits of many; of any other character it is not.
+    let mut seen = 0;
     'pairs: for i in 0..B {
         let high = values.value(text[2 * i]);
         let low = values.value(text[2 * i + 1]);
-        most = most.max(high.max(low));
+        seen |= high | low;
         bytes[i] = high % 16 * 16 + low % 16;
     }
-    if most < 16 { Some(bytes) } else { None }
+    if seen < 16 { Some(bytes) } else { None }
 }
 
 // What two characters say of a byte: `..` that it isn't given, two hexadecimal digits what it is.

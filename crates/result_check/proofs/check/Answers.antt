@@ -1,4 +1,4 @@
-use Rattle.std.proofs.Common.{◌≡◌, ◌∙◌, ◌≤◌, length, refl, sym, ap, subst, arith}
+use Rattle.std.proofs.Common.{◌∙◌, arith}
 use Rattle.row_verdict.specs.Verdicts.{rows_with, rules_by}
 use Rattle.result_check.proofs.Checking.{table_of}
 use Rattle.result_check.proofs.Going.{goes_first}
@@ -19,7 +19,35 @@ pub pass_rows-requires : goal.pass_rows-requires
 pass_rows-requires g c =
     let h = c.requires.checkable in
     let table = table_of c.args.events.now c.args.results.now c.args.banks.now c.args.rules.now h in
-    let k = c.in_ok-kept.ensures in
-    (event_fits g.row.B c.requires.small, (omega arith, (omega arith, (c.requires.small, (h.within, (h.few, (h.rows, (table, (c.in_ok-found.ensures, (c.deref.ensures.value ∙ c.in_ok-coming.ensures,
-    goes_first (rules_by c.args.rules.now) c.args.banks.now (rows_with c.args.events.now c.args.results.now) c.in_ok-found.found c.in_ok-kept.kept.banks.items c.in_ok-kept.kept.joined c.in_ok-kept.kept.lines.items
-    table c.in_ok-found.ensures k.number k.facts k.lines k.fresh k.joined))))))))))
+    let k = c.in_ok-kept.ensures in (
+      event_fits g.row.B c.requires.small,
+      (
+        omega arith,
+        (
+          omega arith,
+          (
+            c.requires.small,
+            (
+              h.within,
+              (
+                h.few,
+                (
+                  h.rows,
+                  (
+                    table,
+                    (
+                      c.in_ok-found.ensures,
+                      (
+                        c.deref.ensures.value ∙ c.in_ok-coming.ensures,
+                        goes_first (rules_by c.args.rules.now) c.args.banks.now (rows_with c.args.events.now c.args.results.now) c.in_ok-found.found c.in_ok-kept.kept.banks.items c.in_ok-kept.kept.joined c.in_ok-kept.kept.lines.items
+                            table c.in_ok-found.ensures k.number k.facts k.lines k.fresh k.joined,
+                      ),
+                    ),
+                  ),
+                ),
+              ),
+            ),
+          ),
+        ),
+      ),
+    )

@@ -1,4 +1,4 @@
-use Rattle.std.proofs.Common.{◌≡◌, ℕ, ◌+◌, ◌-◌, ◌<◌, ◌≤◌, suc, ◌∙◌, ◌∷◌, List, drop, reverse, take, Option, Some, length, get_or, refl, sym, ap, subst, arith}
+use Rattle.std.proofs.Common.{◌≡◌, ◌-◌, suc, ◌∙◌, drop, reverse, take, Some, length, refl, sym, ap, arith}
 use Rattle.std.specs.Prelude.{slice_get}
 use Rattle.std.proofs.lemmas.Option.{slice_get_read}
 use Rattle.row_verdict.specs.Verdicts.{rows_with, rules_by}
@@ -62,11 +62,37 @@ take-requires g c =
     let piece_is : piece ≡ drop c.cuts_with-cuts.result found.cuts.items = c.cuts_behind-behind.ensures ∙ ap (drop c.cuts_with-cuts.result) c.deref.ensures.value in
     let long = rows_length events c.args.results.now c.requires.rows in
     let brings = coming_got banks rows i r here c.args.coming.now c.requires.coming (length events - 1 - i) c.item-ahead.result (omega (arith, long, c.loop-i-test.true)) c.item-ahead.ensures in
-    let met = meets rules banks rows c.requires.table found c.requires.found i r here c.loop-i.cuts old.banks.items old.joined old.lines.items inv c.cuts_with-cuts.result piece c.item-ahead.result c.cuts_with-cuts.ensures piece_is brings in
-    (omega arith, (event_fits g.row.B c.requires.small, (outcome_fits g.row.B c.requires.small, (c.requires.small, (c.requires.within,
-    ((one_of_every (IsRowOf (length banks)) rows i r _ here c.requires.table.each).line, (inv.exist, (inv.size, (usable banks rows found c.requires.table.few c.requires.found,
-    (piece_sorted banks rows found c.cuts_with-cuts.result piece c.requires.table.rises c.requires.found piece_is,
-    (piece_few banks rows found c.cuts_with-cuts.result piece c.requires.table.few c.requires.found piece_is, (reverse (take i rows), drop (suc i) rows, met))))))))))))
+    let met = meets rules banks rows c.requires.table found c.requires.found i r here c.loop-i.cuts old.banks.items old.joined old.lines.items inv c.cuts_with-cuts.result piece c.item-ahead.result c.cuts_with-cuts.ensures piece_is brings in (
+      omega arith,
+      (
+        event_fits g.row.B c.requires.small,
+        (
+          outcome_fits g.row.B c.requires.small,
+          (
+            c.requires.small,
+            (
+              c.requires.within,
+              (
+                (one_of_every (IsRowOf (length banks)) rows i r _ here c.requires.table.each).line,
+                (
+                  inv.exist,
+                  (
+                    inv.size,
+                    (
+                      usable banks rows found c.requires.table.few c.requires.found,
+                      (
+                        piece_sorted banks rows found c.cuts_with-cuts.result piece c.requires.table.rises c.requires.found piece_is,
+                        (piece_few banks rows found c.cuts_with-cuts.result piece c.requires.table.few c.requires.found piece_is, (reverse (take i rows), drop (suc i) rows, met)),
+                      ),
+                    ),
+                  ),
+                ),
+              ),
+            ),
+          ),
+        ),
+      ),
+    )
 
 pub returns-in-Some : goal.returns-in-Some
 returns-in-Some g c =

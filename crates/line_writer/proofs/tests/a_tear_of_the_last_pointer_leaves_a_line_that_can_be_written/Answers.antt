@@ -7,4 +7,4 @@ pub tear_after-requires : goal.tear_after-requires
 tear_after-requires g c =
     let fresh = c.in_ok-power_up.ensures.ok in
     let count = fresh.count in
-    (omega arith, (layout_64, (omega arith, fresh_sound 6 7 3 _ fresh (omega arith))))
+    (omega arith, (layout_64, (omega arith, fresh_sound 6 7 3 _ _ fresh (omega arith))))

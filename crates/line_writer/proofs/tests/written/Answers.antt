@@ -7,4 +7,4 @@ write-steps-requires g c =
     let shape = c.requires.shape in
     let fresh = c.in_ok-power_up.ensures.ok in
     let count = fresh.count in
-    (omega arith, (c.requires, (omega arith, fresh_sound g.row.E 7 3 _ fresh (omega arith))))
+    (omega arith, (c.requires, (omega arith, fresh_sound g.row.E 7 3 _ _ fresh (omega arith))))

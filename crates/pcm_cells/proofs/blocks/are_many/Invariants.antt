@@ -1,7 +1,7 @@
-use Rattle.std.proofs.Common.{◌≡◌, ℕ, ◌+◌, ◌*◌, ◌<◌, ◌≤◌, false, slice_index}
+use Rattle.std.proofs.Common.{◌≡◌, ℕ, ◌<◌, ◌≤◌, false, slice_index}
 use Rattle.pcm_cells.specs.Planes.{bit_in}
 use Rattle.pcm_cells.proofs.blocks.are_many.Given as goal
 
--- so it is of the counts before this place
+-- where `few` is still false, so it is of the counts before this place
 abbrev pub invariant-loop-place : goal.invariant-loop-place
-invariant-loop-place l = (i : ℕ) → i < l.place → bit_in l.mask i ≡ false → 8 ≤ slice_index l.left (64 * l.block + i)
+invariant-loop-place l = l.few ≡ false → (i : ℕ) → i < l.place → bit_in l.mask i ≡ false → 8 ≤ slice_index l.left i

@@ -1,4 +1,4 @@
-use Rattle.std.proofs.Common.{◌≡◌, ℕ, ◌+◌, ◌-◌, ◌*◌, ◌<◌, ◌&&◌, true, false, not, cond, sym, ◌∙◌, ap, inl, inr, arith, w64, slice_index, length, set, get_or-set_same, get_or-set_other, eq-eqb}
+use Rattle.std.proofs.Common.{◌≡◌, ℕ, ◌-◌, ◌<◌, ◌&&◌, true, false, not, cond, sym, ◌∙◌, ap, inl, inr, arith, w64, slice_index, length, set, get_or-set_same, get_or-set_other, eq-eqb}
 use Rattle.std.specs.Prelude.{nat_le}
 use Rattle.std.specs.Int.{trailing_zeros}
 use Rattle.std.proofs.lemmas.Bool.{cases_eq}
@@ -6,8 +6,8 @@ use Rattle.std.proofs.lemmas.Nat.Bits.{bit_at-trailing_zeros}
 use Rattle.pcm_cells.specs.Planes.{bit_in}
 use Rattle.pcm_cells.proofs.blocks.spend.Goals as goal
 
-pub bounds-left-block : goal.bounds-left-block
-bounds-left-block c =
+pub bounds-left-place : goal.bounds-left-place
+bounds-left-place c =
     let (fits, has, low) = bit_at-trailing_zeros w64 c.loop-rest.rest (omega arith) c.loop-rest.invariant.fits in
     omega arith
 
@@ -29,10 +29,10 @@ loop-rest-preserved c =
     let first = bit_at-trailing_zeros w64 rest (omega arith) invariant.fits in
     let has : bit_in rest place ≡ true = eq-eqb _ 1 (first.1) in
     let masked : bit_in c.args.mask place ≡ true = invariant.masked place first.0 has in
-    let initial : ℕ = slice_index c.args.left.now (64 * c.args.block + place) in
-    let count : slice_index c.loop-rest.left (64 * c.args.block + place) ≡ initial =
+    let initial : ℕ = slice_index c.args.left.now place in
+    let count : slice_index c.loop-rest.left place ≡ initial =
     invariant.done place first.0 ∙ ap (λ b. cond (not b && bit_in c.args.mask place) (initial - 1) initial) has in
-    let within : 64 * c.args.block + place < length c.loop-rest.left = omega (arith, first.0) in
+    let within : place < length c.loop-rest.left = omega (arith, first.0) in
     record {
       fits = omega (arith, c.cleared-rest.ensures.less, invariant.fits);
       masked = λ i low in_rest.
@@ -41,7 +41,7 @@ loop-rest-preserved c =
             | inr apart ↦ invariant.masked i low (sym (c.cleared-rest.ensures.kept i low apart) ∙ in_rest)
           ];
       last = λ i low.
-          elim (cases_eq i place) as (λ _. bit_in c.joined-last.result i ≡ (not (bit_in c.cleared-rest.result i) && (bit_in c.args.mask i && nat_le (slice_index c.args.left.now (64 * c.args.block + i)) 1))) [
+          elim (cases_eq i place) as (λ _. bit_in c.joined-last.result i ≡ (not (bit_in c.cleared-rest.result i) && (bit_in c.args.mask i && nat_le (slice_index c.args.left.now i) 1))) [
             | inl same ↦
                 let absent : bit_in c.loop-rest.last place ≡ false =
                 invariant.last place first.0 ∙ ap (λ b. not b && (bit_in c.args.mask place && nat_le initial 1)) has in
@@ -51,14 +51,12 @@ loop-rest-preserved c =
                 rw (c.cleared-rest.ensures.kept i low apart) (c.joined-last.ensures.kept i apart ∙ invariant.last i low)
           ];
       done = λ i low.
-          elim (cases_eq i place) as (λ _. slice_index (set c.loop-rest.left (64 * c.args.block + place) c.saturating_sub.result) (64 * c.args.block + i) ≡ cond (not (bit_in c.cleared-rest.result i) && bit_in c.args.mask i) (slice_index c.args.left.now (64 * c.args.block + i) - 1) (slice_index c.args.left.now (64 * c.args.block + i))) [
+          elim (cases_eq i place) as (λ _. slice_index (set c.loop-rest.left place c.saturating_sub.result) i ≡ cond (not (bit_in c.cleared-rest.result i) && bit_in c.args.mask i) (slice_index c.args.left.now i - 1) (slice_index c.args.left.now i)) [
             | inl same ↦
                 rw (same, c.cleared-rest.ensures.is, masked)
-                (get_or-set_same c.loop-rest.left (64 * c.args.block + place) c.saturating_sub.result 0 within ∙ c.saturating_sub.ensures ∙ ap (λ n. n - 1) count)
+                (get_or-set_same c.loop-rest.left place c.saturating_sub.result 0 within ∙ c.saturating_sub.ensures ∙ ap (λ n. n - 1) count)
             | inr apart ↦
                 rw (c.cleared-rest.ensures.kept i low apart)
-                (get_or-set_other c.loop-rest.left (64 * c.args.block + place) (64 * c.args.block + i) c.saturating_sub.result 0 (λ e. apart (omega arith)) ∙ invariant.done i low)
+                (get_or-set_other c.loop-rest.left place i c.saturating_sub.result 0 (λ e. apart (omega arith)) ∙ invariant.done i low)
           ];
-      others = λ n apart.
-          get_or-set_other c.loop-rest.left (64 * c.args.block + place) n c.saturating_sub.result 0 (λ e. apart (omega (arith, first.0))) ∙ invariant.others n apart;
     }

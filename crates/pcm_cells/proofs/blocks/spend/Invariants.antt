@@ -1,4 +1,4 @@
-use Rattle.std.proofs.Common.{◌≡◌, ◌≢◌, ℕ, ◌+◌, ◌-◌, ◌*◌, ◌/◌, ◌^◌, ◌<◌, ◌&&◌, true, not, cond, slice_index}
+use Rattle.std.proofs.Common.{◌≡◌, ℕ, ◌-◌, ◌^◌, ◌<◌, ◌&&◌, true, not, cond, slice_index}
 use Rattle.std.specs.Prelude.{nat_le}
 use Rattle.pcm_cells.specs.Planes.{bit_in}
 use Rattle.pcm_cells.proofs.blocks.spend.Given as goal
@@ -8,9 +8,8 @@ abbrev pub invariant-loop-rest : goal.invariant-loop-rest
 invariant-loop-rest l = record {
   fits : l.rest < 2 ^ 64;
   masked : (i : ℕ) → i < 64 → bit_in l.rest i ≡ true → bit_in l.mask i ≡ true;
-  last : (i : ℕ) → i < 64 → bit_in l.last i ≡ (not (bit_in l.rest i) && (bit_in l.mask i && nat_le (slice_index l.initial.left (64 * l.block + i)) 1));
-  done : (i : ℕ) → i < 64 → slice_index l.left (64 * l.block + i) ≡ cond (not (bit_in l.rest i) && bit_in l.mask i) (slice_index l.initial.left (64 * l.block + i) - 1) (slice_index l.initial.left (64 * l.block + i));
-  others : (n : ℕ) → n / 64 ≢ l.block → slice_index l.left n ≡ slice_index l.initial.left n;
+  last : (i : ℕ) → i < 64 → bit_in l.last i ≡ (not (bit_in l.rest i) && (bit_in l.mask i && nat_le (slice_index l.initial.left i) 1));
+  done : (i : ℕ) → i < 64 → slice_index l.left i ≡ cond (not (bit_in l.rest i) && bit_in l.mask i) (slice_index l.initial.left i - 1) (slice_index l.initial.left i);
 }
 
 abbrev pub decreases-loop-rest : goal.decreases-loop-rest

@@ -1,4 +1,4 @@
-use Rattle.std.proofs.Common.{◌≤◌, ◌-◌, vec_len}
+use Rattle.std.proofs.Common.{◌≡◌, ◌≤◌, ◌-◌, vec_len}
 use Rattle.pcm_io.specs.Taking.{Takes}
 use Rattle.pcm_io.proofs.whole.read_all.Given as goal
 
@@ -7,7 +7,7 @@ invariant-loop-n g l = record {
   within : vec_len l.bytes ≤ l.limit;
   taken : Takes (g.S.Source.left l.initial.source) (g.S.Source.left l.source)
       (g.S.Source.taken l.initial.source) (g.S.Source.taken l.source) l.bytes.items;
-  faults : g.S.Source.faults l.initial.source ≤ g.S.Source.faults l.source;
+  faults : g.S.Source.faults l.source ≡ g.S.Source.faults l.initial.source;
 }
 
 abbrev pub decreases-loop-n : goal.decreases-loop-n

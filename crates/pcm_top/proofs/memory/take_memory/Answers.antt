@@ -14,13 +14,13 @@ pub returns-clause-ready : goal.returns-clause-ready
 returns-clause-ready g c =
     let made = c.in_ok-new.ensures.shape in
     let array = g.A.CellArray.state c.power_up.new.self in
-    let Fresh : ℕ → Type 0 = λ lines. IsFresh lines array in
+    let Fresh : ℕ → Type 0 = λ lines. IsFresh lines c.args.job.now.wear array in
     record {
       shape = made.0;
       seeded = made.1;
       tick = made.2;
       bound = made.3;
       going = made.4;
-      replays = c.in_ok-new.ensures.begins array c.in_ok-new-2.field-0 (subst Fresh c.array_lines.ensures.number c.in_ok-power_up.ensures.ok);
+      replays = c.in_ok-new.ensures.begins array c.args.job.now.wear c.in_ok-new-2.field-0 (subst Fresh c.array_lines.ensures.number c.in_ok-power_up.ensures.ok);
       open_rows = c.in_ok-new-2.ensures;
     }

@@ -1,4 +1,4 @@
-use Rattle.std.proofs.Common.{◌≡◌, Some, length, refl, arith}
+use Rattle.std.proofs.Common.{◌≡◌, ◌∙◌, ◌++◌, Some, length, refl, arith}
 use Rattle.std.specs.Prelude.{slice_get}
 use Rattle.std.proofs.lemmas.Option.{slice_get_read}
 use Rattle.pcm_top.proofs.Replaying.{next-event, next-open, replayed-all, replayed-more, replayed-none}
@@ -6,13 +6,15 @@ use Rattle.pcm_top.proofs.Sizes.{event_fits}
 use Rattle.pcm_top.proofs.replay.replay.Goals as goal
 
 pub loop-i-init : goal.loop-i-init
-loop-i-init g c =
-    replayed-none c.args.pcm.now.shape c.args.pcm.now.seed c.args.events.now c.args.pcm.now (g.A.CellArray.state c.args.array.now) c.args.results.now
-    c.requires.ready c.requires.events
+loop-i-init g c = (
+  replayed-none c.args.pcm.now.shape c.args.pcm.now.seed c.args.events.now c.args.pcm.now (g.A.CellArray.state c.args.array.now) c.args.results.now
+      c.requires.ready c.requires.events,
+  refl,
+)
 
 pub event-requires : goal.event-requires
 event-requires g c =
-    let had = c.loop-i.invariant in
+    let had = c.loop-i.invariant.0 in
     let events = c.args.events.now in
     let event = c.index-events-i.result in
     let at : slice_get events c.loop-i.i ≡ Some event = slice_get_read events (length events) c.loop-i.i event refl c.loop-i-test.true c.index-events-i.is in
@@ -44,13 +46,26 @@ loop-i-preserved g c =
     let events = c.args.events.now in
     let event = c.index-events-i.result in
     let at : slice_get events c.loop-i.i ≡ Some event = slice_get_read events (length events) c.loop-i.i event refl c.loop-i-test.true c.index-events-i.is in
-    let e = c.event.ensures in
-    replayed-more c.args.pcm.now.shape c.args.pcm.now.seed events c.loop-i.i event at c.loop-i.pcm (g.A.CellArray.state c.loop-i.array) c.loop-i.results c.loop-i.invariant
-    c.event.new.self (g.A.CellArray.state c.event.new.array) c.event.new.results e.shape e.seed e.going e.tick e.rows e.table e.replays e.open
+    let e = c.event.ensures in (
+      replayed-more c.args.pcm.now.shape c.args.pcm.now.seed events c.loop-i.i event at c.loop-i.pcm (g.A.CellArray.state c.loop-i.array) c.loop-i.results c.loop-i.invariant.0
+          c.event.new.self (g.A.CellArray.state c.event.new.array) c.event.new.results e.shape e.seed e.going e.tick e.rows e.table e.replays e.open,
+      e.stays.wear ∙ c.loop-i.invariant.1,
+    )
 
 pub returns-clause-right : goal.returns-clause-right
 returns-clause-right g c =
     let all =
     replayed-all c.args.pcm.now.shape c.args.pcm.now.seed c.args.events.now c.loop-i.i c.loop-i.pcm (g.A.CellArray.state c.loop-i.array) c.loop-i.results
-    c.loop-i-test.false c.loop-i.invariant in
+    c.loop-i-test.false c.loop-i.invariant.0 in
     c.finish.ensures.right all.0 _ all.1
+
+pub returns-clause-wear : goal.returns-clause-wear
+returns-clause-wear g c = c.finish.ensures.stays.wear ∙ c.loop-i.invariant.1
+
+pub returns-clause-played : goal.returns-clause-played
+returns-clause-played g c =
+    let all =
+    replayed-all c.args.pcm.now.shape c.args.pcm.now.seed c.args.events.now c.loop-i.i c.loop-i.pcm (g.A.CellArray.state c.loop-i.array) c.loop-i.results
+    c.loop-i-test.false c.loop-i.invariant.0 in
+    let done = c.finish.ensures.finishes all.0 _ all.1 in
+    record { history = λ bank. done.0 bank ++ all.0 bank; finished = done.1 }

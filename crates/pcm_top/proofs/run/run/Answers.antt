@@ -1,6 +1,9 @@
-use Rattle.std.proofs.Common.{◌≡◌, ◌≤◌, length, ap, ◌∙◌, arith}
+use Rattle.std.proofs.Common.{◌≡◌, ◌≤◌, length, sym, ap, ◌∙◌, subst, arith}
 use Rattle.bank_timing.proofs.Sizes.{timed_fits}
+use Rattle.module_shape.specs.Limits.{IsShape}
+use Rattle.pcm_top.specs.Played.{IsPlayed}
 use Rattle.pcm_top.proofs.Making.{can-print, run-part, run-written}
+use Rattle.pcm_top.proofs.Saving.{right-now}
 use Rattle.pcm_top.proofs.Sizes.{event_fits}
 use Rattle.pcm_top.proofs.run.run.Goals as goal
 
@@ -28,12 +31,12 @@ print_run-written-requires g c =
         (
           omega arith,
           (
-            c.requires.layout.shape.1,
+            c.requires.layout,
             (
               c.in-Ok.ensures.text,
               (
                 few,
-                (can.rows, c.replay.ensures.right.2.size),
+                (can.rows, (sym seeded, (subst IsShape (sym shape) c.requires.job.shape, (rw same at c.replay.ensures.played, c.replay.ensures.right.2.size)))),
               ),
             ),
           ),
@@ -49,13 +52,17 @@ returns-in-Ok-written-clause-done g c =
     let shape : c.replay.new.pcm.shape ≡ job.shape = c.replay.ensures.shape ∙ c.in-Ok.ensures.ready.shape in
     let seeded : c.replay.new.pcm.seed ≡ job.seed = c.replay.ensures.seed ∙ c.in-Ok.ensures.ready.seeded in
     let size = c.replay.ensures.table ∙ ap length same in
-    let array = g.A.CellArray.state c.replay.new.array in
+    let before = g.A.CellArray.state c.replay.new.array in
+    let array = g.A.CellArray.state c.print_run-written.new.array in
     let left = rw same at c.replay.ensures.right in
+    let stays =
+    right-now c.replay.new.pcm before array events c.replay.new.results (rw same at c.replay.ensures.played) c.print_run-written.ensures.sensed
+    c.sensed_runs_stay_right.ensures (subst IsShape (sym shape) c.requires.job.shape) left.0 left.2 in
     let can =
-    can-print job array events c.replay.new.results c.replay.new.pcm shape seeded size left
+    can-print job before events c.replay.new.results c.replay.new.pcm shape seeded size left
     c.right_runs_can_be_printed.ensures c.requires.job.shape (rw (← c.as_slice-2.ensures.value) at c.in_ok-events.ensures.events) in
-    run-written job array events c.replay.new.results c.replay.new.pcm shape seeded size left _ (rw (← c.as_slice-2.ensures.value) at c.in_ok-events.ensures.come)
-    (g.K.Sink.written c.args.out.now) (g.K.Sink.written c.print_run-written.new.out) c.ending.result c.ending.ensures can.roles c.in-Ok-written.ensures.ok
+    run-written job array events c.replay.new.results c.replay.new.pcm shape seeded size (left.0, left.1, stays) _ (rw (← c.as_slice-2.ensures.value) at c.in_ok-events.ensures.come)
+    (c.print_run-written.ensures.sensed.wear ∙ c.replay.ensures.wear ∙ c.in-Ok.ensures.wear) (g.K.Sink.written c.args.out.now) (g.K.Sink.written c.print_run-written.new.out) c.ending.result c.ending.ensures c.in-Ok-written.ensures.rows can.roles c.in-Ok-written.ensures.ok
 
 pub returns-clause-write : goal.returns-clause-write
 returns-clause-write g c =
@@ -66,12 +73,16 @@ returns-clause-write g c =
     let shape : c.replay.new.pcm.shape ≡ job.shape = c.replay.ensures.shape ∙ c.in-Ok.ensures.ready.shape in
     let seeded : c.replay.new.pcm.seed ≡ job.seed = c.replay.ensures.seed ∙ c.in-Ok.ensures.ready.seeded in
     let size = c.replay.ensures.table ∙ ap length same in
-    let array = g.A.CellArray.state c.replay.new.array in
+    let before = g.A.CellArray.state c.replay.new.array in
+    let array = g.A.CellArray.state c.print_run-written.new.array in
     let left = rw same at c.replay.ensures.right in
+    let stays =
+    right-now c.replay.new.pcm before array events c.replay.new.results (rw same at c.replay.ensures.played) c.print_run-written.ensures.sensed
+    c.sensed_runs_stay_right.ensures (subst IsShape (sym shape) c.requires.job.shape) left.0 left.2 in
     let can =
-    can-print job array events c.replay.new.results c.replay.new.pcm shape seeded size left
+    can-print job before events c.replay.new.results c.replay.new.pcm shape seeded size left
     c.right_runs_can_be_printed.ensures c.requires.job.shape (rw (← c.as_slice-2.ensures.value) at c.in_ok-events.ensures.events) in (
-      run-part job array events c.replay.new.results c.replay.new.pcm shape seeded size left _ (rw (← c.as_slice-2.ensures.value) at c.in_ok-events.ensures.come)
-          (g.K.Sink.written c.args.out.now) (g.K.Sink.written c.print_run-written.new.out) can.roles c.in-Err-written.ensures.prefix,
+      run-part job array events c.replay.new.results c.replay.new.pcm shape seeded size (left.0, left.1, stays) _ (rw (← c.as_slice-2.ensures.value) at c.in_ok-events.ensures.come)
+          (c.print_run-written.ensures.sensed.wear ∙ c.replay.ensures.wear ∙ c.in-Ok.ensures.wear) (g.K.Sink.written c.args.out.now) (g.K.Sink.written c.print_run-written.new.out) can.roles c.in-Err-written.ensures.prefix,
       c.in-Err-written.ensures.fault,
     )

@@ -1,11 +1,10 @@
-use Rattle.std.proofs.Common.{◌≡◌, ℕ, ◌+◌, ◌-◌, ◌<◌, ◌≤◌, suc, Some, List, ◌++◌, ◌∷◌, [], length, refl, sym, ap, ◌∙◌, subst, arith}
+use Rattle.std.proofs.Common.{◌≡◌, ◌-◌, Some, length, refl, arith}
 use Rattle.std.specs.Prelude.{slice_get}
 use Rattle.std.proofs.lemmas.Option.{slice_get_read}
-use Rattle.row_judging.specs.Keys.{is_short}
-use Rattle.row_verdict.specs.Verdicts.{bank_in, rows_with}
+use Rattle.row_verdict.specs.Verdicts.{rows_with}
 use Rattle.result_check.specs.Finding.{row_of}
 use Rattle.result_check.specs.Tables.{IsRowOf}
-use Rattle.result_check.proofs.Coming.{LooksFrom, looks_none, looks_more}
+use Rattle.result_check.proofs.Coming.{looks_none, looks_more}
 use Rattle.result_check.proofs.Finding.{rows_next, rows_length}
 use Rattle.result_check.proofs.Rows.{one_of_every}
 use Rattle.result_check.proofs.Sizes.{event_fits, outcome_fits, op_fits}
@@ -25,9 +24,13 @@ at-requires g c =
     let i = c.loop-row.row - 1 in
     let at : slice_get events i ≡ Some event = slice_get_read events (length events) i event refl (omega (arith, le, c.loop-row-test.true)) c.index-events-row.is in
     let next = rows_next events c.args.results.now i event c.get-outcome.result.now at c.get-outcome.ensures in
-    let o = c.loop-row.invariant.outlook in
-    (op_fits g.row.B c.requires.small, ((one_of_every (IsRowOf (length c.args.banks.now)) (rows_with events c.args.results.now) i (row_of event c.get-outcome.result.now) _ next c.requires.table.each).line,
-    (o.next_size, (o.soonest_size, o.worn_size))))
+    let o = c.loop-row.invariant.outlook in (
+      op_fits g.row.B c.requires.small,
+      (
+        (one_of_every (IsRowOf (length c.args.banks.now)) (rows_with events c.args.results.now) i (row_of event c.get-outcome.result.now) _ next c.requires.table.each).line,
+        (o.next_size, (o.soonest_size, o.worn_size)),
+      ),
+    )
 
 pub add-requires : goal.add-requires
 add-requires g c =
@@ -37,10 +40,16 @@ add-requires g c =
     let i = c.loop-row.row - 1 in
     let at : slice_get events i ≡ Some event = slice_get_read events (length events) i event refl (omega (arith, le, c.loop-row-test.true)) c.index-events-row.is in
     let next = rows_next events c.args.results.now i event c.get-outcome.result.now at c.get-outcome.ensures in
-    let o = c.loop-row.invariant.outlook in
-    (event_fits g.row.B c.requires.small, (outcome_fits g.row.B c.requires.small,
-    ((one_of_every (IsRowOf (length c.args.banks.now)) (rows_with events c.args.results.now) i (row_of event c.get-outcome.result.now) _ next c.requires.table.each).line,
-    (o.next_size, (o.soonest_size, o.worn_size)))))
+    let o = c.loop-row.invariant.outlook in (
+      event_fits g.row.B c.requires.small,
+      (
+        outcome_fits g.row.B c.requires.small,
+        (
+          (one_of_every (IsRowOf (length c.args.banks.now)) (rows_with events c.args.results.now) i (row_of event c.get-outcome.result.now) _ next c.requires.table.each).line,
+          (o.next_size, (o.soonest_size, o.worn_size)),
+        ),
+      ),
+    )
 
 pub loop-row-preserved : goal.loop-row-preserved
 loop-row-preserved g c =

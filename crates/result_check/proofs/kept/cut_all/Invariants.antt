@@ -1,4 +1,3 @@
-use Rattle.std.proofs.Common.{length}
 use Rattle.result_check.proofs.Keeping.{IsCutTo}
 use Rattle.result_check.proofs.kept.cut_all.Given as goal
 

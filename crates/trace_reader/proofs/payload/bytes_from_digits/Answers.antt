@@ -13,16 +13,16 @@ returns-then-text-ne0 g c =
 
 pub pairs-preserved : goal.pairs-preserved
 pairs-preserved g c =
-    let more = reads_digits-more c.args.text.now c.pairs.i c.pairs.bytes c.pairs.most c.value-high.result c.value-low.result c.max-most.result
+    let more = reads_digits-more c.args.text.now c.pairs.i c.pairs.bytes c.pairs.seen c.value-high.result c.value-low.result _
     c.value-high.ensures c.value-low.ensures (search rules) (omega arith) (omega arith) c.pairs.invariant.1 in
     (length-set c.pairs.bytes c.pairs.i _ ∙ c.pairs.invariant.0, more)
 
-pub returns-then-most-lt16 : goal.returns-then-most-lt16
-returns-then-most-lt16 g c =
+pub returns-then-seen-lt16 : goal.returns-then-seen-lt16
+returns-then-seen-lt16 g c =
     let end : c.pairs.i ≡ g.row.B = omega arith in
-    sym (bytes_of-read g.row.B c.args.text.now c.pairs.bytes c.pairs.most (omega arith) c.pairs.invariant.0 (rw end at c.pairs.invariant.1) (omega arith))
+    sym (bytes_of-read g.row.B c.args.text.now c.pairs.bytes c.pairs.seen (omega arith) c.pairs.invariant.0 (rw end at c.pairs.invariant.1) (omega arith))
 
-pub returns-else-most-lt16 : goal.returns-else-most-lt16
-returns-else-most-lt16 g c =
+pub returns-else-seen-lt16 : goal.returns-else-seen-lt16
+returns-else-seen-lt16 g c =
     let end : c.pairs.i ≡ g.row.B = omega arith in
-    sym (bytes_of-bad g.row.B c.args.text.now c.pairs.bytes c.pairs.most (omega arith) (rw end at c.pairs.invariant.1) (omega arith))
+    sym (bytes_of-bad g.row.B c.args.text.now c.pairs.bytes c.pairs.seen (omega arith) (rw end at c.pairs.invariant.1) (omega arith))

@@ -28,7 +28,7 @@ returns-clause-torn g c =
     (elim c.match-take.branch [
       | in-Some+then-tearing w ↦ λ yes.
           let value : c.self.inside.running ≡ Some w.in-Some.running = cc in
-          let torn : P (operation_of (Some w.in-Some.running)) = rw w.array-is (record { tear = w.tear.ensures.tear; sound = w.tear.ensures.sound }) in
+          let torn : P (operation_of (Some w.in-Some.running)) = rw w.array-is (record { tear = w.tear.ensures.tear; unused = w.tear.ensures.unused; sound = w.tear.ensures.sound }) in
           subst P (sym (ap (λ r. operation_of r) value)) torn
       | in-Some+else-tearing w ↦ λ yes. let no = w.if-tearing.false in absurd cc
       | in_default w ↦ λ yes.

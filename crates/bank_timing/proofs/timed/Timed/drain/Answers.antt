@@ -1,6 +1,7 @@
 use Rattle.std.proofs.Common.{arith, true}
 use Rattle.pace.specs.Policies.{pacing_of}
 use Rattle.clock_laws.specs.State.{ClockState}
+use Rattle.clock_laws.proofs.Draining.{resting_registers_law}
 use Rattle.bank_timing.proofs.Sizes.{bank_fits, kept_fits, row_fits}
 use Rattle.bank_timing.proofs.Drains.{queueable, drains, drain-others}
 use Rattle.bank_timing.proofs.Lawful.{keeps-laws}
@@ -59,6 +60,15 @@ returns-clause-laws g c =
     keeps-laws g.row.B g.row.M g.row.E
     (c.tables_keep_their_laws.ensures g.row.B g.row.M) (c.places_keep_their_laws.ensures g.row.B g.row.M) (c.logs_keep_their_laws.ensures g.row.B g.row.M)
     xs clock (g.A.CellArray.state c.settle.new.array) c.self.invariant.paced.some_read c.self.invariant.paced.some_iter leads rests
+
+pub returns-clause-registers : goal.returns-clause-registers
+returns-clause-registers g c =
+    let t = c.self.inside in
+    let clock : ClockState g.row.B g.row.M g.row.E =
+    record { bank = t.bank; regs = t.regs; pace = pacing_of t.pace; tick = t.tick; action = t.action; arrivals = t.arrivals.items; cancels = t.cancels; drained = true } in
+    let rests = rw (← c.self.view_is) at c.settle.ensures.rests in
+    λ xs leads region exists.
+    resting_registers_law g.row.B g.row.M g.row.E region xs clock (g.A.CellArray.state c.settle.new.array) c.self.invariant.paced.some_read c.self.invariant.paced.some_iter leads rests exists
 
 pub tables_keep_their_laws-requires : goal.tables_keep_their_laws-requires
 tables_keep_their_laws-requires g c = grind arith

@@ -1,16 +1,16 @@
-use Rattle.std.proofs.Common.{arith, refl, sym, ◌∙◌}
+use Rattle.std.proofs.Common.{◌≤◌, arith, refl, subst, sym, ◌∙◌}
 use Rattle.pace.specs.Policies.{pacing_of}
 use Rattle.clock_laws.specs.State.{ClockState}
 use Rattle.clock_laws.specs.Remaining.{actions_left}
 use Rattle.bank_timing.proofs.Sizes.{timed_fits, row_fits}
 use Rattle.bank_timing.proofs.Acting.{begun-before}
-use Rattle.bank_timing.proofs.Running.{ran-none, ran-more}
+use Rattle.bank_timing.proofs.Running.{down-none, down-more}
 use Rattle.bank_timing.proofs.Settling.{few-actions, enough, ends-soon, spent, within-of}
 use Rattle.bank_timing.proofs.timed.Timed.settle.Goals as goal
 
 pub loop-action-init : goal.loop-action-init
 loop-action-init g c = (
-  ran-none c.args.self.now (g.A.CellArray.state c.args.array.now) c.args.results.now c.requires.led c.requires.unset,
+  down-none c.args.self.now (g.A.CellArray.state c.args.array.now) c.args.results.now c.requires.led c.requires.unset,
   enough c.args.self.now.tick (actions_left c.args.self.now.bank c.args.self.now.regs) c.requires.within (few-actions c.requires.led.0 c.args.self.now (g.A.CellArray.state c.args.array.now) c.self.invariant.layout c.requires.led.1),
 )
 
@@ -39,8 +39,13 @@ loop-action-preserved g c =
     let next = rw (← c.self-in-loop-action.view_is) at (sym c.next_action.ensures ∙ c.in-Some.is) in
     let now = rw (← c.self-in-loop-action.view_is) at c.complete.ensures.now in
     let less = rw (← c.self-in-loop-action.view_is) at c.complete.ensures.less in
-    let within = rw (← c.self-in-loop-action.view_is) at kept.1 in (
-      ran-more c.in-Some.action c.args.self.now c.loop-action.self c.complete.new.self (g.A.CellArray.state c.args.array.now) (g.A.CellArray.state c.loop-action.array) (g.A.CellArray.state c.complete.new.array) c.args.results.now c.loop-action.results c.complete.new.results kept.0 c.complete.ensures,
+    let within = rw (← c.self-in-loop-action.view_is) at kept.1 in
+    let read : 1 ≤ c.loop-action.self.pace.read =
+    subst (λ (clock : ClockState g.row.B g.row.M g.row.E). 1 ≤ clock.pace.read) c.self-in-loop-action.view_is c.self-in-loop-action.invariant.paced.some_read in
+    let iter : 1 ≤ c.loop-action.self.pace.iter =
+    subst (λ (clock : ClockState g.row.B g.row.M g.row.E). 1 ≤ clock.pace.iter) c.self-in-loop-action.view_is c.self-in-loop-action.invariant.paced.some_iter in (
+      down-more c.in-Some.action c.args.self.now c.loop-action.self c.complete.new.self (g.A.CellArray.state c.args.array.now) (g.A.CellArray.state c.loop-action.array) (g.A.CellArray.state c.complete.new.array) c.args.results.now c.loop-action.results c.complete.new.results
+          read iter (sym c.next_action.ensures ∙ c.in-Some.is) kept.0 c.complete.ensures,
       spent t.tick c.complete.new.self.tick _ (actions_left t.bank t.regs) (actions_left c.complete.new.self.bank c.complete.new.self.regs) now
           (ends-soon clock t.pace c.in-Some.action refl c.self-in-loop-action.invariant.paced (begun-before clock c.in-Some.action next c.self-in-loop-action.invariant.begun)) less within,
     )

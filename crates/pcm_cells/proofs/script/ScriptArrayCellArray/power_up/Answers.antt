@@ -15,5 +15,6 @@ returns-clause-ok g c =
       blank = blank_lines g.row.B g.row.M c.args.lines (λ row. line_state row.line) (blank_scripted g.row.B g.row.M) refl;
       tears = refl;
       log = λ senses told. cc;
+      wear = refl;
     }))
     c.renew.ensures.ok

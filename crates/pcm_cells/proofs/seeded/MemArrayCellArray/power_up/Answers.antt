@@ -1,11 +1,36 @@
-use Rattle.std.proofs.Common.{refl}
+use Rattle.std.proofs.Common.{arith, ℕ, ◌∙◌, refl, ap, length}
+use Rattle.std.proofs.lemmas.List.{length-replicate}
+use Rattle.pcm_cells.specs.Paging.{lines_seen}
+use Rattle.pcm_cells.proofs.EnduranceLemmas.{spares_none, spares_new}
 use Rattle.pcm_cells.proofs.SeededLemmas.{drawn_is_blank}
+use Rattle.pcm_cells.proofs.PagingLemmas.{lines_size, blank_drawn}
 use Rattle.pcm_cells.proofs.seeded.MemArrayCellArray.power_up.Goals as goal
 
 pub returns-clause-ok : goal.returns-clause-ok
-returns-clause-ok g c = record {
-  count = c.in_ok-drawn_lines.ensures.count;
-  blank = λ l h. drawn_is_blank c.args.wear l _ (c.in_ok-drawn_lines.ensures.drawn l h);
-  tears = refl;
-  log = λ senses told. cc;
-}
+returns-clause-ok g c =
+    let new = c.in_ok-blank.field-0 in
+    record {
+      count = lines_size new ∙ ap length c.in_ok-blank.ensures.table ∙ length-replicate c.args.lines 0;
+      blank = λ l h. drawn_is_blank c.args.wear l _ (blank_drawn new c.args.lines c.args.wear c.in_ok-blank.ensures.table c.in_ok-blank.ensures.wear l h);
+      tears = refl;
+      log = λ senses told. cc;
+      wear = refl;
+    }
+
+pub returns-clause-drawn : goal.returns-clause-drawn
+returns-clause-drawn g c = blank_drawn c.in_ok-blank.field-0 c.args.lines c.args.wear c.in_ok-blank.ensures.table c.in_ok-blank.ensures.wear
+
+pub invariant_of-self : goal.invariant_of-self
+invariant_of-self g c = (c.self.invariant.0, c.self.invariant.1, omega arith, spares_none g.row.B g.row.M c.args.wear.lo)
+
+pub invariant_of-self-2 : goal.invariant_of-self-2
+invariant_of-self-2 g c =
+    let new = c.in_ok-blank.field-0 in (
+      c.self.invariant.0,
+      c.self.invariant.1,
+      omega arith,
+      spares_new c.args.wear (lines_seen new)
+          (λ l h.
+          blank_drawn new c.args.lines c.args.wear c.in_ok-blank.ensures.table c.in_ok-blank.ensures.wear l
+          (omega (arith, h, lines_size new, ap length c.in_ok-blank.ensures.table, length-replicate {A = ℕ} c.args.lines 0))),
+    )

@@ -1,8 +1,9 @@
-use Rattle.std.proofs.Common.{◌≡◌, ℕ, ◌<◌, ◌+◌, ◌*◌, length, slice_index, bit_xor}
+use Rattle.std.proofs.Common.{◌≡◌, ℕ, ◌<◌, bit_xor}
 use Rattle.rand_core.specs.Steps.{stream_of, steps_u64_high}
 use Rattle.rand_xoshiro.specs.Xoshiro256.{plus_plus}
 use Rattle.pcm_cells.specs.Rows.{cell}
 use Rattle.pcm_cells.specs.Planes.{digit}
+use Rattle.pcm_cells.specs.Counts.{count}
 use Rattle.pcm_cells.specs.Words.{xoshiro_of, stream_after, word_at}
 use Rattle.pcm_cells.specs.Seeded.{endurance, miss_limit, stuck_value}
 use Rattle.pcm_cells.proofs.seeded.SeededLine.drawn.Given as goal
@@ -11,8 +12,7 @@ use Rattle.pcm_cells.proofs.seeded.SeededLine.drawn.Given as goal
 abbrev pub invariant-loop-cell : goal.invariant-loop-cell
 invariant-loop-cell g l = record {
   words : stream_of (steps_u64_high plus_plus) l.words ≡ stream_after l.cell (xoshiro_of (bit_xor l.wear.seed l.number));
-  left : (n : ℕ) → n < l.cell → slice_index l.left.items n ≡ endurance l.wear (word_at n (xoshiro_of (bit_xor l.wear.seed l.number)));
+  left : (n : ℕ) → n < l.cell → count l.left n ≡ endurance l.wear (word_at n (xoshiro_of (bit_xor l.wear.seed l.number)));
   limits : (n : ℕ) → n < l.cell → digit l.limits n ≡ miss_limit l.wear (word_at n (xoshiro_of (bit_xor l.wear.seed l.number)));
   ends : (n : ℕ) → n < l.cell → cell l.ends n ≡ stuck_value (word_at n (xoshiro_of (bit_xor l.wear.seed l.number)));
-  left_size : length l.left.items ≡ 8 * (g.row.B + g.row.M);
 }

@@ -34,7 +34,7 @@ returns-clause-cells g c =
     let new : LifeLine g.row.B g.row.M =
     record {
       line = record { held = c.set_block.new.self; stuck = c.set_block-2.new.self; misses = c.advance.new.self; pulses = c.self-2.inside.pulses };
-      left = left_of 0 c.self-2.inside.spent c.self-2.inside.left.items;
+      left = left_of c.self-2.inside.spent c.self-2.inside.left;
       limits = c.self-2.inside.limits;
       ends = c.self-2.inside.ends;
     } in
@@ -47,7 +47,7 @@ returns-clause-cells g c =
     let limits : c.self.inside.limits ≡ old.limits = ap (λ s. s.limits) c.self.view_is in
     let limits_2 : c.self-2.inside.limits ≡ old.limits = ap (λ s. s.limits) c.self-2.view_is ∙ c.spend-last.ensures.limits in
     let ends_2 : c.self-2.inside.ends ≡ old.ends = ap (λ s. s.ends) c.self-2.view_is ∙ c.spend-last.ensures.ends in
-    let left : left_of 0 c.self-2.inside.spent c.self-2.inside.left.items ≡ now.left = ap (λ s. s.left) c.self-2.view_is in
+    let left : left_of c.self-2.inside.spent c.self-2.inside.left ≡ now.left = ap (λ s. s.left) c.self-2.view_is in
     followed_block block (cell c.args.mask.now) (seeded c.args.tearing (cell c.args.want.now)) (seeded_cell old) (seeded_cell new)
     (λ i low.
     let n : ℕ = 64 * block + i in
@@ -72,9 +72,8 @@ invariant_of-self g c =
     let stuck : c.self-2.inside.stuck ≡ c.self.inside.stuck =
     ap (λ s. s.line.stuck) c.self-2.view_is ∙ ap (λ l. l.stuck) c.spend-last.ensures.line ∙ sym (ap (λ s. s.line.stuck) c.self.view_is) in (
       c.self-2.invariant.0,
-      c.self-2.invariant.1,
       λ n is live.
-          c.self-2.invariant.2 n is
+          c.self-2.invariant.1 n is
           (stuck_before block (cell c.self-2.inside.stuck) (cell c.set_block-2.new.self)
           (λ i low h. ap (λ s. cell s (64 * block + i)) stuck ∙ sym (c.block-stuck.ensures i low)
           ∙ or_false (bit_in c.spend-last.result i) (bit_in c.block-stuck.result i)

@@ -41,7 +41,7 @@ returns-clause-banks g c =
     (subst (λ (k : ℕ). AreMade g.row.B g.row.M g.row.E c.args.shape k c.loop-bank.banks.items) (end_is c.loop-bank.bank c.banks-bank-end.result c.args.shape.banks c.loop-bank.auto.bank-end c.loop-bank-test.false c.banks-bank-end.ensures.number) c.loop-bank.invariant).made
 
 pub returns-clause-begins : goal.returns-clause-begins
-returns-clause-begins g c array results fresh =
+returns-clause-begins g c array wear results fresh =
     made_replays g.row.B g.row.M g.row.E c.args.shape c.args.seed c.loop-bank.banks.items
     (subst (λ (k : ℕ). AreMade g.row.B g.row.M g.row.E c.args.shape k c.loop-bank.banks.items) (end_is c.loop-bank.bank c.banks-bank-end.result c.args.shape.banks c.loop-bank.auto.bank-end c.loop-bank-test.false c.banks-bank-end.ensures.number) c.loop-bank.invariant)
-    array results fresh
+    array wear results fresh

@@ -28,6 +28,7 @@ stepped g c =
       going = rw (← c.self.view_is) at c.requires.going;
       exist = now.exist;
       sound = now.sound;
+      unused = now.unused;
       bytes = c.begin-writer.ensures.bytes ∙ c.encode.ensures;
       writes = c.begin-writer.ensures.writes ((g.A.CellArray.state c.sense-seen.new.self).line line)
           (ap (λ (l : LineState g.row.B g.row.M). l.held) (c.sense-seen.ensures.step.line line) ∙ sym c.sense-seen.ensures.cells) (now.sound c.in-Some.change.item within);

@@ -1,5 +1,6 @@
 use Rattle.std.proofs.Common.{arith, ◌≡◌, ◌+◌, [], Some, None, false, ap, sym, ◌∙◌}
 use Rattle.bank_model.specs.Touching.{Touches}
+use Rattle.line_writer.proofs.Untouched.{untouched-tear}
 use Rattle.reg_lines.specs.Regs.{RegsState, AreHeld}
 use Rattle.reg_lines.specs.Keeping.{broken_off, torn_line}
 use Rattle.reg_lines.proofs.Held.{held-broken, held-stopped, running-going, quiet-cut, written-stands, view_of}
@@ -39,7 +40,9 @@ returns-clause-held g c =
           let runs : regs.writer ≡ Some w.in-Some.writer = sym c.take.ensures.value ∙ w.in-Some.is in
           rw w.array-is
           (held-broken regs (g.A.CellArray.state c.args.array.now) (g.A.CellArray.state w.tear.new.array) w.in-Some-change.change held w.in-Some-change.is
-          (running-going regs w.in-Some.writer runs c.self.invariant.idle) w.tear.ensures.tear.others.lines w.tear.ensures.tear.others.others w.tear.ensures.sound)
+          (running-going regs w.in-Some.writer runs c.self.invariant.idle) w.tear.ensures.tear.others.lines w.tear.ensures.tear.others.others w.tear.ensures.sound
+          (untouched-tear g.row.E (c.self.inside.base + w.in-Some-change.change.item) w.in-Some.writer.prog (g.A.CellArray.state c.args.array.now) (g.A.CellArray.state w.tear.new.array)
+          w.tear.ensures.tear w.tear.ensures.unused))
       | in-Some+in-Some-change+else-tearing w ↦ quiet w.array-is
       | in-Some+in_default-change w ↦ quiet w.array-is
       | in_default w ↦ quiet w.array-is

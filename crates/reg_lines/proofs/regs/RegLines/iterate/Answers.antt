@@ -1,5 +1,6 @@
 use Rattle.std.proofs.Common.{arith, ◌≡◌, ◌≢◌, ℕ, ◌+◌, Some, sym, subst, ◌∙◌}
 use Rattle.line_writer.specs.Writing.{IsWorn}
+use Rattle.line_writer.proofs.Untouched.{untouched-round, AreUntouched-beside}
 use Rattle.reg_lines.specs.Regs.{RegsState}
 use Rattle.reg_lines.proofs.Held.{HasStepped, held-stepped, sound-beside, writing-of, running-going}
 use Rattle.reg_lines.proofs.regs.RegLines.iterate.Given.{Over}
@@ -30,6 +31,9 @@ stepped g c =
       going = running-going regs c.in-Some-take.writer runs c.self.invariant.idle;
       exist = rw (round.sense.lines ∙ round.others.lines) held.exist;
       sound = sound-beside regs (g.A.CellArray.state c.args.array.now) (g.A.CellArray.state c.step.new.array) c.in-Some.change.item held others c.step.ensures.sound;
+      unused = AreUntouched-beside g.row.E (g.A.CellArray.state c.args.array.now) (g.A.CellArray.state c.step.new.array) (regs.base + c.in-Some.change.item) regs.base regs.items others
+          (untouched-round g.row.E (regs.base + c.in-Some.change.item) c.args.tick c.in-Some-take.writer.prog c.step.ensures.round.0
+          (g.A.CellArray.state c.args.array.now) (g.A.CellArray.state c.step.new.array) round c.step.ensures.unused) held.unused;
       bytes = c.step.ensures.bytes ∙ writing.bytes;
       writes = c.step.ensures.writes;
       worn = λ worn. c.step.ensures.worn (subst IsWorn (sym c.step.ensures.is) worn);

@@ -1,4 +1,4 @@
-use Rattle.std.proofs.Common.{◌≡◌, ◌∙◌, Some}
+use Rattle.std.proofs.Common.{◌≡◌, Some}
 use Rattle.result_check.specs.Finding.{line_written}
 use Rattle.row_verdict.specs.Verdicts.{asks_of}
 use Rattle.result_check.proofs.ahead.Outlook.add.Goals as goal

@@ -1,9 +1,9 @@
-use Rattle.std.proofs.Common.{◌≡◌, ℕ, List, Option, Some, length, refl, sym, ap, ◌∙◌, ◌∷◌, ◌<◌, subst, arith}
-use Rattle.std.specs.Prelude.{slice_get, slice_set}
+use Rattle.std.proofs.Common.{Some, length, refl, sym, ◌∷◌, ◌<◌, subst, arith}
+use Rattle.std.specs.Prelude.{slice_set}
 use Rattle.result_rows.specs.declared.Outcome.{Outcome}
 use Rattle.result_rows.specs.declared.Outcome.TheVariants as out
-use Rattle.result_check.specs.Coming.{IsOutlook, a_row, sooner_of}
-use Rattle.result_check.proofs.Coming.{written_is, outlook_stored, outlook_accepted, outlook_worn, outlook_refused}
+use Rattle.result_check.specs.Coming.{IsOutlook, a_row}
+use Rattle.result_check.proofs.Coming.{written_is, outlook_stored, outlook_accepted, outlook_worn}
 use Rattle.result_check.proofs.Lists.{get_is}
 use Rattle.result_check.proofs.ahead.Outlook.add_write.Goals as goal
 

@@ -1,4 +1,4 @@
-use Rattle.std.proofs.Common.{◌≡◌, ◌∙◌, ◌<◌, length, Some, sym, ap, arith}
+use Rattle.std.proofs.Common.{◌≡◌, ◌∙◌, length, Some, sym, ap, arith}
 use Rattle.result_check.specs.Coming.{coming_for}
 use Rattle.result_check.specs.Finding.{line_asked}
 use Rattle.row_verdict.specs.Verdicts.{asks_of}

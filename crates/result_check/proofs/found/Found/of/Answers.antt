@@ -1,12 +1,11 @@
-use Rattle.std.proofs.Common.{◌≡◌, ℕ, ◌+◌, suc, Some, List, length, refl, sym, ap, ◌∙◌, subst, arith}
+use Rattle.std.proofs.Common.{◌≡◌, ℕ, ◌+◌, suc, Some, length, refl, sym, subst, arith}
 use Rattle.std.specs.Prelude.{slice_get, IsPermutation}
 use Rattle.std.proofs.lemmas.Option.{slice_get_read}
 use Rattle.std.proofs.lemmas.List.Sorted.{IsNonDecreasingBy-from_sort}
-use Rattle.row_judging.specs.Keys.{is_short, store_keys, read_keys}
-use Rattle.row_verdict.specs.Verdicts.{bank_in, rows_with}
+use Rattle.row_verdict.specs.Verdicts.{rows_with}
 use Rattle.result_check.specs.Finding.{row_of}
 use Rattle.result_check.specs.Tables.{IsRowOf}
-use Rattle.result_check.proofs.Finding.{IsFoundTo, outcome_there, rows_next, rows_length, found_none, found_more, found_all}
+use Rattle.result_check.proofs.Finding.{IsFoundTo, outcome_there, rows_next, rows_length, found_more, found_all}
 use Rattle.result_check.proofs.Rows.{one_of_all, one_of_every, short_of_brief}
 use Rattle.result_check.proofs.Sizes.{event_fits, outcome_fits}
 use Rattle.result_check.proofs.found.Found.of.Goals as goal
@@ -17,11 +16,15 @@ add-requires g c =
     let event = c.index-events-i.result in
     let at : slice_get events c.loop-i.i ≡ Some event = slice_get_read events (length events) c.loop-i.i event refl c.loop-i-test.true c.index-events-i.is in
     let next = rows_next events c.args.results.now c.loop-i.i event c.get.result.now at (outcome_there c.args.results.now c.loop-i.i c.get.result.now c.get.ensures) in
-    let rows = rows_with events c.args.results.now in
-    (
+    let rows = rows_with events c.args.results.now in (
       event_fits g.row.B c.requires.small,
-      (outcome_fits g.row.B c.requires.small, ((one_of_every (IsRowOf (length c.args.banks.now)) rows c.loop-i.i (row_of event c.get.result.now) _ next c.requires.table.each).line,
-      short_of_brief c.get.result.now (one_of_all _ rows c.loop-i.i (row_of event c.get.result.now) _ next c.requires.table.brief))),
+      (
+        outcome_fits g.row.B c.requires.small,
+        (
+          (one_of_every (IsRowOf (length c.args.banks.now)) rows c.loop-i.i (row_of event c.get.result.now) _ next c.requires.table.each).line,
+          short_of_brief c.get.result.now (one_of_all _ rows c.loop-i.i (row_of event c.get.result.now) _ next c.requires.table.brief),
+        ),
+      ),
     )
 
 pub loop-i-preserved : goal.loop-i-preserved

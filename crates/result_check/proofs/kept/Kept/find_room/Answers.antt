@@ -1,7 +1,5 @@
-use Rattle.std.proofs.Common.{◌≡◌, ℕ, ◌<◌, ◌≤◌, ◌∙◌, List, Option, Some, length, sym, ap, subst, arith}
-use Rattle.std.specs.Prelude.{All, IfSome, slice_get}
-use Rattle.std.proofs.lemmas.Option.{slice_get-get_or}
-use Rattle.row_laws.specs.declared.Row.{Row}
+use Rattle.std.proofs.Common.{◌≡◌, ◌<◌, ◌∙◌, Some, length, sym, ap, subst}
+use Rattle.std.specs.Prelude.{IfSome}
 use Rattle.row_verdict.specs.Fitting.{room_kept}
 use Rattle.row_verdict.specs.States.{Facts}
 use Rattle.row_verdict.specs.Passing.{joined_room}

@@ -1,6 +1,6 @@
-use Rattle.std.proofs.Common.{◌≡◌, ℕ, ◌∙◌, List, Option, Some, refl, sym, ap, subst, arith}
-use Rattle.std.specs.Prelude.{slice_get, slice_set}
-use Rattle.row_verdict.specs.States.{Facts, after_write}
+use Rattle.std.proofs.Common.{◌≡◌, ◌∙◌, refl, sym, ap, subst}
+use Rattle.std.specs.Prelude.{slice_set}
+use Rattle.row_verdict.specs.States.{after_write}
 use Rattle.row_verdict.specs.declared.lines.Line.{Line}
 use Rattle.result_check.specs.Lines.{IsLineBehind}
 use Rattle.result_check.proofs.Lists.{get_is, some_same}
@@ -15,10 +15,13 @@ pub returns-clause-banks : goal.returns-clause-banks
 returns-clause-banks g c =
     let member = c.member_of-member.result in
     let old = c.args.self.now in
-    let got = facts_got old.banks.items c.args.bank c.index_mut.result.now (get_is old.banks.items c.args.bank c.index_mut.result.now c.requires.exist c.index_mut.ensures.value) in
-    (member, c.member_of-member.ensures.sight, ap (slice_set old.banks.items c.args.bank)
-    (c.in_ok-pass_write.ensures ∙ ap (λ l. after_write l member c.args.outcome.now c.index_mut.result.now) c.member_of-member.ensures.line
-    ∙ ap (after_write c.args.line member c.args.outcome.now) (sym got)))
+    let got = facts_got old.banks.items c.args.bank c.index_mut.result.now (get_is old.banks.items c.args.bank c.index_mut.result.now c.requires.exist c.index_mut.ensures.value) in (
+      member,
+      c.member_of-member.ensures.sight,
+      ap (slice_set old.banks.items c.args.bank)
+          (c.in_ok-pass_write.ensures ∙ ap (λ l. after_write l member c.args.outcome.now c.index_mut.result.now) c.member_of-member.ensures.line
+          ∙ ap (after_write c.args.line member c.args.outcome.now) (sym got)),
+    )
 
 pub returns-clause-lines : goal.returns-clause-lines
 returns-clause-lines g c = λ old is.

@@ -1,14 +1,13 @@
-use Rattle.std.proofs.Common.{◌≡◌, ℕ, ◌<◌, ◌≤◌, ◌∙◌, List, Option, Some, None, length, refl, sym, ap, subst, arith}
-use Rattle.std.specs.Prelude.{IfOk, slice_get, true, replicate}
+use Rattle.std.proofs.Common.{◌≡◌, ◌<◌, ◌∙◌, length, sym, ap, subst, arith}
+use Rattle.std.specs.Prelude.{IfOk, true, replicate}
 use Rattle.row_laws.specs.declared.Asks.{Asks}
-use Rattle.row_laws.specs.declared.Asks.TheVariants.{Reads, Writes, Cuts}
-use Rattle.row_laws.specs.declared.Row.{Row}
+use Rattle.row_laws.specs.declared.Asks.TheVariants.{Reads, Writes}
 use Rattle.row_laws.specs.Rows.{asks_cut}
 use Rattle.row_verdict.specs.Verdicts.{asks_of, bank_in, rules_by}
 use Rattle.result_check.specs.declared.ahead.Coming.{Coming}
 use Rattle.result_check.specs.Coming.{a_row, coming_at}
 use Rattle.result_check.specs.Finding.{IsBelow, row_of}
-use Rattle.result_check.specs.Keeping.{IsNext, HasPassed, Meets}
+use Rattle.result_check.specs.Keeping.{IsNext, HasPassed}
 use Rattle.result_check.proofs.Meeting.{next_of, fourth_below, few_wait}
 use Rattle.result_check.proofs.Rows.{short_of_brief}
 use Rattle.result_check.proofs.Sizes.{op_fits, outcome_fits}
@@ -27,11 +26,46 @@ take_read-requires g c =
     let size = f.number in
     let long : length c.find_room-room.new.self.lines.items ≡ length c.args.self.now.lines.items = ap length f.lines in
     let k = f.knows m.from c.requires.met.0 m.passed_by (omega (arith, below)) m.knows in
-    let bank = bank_in banks c.in-Read.line in
-    (omega arith, (op_fits g.row.B c.requires.small, (outcome_fits g.row.B c.requires.small, (c.requires.small, (c.requires.within, (asked, (within,
-    ((λ i d lt. let exists = c.requires.exist i d lt in omega (arith, exists, size)), (long ∙ c.requires.lines, (c.requires.usable, (short_of_brief c.args.outcome.now m.brief, (m.reached,
-    (fourth_below rules banks e.tick bank c.find_room-room.new.self.banks.items c.args.self.now.joined c.requires.met.0 k m.reached,
-    few_wait rules banks e.tick bank c.find_room-room.new.self.banks.items c.args.self.now.joined c.requires.met.0 k (omega (arith, below)) m.few)))))))))))))
+    let bank = bank_in banks c.in-Read.line in (
+      omega arith,
+      (
+        op_fits g.row.B c.requires.small,
+        (
+          outcome_fits g.row.B c.requires.small,
+          (
+            c.requires.small,
+            (
+              c.requires.within,
+              (
+                asked,
+                (
+                  within,
+                  (
+                    (λ i d lt. let exists = c.requires.exist i d lt in omega (arith, exists, size)),
+                    (
+                      long ∙ c.requires.lines,
+                      (
+                        c.requires.usable,
+                        (
+                          short_of_brief c.args.outcome.now m.brief,
+                          (
+                            m.reached,
+                            (
+                              fourth_below rules banks e.tick bank c.find_room-room.new.self.banks.items c.args.self.now.joined c.requires.met.0 k m.reached,
+                              few_wait rules banks e.tick bank c.find_room-room.new.self.banks.items c.args.self.now.joined c.requires.met.0 k (omega (arith, below)) m.few,
+                            ),
+                          ),
+                        ),
+                      ),
+                    ),
+                  ),
+                ),
+              ),
+            ),
+          ),
+        ),
+      ),
+    )
 
 pub returns-in-Read-clause-passes : goal.returns-in-Read-clause-passes
 returns-in-Read-clause-passes g c = λ before after m.

@@ -1,4 +1,4 @@
-use Rattle.std.proofs.Common.{◌≡◌, ◌∙◌, refl, sym, ap, arith}
+use Rattle.std.proofs.Common.{◌∙◌, refl, sym, arith}
 use Rattle.result_check.proofs.Taking.{cut_taken}
 use Rattle.result_check.proofs.kept.Kept.take_cut.Goals as goal
 

@@ -1,9 +1,8 @@
-use Rattle.std.proofs.Common.{◌≡◌, ℕ, ◌<◌, ◌∙◌, List, Option, Some, None, length, refl, sym, ap, subst, arith}
-use Rattle.std.specs.Prelude.{slice_get, slice_set}
+use Rattle.std.proofs.Common.{◌≡◌, ◌<◌, ◌∙◌, List, length, sym, ap, subst, arith}
 use Rattle.std.proofs.Math.ListN.{length-set}
 use Rattle.row_verdict.specs.Banks.{facts_of}
 use Rattle.row_verdict.specs.declared.lines.Line.{Line}
-use Rattle.row_verdict.specs.Verdicts.{bank_in, rules_by}
+use Rattle.row_verdict.specs.Verdicts.{rules_by}
 use Rattle.result_check.specs.Keeping.{KnowsLines}
 use Rattle.result_check.proofs.Keeping.{bank_exists, facts_got}
 use Rattle.result_check.proofs.Lines.{lines_pass}

@@ -1,4 +1,4 @@
-use Rattle.std.proofs.Common.{◌≡◌, ℕ, ◌∙◌, sym, subst, ap}
+use Rattle.std.proofs.Common.{◌≡◌, ◌∙◌, sym, subst, ap}
 use Rattle.row_verdict.specs.Banks.{facts_of}
 use Rattle.row_verdict.specs.States.{Facts, settled}
 use Rattle.row_verdict.specs.Members.{never}

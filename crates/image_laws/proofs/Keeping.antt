@@ -1,0 +1,119 @@
+-- What is saved of a bank is in range, and is what its end says.
+use Rattle.std.proofs.Common.{◌≡◌, ℕ, zero, suc, ◌+◌, ◌*◌, ◌^◌, ◌<◌, ◌≤◌, ◌&&◌, Bool, true, false, nat_le, List, [], ◌∷◌, length, get_or, refl, sym, ap, subst, ◌∙◌, arith}
+use Rattle.std.specs.Prelude.{All, IsTrue, map, if◌then◌else◌}
+use Rattle.std.proofs.lemmas.List.{length-map}
+use Rattle.std.proofs.lemmas.List.Elements.{All-nil, All-cons, All-from_get_or}
+use Rattle.std.proofs.Math.ListN.{get_or-map}
+use Rattle.std.specs.Int.{is_power_of_two}
+use Rattle.std.proofs.lemmas.Bool.Decides.{nat_tests}
+use Rattle.feistel_map.specs.Log2.{log2}
+use Rattle.masked_bytes.specs.Entries.{AllMasked}
+use Rattle.masked_bytes.specs.declared.entry.Entry.{Entry}
+use Rattle.start_gap.specs.Rotation.{Rotation, StandsFor}
+use Rattle.spare_pool.specs.Table.{line_from}
+use Rattle.region_regs.specs.Region.{RegionState}
+use Rattle.bank_shape.specs.declared.Home.{Home}
+use Rattle.bank_shape.specs.declared.Home.TheVariants as home
+use Rattle.bank_shape.specs.declared.BankShape.{BankShape}
+use Rattle.bank_shape.specs.Shape.{slots_of}
+use Rattle.power_recovery.specs.Kept.{KeptState, IsKept, AllBelow, region_at, no_region as no_kept}
+use Rattle.module_shape.specs.declared.raw.RawShape.{RawShape}
+use Rattle.module_shape.specs.Limits.{IsShape, is_power_between, total_of}
+use Rattle.module_shape.specs.Addresses.{module_of, bank_shape}
+use Rattle.end_laws.specs.Ends.{BankEnd}
+use Rattle.end_laws.specs.EndLaws.{IsEndOf}
+use Rattle.pcm_image.specs.Saved.{Head, IsHead, IsSavedBank, IsSavedEntry, IsSavedRegion, is_lines, lines_in, slots_in}
+use Rattle.pcm_image.specs.Standing.{rotation_of, no_region}
+use Rattle.image_laws.specs.Saving.{head_of, home_number, saved_bank, saved_entry, saved_region}
+use Rattle.image_laws.specs.SavedRuns.{SavesEnd}
+use Rattle.image_laws.proofs.Factors.{first-test, second-test, third-test}
+
+both : (a b : Bool) → a ≡ true → b ≡ true → (a && b) ≡ true
+both true true p q = refl
+both false b p q = absurd cc
+both true false p q = absurd cc
+
+le-test : (a b : ℕ) → a ≤ b → nat_le a b ≡ true
+le-test a b h = grind (arith, nat_tests)
+
+within : (least most n : ℕ) → is_power_of_two n ≡ true → least ≤ n → n ≤ most → is_power_between least most n ≡ true
+within least most n power low high =
+    both (is_power_of_two n) (nat_le least n && nat_le n most) power (both (nat_le least n) (nat_le n most) (le-test least n low) (le-test n most high))
+
+home-low : (h : Home) → home_number h < 2
+home-low home.Guarded = omega arith
+home-low home.Array = omega arith
+
+pub head-right : (raw : RawShape) (seed : ℕ) → IsShape raw → seed < 2 ^ 64 → IsHead (head_of raw seed)
+head-right raw seed is low =
+    let power : raw.banks * raw.regions * raw.lines ≡ 2 ^ log2 (total_of raw) = sym is.whole_bits in
+    record {
+      banks = within 1 16 raw.banks (first-test _ raw.banks raw.regions raw.lines power) is.some_banks is.few_banks;
+      regions = within 1 16 raw.regions (second-test _ raw.banks raw.regions raw.lines power) is.some_regions is.few_regions;
+      lines = both (is_power_between 4 4096 raw.lines) (nat_le (raw.banks * raw.regions * raw.lines) 65536)
+          (within 4 4096 raw.lines (third-test _ raw.banks raw.regions raw.lines power) is.some_lines is.few_lines)
+          (le-test (raw.banks * raw.regions * raw.lines) 65536 is.few_in_all);
+      spares = is.few_spares;
+      seed = low;
+      home = home-low raw.home;
+    }
+
+entries-right : {n : ℕ} (h : Head) (es : List (Entry n)) (lines : ℕ) → lines ≡ lines_in h → AllMasked es → AllBelow es lines → All (IsSavedEntry h) (map saved_entry es)
+entries-right h [] lines same masked below = All-nil (IsSavedEntry h)
+entries-right h (e ∷ es) lines same masked below =
+    All-cons (IsSavedEntry h) (saved_entry e) (map saved_entry es) (record { line = rw (← same) below.0; masked = masked.0 })
+    (entries-right h es lines same masked.1 below.1)
+
+mark-low : (mark : Bool) → (if mark then 1 else 0) < 2
+mark-low true = omega arith
+mark-low false = omega arith
+
+module _ {n : ℕ} (raw : RawShape) (seed bank : ℕ) (kept : KeptState n) (is : IsKept kept) (shape : kept.shape ≡ bank_shape (module_of raw) bank) where
+  lines-same : kept.shape.lines ≡ raw.lines
+  lines-same = ap (λ (s : BankShape). s.lines) shape
+
+  regions-same : kept.shape.regions ≡ raw.regions
+  regions-same = ap (λ (s : BankShape). s.regions) shape
+
+  slots-same : kept.table.slots ≡ raw.regions * (raw.lines + 1)
+  slots-same = is.slots ∙ ap slots_of shape
+
+  region-right : (region : ℕ) → region < length (map saved_region kept.regions)
+      → IsSavedRegion (head_of raw seed) (get_or (map saved_region kept.regions) region no_region)
+  region-right region lt =
+      let some : region < kept.shape.regions = omega (arith, lt, length-map kept.regions saved_region, is.all_regions) in
+      let of = is.regions region some in
+      let lines : (region_at kept region).rotation.lines ≡ raw.lines = of.rotates ∙ lines-same in
+      let at = get_or-map saved_region kept.regions region no_kept in
+      subst (λ r. IsSavedRegion (head_of raw seed) r) (sym at)
+      (record {
+        start = omega (arith, of.in_range.rotates.start_below, lines);
+        gap = omega (arith, of.in_range.rotates.gap_within, lines);
+        counter = omega (arith, of.in_range.counted, of.in_range.few_writes);
+      })
+
+  pub bank-right : IsSavedBank (head_of raw seed) (saved_bank kept)
+  bank-right = record {
+    mark = mark-low kept.exhausted;
+    used = omega (arith, is.table.within, is.spares, ap (λ (s : BankShape). s.spares) shape);
+    slots = All-from_get_or (λ slot. slot < slots_in (head_of raw seed)) kept.table.replaced 0 (λ i lt. rw (← slots-same) (is.table.known i lt));
+    one_each = length-map kept.regions saved_region ∙ is.all_regions ∙ regions-same;
+    regions = All-from_get_or (IsSavedRegion (head_of raw seed)) (map saved_region kept.regions) no_region region-right;
+    few = omega (arith, length-map kept.entries saved_entry, is.few_entries, is.shape.few_writes);
+    entries = entries-right (head_of raw seed) kept.entries _ (ap (λ (s : BankShape). s.regions * s.lines) shape) is.masked is.known;
+  }
+
+  pub saved-end : (end : BankEnd) → IsEndOf kept end → SavesEnd raw seed bank end (saved_bank kept)
+  saved-end end ends = record {
+    registers = λ region lt.
+        let some : region < kept.shape.regions = omega (arith, lt, regions-same) in
+        let lines : (region_at kept region).rotation.lines ≡ raw.lines = (is.regions region some).rotates ∙ lines-same in
+        let same = ap (λ r. rotation_of (head_of raw seed) r) (get_or-map saved_region kept.regions region no_kept)
+        ∙ ap (λ (l : ℕ). record { lines = l; start = (region_at kept region).rotation.start; gap = (region_at kept region).rotation.gap }) (sym lines) in
+        subst (λ q. StandsFor q (end.moves region)) (sym same) (ends.moves region some);
+    slots = λ slot lt.
+        let some : slot < slots_of kept.shape = subst (λ (k : ℕ). slot < k) (sym (ap slots_of shape)) lt in
+        let base : (bank_shape (module_of raw) bank).base ≡ kept.shape.base = sym (ap (λ (s : BankShape). s.base) shape) in
+        ap (λ b. b + line_from (raw.regions * (raw.lines + 1)) slot kept.table.replaced slot) base
+        ∙ ap (λ k. kept.shape.base + line_from k slot kept.table.replaced slot) (sym slots-same) ∙ sym (ends.table slot some);
+  }

@@ -1,0 +1,27 @@
+//! The image of a finished run: what is saved of its banks and its array, and what that says of the run. A law is what a
+//! function here ensures; the functions do nothing when they run.
+#![tactic(auto)]
+
+ghost use Rattle.image_laws.specs.SavedRuns.{SavedLaw, StaysRightLaw};
+
+use clock_laws::events::histories_leave_the_array;
+use module_laws::bank_tables_are_those_of_histories;
+use run_laws::lines_have_their_banks;
+use table_laws::logs_keep_their_laws;
+
+/// What a finished run leaves is saved as that of the run, and says each line's newest bytes.
+pub fn images_are_of_their_runs()
+    ensures { SavedLaw }
+{
+    bank_tables_are_those_of_histories();
+    lines_have_their_banks();
+}
+
+/// A right run stays right where its array is only sensed.
+pub fn sensed_runs_stay_right()
+    ensures { StaysRightLaw }
+{
+    logs_keep_their_laws();
+    histories_leave_the_array();
+    bank_tables_are_those_of_histories();
+}

@@ -1,0 +1,4 @@
+pub mod Prints
+mod Sensing
+mod Clocks
+mod Whole

@@ -1,0 +1,31 @@
+use Rattle.std.proofs.Common.{◌≡◌, ◌+◌, ◌∙◌, length, get_or, map, refl, sym, ap, arith}
+use Rattle.std.proofs.lemmas.List.{length-map}
+use Rattle.std.proofs.Math.ListN.{get_or-map}
+use Rattle.std.specs.Prelude.{option_copied}
+use Rattle.std.proofs.lemmas.Option.{get_or_from_slice_get}
+use Rattle.pcm_image.specs.Spelling.{entry_bytes}
+use Rattle.image_laws.specs.Saving.{saved_entry}
+use Rattle.image_text.proofs.Prints.{more-all, more-next, more-none, on_err_any, part-next}
+use Rattle.image_text.proofs.bank.print_entries.Goals as goal
+
+pub loop-place-init : goal.loop-place-init
+loop-place-init g c = (more-none c.args.text.now (g.K.Sink.written c.args.out.now), refl, omega arith, omega arith)
+
+pub returns-in_err-print_entry-clause-part : goal.returns-in_err-print_entry-clause-part
+returns-in_err-print_entry-clause-part g c =
+    on_err_any c.from_residual.result _
+    (part-next entry_bytes (map saved_entry c.args.kept.now.entries) c.args.text.now c.loop-place.text (g.K.Sink.written c.args.out.now) (g.K.Sink.written c.loop-place.out) (g.K.Sink.written c.print_entry.new.out)
+    c.loop-place.place (saved_entry c.in-Some.entry.now) _ (omega (arith, length-map c.args.kept.now.entries saved_entry)) (ap entry_bytes (c.entry_image.ensures ∙ sym (get_or-map saved_entry c.args.kept.now.entries c.loop-place.place c.in-Some.entry.now ∙ ap saved_entry (get_or_from_slice_get c.args.kept.now.entries c.loop-place.place c.in-Some.entry.now c.in-Some.entry.now (sym c.at.ensures ∙ ap option_copied c.in-Some.is))))) c.loop-place.invariant.0 c.in_err-print_entry.ensures.part)
+
+pub loop-place-preserved : goal.loop-place-preserved
+loop-place-preserved g c = (
+  more-next entry_bytes (map saved_entry c.args.kept.now.entries) c.args.text.now c.loop-place.text c.print_entry.new.text (g.K.Sink.written c.args.out.now) (g.K.Sink.written c.loop-place.out) (g.K.Sink.written c.print_entry.new.out)
+      c.loop-place.place (saved_entry c.in-Some.entry.now) _ (omega (arith, length-map c.args.kept.now.entries saved_entry)) (ap entry_bytes (c.entry_image.ensures ∙ sym (get_or-map saved_entry c.args.kept.now.entries c.loop-place.place c.in-Some.entry.now ∙ ap saved_entry (get_or_from_slice_get c.args.kept.now.entries c.loop-place.place c.in-Some.entry.now c.in-Some.entry.now (sym c.at.ensures ∙ ap option_copied c.in-Some.is))))) c.loop-place.invariant.0 c.in_ok-print_entry.ensures.printed,
+  c.print_entry.ensures.limit ∙ c.loop-place.invariant.1,
+  omega (arith, c.loop-place.invariant.2, c.in_ok-print_entry.ensures.never_falls),
+  omega (arith, length-map c.args.kept.now.entries saved_entry),
+)
+
+pub returns-clause-printed : goal.returns-clause-printed
+returns-clause-printed g c =
+    more-all entry_bytes (map saved_entry c.args.kept.now.entries) c.args.text.now c.loop-place.text (g.K.Sink.written c.args.out.now) (g.K.Sink.written c.loop-place.out) c.loop-place.place (omega (arith, length-map c.args.kept.now.entries saved_entry)) c.loop-place.invariant.0

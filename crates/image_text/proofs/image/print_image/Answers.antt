@@ -1,0 +1,44 @@
+use Rattle.std.proofs.Common.{◌≡◌, ◌++◌, ◌∙◌, sym, ap, subst, arith}
+use Rattle.std.specs.List.{flat_map}
+use Rattle.ecp_line.specs.Layout.{IsLayout}
+use Rattle.pcm_image.specs.Spelling.{bank_bytes, cells_bytes, head_bytes, image_bytes}
+use Rattle.image_laws.specs.Saving.{head_of, saved_banks, saved_cells, saved_of}
+use Rattle.image_text.specs.Printing.{PrintsPart, kept_in}
+use Rattle.image_text.proofs.Whole.{head-pieces}
+use Rattle.image_text.proofs.Prints.{on_err, on_err_any, on_ok, part-of-1, part-of-2, part-then, prints-part, prints-whole}
+use Rattle.image_text.proofs.image.print_image.Goals as goal
+
+pub returns-in_err-print_head-clause-prefix : goal.returns-in_err-print_head-clause-prefix
+returns-in_err-print_head-clause-prefix g c =
+    on_err_any c.from_residual.result _
+    (prints-part c.args.text.now (g.K.Sink.written c.args.out.now) (g.K.Sink.written c.print_head.new.out) (image_bytes (saved_of c.args.pcm.now.shape c.args.seed (kept_in c.args.pcm.now) (g.A.CellArray.state c.args.array.now))) c.requires.room
+    (part-of-1 (image_bytes (saved_of c.args.pcm.now.shape c.args.seed (kept_in c.args.pcm.now) (g.A.CellArray.state c.args.array.now))) c.args.text.now (g.K.Sink.written c.args.out.now) (g.K.Sink.written c.print_head.new.out) (head_bytes g.row.B (head_of c.shape.result.now c.args.seed)) ((flat_map bank_bytes (saved_banks (kept_in c.args.pcm.now) c.args.pcm.now.shape.banks)) ++ (flat_map cells_bytes (saved_cells (g.A.CellArray.state c.args.array.now) (g.A.CellArray.state c.args.array.now).lines))) (head-pieces g.row.B c.shape.result.now c.args.pcm.now.shape c.args.seed (kept_in c.args.pcm.now) (g.A.CellArray.state c.args.array.now) c.shape.ensures.shape) c.in_err-print_head.ensures.part))
+
+pub returns-in_err-print_banks-clause-prefix : goal.returns-in_err-print_banks-clause-prefix
+returns-in_err-print_banks-clause-prefix g c =
+    on_err_any c.from_residual-in_err-print_banks.result _
+    (prints-part c.args.text.now (g.K.Sink.written c.args.out.now) (g.K.Sink.written c.print_banks.new.out) (image_bytes (saved_of c.args.pcm.now.shape c.args.seed (kept_in c.args.pcm.now) (g.A.CellArray.state c.args.array.now))) c.requires.room
+    (part-of-2 (image_bytes (saved_of c.args.pcm.now.shape c.args.seed (kept_in c.args.pcm.now) (g.A.CellArray.state c.args.array.now))) c.args.text.now c.print_head.new.text (g.K.Sink.written c.args.out.now) (g.K.Sink.written c.print_head.new.out) (g.K.Sink.written c.print_banks.new.out) (head_bytes g.row.B (head_of c.shape.result.now c.args.seed)) (flat_map bank_bytes (saved_banks (kept_in c.args.pcm.now) c.args.pcm.now.shape.banks)) (flat_map cells_bytes (saved_cells (g.A.CellArray.state c.args.array.now) (g.A.CellArray.state c.args.array.now).lines))
+    (head-pieces g.row.B c.shape.result.now c.args.pcm.now.shape c.args.seed (kept_in c.args.pcm.now) (g.A.CellArray.state c.args.array.now) c.shape.ensures.shape) c.in_ok-print_head.ensures.printed c.in_err-print_banks.ensures.part))
+
+pub returns-in_err-print_rows-clause-prefix : goal.returns-in_err-print_rows-clause-prefix
+returns-in_err-print_rows-clause-prefix g c =
+    on_err_any c.from_residual-in_err-print_rows.result _
+    (prints-part c.args.text.now (g.K.Sink.written c.args.out.now) (g.K.Sink.written c.print_rows.new.out) (image_bytes (saved_of c.args.pcm.now.shape c.args.seed (kept_in c.args.pcm.now) (g.A.CellArray.state c.args.array.now))) c.requires.room
+    (subst (λ x. PrintsPart c.args.text.now (g.K.Sink.written c.args.out.now) (g.K.Sink.written c.print_rows.new.out) x) (head-pieces g.row.B c.shape.result.now c.args.pcm.now.shape c.args.seed (kept_in c.args.pcm.now) (g.A.CellArray.state c.args.array.now) c.shape.ensures.shape)
+    (part-then c.args.text.now c.print_head.new.text (g.K.Sink.written c.args.out.now) (g.K.Sink.written c.print_head.new.out) (g.K.Sink.written c.print_rows.new.out) (head_bytes g.row.B (head_of c.shape.result.now c.args.seed)) ((flat_map bank_bytes (saved_banks (kept_in c.args.pcm.now) c.args.pcm.now.shape.banks)) ++ (flat_map cells_bytes (saved_cells (g.A.CellArray.state c.args.array.now) (g.A.CellArray.state c.args.array.now).lines))) c.in_ok-print_head.ensures.printed
+    (part-then c.print_head.new.text c.print_banks.new.text (g.K.Sink.written c.print_head.new.out) (g.K.Sink.written c.print_banks.new.out) (g.K.Sink.written c.print_rows.new.out) (flat_map bank_bytes (saved_banks (kept_in c.args.pcm.now) c.args.pcm.now.shape.banks)) (flat_map cells_bytes (saved_cells (g.A.CellArray.state c.args.array.now) (g.A.CellArray.state c.args.array.now).lines)) c.in_ok-print_banks.ensures.printed c.in_err-print_rows.ensures.part))))
+
+pub returns-clause-ok : goal.returns-clause-ok
+returns-clause-ok g c =
+    on_ok c.print_rest.result _ _ c.print_rest.ensures.printed
+    (λ writes. writes (g.K.Sink.written c.args.out.now) (image_bytes (saved_of c.args.pcm.now.shape c.args.seed (kept_in c.args.pcm.now) (g.A.CellArray.state c.args.array.now)))
+    (prints-whole c.args.text.now c.print_rows.new.text (g.K.Sink.written c.args.out.now) (g.K.Sink.written c.print_rows.new.out) (head_bytes g.row.B (head_of c.shape.result.now c.args.seed)) (flat_map bank_bytes (saved_banks (kept_in c.args.pcm.now) c.args.pcm.now.shape.banks)) (flat_map cells_bytes (saved_cells (g.A.CellArray.state c.args.array.now) (g.A.CellArray.state c.args.array.now).lines)) (image_bytes (saved_of c.args.pcm.now.shape c.args.seed (kept_in c.args.pcm.now) (g.A.CellArray.state c.args.array.now))) c.print_head.new.text c.print_banks.new.text (g.K.Sink.written c.print_head.new.out) (g.K.Sink.written c.print_banks.new.out) c.requires.room
+    (head-pieces g.row.B c.shape.result.now c.args.pcm.now.shape c.args.seed (kept_in c.args.pcm.now) (g.A.CellArray.state c.args.array.now) c.shape.ensures.shape) c.in_ok-print_head.ensures.printed c.in_ok-print_banks.ensures.printed c.in_ok-print_rows.ensures.printed))
+
+pub returns-clause-prefix : goal.returns-clause-prefix
+returns-clause-prefix g c =
+    on_err c.print_rest.result _ _ c.print_rest.ensures.part
+    (λ writes. writes (g.K.Sink.written c.args.out.now) (image_bytes (saved_of c.args.pcm.now.shape c.args.seed (kept_in c.args.pcm.now) (g.A.CellArray.state c.args.array.now)))
+    (prints-whole c.args.text.now c.print_rows.new.text (g.K.Sink.written c.args.out.now) (g.K.Sink.written c.print_rows.new.out) (head_bytes g.row.B (head_of c.shape.result.now c.args.seed)) (flat_map bank_bytes (saved_banks (kept_in c.args.pcm.now) c.args.pcm.now.shape.banks)) (flat_map cells_bytes (saved_cells (g.A.CellArray.state c.args.array.now) (g.A.CellArray.state c.args.array.now).lines)) (image_bytes (saved_of c.args.pcm.now.shape c.args.seed (kept_in c.args.pcm.now) (g.A.CellArray.state c.args.array.now))) c.print_head.new.text c.print_banks.new.text (g.K.Sink.written c.print_head.new.out) (g.K.Sink.written c.print_banks.new.out) c.requires.room
+    (head-pieces g.row.B c.shape.result.now c.args.pcm.now.shape c.args.seed (kept_in c.args.pcm.now) (g.A.CellArray.state c.args.array.now) c.shape.ensures.shape) c.in_ok-print_head.ensures.printed c.in_ok-print_banks.ensures.printed c.in_ok-print_rows.ensures.printed))

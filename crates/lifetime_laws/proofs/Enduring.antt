@@ -1,0 +1,63 @@
+-- A line with no cell stuck isn't worn.
+use Rattle.std.proofs.Common.{◌≡◌, ℕ, zero, suc, ◌+◌, ◌*◌, ◌-◌, ◌<◌, ◌≤◌, ◌&&◌, ◌||◌, not, Bool, true, false, refl, ap, ◌∙◌, arith}
+use Rattle.std.specs.Prelude.{nat_lt}
+use Rattle.std.proofs.lemmas.Bool.{false_from_ne_true, le-ltb}
+use Rattle.pcm_cells.specs.declared.row.Cells.{Cells}
+use Rattle.pcm_cells.specs.Rows.{cell, members}
+use Rattle.ecp_line.specs.Layout.{IsLayout, width, some_below, full_cell, activity_cell}
+use Rattle.ecp_line.specs.Reading.{is_worn_line}
+use Rattle.lifetime_laws.proofs.Counting.{one}
+use Rattle.lifetime_laws.specs.Endurance.{UnwornLaw}
+use Rattle.lifetime_laws.specs.Lifetime.{ControlsLaw}
+use Rattle.bank_shape.specs.Shape.{control_line}
+
+pub members-none : (has : ℕ → Bool) (n : ℕ) → ((k : ℕ) → k < n → has k ≡ false) → members has n ≡ 0
+unfolding members
+members-none has zero none = refl
+members-none has (suc n) none =
+    let here : one (has n) ≡ 0 = ap one (none n (omega arith)) in
+    omega (arith, here, members-none has n (λ k lt. none k (omega (arith, lt))))
+
+none-below : (p : ℕ → Bool) (j : ℕ) → ((k : ℕ) → k < j → p k ≡ false) → some_below p j ≡ false
+unfolding some_below
+none-below p zero none = refl
+none-below p (suc j) none = or-none (p j) (some_below p j) (none j (omega arith)) (none-below p j (λ k lt. none k (omega (arith, lt))))
+  where
+    or-none : (a b : Bool) → a ≡ false → b ≡ false → (a || b) ≡ false
+    or-none true b h k = h
+    or-none false b h k = k
+
+one_more : (d w : ℕ) → (d + 1) * w ≡ d * w + w
+one_more d w = omega arith
+
+-- a line with no cell stuck isn't worn
+live-line : {B M : ℕ} (e : ℕ) (row : Cells B M) (stuck : ℕ → Bool) → IsLayout B M e → ((n : ℕ) → n < 8 * (B + M) → stuck n ≡ false) → is_worn_line e row stuck ≡ false
+live-line {B} {M} e row stuck l none =
+    let few : nat_lt e (members stuck (8 * (B + M))) ≡ false = ap (nat_lt e) (members-none stuck (8 * (B + M)) none) ∙ le-ltb e 0 (omega arith) in
+    let full : stuck (full_cell B e) ≡ false = none (full_cell B e) (omega (arith, l.room)) in
+    let active : some_below (λ i. stuck (activity_cell B e + i)) (e - 1) ≡ false =
+    none-below (λ i. stuck (activity_cell B e + i)) (e - 1) (λ k lt. none (activity_cell B e + k) (within k lt)) in
+    by (nat_lt e (members stuck (8 * (B + M)))) (stuck (full_cell B e)) (not (cell row (full_cell B e))) (some_below (λ i. stuck (activity_cell B e + i)) (e - 1)) few full active
+  where
+    by : (a b c d : Bool) → a ≡ false → b ≡ false → d ≡ false → (a || (b || (c && d))) ≡ false
+    by true b c d h k i = h
+    by false true c d h k i = k
+    by false false true d h k i = i
+    by false false false d h k i = refl
+
+    within : (k : ℕ) → k < e - 1 → activity_cell B e + k < 8 * (B + M)
+    within k lt =
+        let split : e ≡ e - 1 + 1 = omega (arith, l.two) in
+        let last : e * (width B + 1) ≡ (e - 1) * (width B + 1) + (width B + 1) = ap (λ x. x * (width B + 1)) split ∙ one_more (e - 1) (width B + 1) in
+        omega (arith, last, l.room, l.most, lt)
+
+pub unworn_law : UnwornLaw
+unworn_law B M e array lo line l endures exists few =
+    live-line e (array.line line).held (array.line line).stuck l
+    (λ n within. false_from_ne_true ((array.line line).stuck n) (λ is. let le : lo ≤ (array.line line).pulses = endures line n exists within is in absurd (omega (arith, le, few))))
+
+pub controls_law : ControlsLaw
+controls_law n m e lo shape array rules rows layout endures within lines bears item lt =
+    let few = lines.controls item lt in
+    let spared = bears item lt in
+    unworn_law n m e array lo (control_line shape item) layout endures (omega (arith, within, lt)) (omega (arith, few, spared))

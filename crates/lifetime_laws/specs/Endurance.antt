@@ -1,0 +1,59 @@
+-- What a bank over cells that endure never shows: a worn line of a slot, a write that is refused, one that stays in the queue.
+use Rattle.std.specs.Prelude.{◌≡◌, ℕ, ◌+◌, ◌<◌, ◌&&◌, not, Bool, IsTrue, IsFalse, List, []}
+use Rattle.pcm_cells.specs.Device.{ArrayState}
+use Rattle.pcm_cells.specs.Endurance.{EnduresAtLeast}
+use Rattle.ecp_line.specs.Layout.{IsLayout}
+use Rattle.row_laws.specs.declared.Row.{Row}
+use Rattle.row_laws.specs.Answers.{is_queued}
+use Rattle.row_laws.specs.Rows.{RowTest, each_row, asks_write}
+use Rattle.row_laws.specs.Rules.{Rules}
+use Rattle.row_laws.specs.Wearing.{worn_row}
+use Rattle.bank_shape.specs.declared.BankShape.{BankShape}
+use Rattle.bank_shape.specs.Shape.{slots_of, controls_of, control_line}
+use Rattle.bank_laws.specs.Laws.{KeepsPlaces, is_worn_at}
+use Rattle.bank_laws.specs.Places.{may_leave}
+use Rattle.end_laws.specs.Ends.{BankEnd, EndsWith}
+use Rattle.end_laws.specs.Roles.{used_spares}
+
+-- ---- lines
+
+-- a line with no cell stuck isn't worn
+abbrev pub UnwornLaw : Type 0
+UnwornLaw =
+    (B M e : ℕ) (array : ArrayState B M) (lo line : ℕ) → IsLayout B M e → EnduresAtLeast lo array → line < array.lines
+    → (array.line line).pulses < lo → IsFalse (is_worn_at e array line)
+
+-- ---- a bank's table
+
+-- a row that isn't refused for want of a spare
+abbrev pub is_unrefused : {n : ℕ} → RowTest n
+is_unrefused before r after = not (worn_row r)
+
+-- a row that isn't left in the queue
+abbrev pub is_unqueued : {n : ℕ} → RowTest n
+is_unqueued before r after = not (asks_write r.asks && is_queued r.outcome)
+
+-- no control line of a bank is worn: a bank whose registers are guarded has none
+abbrev pub KeepsControls : BankShape → (ℕ → Bool) → Type 0
+KeepsControls shape worn = (item : ℕ) → item < controls_of shape → IsFalse (worn (control_line shape item))
+
+-- what the rows tell where no slot's own line is worn in the end: none was refused; and unless a control line is worn, none is left in
+-- the queue, nor has the bank a reason to leave one
+pub record TellsNoWear {n : ℕ} (shape : BankShape) (worn : ℕ → Bool) (rows : List (Row n)) : Type 0 where
+  pub taken : IsTrue (each_row is_unrefused rows [])
+  pub finished : KeepsControls shape worn → IsTrue (each_row is_unqueued rows [])
+  pub leaves : KeepsControls shape worn → IsFalse (may_leave shape worn)
+
+abbrev pub SoundRowsLaw : Type 0
+SoundRowsLaw =
+    (n m e : ℕ) (shape : BankShape) (array : ArrayState n m) (rules : Rules) (rows : List (Row n)) → KeepsPlaces e shape array rules rows
+    → ((slot : ℕ) → slot < slots_of shape → IsFalse (is_worn_at e array (shape.base + slot)))
+    → TellsNoWear shape (is_worn_at e array) rows
+
+-- and each slot has its own line: none was retired, and no spare is used
+abbrev pub NoneRetiredLaw : Type 0
+NoneRetiredLaw =
+    (n : ℕ) (shape : BankShape) (worn : ℕ → Bool) (held : ℕ → List ℕ) (rows : List (Row n)) (end : BankEnd)
+    → EndsWith shape worn held rows end
+    → ((slot : ℕ) → slot < slots_of shape → IsFalse (worn (shape.base + slot)))
+    → ((slot : ℕ) → slot < slots_of shape → end.table slot ≡ shape.base + slot) × (used_spares shape end.table ≡ 0)

@@ -1,0 +1,128 @@
+-- How long a module lives under the rotation: a bank whose hot lines are few keeps every slot's own line.
+use Rattle.std.specs.Prelude.{ℕ, ◌+◌, ◌*◌, ◌/◌, ◌<◌, ◌≤◌, ◌==◌, ◌&&◌, not, nat_lt, Bool, if◌then◌else◌, IsTrue, IsFalse, List, [], ◌∷◌, length, count_by}
+use Rattle.std.specs.List.{list_any}
+use Rattle.pcm_cells.specs.Device.{ArrayState}
+use Rattle.pcm_cells.specs.Endurance.{EnduresAtLeast}
+use Rattle.ecp_line.specs.Layout.{IsLayout}
+use Rattle.row_laws.specs.declared.Row.{Row}
+use Rattle.row_laws.specs.Answers.{is_stored}
+use Rattle.row_laws.specs.Rows.{each_row, asks_write, asks_write_of, line_of, is_cut}
+use Rattle.row_laws.specs.Rules.{Rules}
+use Rattle.row_laws.specs.Table.{KeepsRows}
+use Rattle.row_laws.specs.Ticking.{is_in_time}
+use Rattle.bank_shape.specs.declared.BankShape.{BankShape}
+use Rattle.bank_shape.specs.Shape.{slots_of, lines_in, controls_of, control_line}
+use Rattle.bank_model.specs.Timing.{Pacing, Timed}
+use Rattle.bank_model.specs.Lawful.{Lawful, IsIdle}
+use Rattle.bank_laws.specs.Laws.{IsSized, LeavesArray, KeepsPlaces, is_worn_at, rules_of}
+use Rattle.bank_laws.specs.Outcomes.{table_of}
+use Rattle.bank_laws.specs.Places.{region_stores, is_placed, may_leave}
+use Rattle.lifetime_laws.specs.Spread.{most_at, most_moves, stay, stores_on}
+use Rattle.lifetime_laws.specs.Works.{most_works, most_each, most_kept, stores_at}
+use Rattle.lifetime_laws.specs.Endurance.{KeepsControls, is_unrefused, is_unqueued}
+
+-- the stores of a region that are of none of these lines
+abbrev pub other_stores : {n : ℕ} → BankShape → ℕ → List ℕ → List (Row n) → ℕ
+other_stores shape region hot rows =
+    count_by (λ q. asks_write q.asks && (line_of q.asks / shape.lines == region
+    && (not (list_any (λ h. h == line_of q.asks) hot) && is_stored q.outcome))) rows
+
+-- the stores on a slot's own array line: of each hot line at most its share, and of the others at most all
+abbrev pub HotLinesLaw : Type 0
+HotLinesLaw =
+    (n : ℕ) (rules : Rules) (shape : BankShape) (worn : ℕ → Bool) (rows : List (Row n)) (hot : List ℕ) (slot : ℕ)
+    → 1 ≤ shape.lines → 1 ≤ shape.psi → 1 ≤ rules.read → slot < slots_of shape
+    → IsTrue (each_row (is_in_time rules) rows []) → IsTrue (each_row (is_placed shape worn) rows [])
+    → stores_at (shape.base + slot) rows
+    ≤ length hot * most_at shape.lines shape.psi (region_stores is_stored shape (slot / (shape.lines + 1)) rows)
+    + other_stores shape (slot / (shape.lines + 1)) hot rows
+
+-- the stores of a line
+abbrev pub own_stores : {n : ℕ} → ℕ → List (Row n) → ℕ
+own_stores line rows = count_by (λ q. asks_write_of line q.asks && is_stored q.outcome) rows
+
+-- an attack on one line: N + 1 times its stores on one slot's own array line are at most all its stores, those of other lines of its
+-- region, and N stays more
+abbrev pub AttackLaw : Type 0
+AttackLaw =
+    (n : ℕ) (rules : Rules) (shape : BankShape) (worn : ℕ → Bool) (rows : List (Row n)) (line slot : ℕ)
+    → 1 ≤ shape.lines → 1 ≤ shape.psi → 1 ≤ rules.read → slot < slots_of shape
+    → IsTrue (each_row (is_in_time rules) rows []) → IsTrue (each_row (is_placed shape worn) rows [])
+    → (shape.lines + 1) * stores_on line (shape.base + slot) rows
+    ≤ own_stores line rows + other_stores shape (line / shape.lines) (line ∷ []) rows + shape.lines * stay shape.lines shape.psi
+
+-- what the pulses of each slot's own array line, and of each control line, are to the rows of a bank's table
+pub record KeepsLines {n m : ℕ} (shape : BankShape) (array : ArrayState n m) (rules : Rules) (rows : List (Row n)) : Type 0 where
+  pub pulses : (slot : ℕ) → slot < slots_of shape
+      → (array.line (shape.base + slot)).pulses ≤ most_each rules * most_works shape rows slot
+  pub controls : (item : ℕ) → item < controls_of shape
+      → (array.line (control_line shape item)).pulses ≤ most_each rules * most_kept shape rows item
+
+-- so it is for every history of a bank
+abbrev pub KeptLinesLaw : Type 0
+KeptLinesLaw =
+    (n m e : ℕ) (shape : BankShape) (pace : Pacing) (xs : List (Timed n m)) (array : ArrayState n m)
+    → IsSized shape pace → Lawful shape pace e xs → IsIdle shape pace xs → LeavesArray e shape xs array
+    → KeepsLines shape array (rules_of e shape pace) (table_of shape xs)
+
+-- the most line writes of any slot's own line of a region, each begun once, by its hot lines
+abbrev pub most_hot_works : {n : ℕ} → BankShape → ℕ → List ℕ → List (Row n) → ℕ
+most_hot_works shape region hot rows =
+    length hot * most_at shape.lines shape.psi (region_stores is_stored shape region rows) + other_stores shape region hot rows
+    + most_moves shape.lines (region_stores is_stored shape region rows / shape.psi) + 1 + count_by is_cut rows
+
+-- the writes of a region that a trace asks for, and those that are of none of these lines
+abbrev pub asked_writes : {n : ℕ} → BankShape → ℕ → List (Row n) → ℕ
+asked_writes shape region rows = count_by (λ q. asks_write q.asks && line_of q.asks / shape.lines == region) rows
+
+abbrev pub other_asked : {n : ℕ} → BankShape → ℕ → List ℕ → List (Row n) → ℕ
+other_asked shape region hot rows =
+    count_by (λ q. asks_write q.asks && (line_of q.asks / shape.lines == region && not (list_any (λ h. h == line_of q.asks) hot))) rows
+
+-- the same bounds by what a trace asks for, whatever becomes of it
+abbrev pub most_asked_works : {n : ℕ} → BankShape → ℕ → List ℕ → List (Row n) → ℕ
+most_asked_works shape region hot rows =
+    length hot * most_at shape.lines shape.psi (asked_writes shape region rows) + other_asked shape region hot rows
+    + most_moves shape.lines (asked_writes shape region rows / shape.psi) + 1 + count_by is_cut rows
+
+abbrev pub most_asked_kept : {n : ℕ} → BankShape → List (Row n) → ℕ → ℕ
+most_asked_kept shape rows item =
+    (if nat_lt item shape.regions then asked_writes shape item rows + asked_writes shape item rows / shape.psi else 1)
+    + count_by is_cut rows
+
+pub record AsksNoLess {n : ℕ} (shape : BankShape) (rows : List (Row n)) : Type 0 where
+  pub works : (region : ℕ) (hot : List ℕ) → most_hot_works shape region hot rows ≤ most_asked_works shape region hot rows
+  pub kept : (item : ℕ) → most_kept shape rows item ≤ most_asked_kept shape rows item
+
+abbrev pub AskedLaw : Type 0
+AskedLaw = (n : ℕ) (shape : BankShape) (rows : List (Row n)) → 1 ≤ shape.lines → 1 ≤ shape.psi → AsksNoLess shape rows
+
+-- cells endure what the changes of each item may bring its control line. A bank whose registers are guarded has none; where they are
+-- kept in the array, that of a region is written for each of its stores and moves, and no gap moves it: it wears out first
+abbrev pub BearsControls : {n : ℕ} → ℕ → BankShape → Rules → List (Row n) → Type 0
+BearsControls lo shape rules rows = (item : ℕ) → item < controls_of shape → most_each rules * most_kept shape rows item < lo
+
+-- then no control line is worn
+abbrev pub ControlsLaw : Type 0
+ControlsLaw =
+    (n m e lo : ℕ) (shape : BankShape) (array : ArrayState n m) (rules : Rules) (rows : List (Row n))
+    → IsLayout n m e → EnduresAtLeast lo array → shape.base + lines_in shape ≤ array.lines
+    → KeepsLines shape array rules rows → BearsControls lo shape rules rows → KeepsControls shape (is_worn_at e array)
+
+-- what a bank shows in which no slot's own line is worn: no row is refused for want of a spare; and where cells bear its control lines
+-- too, none is left in the queue, nor has the bank a reason to leave one
+pub record LivesOn {n m : ℕ} (e lo : ℕ) (shape : BankShape) (array : ArrayState n m) (rules : Rules) (rows : List (Row n)) : Type 0 where
+  pub unworn : (slot : ℕ) → slot < slots_of shape → IsFalse (is_worn_at e array (shape.base + slot))
+  pub taken : IsTrue (each_row is_unrefused rows [])
+  pub finished : BearsControls lo shape rules rows → IsTrue (each_row is_unqueued rows [])
+  pub leaves : BearsControls lo shape rules rows → IsFalse (may_leave shape (is_worn_at e array))
+
+-- over cells that endure as many pulses as a slot's own line may take, no such line wears out
+abbrev pub LifetimeLaw : Type 0
+LifetimeLaw =
+    (n m e lo : ℕ) (shape : BankShape) (array : ArrayState n m) (rules : Rules) (rows : List (Row n)) (hot : List ℕ)
+    → IsLayout n m e → EnduresAtLeast lo array → shape.base + lines_in shape ≤ array.lines
+    → 1 ≤ shape.lines → 1 ≤ shape.psi → 1 ≤ rules.read
+    → KeepsRows rules rows → KeepsPlaces e shape array rules rows → KeepsLines shape array rules rows
+    → ((region : ℕ) → region < shape.regions → most_each rules * most_hot_works shape region hot rows < lo)
+    → LivesOn e lo shape array rules rows

@@ -1,0 +1,6 @@
+//! Modules of two banks, row by row, over lines whose cells do as a script says. What each table must answer was worked out by hand
+//! from the rules of the device.
+#![tactic(auto)]
+
+#[cfg(test)]
+mod two_banks;

@@ -1,0 +1,44 @@
+use Rattle.std.proofs.Common.{◌≡◌, ◌≤◌, ◌∙◌, rules, sym, subst, ap, arith, length, refl}
+use Rattle.pcm_cells.specs.Seeded.{SeededArray}
+use Rattle.pcm_cells.specs.Paging.{seeded_lines, lines_seen}
+use Rattle.pcm_cells.specs.Endurance.{Spares, least_endurance}
+use Rattle.pcm_cells.proofs.EnduranceLemmas.{spares_kept}
+use Rattle.pcm_cells.proofs.PagingLemmas.{lines_size, wears_lines}
+use Rattle.pcm_cells.proofs.seeded.MemArray.wear.Goals as goal
+
+pub unreachable-requires : goal.unreachable-requires
+unreachable-requires g c =
+    let none : length c.args.self.now.lines ≡ 0 = ap (λ a. length a.lines) (sym c.self.view_is) ∙ ap (λ o. length (seeded_lines o)) c.in_default.is in
+    absurd (omega (arith, c.requires.exists, none))
+
+pub wear-requires : goal.wear-requires
+wear-requires g c =
+    let is : length c.args.self.now.lines ≡ length c.in-Some.lines.table.items =
+    ap (λ a. length a.lines) (sym c.self.view_is) ∙ ap (λ o. length (seeded_lines o)) c.in-Some.is ∙ lines_size c.in-Some.lines in
+    let few_bytes : g.row.B ≤ 128 = c.requires.shape.1 in
+    let few_check : g.row.M ≤ 16 = c.requires.shape.3 in
+    (search rules, (search rules, (omega (arith, c.requires.exists, is), (c.requires.shape, c.self.invariant.1))))
+
+pub returns-clause-wears : goal.returns-clause-wears
+returns-clause-wears g c =
+    let old = c.in-Some.lines in
+    let before : c.args.self.now.lines ≡ lines_seen old = ap (λ a. a.lines) (sym c.self.view_is) ∙ ap seeded_lines c.in-Some.is in
+    wears_lines c.args.line c.args.tearing c.args.mask.now c.args.want.now old c.wear.new.self c.args.self.now _ before refl
+    (omega (arith, c.requires.exists, ap length before, lines_size old))
+    c.wear.ensures.cells c.wear.ensures.pulses c.wear.ensures.others c.wear.ensures.lines
+
+pub invariant_of-self : goal.invariant_of-self
+invariant_of-self g c =
+    let old = c.in-Some.lines in
+    let lines : seeded_lines c.self.inside.lines ≡ c.args.self.now.lines = ap (λ a. a.lines) c.self.view_is in
+    let before : c.args.self.now.lines ≡ lines_seen old = sym lines ∙ ap seeded_lines c.in-Some.is in
+    let new : SeededArray g.row.B g.row.M = record { lines = lines_seen c.wear.new.self; tears = c.self.inside.tears; wear = c.self.inside.wear } in (
+      c.self.invariant.0,
+      c.self.invariant.1,
+      c.self.invariant.2,
+      spares_kept (least_endurance c.self.inside.wear) c.args.line c.args.tearing c.args.mask.now c.args.want.now c.args.self.now new c.self.invariant.2
+          (wears_lines c.args.line c.args.tearing c.args.mask.now c.args.want.now old c.wear.new.self c.args.self.now new before refl
+          (omega (arith, c.requires.exists, ap length before, lines_size old))
+          c.wear.ensures.cells c.wear.ensures.pulses c.wear.ensures.others c.wear.ensures.lines)
+          (subst (Spares (least_endurance c.self.inside.wear)) lines c.self.invariant.3),
+    )

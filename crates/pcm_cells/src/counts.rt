@@ -1,0 +1,98 @@
+// Numbers of up to 32 bits of a row's cells.
+ghost use Rattle.std.specs.Prelude.{◌≡◌, ◌≢◌, ℕ, ◌+◌, ◌*◌, ◌/◌, ◌%◌, ◌<◌, ◌≤◌, length, nat_eq, slice_index, slice_index_or, if◌then◌else◌};
+ghost use Rattle.pcm_cells.specs.Counts.{count, count_in};
+ghost use Rattle.pcm_cells.specs.Shape.{IsShape, IsWhole};
+
+/// A number of each cell of a row, in rows of eight: those of the data cells, and those of the check cells.
+#[derive(Clone, Copy, Drop)]
+pub(crate) struct Counts<const B: usize, const M: usize> {
+    bits: [[u32; 8]; B],
+    meta: [[u32; 8]; M],
+}
+
+// The numbers of a block of 64.
+fn read_counts(rows: &[[u32; 8]], block: usize) -> &[u32; 64]
+    requires { 8 * block + 8 ≤ length rows.now }
+    ensures { (i : ℕ) → i < 64 → slice_index result.now i ≡ count_in rows.now (64 * block + i) }
+{
+    let all = rows.as_flattened();
+    let Some(counts) = all[64 * block..].first_chunk() else {
+        unreachable!()
+    };
+    counts
+}
+
+fn write_counts(rows: &mut [[u32; 8]], block: usize, counts: &[u32; 64])
+    requires { 8 * block + 8 ≤ length rows.old }
+    ensures here { (i : ℕ) → i < 64 → count_in rows.new (64 * block + i) ≡ slice_index counts.now i }
+    ensures others { (n : ℕ) → n / 64 ≢ block → count_in rows.new n ≡ count_in rows.old n }
+{
+    for place in 0..8 {
+        let from = 8 * place;
+        let row = [
+            counts[from],
+            counts[from + 1],
+            counts[from + 2],
+            counts[from + 3],
+            counts[from + 4],
+            counts[from + 5],
+            counts[from + 6],
+            counts[from + 7],
+        ];
+        rows[8 * block + place] = row;
+    }
+}
+
+fn set_count(rows: &mut [[u32; 8]], number: usize, value: u32)
+    requires { number < 8 * length rows.old }
+    ensures { (n : ℕ) → count_in rows.new n ≡ (if nat_eq n number then value else count_in rows.old n) }
+{
+    rows[number / 8][number % 8] = value;
+}
+
+impl<const B: usize, const M: usize> Counts<B, M> {
+    pub(crate) fn zero() -> Counts<B, M> {
+        Counts {
+            bits: [[0; 8]; B],
+            meta: [[0; 8]; M],
+        }
+    }
+
+    pub(crate) fn set(&mut self, number: usize, value: u32)
+        requires { number < 8 * (B + M) }
+        ensures { (n : ℕ) → count self.new n ≡ (if nat_eq n number then value else count self.old n) }
+    {
+        if number / 8 < B {
+            set_count(&mut self.bits, number, value);
+        } else {
+            set_count(&mut self.meta, number - 8 * B, value);
+        }
+    }
+
+    // The numbers of the cells of a block of 64.
+    pub(crate) fn block(&self, block: usize) -> &[u32; 64]
+        requires whole { IsWhole B M }
+        requires exists { 8 * block < B + M }
+        ensures { (i : ℕ) → i < 64 → slice_index result.now i ≡ count self.now (64 * block + i) }
+    {
+        if 8 * block < B {
+            read_counts(&self.bits, block)
+        } else {
+            read_counts(&self.meta, block - B / 8)
+        }
+    }
+
+    // Lets the cells of a block of 64 have these numbers.
+    pub(crate) fn set_block(&mut self, block: usize, counts: &[u32; 64])
+        requires whole { IsWhole B M }
+        requires exists { 8 * block < B + M }
+        ensures here { (i : ℕ) → i < 64 → count self.new (64 * block + i) ≡ slice_index counts.now i }
+        ensures others { (n : ℕ) → n / 64 ≢ block → count self.new n ≡ count self.old n }
+    {
+        if 8 * block < B {
+            write_counts(&mut self.bits, block, counts);
+        } else {
+            write_counts(&mut self.meta, block - B / 8, counts);
+        }
+    }
+}

@@ -1,0 +1,123 @@
+// Lines that are kept from their first pulse on.
+ghost use Rattle.std.specs.Prelude.{◌≡◌, ◌≢◌, ℕ, ◌+◌, ◌<◌, length, slice_index, vec_capacity, IfOk, replicate};
+ghost use Rattle.pcm_cells.specs.Rows.{cell};
+ghost use Rattle.pcm_cells.specs.Shape.{IsShape, IsWhole};
+ghost use Rattle.pcm_cells.specs.Device.{IsWear, counted};
+ghost use Rattle.pcm_cells.specs.Follows.{Follows};
+ghost use Rattle.pcm_cells.specs.Seeded.{seeded, seeded_cell};
+ghost use Rattle.pcm_cells.specs.Pages.{IsPaging};
+
+use crate::seeded::SeededLine;
+use crate::{Cells, Wear};
+use std::alloc::{AllocError, Global};
+
+/// The lines of an array, each with a page from its first pulse or tear on. A line without a page is as its words will draw it:
+/// they depend on the seed and its number alone.
+#[derive(Drop)]
+pub(crate) struct Pages<const B: usize, const M: usize> {
+    wear: Wear,
+    // Of each line: 0, or one more than the place of its page.
+    table: Vec<u32>,
+    // With room for as many as lines.
+    pages: Vec<SeededLine<B, M>>,
+    ghost wears: { IsWear wear },
+    ghost paging: { IsPaging table.items pages.items (vec_capacity pages) },
+}
+
+impl<const B: usize, const M: usize> Pages<B, M> {
+    ghost use Rattle.pcm_cells.specs.Pages.{HaveSameLife};
+    ghost use Rattle.pcm_cells.specs.Paging.{seen};
+
+    /// Lines without a page, and room for the pages of all.
+    pub(crate) fn blank(alloc: Global, lines: u32, wear: Wear) -> Result<Pages<B, M>, AllocError>
+        requires { IsWear wear }
+        ensures wear { IfOk result (λ p. p.wear ≡ wear) }
+        ensures table { IfOk result (λ p. p.table.items ≡ replicate lines 0) }
+    {
+        Ok(Pages {
+            wear,
+            table: vec![in alloc; 0; lines as usize]?,
+            pages: Vec::with_capacity(alloc, lines as usize)?,
+        })
+    }
+
+    /// The number of lines.
+    pub(crate) fn len(&self) -> u32
+        ensures { result ≡ length self.now.table.items }
+    {
+        self.table.len() as u32
+    }
+
+    /// What the cells of the line hold.
+    pub(crate) fn held(&self, line: u32) -> Cells<B, M>
+        requires exists { line < length self.now.table.items }
+        requires shape { IsShape B M }
+        ensures { result ≡ (seen self.now line).line.held }
+    {
+        match self.table[line as usize] {
+            0 => Cells::zero(),
+            page => self.pages[page as usize - 1].held(),
+        }
+    }
+
+    /// How often the line was pulsed or torn.
+    pub(crate) fn pulses(&self, line: u32) -> u64
+        requires exists { line < length self.now.table.items }
+        requires shape { IsShape B M }
+        ensures { result ≡ (seen self.now line).line.pulses }
+    {
+        match self.table[line as usize] {
+            0 => 0,
+            page => self.pages[page as usize - 1].pulses(),
+        }
+    }
+
+    // Draws the words of a line without a page, and answers the place of its page.
+    fn make_page(&mut self, line: u32) -> usize
+        requires exists { line < length self.old.table.items }
+        requires none { slice_index self.old.table.items line ≡ 0 }
+        requires shape { IsShape B M }
+        ensures made { slice_index self.new.table.items line ≡ result + 1 }
+        ensures page { HaveSameLife (seen self.old line) (seen self.new line) }
+        ensures others { (n : ℕ) → n ≢ line → seen self.new n ≡ seen self.old n }
+        ensures lines { length self.new.table.items ≡ length self.old.table.items }
+        ensures wear { self.new.wear ≡ self.old.wear }
+    {
+        let place = self.pages.len();
+        self.pages.push_reserved(SeededLine::drawn(self.wear, line));
+        self.table[line as usize] = place as u32 + 1;
+        place
+    }
+
+    // The place of the line's page, which is made where there is none yet.
+    fn page(&mut self, line: u32) -> usize
+        requires exists { line < length self.old.table.items }
+        requires shape { IsShape B M }
+        ensures made { slice_index self.new.table.items line ≡ result + 1 }
+        ensures page { HaveSameLife (seen self.old line) (seen self.new line) }
+        ensures others { (n : ℕ) → n ≢ line → seen self.new n ≡ seen self.old n }
+        ensures lines { length self.new.table.items ≡ length self.old.table.items }
+        ensures wear { self.new.wear ≡ self.old.wear }
+    {
+        match self.table[line as usize] {
+            0 => self.make_page(line),
+            page => page as usize - 1,
+        }
+    }
+
+    /// A pulse or a tear of the line.
+    pub(crate) fn wear(&mut self, line: u32, tearing: bool, mask: &Cells<B, M>, want: &Cells<B, M>)
+        requires exists { line < length self.old.table.items }
+        requires shape { IsShape B M }
+        requires whole { IsWhole B M }
+        ensures cells { Follows (cell mask.now) (seeded tearing (cell want.now)) (seeded_cell (seen self.old line)) (seeded_cell (seen self.new line)) }
+        ensures pulses { (seen self.new line).line.pulses ≡ counted (seen self.old line).line.pulses }
+        ensures others { (n : ℕ) → n ≢ line → seen self.new n ≡ seen self.old n }
+        ensures lines { length self.new.table.items ≡ length self.old.table.items }
+        ensures wear { self.new.wear ≡ self.old.wear }
+    {
+        let place = self.page(line);
+        let page = &mut self.pages[place];
+        page.wear(tearing, mask, want);
+    }
+}

@@ -1,0 +1,77 @@
+-- What the tests of a head say of its numbers.
+use Rattle.std.proofs.Common.{◌≡◌, ℕ, ◌+◌, ◌*◌, ◌^◌, ◌/◌, ◌%◌, ◌<◌, ◌≤◌, Bool, true, false, ◌&&◌, nat_le, refl, sym, ap, ◌∙◌, arith}
+use Rattle.std.specs.Int.{is_power_of_two}
+use Rattle.std.proofs.lemmas.Bool.Decides.{nat_tests}
+use Rattle.std.proofs.lemmas.Nat.{mul-le, div_below}
+use Rattle.std.proofs.Math.Nat.{mul_assoc, mul_comm, mul-add, mod-lt}
+use Rattle.feistel_map.specs.Log2.{log2}
+use Rattle.feistel_map.proofs.Powers.{log2-between}
+use Rattle.pcm_image.specs.Saved.{Head, IsHead, total_in, lines_in}
+use Rattle.module_shape.specs.Limits.{is_power_between}
+use Rattle.module_shape.proofs.Powers.{size_of_powers}
+
+pub and_left : (a b : Bool) → (a && b) ≡ true → a ≡ true
+and_left true b h = refl
+and_left false b h = h
+
+pub and_right : (a b : Bool) → (a && b) ≡ true → b ≡ true
+and_right true b h = h
+and_right false b h = absurd cc
+
+le_of : (a b : ℕ) → nat_le a b ≡ true → a ≤ b
+le_of a b h = grind (arith, nat_tests)
+
+-- the numbers of a head, in words of order
+pub record HeadFits (h : Head) : Type 0 where
+  pub some_banks : 1 ≤ h.banks
+  pub banks : h.banks ≤ 16
+  pub some_regions : 1 ≤ h.regions
+  pub regions : h.regions ≤ 16
+  pub some_lines : 4 ≤ h.lines
+  pub lines : h.lines ≤ 4096
+  pub total : h.banks * h.regions * h.lines ≤ 65536
+  pub power : 2 ^ log2 (total_in h) ≡ total_in h
+
+pub head-fits : (h : Head) → IsHead h → HeadFits h
+head-fits h is =
+    let b = and_right (is_power_of_two h.banks) (nat_le 1 h.banks && nat_le h.banks 16) is.banks in
+    let r = and_right (is_power_of_two h.regions) (nat_le 1 h.regions && nat_le h.regions 16) is.regions in
+    let lp = and_left (is_power_between 4 4096 h.lines) (nat_le (h.banks * h.regions * h.lines) 65536) is.lines in
+    let l = and_right (is_power_of_two h.lines) (nat_le 4 h.lines && nat_le h.lines 4096) lp in
+    record {
+      some_banks = le_of 1 h.banks (and_left (nat_le 1 h.banks) (nat_le h.banks 16) b);
+      banks = le_of h.banks 16 (and_right (nat_le 1 h.banks) (nat_le h.banks 16) b);
+      some_regions = le_of 1 h.regions (and_left (nat_le 1 h.regions) (nat_le h.regions 16) r);
+      regions = le_of h.regions 16 (and_right (nat_le 1 h.regions) (nat_le h.regions 16) r);
+      some_lines = le_of 4 h.lines (and_left (nat_le 4 h.lines) (nat_le h.lines 4096) l);
+      lines = le_of h.lines 4096 (and_right (nat_le 4 h.lines) (nat_le h.lines 4096) l);
+      total = le_of (h.banks * h.regions * h.lines) 65536 (and_right (is_power_between 4 4096 h.lines) (nat_le (h.banks * h.regions * h.lines) 65536) is.lines);
+      power = size_of_powers h.banks h.regions h.lines
+          (and_left (is_power_of_two h.banks) (nat_le 1 h.banks && nat_le h.banks 16) is.banks)
+          (and_left (is_power_of_two h.regions) (nat_le 1 h.regions && nat_le h.regions 16) is.regions)
+          (and_left (is_power_of_two h.lines) (nat_le 4 h.lines && nat_le h.lines 4096) lp);
+    }
+
+-- the logarithm that the code finds
+pub is_log : (r n total : ℕ) → 2 ^ r ≤ n → n < 2 * 2 ^ r → n ≡ total → r ≡ log2 total
+is_log r n total low high is = sym (log2-between r n low high) ∙ ap log2 is
+
+-- the bank of a line by its mixed number
+pub bank_below : (h : Head) → HeadFits h → (mixed : ℕ) → mixed < total_in h → mixed / lines_in h < h.banks
+bank_below h fit mixed lt =
+    let some = mul-le 1 4 h.regions h.lines fit.some_regions fit.some_lines in
+    div_below mixed (lines_in h) h.banks (omega (arith, some)) (omega (arith, lt, mul_assoc h.banks h.regions h.lines))
+
+pub own_below : (h : Head) → HeadFits h → (mixed : ℕ) → mixed % lines_in h < lines_in h
+own_below h fit mixed =
+    let some = mul-le 1 4 h.regions h.lines fit.some_regions fit.some_lines in mod-lt mixed (omega (arith, some))
+
+-- the array line of a bank's line
+pub row_below : (bank banks array line : ℕ) → bank < banks → line < array → bank * array + line < banks * array
+row_below bank banks array line lt less =
+    let more = mul-le (bank + 1) array banks array (omega (arith, lt)) (omega arith) in
+    let step : (bank + 1) * array ≡ bank * array + array = mul_comm (bank + 1) array ∙ mul-add array bank 1 ∙ omega (arith, mul_comm array bank) in
+    omega (arith, more, step, less)
+
+pub slot_below : (regions n region place : ℕ) → region < regions → place ≤ n → region * (n + 1) + place < regions * (n + 1)
+slot_below regions n region place lt le = row_below region regions (n + 1) place lt (omega (arith, le))

@@ -1,0 +1,437 @@
+-- The two laws: what is read is saved so, and what is saved so is read.
+use Rattle.std.proofs.Common.{◌≡◌, ℕ, suc, ◌+◌, ◌*◌, ◌/◌, ◌%◌, ◌^◌, ◌<◌, ◌≤◌, Bool, true, ◌&&◌, ◌==◌, cond, eqb, nat_le, nat_lt, List, [], ◌∷◌, ◌++◌, length, get_or, Result, Ok, Err, All, refl, sym, ap, subst, ◌∙◌, append_assoc, arith}
+use Rattle.std.specs.Prelude.{IfOk}
+use Rattle.std.specs.List.{flat_map, AllByRecursion}
+use Rattle.std.specs.Str.{bytes_eq}
+use Rattle.std.specs.Int.{w16, w32, w64}
+use Rattle.std.proofs.lemmas.Bool.{eqb-true}
+use Rattle.std.proofs.lemmas.Nat.{mul-le}
+use Rattle.std.proofs.lemmas.Bool.Decides.{nat_tests}
+use Rattle.std.proofs.lemmas.Slice.Eq.{bytes_eq-Decides}
+use Rattle.std.proofs.lemmas.List.{append-nil, nil_from_length, length-append, length-take, length-drop, take_at, drop_at, take-append-drop}
+use Rattle.std.proofs.lemmas.List.Elements.{All-from_recursion, All-get_or}
+use Rattle.masked_bytes.specs.Masked.{gives_some, zero_elsewhere}
+use Rattle.pcm_cells.specs.declared.row.Cells.{Cells}
+use Rattle.pcm_image.specs.declared.RegionImage.{RegionImage}
+use Rattle.pcm_image.specs.declared.EntryImage.{EntryImage}
+use Rattle.pcm_image.specs.declared.ImageKind.TheVariants as kind
+use Rattle.pcm_image.specs.declared.fields.ReadImage.{ReadImage}
+use Rattle.pcm_image.specs.Saved.{Saved, SavedBank, Head, IsHead, IsSaved, IsSavedBank, IsSavedEntry, IsSavedRegion, IsSavedRow, slots_in, lines_in, array_lines_in, is_lines}
+use Rattle.module_shape.specs.Limits.{is_power_between}
+use Rattle.pcm_image.specs.Spelling.{u8, u16, u32, u64, magic, packed, head_bytes, region_bytes, entry_bytes, bank_bytes, cells_bytes, image_bytes}
+use Rattle.pcm_image.specs.Reading.{Cursor, ◌>>=◌, fault, field, any, byte_at, number_at, times, is_size, size_at, size_of, head_at, region_at, given_from, is_given, entry_at, bank_at, row_of, cells_at, image_of}
+use Rattle.pcm_image.specs.Giving.{Gives}
+use Rattle.pcm_image.proofs.Bits.{length-bytes_from, length-given_from, packed-given, given-packed}
+use Rattle.pcm_image.proofs.Heads.{HeadFits, head-fits, and_left, and_right}
+use Rattle.pcm_image.proofs.Pairs.{IsBytes, bind_ok, ok_is, passed, Takes, Takes-then, IsPair, IsField, field_pair, Passes, number_pair, byte_pair, wide16, wide32, wide64, times_takes, times_again}
+
+le_true : (a b : ℕ) → a ≤ b → nat_le a b ≡ true
+le_true a b h = grind (arith, nat_tests)
+
+true_le : (a b : ℕ) → nat_le a b ≡ true → a ≤ b
+true_le a b h = grind (arith, nat_tests)
+
+lt_true : (a b : ℕ) → a < b → nat_lt a b ≡ true
+lt_true a b h = grind (arith, nat_tests)
+
+true_lt : (a b : ℕ) → nat_lt a b ≡ true → a < b
+true_lt a b h = grind (arith, nat_tests)
+
+and_both : (a b : Bool) → a ≡ true → b ≡ true → (a && b) ≡ true
+and_both a b p q = rw (p, q) refl
+
+-- a fact of each, by place and by recursion
+all_at : {X : Type 0} (P : X → Type 0) (xs : List X) (d : X) → ((i : ℕ) → i < length xs → P (get_or xs i d)) → AllByRecursion P xs
+all_at P [] d h = tt
+all_at P (x ∷ xs) d h = (h 0 (omega arith), all_at P xs d (λ i lt. h (suc i) (omega (arith, lt))))
+
+pub all_to : {X : Type 0} (P : X → Type 0) (xs : List X) → All P xs → AllByRecursion P xs
+all_to P [] h = tt
+all_to P (x ∷ xs) h = all_at P (x ∷ xs) x (λ i lt. All-get_or P (x ∷ xs) i x lt h)
+
+all_map : {X : Type 0} (P Q : X → Type 0) (xs : List X) → ((x : X) → P x → Q x) → AllByRecursion P xs → AllByRecursion Q xs
+all_map P Q [] f h = tt
+all_map P Q (x ∷ xs) f h = (f x h.0, all_map P Q xs f h.1)
+
+-- ---- the head
+
+magic-is : (bytes : List ℕ) → bytes_eq bytes magic ≡ true → magic ≡ bytes
+magic-is bytes h = sym ((bytes_eq-Decides bytes magic).0 h)
+
+-- ---- a region
+
+abbrev RegionFits : Head → RegionImage → Type 0
+RegionFits h r = Passes (2 ^ 16) (λ n. nat_lt n h.lines) r.start × (Passes (2 ^ 16) (λ n. nat_le n h.lines) r.gap × Passes (2 ^ 16) any r.counter)
+
+region_takes : (h : Head) (c : Cursor) (x : RegionImage × Cursor) → IsBytes c.left → region_at h c ≡ Ok x → Takes c (region_bytes x.0) x.1 × RegionFits h x.0
+unfolding region_at
+region_takes h c x small e =
+    let one = number_pair w16 (2 ^ 16) kind.Bank (λ n. nat_lt n h.lines) wide16 in
+    let two = number_pair w16 (2 ^ 16) kind.Bank (λ n. nat_le n h.lines) wide16 in
+    let three = number_pair w16 (2 ^ 16) kind.Bank any wide16 in
+    let a = bind_ok (number_at w16 kind.Bank (λ n. nat_lt n h.lines) c) (λ start. number_at w16 kind.Bank (λ n. nat_le n h.lines) start.1 >>= λ gap. number_at w16 kind.Bank any gap.1 >>= λ counter. Ok (record { start = start.0; gap = gap.0; counter = counter.0 }, counter.1)) x e in
+    let b = bind_ok (number_at w16 kind.Bank (λ n. nat_le n h.lines) a.0.1) (λ gap. number_at w16 kind.Bank any gap.1 >>= λ counter. Ok (record { start = a.0.0; gap = gap.0; counter = counter.0 }, counter.1)) x a.2 in
+    let d = bind_ok (number_at w16 kind.Bank any b.0.1) (λ counter. Ok (record { start = a.0.0; gap = b.0.0; counter = counter.0 }, counter.1)) x b.2 in
+    let t0 = one.takes c a.0 small a.1 in
+    let t1 = two.takes a.0.1 b.0 t0.0.rest_fits b.1 in
+    let t2 = three.takes b.0.1 d.0 t1.0.rest_fits d.1 in
+    let e12 = Takes-then a.0.1 (u16 b.0.0) b.0.1 (u16 d.0.0) d.0.1 t1.0 t2.0 in
+    let e02 = Takes-then c (u16 a.0.0) a.0.1 (u16 b.0.0 ++ u16 d.0.0) d.0.1 t0.0 e12 in
+    let made : RegionImage × Cursor = (record { start = a.0.0; gap = b.0.0; counter = d.0.0 }, d.0.1) in
+    subst (λ (y : RegionImage × Cursor). Takes c (region_bytes y.0) y.1 × RegionFits h y.0) (ok_is made x d.2) (e02, (t0.1, (t1.1, t2.1)))
+
+region_again : (h : Head) (r : RegionImage) (c : Cursor) (rest : List ℕ) → RegionFits h r → c.left ≡ region_bytes r ++ rest → (after : Cursor) × (region_at h c ≡ Ok (r, after)) × (after.left ≡ rest)
+unfolding region_at
+region_again h r c rest fit e =
+    let one = number_pair w16 (2 ^ 16) kind.Bank (λ n. nat_lt n h.lines) wide16 in
+    let two = number_pair w16 (2 ^ 16) kind.Bank (λ n. nat_le n h.lines) wide16 in
+    let three = number_pair w16 (2 ^ 16) kind.Bank any wide16 in
+    let a = one.again r.start c (u16 r.gap ++ (u16 r.counter ++ rest)) fit.0 (e ∙ append_assoc (u16 r.start) (u16 r.gap ++ u16 r.counter) rest ∙ ap (λ t. u16 r.start ++ t) (append_assoc (u16 r.gap) (u16 r.counter) rest)) in
+    let b = two.again r.gap a.0 (u16 r.counter ++ rest) fit.1.0 a.2 in
+    let d = three.again r.counter b.0 rest fit.1.1 b.2 in
+    (d.0, rw (a.1, b.1, d.1) refl, d.2)
+
+pub region_pair : (h : Head) → IsPair (region_at h) region_bytes (RegionFits h)
+region_pair h = record { takes = region_takes h; again = region_again h }
+
+-- ---- an entry
+
+bytes_field : (B : ℕ) → IsField B any (λ bytes. bytes) (λ bytes. bytes) (λ bytes. length bytes ≡ B)
+bytes_field B = record { back = λ bytes len small is. (refl, len); len = λ x fit. fit; passes = λ x fit. refl; same = λ x fit. refl }
+
+abbrev GivenFits : ℕ → List ℕ → List Bool → Type 0
+GivenFits B bytes given = (length given ≡ B) × ((gives_some given ≡ true) × (zero_elsewhere bytes given ≡ true))
+
+given_field : (B : ℕ) (bytes : List ℕ) → B % 8 ≡ 0 → IsField (B / 8) (is_given B bytes) (λ bits. given_from bits 0 B) (packed B) (GivenFits B bytes)
+given_field B bytes whole = record {
+  back = λ bits len small is. (packed-given B bits whole len small, (length-given_from bits 0 B, (and_left (gives_some (given_from bits 0 B)) (zero_elsewhere bytes (given_from bits 0 B)) is, and_right (gives_some (given_from bits 0 B)) (zero_elsewhere bytes (given_from bits 0 B)) is)));
+  len = λ g fit. length-bytes_from _ 0 (B / 8);
+  passes = λ g fit. rw (given-packed B g whole fit.0) (and_both (gives_some g) (zero_elsewhere bytes g) fit.1.0 fit.1.1);
+  same = λ g fit. given-packed B g whole fit.0;
+}
+
+abbrev EntryFits : (B : ℕ) → Head → EntryImage B → Type 0
+EntryFits B h e = Passes (2 ^ 32) (λ n. nat_lt n (lines_in h)) e.line × ((length e.bytes ≡ B) × GivenFits B e.bytes e.given)
+
+entry_takes : (B : ℕ) → B % 8 ≡ 0 → (h : Head) (c : Cursor) (x : EntryImage B × Cursor) → IsBytes c.left → entry_at B h c ≡ Ok x → Takes c (entry_bytes x.0) x.1 × EntryFits B h x.0
+unfolding entry_at
+entry_takes B whole h c x small e =
+    let one = number_pair w32 (2 ^ 32) kind.Entry (λ n. nat_lt n (lines_in h)) wide32 in
+    let two = field_pair B kind.Entry any (λ bytes. bytes) (λ bytes. bytes) (λ bytes. length bytes ≡ B) (bytes_field B) in
+    let a = bind_ok (number_at w32 kind.Entry (λ n. nat_lt n (lines_in h)) c) (λ line. field B kind.Entry any (λ bytes. bytes) line.1 >>= λ bytes. field (B / 8) kind.Entry (is_given B bytes.0) (λ bits. given_from bits 0 B) bytes.1 >>= λ given. Ok (record { line = line.0; bytes = bytes.0; given = given.0 }, given.1)) x e in
+    let b = bind_ok (field B kind.Entry any (λ bytes. bytes) a.0.1) (λ bytes. field (B / 8) kind.Entry (is_given B bytes.0) (λ bits. given_from bits 0 B) bytes.1 >>= λ given. Ok (record { line = a.0.0; bytes = bytes.0; given = given.0 }, given.1)) x a.2 in
+    let d = bind_ok (field (B / 8) kind.Entry (is_given B b.0.0) (λ bits. given_from bits 0 B) b.0.1) (λ given. Ok (record { line = a.0.0; bytes = b.0.0; given = given.0 }, given.1)) x b.2 in
+    let three = field_pair (B / 8) kind.Entry (is_given B b.0.0) (λ bits. given_from bits 0 B) (packed B) (GivenFits B b.0.0) (given_field B b.0.0 whole) in
+    let t0 = one.takes c a.0 small a.1 in
+    let t1 = two.takes a.0.1 b.0 t0.0.rest_fits b.1 in
+    let t2 = three.takes b.0.1 d.0 t1.0.rest_fits d.1 in
+    let e12 = Takes-then a.0.1 b.0.0 b.0.1 (packed B d.0.0) d.0.1 t1.0 t2.0 in
+    let e02 = Takes-then c (u32 a.0.0) a.0.1 (b.0.0 ++ packed B d.0.0) d.0.1 t0.0 e12 in
+    let made : EntryImage B × Cursor = (record { line = a.0.0; bytes = b.0.0; given = d.0.0 }, d.0.1) in
+    subst (λ (y : EntryImage B × Cursor). Takes c (entry_bytes y.0) y.1 × EntryFits B h y.0) (ok_is made x d.2) (e02, (t0.1, (t1.1, t2.1)))
+
+entry_again : (B : ℕ) → B % 8 ≡ 0 → (h : Head) (r : EntryImage B) (c : Cursor) (rest : List ℕ) → EntryFits B h r → c.left ≡ entry_bytes r ++ rest → (after : Cursor) × (entry_at B h c ≡ Ok (r, after)) × (after.left ≡ rest)
+unfolding entry_at
+entry_again B whole h r c rest fit e =
+    let one = number_pair w32 (2 ^ 32) kind.Entry (λ n. nat_lt n (lines_in h)) wide32 in
+    let two = field_pair B kind.Entry any (λ bytes. bytes) (λ bytes. bytes) (λ bytes. length bytes ≡ B) (bytes_field B) in
+    let three = field_pair (B / 8) kind.Entry (is_given B r.bytes) (λ bits. given_from bits 0 B) (packed B) (GivenFits B r.bytes) (given_field B r.bytes whole) in
+    let a = one.again r.line c (r.bytes ++ (packed B r.given ++ rest)) fit.0 (e ∙ append_assoc (u32 r.line) (r.bytes ++ packed B r.given) rest ∙ ap (λ t. u32 r.line ++ t) (append_assoc r.bytes (packed B r.given) rest)) in
+    let b = two.again r.bytes a.0 (packed B r.given ++ rest) fit.1.0 a.2 in
+    let d = three.again r.given b.0 rest fit.1.1 b.2 in
+    (d.0, rw (a.1, b.1, d.1) refl, d.2)
+
+entry_pair : (B : ℕ) → B % 8 ≡ 0 → (h : Head) → IsPair (entry_at B h) entry_bytes (EntryFits B h)
+entry_pair B whole h = record { takes = entry_takes B whole h; again = entry_again B whole h }
+
+-- ---- a bank
+
+abbrev IsSlot : Head → ℕ → Type 0
+IsSlot h slot = Passes (2 ^ 32) (λ n. nat_lt n (slots_in h)) slot
+
+slot_pair : (h : Head) → IsPair (number_at w32 kind.Bank (λ n. nat_lt n (slots_in h))) u32 (IsSlot h)
+slot_pair h = number_pair w32 (2 ^ 32) kind.Bank (λ n. nat_lt n (slots_in h)) wide32
+
+record BankFits (B : ℕ) (h : Head) (b : SavedBank B) : Type 0 where
+  pub mark : Passes 256 (λ n. nat_lt n 2) b.mark
+  pub used : Passes (2 ^ 16) (λ n. nat_le n h.spares) (length b.replaced)
+  pub slots : AllByRecursion (IsSlot h) b.replaced
+  pub ones : length b.regions ≡ h.regions
+  pub regions : AllByRecursion (RegionFits h) b.regions
+  pub few : Passes (2 ^ 16) (λ n. nat_le n 256) (length b.entries)
+  pub entries : AllByRecursion (EntryFits B h) b.entries
+
+bank_takes : (B : ℕ) → B % 8 ≡ 0 → (h : Head) (c : Cursor) (x : SavedBank B × Cursor) → IsBytes c.left → bank_at B h c ≡ Ok x → Takes c (bank_bytes x.0) x.1 × BankFits B h x.0
+unfolding bank_at
+bank_takes B whole h c x small e =
+    let slot = number_at w32 kind.Bank (λ n. nat_lt n (slots_in h)) in
+    let p0 = byte_pair kind.Bank (λ n. nat_lt n 2) in
+    let p1 = number_pair w16 (2 ^ 16) kind.Bank (λ n. nat_le n h.spares) wide16 in
+    let p4 = number_pair w16 (2 ^ 16) kind.Bank (λ n. nat_le n 256) wide16 in
+    let r0 = bind_ok (byte_at kind.Bank (λ n. nat_lt n 2) c) (λ mark. number_at w16 kind.Bank (λ n. nat_le n h.spares) mark.1 >>= λ used. times used.0 slot used.1 >>= λ replaced. times h.regions (region_at h) replaced.1 >>= λ regions. number_at w16 kind.Bank (λ n. nat_le n 256) regions.1 >>= λ count. times count.0 (entry_at B h) count.1 >>= λ entries. Ok (record { mark = mark.0; replaced = replaced.0; regions = regions.0; entries = entries.0 }, entries.1)) x e in
+    let r1 = bind_ok (number_at w16 kind.Bank (λ n. nat_le n h.spares) r0.0.1) (λ used. times used.0 slot used.1 >>= λ replaced. times h.regions (region_at h) replaced.1 >>= λ regions. number_at w16 kind.Bank (λ n. nat_le n 256) regions.1 >>= λ count. times count.0 (entry_at B h) count.1 >>= λ entries. Ok (record { mark = r0.0.0; replaced = replaced.0; regions = regions.0; entries = entries.0 }, entries.1)) x r0.2 in
+    let r2 = bind_ok (times r1.0.0 slot r1.0.1) (λ replaced. times h.regions (region_at h) replaced.1 >>= λ regions. number_at w16 kind.Bank (λ n. nat_le n 256) regions.1 >>= λ count. times count.0 (entry_at B h) count.1 >>= λ entries. Ok (record { mark = r0.0.0; replaced = replaced.0; regions = regions.0; entries = entries.0 }, entries.1)) x r1.2 in
+    let r3 = bind_ok (times h.regions (region_at h) r2.0.1) (λ regions. number_at w16 kind.Bank (λ n. nat_le n 256) regions.1 >>= λ count. times count.0 (entry_at B h) count.1 >>= λ entries. Ok (record { mark = r0.0.0; replaced = r2.0.0; regions = regions.0; entries = entries.0 }, entries.1)) x r2.2 in
+    let r4 = bind_ok (number_at w16 kind.Bank (λ n. nat_le n 256) r3.0.1) (λ count. times count.0 (entry_at B h) count.1 >>= λ entries. Ok (record { mark = r0.0.0; replaced = r2.0.0; regions = r3.0.0; entries = entries.0 }, entries.1)) x r3.2 in
+    let r5 = bind_ok (times r4.0.0 (entry_at B h) r4.0.1) (λ entries. Ok (record { mark = r0.0.0; replaced = r2.0.0; regions = r3.0.0; entries = entries.0 }, entries.1)) x r4.2 in
+    let t0 = p0.takes c r0.0 small r0.1 in
+    let t1 = p1.takes r0.0.1 r1.0 t0.0.rest_fits r1.1 in
+    let t2 = times_takes slot u32 (IsSlot h) (slot_pair h) r1.0.0 r1.0.1 r2.0 t1.0.rest_fits r2.1 in
+    let t3 = times_takes (region_at h) region_bytes (RegionFits h) (region_pair h) h.regions r2.0.1 r3.0 t2.0.rest_fits r3.1 in
+    let t4 = p4.takes r3.0.1 r4.0 t3.0.rest_fits r4.1 in
+    let t5 = times_takes (entry_at B h) entry_bytes (EntryFits B h) (entry_pair B whole h) r4.0.0 r4.0.1 r5.0 t4.0.rest_fits r5.1 in
+    let s1 = subst (λ (k : ℕ). Takes r0.0.1 (u16 k) r1.0.1 × Passes (2 ^ 16) (λ n. nat_le n h.spares) k) (sym t2.1) t1 in
+    let s4 = subst (λ (k : ℕ). Takes r3.0.1 (u16 k) r4.0.1 × Passes (2 ^ 16) (λ n. nat_le n 256) k) (sym t5.1) t4 in
+    let m4 = Takes-then r3.0.1 _ r4.0.1 _ r5.0.1 s4.0 t5.0 in
+    let m3 = Takes-then r2.0.1 _ r3.0.1 _ r5.0.1 t3.0 m4 in
+    let m2 = Takes-then r1.0.1 _ r2.0.1 _ r5.0.1 t2.0 m3 in
+    let m1 = Takes-then r0.0.1 _ r1.0.1 _ r5.0.1 s1.0 m2 in
+    let m0 = Takes-then c _ r0.0.1 _ r5.0.1 t0.0 m1 in
+    let made : SavedBank B × Cursor = (record { mark = r0.0.0; replaced = r2.0.0; regions = r3.0.0; entries = r5.0.0 }, r5.0.1) in
+    subst (λ (y : SavedBank B × Cursor). Takes c (bank_bytes y.0) y.1 × BankFits B h y.0) (ok_is made x r5.2)
+    (m0, record { mark = t0.1; used = s1.1; slots = t2.2; ones = t3.1; regions = t3.2; few = s4.1; entries = t5.2 })
+
+bank_again : (B : ℕ) → B % 8 ≡ 0 → (h : Head) (b : SavedBank B) (c : Cursor) (rest : List ℕ) → BankFits B h b → c.left ≡ bank_bytes b ++ rest → (after : Cursor) × (bank_at B h c ≡ Ok (b, after)) × (after.left ≡ rest)
+unfolding bank_at
+bank_again B whole h b c rest fit e =
+    let slot = number_at w32 kind.Bank (λ n. nat_lt n (slots_in h)) in
+    let p0 = byte_pair kind.Bank (λ n. nat_lt n 2) in
+    let p1 = number_pair w16 (2 ^ 16) kind.Bank (λ n. nat_le n h.spares) wide16 in
+    let p4 = number_pair w16 (2 ^ 16) kind.Bank (λ n. nat_le n 256) wide16 in
+    let w5 = flat_map entry_bytes b.entries in
+    let w4 = u16 (length b.entries) in
+    let w3 = flat_map region_bytes b.regions in
+    let w2 = flat_map u32 b.replaced in
+    let w1 = u16 (length b.replaced) in
+    let regrouped : bank_bytes b ++ rest ≡ u8 b.mark ++ (w1 ++ (w2 ++ (w3 ++ (w4 ++ (w5 ++ rest))))) =
+    append_assoc (u8 b.mark) (w1 ++ (w2 ++ (w3 ++ (w4 ++ w5)))) rest
+    ∙ ap (λ t. u8 b.mark ++ t) (append_assoc w1 (w2 ++ (w3 ++ (w4 ++ w5))) rest
+    ∙ ap (λ t. w1 ++ t) (append_assoc w2 (w3 ++ (w4 ++ w5)) rest
+    ∙ ap (λ t. w2 ++ t) (append_assoc w3 (w4 ++ w5) rest
+    ∙ ap (λ t. w3 ++ t) (append_assoc w4 w5 rest)))) in
+    let a0 = p0.again b.mark c (w1 ++ (w2 ++ (w3 ++ (w4 ++ (w5 ++ rest))))) fit.mark (e ∙ regrouped) in
+    let a1 = p1.again (length b.replaced) a0.0 (w2 ++ (w3 ++ (w4 ++ (w5 ++ rest)))) fit.used a0.2 in
+    let a2 = times_again slot u32 (IsSlot h) (slot_pair h) b.replaced a1.0 (w3 ++ (w4 ++ (w5 ++ rest))) fit.slots a1.2 in
+    let a3 = times_again (region_at h) region_bytes (RegionFits h) (region_pair h) b.regions a2.0 (w4 ++ (w5 ++ rest)) fit.regions a2.2 in
+    let read3 = subst (λ (k : ℕ). times k (region_at h) a2.0 ≡ Ok (b.regions, a3.0)) fit.ones a3.1 in
+    let a4 = p4.again (length b.entries) a3.0 (w5 ++ rest) fit.few a3.2 in
+    let a5 = times_again (entry_at B h) entry_bytes (EntryFits B h) (entry_pair B whole h) b.entries a4.0 rest fit.entries a4.2 in
+    (a5.0, rw (a0.1, a1.1, a2.1, read3, a4.1, a5.1) refl, a5.2)
+
+bank_pair : (B : ℕ) → B % 8 ≡ 0 → (h : Head) → IsPair (bank_at B h) bank_bytes (BankFits B h)
+bank_pair B whole h = record { takes = bank_takes B whole h; again = bank_again B whole h }
+
+-- ---- a row of cells
+
+abbrev RowFits : (B M : ℕ) → Cells B M → Type 0
+RowFits B M row = (length row.bits ≡ B) × (length row.meta ≡ M)
+
+cells_field : (B M : ℕ) → IsField (B + M) any (row_of B M) cells_bytes (RowFits B M)
+cells_field B M = record {
+  back = λ bytes len small is. (take-append-drop B bytes, (omega (arith, length-take B bytes, len), omega (arith, length-drop B bytes, len)));
+  len = λ row fit. omega (arith, length-append row.bits row.meta, fit.0, fit.1);
+  passes = λ row fit. refl;
+  same = λ row fit. rw (take_at row.bits row.meta B fit.0, drop_at row.bits row.meta B fit.0) refl;
+}
+
+cells_pair : (B M : ℕ) → IsPair (cells_at B M) cells_bytes (RowFits B M)
+unfolding cells_at
+cells_pair B M = field_pair (B + M) kind.Short any (row_of B M) cells_bytes (RowFits B M) (cells_field B M)
+
+-- ---- the head
+
+size_takes : (test : ℕ → Bool) (c : Cursor) (x : ℕ × Cursor) → IsBytes c.left → size_at test c ≡ Ok x → Takes c (magic ++ u8 x.0) x.1 × Passes 256 test x.0
+unfolding size_at
+size_takes test c x small e =
+    let m = field_pair 8 kind.Magic (λ bytes. bytes_eq bytes magic) any (λ x. magic) (λ x. x ≡ true) magic_field in
+    let a = bind_ok (field 8 kind.Magic (λ bytes. bytes_eq bytes magic) any c) (λ m. byte_at kind.Size test m.1) x e in
+    let t0 = m.takes c a.0 small a.1 in
+    let t1 = (byte_pair kind.Size test).takes a.0.1 x t0.0.rest_fits a.2 in
+    (Takes-then c magic a.0.1 (u8 x.0) x.1 t0.0 t1.0, t1.1)
+  where
+    magic_field : IsField 8 (λ bytes. bytes_eq bytes magic) any (λ x. magic) (λ x. x ≡ true)
+    magic_field = record { back = λ bytes len small is. (magic-is bytes is, refl); len = λ x fit. refl; passes = λ x fit. refl; same = λ x fit. sym fit }
+
+pub size_again : (test : ℕ → Bool) (n : ℕ) (c : Cursor) (rest : List ℕ) → Passes 256 test n → c.left ≡ magic ++ (u8 n ++ rest) → (after : Cursor) × (size_at test c ≡ Ok (n, after)) × (after.left ≡ rest)
+unfolding size_at
+size_again test n c rest fit e =
+    let m = field_pair 8 kind.Magic (λ bytes. bytes_eq bytes magic) any (λ x. magic) (λ x. x ≡ true) magic_field in
+    let a = m.again true c (u8 n ++ rest) refl e in
+    let b = (byte_pair kind.Size test).again n a.0 rest fit a.2 in
+    (b.0, rw (a.1, b.1) refl, b.2)
+  where
+    magic_field : IsField 8 (λ bytes. bytes_eq bytes magic) any (λ x. magic) (λ x. x ≡ true)
+    magic_field = record { back = λ bytes len small is. (magic-is bytes is, refl); len = λ x fit. refl; passes = λ x fit. refl; same = λ x fit. sym fit }
+
+seven : (c c0 c1 c2 c3 c4 c5 c6 : Cursor) (x0 x1 x2 x3 x4 x5 x6 : List ℕ) → Takes c x0 c0 → Takes c0 x1 c1 → Takes c1 x2 c2 → Takes c2 x3 c3 → Takes c3 x4 c4 → Takes c4 x5 c5 → Takes c5 x6 c6
+    → Takes c (x0 ++ (x1 ++ (x2 ++ (x3 ++ (x4 ++ (x5 ++ x6)))))) c6
+seven c c0 c1 c2 c3 c4 c5 c6 x0 x1 x2 x3 x4 x5 x6 t0 t1 t2 t3 t4 t5 t6 =
+    Takes-then c x0 c0 (x1 ++ (x2 ++ (x3 ++ (x4 ++ (x5 ++ x6))))) c6 t0
+    (Takes-then c0 x1 c1 (x2 ++ (x3 ++ (x4 ++ (x5 ++ x6)))) c6 t1
+    (Takes-then c1 x2 c2 (x3 ++ (x4 ++ (x5 ++ x6))) c6 t2
+    (Takes-then c2 x3 c3 (x4 ++ (x5 ++ x6)) c6 t3
+    (Takes-then c3 x4 c4 (x5 ++ x6) c6 t4
+    (Takes-then c4 x5 c5 x6 c6 t5 t6)))))
+
+-- the fields of a head, one behind another
+head_joined : (B : ℕ) (h : Head) (size : ℕ) (c c0 c1 c2 c3 c4 c5 c6 : Cursor)
+    → Takes c (magic ++ u8 size) c0 × Passes 256 (λ n. n == B) size
+    → Takes c0 (u8 h.banks) c1 × Passes 256 (is_power_between 1 16) h.banks
+    → Takes c1 (u8 h.regions) c2 × Passes 256 (is_power_between 1 16) h.regions
+    → Takes c2 (u16 h.lines) c3 × Passes (2 ^ 16) (is_lines h.banks h.regions) h.lines
+    → Takes c3 (u16 h.spares) c4 × Passes (2 ^ 16) (λ n. nat_le n 1024) h.spares
+    → Takes c4 (u64 h.seed) c5 × Passes (2 ^ 64) any h.seed
+    → Takes c5 (u8 h.home) c6 × Passes 256 (λ n. nat_lt n 2) h.home
+    → Takes c (head_bytes B h) c6 × IsHead h
+head_joined B h size c c0 c1 c2 c3 c4 c5 c6 t0 t1 t2 t3 t4 t5 t6 =
+    let m = seven c c0 c1 c2 c3 c4 c5 c6 (magic ++ u8 size) (u8 h.banks) (u8 h.regions) (u16 h.lines) (u16 h.spares) (u64 h.seed) (u8 h.home) t0.0 t1.0 t2.0 t3.0 t4.0 t5.0 t6.0 in
+    let same : size ≡ B = eqb-true size B t0.1.1 in (
+      subst (λ (k : ℕ). Takes c ((magic ++ u8 k) ++ (u8 h.banks ++ (u8 h.regions ++ (u16 h.lines ++ (u16 h.spares ++ (u64 h.seed ++ u8 h.home)))))) c6) same m,
+      record { banks = t1.1.1; regions = t2.1.1; lines = t3.1.1; spares = true_le h.spares 1024 t4.1.1; seed = t5.1.0; home = true_lt h.home 2 t6.1.1 },
+    )
+
+head_takes : (B : ℕ) (c : Cursor) (x : Head × Cursor) → IsBytes c.left → head_at B c ≡ Ok x → Takes c (head_bytes B x.0) x.1 × IsHead x.0
+unfolding head_at
+head_takes B c x small e =
+    let p1 = byte_pair kind.Shape (is_power_between 1 16) in
+    let p4 = number_pair w16 (2 ^ 16) kind.Shape (λ n. nat_le n 1024) wide16 in
+    let p5 = number_pair w64 (2 ^ 64) kind.Shape any wide64 in
+    let p6 = byte_pair kind.Shape (λ n. nat_lt n 2) in
+    let r0 = bind_ok (size_at (λ n. n == B) c) (λ size. byte_at kind.Shape (is_power_between 1 16) size.1 >>= λ banks. byte_at kind.Shape (is_power_between 1 16) banks.1 >>= λ regions. number_at w16 kind.Shape (is_lines banks.0 regions.0) regions.1 >>= λ lines. number_at w16 kind.Shape (λ n. nat_le n 1024) lines.1 >>= λ spares. number_at w64 kind.Shape any spares.1 >>= λ seed. byte_at kind.Shape (λ n. nat_lt n 2) seed.1 >>= λ home. Ok (record { banks = banks.0; regions = regions.0; lines = lines.0; spares = spares.0; seed = seed.0; home = home.0 }, home.1)) x e in
+    let r1 = bind_ok (byte_at kind.Shape (is_power_between 1 16) r0.0.1) (λ banks. byte_at kind.Shape (is_power_between 1 16) banks.1 >>= λ regions. number_at w16 kind.Shape (is_lines banks.0 regions.0) regions.1 >>= λ lines. number_at w16 kind.Shape (λ n. nat_le n 1024) lines.1 >>= λ spares. number_at w64 kind.Shape any spares.1 >>= λ seed. byte_at kind.Shape (λ n. nat_lt n 2) seed.1 >>= λ home. Ok (record { banks = banks.0; regions = regions.0; lines = lines.0; spares = spares.0; seed = seed.0; home = home.0 }, home.1)) x r0.2 in
+    let r2 = bind_ok (byte_at kind.Shape (is_power_between 1 16) r1.0.1) (λ regions. number_at w16 kind.Shape (is_lines r1.0.0 regions.0) regions.1 >>= λ lines. number_at w16 kind.Shape (λ n. nat_le n 1024) lines.1 >>= λ spares. number_at w64 kind.Shape any spares.1 >>= λ seed. byte_at kind.Shape (λ n. nat_lt n 2) seed.1 >>= λ home. Ok (record { banks = r1.0.0; regions = regions.0; lines = lines.0; spares = spares.0; seed = seed.0; home = home.0 }, home.1)) x r1.2 in
+    let r3 = bind_ok (number_at w16 kind.Shape (is_lines r1.0.0 r2.0.0) r2.0.1) (λ lines. number_at w16 kind.Shape (λ n. nat_le n 1024) lines.1 >>= λ spares. number_at w64 kind.Shape any spares.1 >>= λ seed. byte_at kind.Shape (λ n. nat_lt n 2) seed.1 >>= λ home. Ok (record { banks = r1.0.0; regions = r2.0.0; lines = lines.0; spares = spares.0; seed = seed.0; home = home.0 }, home.1)) x r2.2 in
+    let r4 = bind_ok (number_at w16 kind.Shape (λ n. nat_le n 1024) r3.0.1) (λ spares. number_at w64 kind.Shape any spares.1 >>= λ seed. byte_at kind.Shape (λ n. nat_lt n 2) seed.1 >>= λ home. Ok (record { banks = r1.0.0; regions = r2.0.0; lines = r3.0.0; spares = spares.0; seed = seed.0; home = home.0 }, home.1)) x r3.2 in
+    let r5 = bind_ok (number_at w64 kind.Shape any r4.0.1) (λ seed. byte_at kind.Shape (λ n. nat_lt n 2) seed.1 >>= λ home. Ok (record { banks = r1.0.0; regions = r2.0.0; lines = r3.0.0; spares = r4.0.0; seed = seed.0; home = home.0 }, home.1)) x r4.2 in
+    let r6 = bind_ok (byte_at kind.Shape (λ n. nat_lt n 2) r5.0.1) (λ home. Ok (record { banks = r1.0.0; regions = r2.0.0; lines = r3.0.0; spares = r4.0.0; seed = r5.0.0; home = home.0 }, home.1)) x r5.2 in
+    let p3 = number_pair w16 (2 ^ 16) kind.Shape (is_lines r1.0.0 r2.0.0) wide16 in
+    let t0 = size_takes (λ n. n == B) c r0.0 small r0.1 in
+    let t1 = p1.takes r0.0.1 r1.0 t0.0.rest_fits r1.1 in
+    let t2 = p1.takes r1.0.1 r2.0 t1.0.rest_fits r2.1 in
+    let t3 = p3.takes r2.0.1 r3.0 t2.0.rest_fits r3.1 in
+    let t4 = p4.takes r3.0.1 r4.0 t3.0.rest_fits r4.1 in
+    let t5 = p5.takes r4.0.1 r5.0 t4.0.rest_fits r5.1 in
+    let t6 = p6.takes r5.0.1 r6.0 t5.0.rest_fits r6.1 in
+    let h : Head = record { banks = r1.0.0; regions = r2.0.0; lines = r3.0.0; spares = r4.0.0; seed = r5.0.0; home = r6.0.0 } in
+    subst (λ (y : Head × Cursor). Takes c (head_bytes B y.0) y.1 × IsHead y.0) (ok_is (h, r6.0.1) x r6.2)
+    (head_joined B h r0.0.0 c r0.0.1 r1.0.1 r2.0.1 r3.0.1 r4.0.1 r5.0.1 r6.0.1 t0 t1 t2 t3 t4 t5 t6)
+
+head_again : (B : ℕ) → B ≤ 128 → (h : Head) (c : Cursor) (rest : List ℕ) → IsHead h → c.left ≡ head_bytes B h ++ rest → (after : Cursor) × (head_at B c ≡ Ok (h, after)) × (after.left ≡ rest)
+unfolding head_at
+head_again B few h c rest is e =
+    let fit = head-fits h is in
+    let p1 = byte_pair kind.Shape (is_power_between 1 16) in
+    let p3 = number_pair w16 (2 ^ 16) kind.Shape (is_lines h.banks h.regions) wide16 in
+    let p4 = number_pair w16 (2 ^ 16) kind.Shape (λ n. nat_le n 1024) wide16 in
+    let p5 = number_pair w64 (2 ^ 64) kind.Shape any wide64 in
+    let p6 = byte_pair kind.Shape (λ n. nat_lt n 2) in
+    let a0 = size_again (λ n. n == B) B c (u8 h.banks ++ (u8 h.regions ++ (u16 h.lines ++ (u16 h.spares ++ (u64 h.seed ++ (u8 h.home ++ rest)))))) (omega (arith, few), same B) e in
+    let a1 = p1.again h.banks a0.0 (u8 h.regions ++ (u16 h.lines ++ (u16 h.spares ++ (u64 h.seed ++ (u8 h.home ++ rest))))) (omega (arith, fit.banks), is.banks) a0.2 in
+    let a2 = p1.again h.regions a1.0 (u16 h.lines ++ (u16 h.spares ++ (u64 h.seed ++ (u8 h.home ++ rest)))) (omega (arith, fit.regions), is.regions) a1.2 in
+    let a3 = p3.again h.lines a2.0 (u16 h.spares ++ (u64 h.seed ++ (u8 h.home ++ rest))) (omega (arith, fit.lines), is.lines) a2.2 in
+    let a4 = p4.again h.spares a3.0 (u64 h.seed ++ (u8 h.home ++ rest)) (omega (arith, is.spares), le_true _ _ is.spares) a3.2 in
+    let a5 = p5.again h.seed a4.0 (u8 h.home ++ rest) (is.seed, refl) a4.2 in
+    let a6 = p6.again h.home a5.0 rest (omega (arith, is.home), lt_true _ _ is.home) a5.2 in
+    (a6.0, rw (a0.1, a1.1, a2.1, a3.1, a4.1, a5.1, a6.1) refl, a6.2)
+  where
+    same : (n : ℕ) → eqb n n ≡ true
+    same n = grind (arith, nat_tests)
+
+-- ---- the whole
+
+region_saved : (h : Head) (r : RegionImage) → RegionFits h r → IsSavedRegion h r
+region_saved h r fit = record { start = true_lt _ _ fit.0.1; gap = true_le _ _ fit.1.0.1; counter = fit.1.1.0 }
+
+entry_saved : (B : ℕ) (h : Head) (e : EntryImage B) → EntryFits B h e → IsSavedEntry h e
+entry_saved B h e fit = record { line = true_lt _ _ fit.0.1; masked = record { bytes_len = fit.1.0; given_len = fit.1.1.0; some = fit.1.1.1.0; others = fit.1.1.1.1 } }
+
+bank_saved : (B : ℕ) (h : Head) (b : SavedBank B) → BankFits B h b → IsSavedBank h b
+bank_saved B h b fit = record {
+  mark = true_lt _ _ fit.mark.1;
+  used = true_le _ _ fit.used.1;
+  slots = All-from_recursion (λ slot. slot < slots_in h) b.replaced (all_map (IsSlot h) (λ slot. slot < slots_in h) b.replaced (λ slot k. true_lt _ _ k.1) fit.slots);
+  one_each = fit.ones;
+  regions = All-from_recursion (IsSavedRegion h) b.regions (all_map (RegionFits h) (IsSavedRegion h) b.regions (region_saved h) fit.regions);
+  few = true_le _ _ fit.few.1;
+  entries = All-from_recursion (IsSavedEntry h) b.entries (all_map (EntryFits B h) (IsSavedEntry h) b.entries (entry_saved B h) fit.entries);
+}
+
+-- the numbers of slots and of lines fit a number of four bytes
+wide_slots : (h : Head) → HeadFits h → slots_in h ≤ 65552
+wide_slots h fit = omega (arith, fit.regions, fit.lines, mul-le h.regions (h.lines + 1) 16 4097 fit.regions (omega (arith, fit.lines)))
+
+wide_lines : (h : Head) → HeadFits h → lines_in h ≤ 65536
+wide_lines h fit = omega (arith, mul-le h.regions h.lines 16 4096 fit.regions fit.lines)
+
+region_back : (h : Head) → HeadFits h → (r : RegionImage) → IsSavedRegion h r → RegionFits h r
+region_back h fit r k = ((omega (arith, k.start, fit.lines), lt_true _ _ k.start), ((omega (arith, k.gap, fit.lines), le_true _ _ k.gap), (k.counter, refl)))
+
+entry_back : (B : ℕ) (h : Head) → HeadFits h → (e : EntryImage B) → IsSavedEntry h e → EntryFits B h e
+entry_back B h fit e k = ((omega (arith, k.line, wide_lines h fit), lt_true _ _ k.line), (k.masked.bytes_len, (k.masked.given_len, (k.masked.some, k.masked.others))))
+
+bank_back : (B : ℕ) (h : Head) → IsHead h → (b : SavedBank B) → IsSavedBank h b → BankFits B h b
+bank_back B h is b k =
+    let fit = head-fits h is in
+    record {
+      mark = (omega (arith, k.mark), lt_true _ _ k.mark);
+      used = (omega (arith, k.used, is.spares), le_true _ _ k.used);
+      slots = all_map (λ slot. slot < slots_in h) (IsSlot h) b.replaced (λ slot lt. (omega (arith, lt, wide_slots h fit), lt_true _ _ lt)) (all_to (λ slot. slot < slots_in h) b.replaced k.slots);
+      ones = k.one_each;
+      regions = all_map (IsSavedRegion h) (RegionFits h) b.regions (region_back h fit) (all_to (IsSavedRegion h) b.regions k.regions);
+      few = (omega (arith, k.few), le_true _ _ k.few);
+      entries = all_map (IsSavedEntry h) (EntryFits B h) b.entries (entry_back B h fit) (all_to (IsSavedEntry h) b.entries k.entries);
+    }
+
+pub image_takes : (B M : ℕ) → B % 8 ≡ 0 → (bytes : List ℕ) (s : Saved B M) → IsBytes bytes → image_of B M bytes ≡ Ok s → IsSaved s × (bytes ≡ image_bytes s)
+unfolding image_of image_bytes
+image_takes B M whole bytes s small e =
+    let c : Cursor = record { at = 0; left = bytes } in
+    let r0 = bind_ok (head_at B c) (λ head. times head.0.banks (bank_at B head.0) head.1 >>= λ parts. times (head.0.banks * array_lines_in head.0) (cells_at B M) parts.1 >>= λ cells. cond (eqb (length cells.1.left) 0) (Ok (record { head = head.0; parts = parts.0; cells = cells.0 })) (fault cells.1 kind.Extra)) s e in
+    let h = r0.0.0 in
+    let r1 = bind_ok (times h.banks (bank_at B h) r0.0.1) (λ parts. times (h.banks * array_lines_in h) (cells_at B M) parts.1 >>= λ cells. cond (eqb (length cells.1.left) 0) (Ok (record { head = h; parts = parts.0; cells = cells.0 })) (fault cells.1 kind.Extra)) s r0.2 in
+    let r2 = bind_ok (times (h.banks * array_lines_in h) (cells_at B M) r1.0.1) (λ cells. cond (eqb (length cells.1.left) 0) (Ok (record { head = h; parts = r1.0.0; cells = cells.0 })) (fault cells.1 kind.Extra)) s r1.2 in
+    let made : Saved B M = record { head = h; parts = r1.0.0; cells = r2.0.0 } in
+    let g = passed (eqb (length r2.0.1.left) 0) (record { at = r2.0.1.at; kind = kind.Extra }) made s r2.2 in
+    let t0 = head_takes B c r0.0 small r0.1 in
+    let t1 = times_takes (bank_at B h) bank_bytes (BankFits B h) (bank_pair B whole h) h.banks r0.0.1 r1.0 t0.0.rest_fits r1.1 in
+    let t2 = times_takes (cells_at B M) cells_bytes (RowFits B M) (cells_pair B M) (h.banks * array_lines_in h) r1.0.1 r2.0 t1.0.rest_fits r2.1 in
+    let m1 = Takes-then r0.0.1 _ r1.0.1 _ r2.0.1 t1.0 t2.0 in
+    let m0 = Takes-then c _ r0.0.1 _ r2.0.1 t0.0 m1 in
+    let nothing : r2.0.1.left ≡ [] = nil_from_length r2.0.1.left (eqb-true _ _ g.0) in
+    let all : bytes ≡ image_bytes made = m0.parts ∙ ap (λ (r : List ℕ). image_bytes made ++ r) nothing ∙ append-nil (image_bytes made) in
+    let is : IsSaved made = record {
+      head = t0.1;
+      one_each = t1.1;
+      parts = All-from_recursion (IsSavedBank h) r1.0.0 (all_map (BankFits B h) (IsSavedBank h) r1.0.0 (bank_saved B h) t1.2);
+      all_lines = t2.1;
+      rows = All-from_recursion (IsSavedRow B M) r2.0.0 (all_map (RowFits B M) (IsSavedRow B M) r2.0.0 (λ row k. record { bits = k.0; meta = k.1 }) t2.2);
+    } in
+    subst (λ (v : Saved B M). IsSaved v × (bytes ≡ image_bytes v)) g.1 (is, all)
+
+pub image_again : (B M : ℕ) → B % 8 ≡ 0 → B ≤ 128 → (s : Saved B M) → IsSaved s → image_of B M (image_bytes s) ≡ Ok s
+unfolding image_of image_bytes
+image_again B M whole few s k =
+    let h = s.head in
+    let w1 = flat_map bank_bytes s.parts in
+    let w2 = flat_map cells_bytes s.cells in
+    let c : Cursor = record { at = 0; left = head_bytes B h ++ (w1 ++ w2) } in
+    let a0 = head_again B few h c (w1 ++ w2) k.head refl in
+    let a1 = times_again (bank_at B h) bank_bytes (BankFits B h) (bank_pair B whole h) s.parts a0.0 w2 (all_map (IsSavedBank h) (BankFits B h) s.parts (bank_back B h k.head) (all_to (IsSavedBank h) s.parts k.parts)) a0.2 in
+    let read1 = subst (λ (n : ℕ). times n (bank_at B h) a0.0 ≡ Ok (s.parts, a1.0)) k.one_each a1.1 in
+    let a2 = times_again (cells_at B M) cells_bytes (RowFits B M) (cells_pair B M) s.cells a1.0 [] (all_map (IsSavedRow B M) (RowFits B M) s.cells (λ row f. (f.bits, f.meta)) (all_to (IsSavedRow B M) s.cells k.rows)) (a1.2 ∙ sym (append-nil w2)) in
+    let read2 = subst (λ (n : ℕ). times n (cells_at B M) a1.0 ≡ Ok (s.cells, a2.0)) k.all_lines a2.1 in
+    let none : eqb (length a2.0.left) 0 ≡ true = rw a2.2 refl in
+    rw (a0.1, read1, read2, none) refl
+
+pub is_found : {B M : ℕ} (bytes : List ℕ) (r : Result (Saved B M) ReadImage) → B % 8 ≡ 0 → IsBytes bytes → Gives (λ image. image) r (image_of B M bytes) → IfOk r (λ image. IsSaved image × (bytes ≡ image_bytes image))
+is_found {B} {M} bytes (Ok s) whole small given = image_takes B M whole bytes s small given
+is_found bytes (Err e) whole small given = tt
+
+-- the first two fields of what is saved
+pub size-is : (B M : ℕ) (s : Saved B M) → is_size B ≡ true → B < 256 → size_of (image_bytes s) ≡ Ok B
+unfolding size_of image_bytes
+size-is B M s is lt =
+    let h = s.head in
+    let c : Cursor = record { at = 0; left = head_bytes B h ++ (flat_map bank_bytes s.parts ++ flat_map cells_bytes s.cells) } in
+    let a = size_again is_size B c (u8 h.banks ++ (u8 h.regions ++ (u16 h.lines ++ (u16 h.spares ++ (u64 h.seed ++ (u8 h.home ++ (flat_map bank_bytes s.parts ++ flat_map cells_bytes s.cells))))))) (lt, is) refl in
+    rw (a.1) refl

@@ -1,0 +1,23 @@
+use Rattle.std.proofs.Common.{arith}
+use Rattle.std.specs.Prelude.{nat_lt}
+use Rattle.std.specs.Int.{w32}
+use Rattle.pcm_image.specs.declared.ImageKind.TheVariants as kind
+use Rattle.pcm_image.specs.Reading.{number_at, times}
+use Rattle.pcm_image.specs.Giving.{cursor}
+use Rattle.std.proofs.lemmas.Result.{err_from_is_err_and}
+use Rattle.pcm_image.proofs.Loop.{goes_on, ends, is_done}
+use Rattle.pcm_image.proofs.parts.slots_of.Goals as goal
+
+pub loop-preserved : goal.loop-preserved
+loop-preserved c = (
+  rw c.in_ok-push.ensures.items (goes_on (number_at w32 kind.Bank (λ n. nat_lt n c.args.slots)) c.loop.items.items c.args.used c.loop.counter (cursor c.loop.rest) c.in_ok-item.item (cursor c.in_ok-item.after) (times c.args.used (number_at w32 kind.Bank (λ n. nat_lt n c.args.slots)) (cursor c.args.fields)) c.loop-test.true c.in_ok-item.ensures.gives c.loop.invariant.0),
+  omega (arith, c.loop.invariant.1, c.in_ok-item.ensures.at),
+)
+
+pub returns-clause-gives : goal.returns-clause-gives
+returns-clause-gives c = is_done (number_at w32 kind.Bank (λ n. nat_lt n c.args.slots)) c.loop.items.items c.args.used c.loop.counter (cursor c.loop.rest) (times c.args.used (number_at w32 kind.Bank (λ n. nat_lt n c.args.slots)) (cursor c.args.fields)) c.loop-test.false c.loop.invariant.0
+
+pub returns-in_err-item-clause-gives : goal.returns-in_err-item-clause-gives
+returns-in_err-item-clause-gives c =
+    let p = err_from_is_err_and c.from_residual.result c.from_residual.ensures.1 in
+    rw (p.1, p.2) (ends (number_at w32 kind.Bank (λ n. nat_lt n c.args.slots)) c.in_err-item.field-0.0 c.loop.items.items c.args.used c.loop.counter (cursor c.loop.rest) (times c.args.used (number_at w32 kind.Bank (λ n. nat_lt n c.args.slots)) (cursor c.args.fields)) c.loop-test.true c.in_err-item.ensures.gives c.loop.invariant.0)

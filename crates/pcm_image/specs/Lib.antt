@@ -1,0 +1,5 @@
+pub mod Saved
+pub mod Spelling
+pub mod Reading
+pub mod Standing
+pub mod Giving

@@ -1,0 +1,273 @@
+// The fields of an image, taken from the front of the bytes.
+ghost use Rattle.std.specs.Prelude.{◌≡◌, ◌+◌, ◌-◌, ◌*◌, ◌^◌, ◌<◌, ◌≤◌, ◌==◌, ℕ, IfOk, IsTrue, nat_le, nat_lt};
+ghost use Rattle.std.specs.Int.{w16, w32, w64};
+ghost use Rattle.pcm_image.specs.declared.fields.ReadImage.TheVariants.{NoMemory};
+ghost use Rattle.pcm_image.specs.declared.ImageKind.TheVariants as kind;
+ghost use Rattle.module_shape.specs.Limits.{is_power_between};
+ghost use Rattle.pcm_image.specs.Saved.{is_lines};
+ghost use Rattle.pcm_image.specs.Reading.{any, byte_at, number_at, size_at, head_at};
+ghost use Rattle.pcm_image.specs.Giving.{Gives, IsSmall, cursor, head_view};
+
+use crate::{ImageFault, ImageKind};
+use std::alloc::{AllocError, AllocFailed};
+
+/// Why an image gives no module.
+#[derive(Clone, Copy, Debug, PartialEq, Eq)]
+pub enum ReadImage {
+    /// A field fails.
+    Bad(ImageFault),
+    /// Memory ran out.
+    NoMemory,
+}
+
+impl From<AllocError> for ReadImage {
+    ghost from_gives = { λ _ e. e ≡ NoMemory };
+
+    fn from(_e: AllocError) -> ReadImage {
+        ReadImage::NoMemory
+    }
+}
+
+impl<T: Drop> From<AllocFailed<T>> for ReadImage {
+    ghost from_gives = { λ _ e. e ≡ NoMemory };
+
+    fn from(_e: AllocFailed<T>) -> ReadImage {
+        ReadImage::NoMemory
+    }
+}
+
+/// What is left to read of an image.
+#[derive(Clone, Copy)]
+pub struct Fields<'a> {
+    /// How many bytes are before it.
+    pub at: u32,
+    /// The bytes that are left.
+    pub left: &'a [u8],
+}
+
+/// The numbers at the beginning of an image, but for the size of its lines.
+#[derive(Clone, Copy)]
+pub struct HeadImage {
+    pub banks: u8,
+    pub regions: u8,
+    pub lines: u16,
+    pub spares: u16,
+    pub seed: u64,
+    pub home: u8,
+}
+
+/// That the next field fails so.
+pub fn bad(fields: &Fields<'_>, kind: ImageKind) -> ReadImage
+    ensures { result ≡ ReadImage.Bad (record { at = fields.now.at; kind = kind }) }
+{
+    ReadImage::Bad(ImageFault {
+        at: fields.at,
+        kind,
+    })
+}
+
+/// The next byte.
+pub fn u8_at<'a>(fields: Fields<'a>) -> Result<(u8, Fields<'a>), ReadImage>
+    requires { fields.at < 2 ^ 31 }
+    ensures gives { Gives (λ x. (x.0, cursor x.1)) result (byte_at kind.Short any (cursor fields.entry)) }
+    ensures at { IfOk result (λ x. x.1.at ≡ fields.entry.at + 1) }
+{
+    match fields.left {
+        [] => Err(bad(&fields, ImageKind::Short)),
+        [first, left @ ..] => Ok((
+            *first,
+            Fields {
+                at: fields.at + 1,
+                left,
+            },
+        )),
+    }
+}
+
+/// The next number of two bytes, the lowest byte first, as every number of an image.
+pub fn u16_at<'a>(fields: Fields<'a>) -> Result<(u16, Fields<'a>), ReadImage>
+    requires { fields.at < 2 ^ 31 }
+    ensures gives { Gives (λ x. (x.0, cursor x.1)) result (number_at w16 kind.Short any (cursor fields.entry)) }
+    ensures at { IfOk result (λ x. x.1.at ≡ fields.entry.at + 2) }
+{
+    if fields.left.len() < 2 {
+        return Err(bad(&fields, ImageKind::Short));
+    }
+    let (front, left) = fields.left.split_at(2);
+    let number = u16::from_le_bytes([front[0], front[1]]);
+    Ok((
+        number,
+        Fields {
+            at: fields.at + 2,
+            left,
+        },
+    ))
+}
+
+// Whether a number is a power of two between two others.
+fn is_power_in(number: u32, least: u32, most: u32) -> bool
+    ensures is { result ≡ is_power_between least most number }
+    ensures most { IsTrue result → number ≤ most }
+{
+    number.is_power_of_two() && least <= number && number <= most
+}
+
+// A number of banks, or of regions.
+fn few_at<'a>(fields: Fields<'a>) -> Result<(u8, Fields<'a>), ReadImage>
+    requires { fields.at < 2 ^ 31 }
+    ensures gives { Gives (λ x. (x.0, cursor x.1)) result (byte_at kind.Shape (is_power_between 1 16) (cursor fields.entry)) }
+    ensures at { IfOk result (λ x. x.1.at ≡ fields.entry.at + 1) }
+    ensures few { IfOk result (λ x. x.0 ≤ 16) }
+{
+    let (number, rest) = u8_at(fields)?;
+    if !is_power_in(number as u32, 1, 16) {
+        return Err(bad(&fields, ImageKind::Shape));
+    }
+    Ok((number, rest))
+}
+
+// The number of spares of a bank.
+fn spares_at<'a>(fields: Fields<'a>) -> Result<(u16, Fields<'a>), ReadImage>
+    requires { fields.at < 2 ^ 31 }
+    ensures gives { Gives (λ x. (x.0, cursor x.1)) result (number_at w16 kind.Shape (λ n. nat_le n 1024) (cursor fields.entry)) }
+    ensures at { IfOk result (λ x. x.1.at ≡ fields.entry.at + 2) }
+    ensures few { IfOk result (λ x. x.0 ≤ 1024) }
+{
+    let (number, rest) = u16_at(fields)?;
+    if number > 1024 {
+        return Err(bad(&fields, ImageKind::Shape));
+    }
+    Ok((number, rest))
+}
+
+/// The next number of four bytes.
+pub fn u32_at<'a>(fields: Fields<'a>) -> Result<(u32, Fields<'a>), ReadImage>
+    requires { fields.at < 2 ^ 31 }
+    ensures gives { Gives (λ x. (x.0, cursor x.1)) result (number_at w32 kind.Short any (cursor fields.entry)) }
+    ensures at { IfOk result (λ x. x.1.at ≡ fields.entry.at + 4) }
+{
+    if fields.left.len() < 4 {
+        return Err(bad(&fields, ImageKind::Short));
+    }
+    let (front, left) = fields.left.split_at(4);
+    let number = u32::from_le_bytes([front[0], front[1], front[2], front[3]]);
+    Ok((
+        number,
+        Fields {
+            at: fields.at + 4,
+            left,
+        },
+    ))
+}
+
+/// The next number of eight bytes.
+pub fn u64_at<'a>(fields: Fields<'a>) -> Result<(u64, Fields<'a>), ReadImage>
+    requires { fields.at < 2 ^ 31 }
+    ensures gives { Gives (λ x. (x.0, cursor x.1)) result (number_at w64 kind.Shape any (cursor fields.entry)) }
+    ensures at { IfOk result (λ x. x.1.at ≡ fields.entry.at + 8) }
+{
+    if fields.left.len() < 8 {
+        return Err(bad(&fields, ImageKind::Short));
+    }
+    let (front, left) = fields.left.split_at(8);
+    let number = u64::from_le_bytes([
+        front[0], front[1], front[2], front[3], front[4], front[5], front[6], front[7],
+    ]);
+    Ok((
+        number,
+        Fields {
+            at: fields.at + 8,
+            left,
+        },
+    ))
+}
+
+// Whether a region may have so many lines, in a module of so many banks of so many regions.
+fn is_lines_of(banks: u8, regions: u8, lines: u16) -> bool
+    requires { (banks ≤ 16) × (regions ≤ 16) }
+    ensures is { result ≡ is_lines banks regions lines }
+    ensures few { IsTrue result → banks * regions * lines ≤ 65536 }
+{
+    is_power_in(lines as u32, 4, 4096) && banks as u32 * regions as u32 * lines as u32 <= 65_536
+}
+
+// The number of lines of a region.
+fn lines_at<'a>(fields: Fields<'a>, banks: u8, regions: u8) -> Result<(u16, Fields<'a>), ReadImage>
+    requires at { fields.at < 2 ^ 31 }
+    requires few { (banks ≤ 16) × (regions ≤ 16) }
+    ensures gives { Gives (λ x. (x.0, cursor x.1)) result (number_at w16 kind.Shape (is_lines banks regions) (cursor fields.entry)) }
+    ensures at { IfOk result (λ x. x.1.at ≡ fields.entry.at + 2) }
+    ensures few { IfOk result (λ x. banks * regions * x.0 ≤ 65536) }
+{
+    let (number, rest) = u16_at(fields)?;
+    if !is_lines_of(banks, regions, number) {
+        return Err(bad(&fields, ImageKind::Shape));
+    }
+    Ok((number, rest))
+}
+
+// Where the registers are kept.
+fn home_at<'a>(fields: Fields<'a>) -> Result<(u8, Fields<'a>), ReadImage>
+    requires { fields.at < 2 ^ 31 }
+    ensures gives { Gives (λ x. (x.0, cursor x.1)) result (byte_at kind.Shape (λ n. nat_lt n 2) (cursor fields.entry)) }
+    ensures at { IfOk result (λ x. x.1.at ≡ fields.entry.at + 1) }
+{
+    let (number, rest) = u8_at(fields)?;
+    if number > 1 {
+        return Err(bad(&fields, ImageKind::Shape));
+    }
+    Ok((number, rest))
+}
+
+// The first two fields: an image's first eight bytes, and the size of its lines, which is the one that is asked for.
+#[tactic(auto, unfolding(crate::specs::Reading::size_at))]
+fn size_is<'a>(fields: Fields<'a>, size: usize) -> Result<(u8, Fields<'a>), ReadImage>
+    requires { fields.at < 2 ^ 31 - 8 }
+    ensures gives { Gives (λ x. (x.0, cursor x.1)) result (size_at (λ n. n == size) (cursor fields.entry)) }
+    ensures at { IfOk result (λ x. x.1.at ≡ fields.entry.at + 9) }
+{
+    if fields.left.len() < 8 {
+        return Err(bad(&fields, ImageKind::Short));
+    }
+    let (front, left) = fields.left.split_at(8);
+    if front != b"PCMIMG01".as_slice() {
+        return Err(bad(&fields, ImageKind::Magic));
+    }
+    let behind = Fields {
+        at: fields.at + 8,
+        left,
+    };
+    let (number, rest) = u8_at(behind)?;
+    if number as usize != size {
+        return Err(bad(&behind, ImageKind::Size));
+    }
+    Ok((number, rest))
+}
+
+/// The numbers at the beginning of an image, over lines of so many bytes.
+#[tactic(auto, unfolding(crate::specs::Reading::head_at))]
+pub fn head<'a>(fields: Fields<'a>, size: usize) -> Result<(HeadImage, Fields<'a>), ReadImage>
+    requires { fields.at ≡ 0 }
+    ensures gives { Gives (λ x. (head_view x.0, cursor x.1)) result (head_at size (cursor fields.entry)) }
+    ensures at { IfOk result (λ x. x.1.at ≡ 24) }
+    ensures small { IfOk result (λ x. IsSmall (head_view x.0)) }
+{
+    let (_, rest) = size_is(fields, size)?;
+    let (banks, rest) = few_at(rest)?;
+    let (regions, rest) = few_at(rest)?;
+    let (lines, rest) = lines_at(rest, banks, regions)?;
+    let (spares, rest) = spares_at(rest)?;
+    let (seed, rest) = u64_at(rest)?;
+    let (home, rest) = home_at(rest)?;
+    Ok((
+        HeadImage {
+            banks,
+            regions,
+            lines,
+            spares,
+            seed,
+            home,
+        },
+        rest,
+    ))
+}

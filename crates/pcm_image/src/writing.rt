@@ -1,0 +1,136 @@
+// The writers of an image, field by field.
+ghost use Rattle.std.specs.Prelude.{◌≡◌, ℕ, ◌+◌, ◌*◌, ◌/◌, ◌^◌, ◌<◌, ◌≤◌, ◌++◌, false, length, slice_index_or};
+ghost use Rattle.pcm_io.specs.Reserved.{room_in, appended};
+ghost use Rattle.ecp_line.specs.Layout.{number};
+ghost use Rattle.pcm_image.specs.Spelling.{magic, u8, u16, u32, u64, packed, head_bytes, region_bytes, entry_bytes, cells_bytes};
+
+use crate::{EntryImage, RegionImage};
+use pcm_cells::Cells;
+use pcm_io::Text;
+
+/// The 24 bytes of a head.
+pub fn write_head(
+    text: &mut Text,
+    size: u8,
+    banks: u8,
+    regions: u8,
+    lines: u16,
+    spares: u16,
+    seed: u64,
+    home: u8,
+)
+    requires { 24 ≤ room_in text.old }
+    ensures after { text.new ≡ appended text.old (head_bytes size (record { banks = banks; regions = regions; lines = lines; spares = spares; seed = seed; home = home })) }
+    ensures room { room_in text.new + 24 ≡ room_in text.old }
+{
+    write_sizes(text, size, banks, regions);
+    write_limits(text, lines, spares, seed, home);
+}
+
+// The bytes at an image's beginning and its first three numbers.
+fn write_sizes(text: &mut Text, size: u8, banks: u8, regions: u8)
+    requires { 11 ≤ room_in text.old }
+    ensures after { text.new ≡ appended text.old (magic ++ (u8 size ++ (u8 banks ++ u8 regions))) }
+    ensures room { room_in text.new + 11 ≡ room_in text.old }
+{
+    text.push(b"PCMIMG01");
+    text.push(&[size, banks, regions]);
+}
+
+// The other numbers of a module.
+fn write_limits(text: &mut Text, lines: u16, spares: u16, seed: u64, home: u8)
+    requires { 13 ≤ room_in text.old }
+    ensures after { text.new ≡ appended text.old (u16 lines ++ (u16 spares ++ (u64 seed ++ u8 home))) }
+    ensures room { room_in text.new + 13 ≡ room_in text.old }
+{
+    text.push(&lines.to_le_bytes());
+    text.push(&spares.to_le_bytes());
+    text.push(&seed.to_le_bytes());
+    text.push(&[home]);
+}
+
+/// The mark of a bank, and how many of its spares are used.
+pub fn write_bank(text: &mut Text, mark: u8, used: u16)
+    requires { 3 ≤ room_in text.old }
+    ensures after { text.new ≡ appended text.old (u8 mark ++ u16 used) }
+    ensures room { room_in text.new + 3 ≡ room_in text.old }
+{
+    text.push(&[mark]);
+    text.push(&used.to_le_bytes());
+}
+
+/// The slot of a used spare.
+pub fn write_slot(text: &mut Text, slot: u32)
+    requires { 4 ≤ room_in text.old }
+    ensures after { text.new ≡ appended text.old (u32 slot) }
+    ensures room { room_in text.new + 4 ≡ room_in text.old }
+{
+    text.push(&slot.to_le_bytes());
+}
+
+/// The registers of a region.
+pub fn write_region(text: &mut Text, region: &RegionImage)
+    requires { 6 ≤ room_in text.old }
+    ensures after { text.new ≡ appended text.old (region_bytes region.now) }
+    ensures room { room_in text.new + 6 ≡ room_in text.old }
+{
+    text.push(&region.start.to_le_bytes());
+    text.push(&region.gap.to_le_bytes());
+    text.push(&region.counter.to_le_bytes());
+}
+
+/// How many writes stand in a bank's queue.
+pub fn write_count(text: &mut Text, entries: u16)
+    requires { 2 ≤ room_in text.old }
+    ensures after { text.new ≡ appended text.old (u16 entries) }
+    ensures room { room_in text.new + 2 ≡ room_in text.old }
+{
+    text.push(&entries.to_le_bytes());
+}
+
+// The byte of eight bools, the first of them lowest.
+fn packed_byte(given: &[bool], byte: usize) -> u8
+    requires { 8 * byte + 8 ≤ length given.now }
+    ensures { result ≡ number (λ i. slice_index_or given.now i false) (8 * byte) 8 }
+{
+    let mut bits = 0;
+    for i in 0..8 {
+        if given[8 * byte + i] {
+            bits += 1 << i;
+        }
+    }
+    bits
+}
+
+// Which bytes are given, a bit each.
+#[tactic(auto, using(crate::proofs::Steps::bytes_more))]
+fn write_given<const B: usize>(text: &mut Text, given: &[bool; B])
+    requires { B / 8 ≤ room_in text.old }
+    ensures after { text.new ≡ appended text.old (packed B given.now) }
+    ensures room { room_in text.new + B / 8 ≡ room_in text.old }
+{
+    for byte in 0..B / 8 {
+        text.push(&[packed_byte(given, byte)]);
+    }
+}
+
+/// A write of a bank's queue.
+pub fn write_entry<const B: usize>(text: &mut Text, entry: &EntryImage<B>)
+    requires { 4 + B + B / 8 ≤ room_in text.old }
+    ensures after { text.new ≡ appended text.old (entry_bytes entry.now) }
+    ensures room { room_in text.new + (4 + B + B / 8) ≡ room_in text.old }
+{
+    text.push(&entry.line.to_le_bytes());
+    text.push(&entry.bytes);
+    write_given(text, &entry.given);
+}
+
+/// The cells of an array line.
+pub fn write_cells<const B: usize, const M: usize>(text: &mut Text, cells: &Cells<B, M>)
+    requires { B + M ≤ room_in text.old }
+    ensures after { text.new ≡ appended text.old (cells_bytes cells.now) }
+    ensures room { room_in text.new + (B + M) ≡ room_in text.old }
+{
+    text.push(&cells.bits);
+    text.push(&cells.meta);
+}

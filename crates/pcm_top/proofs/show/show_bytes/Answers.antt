@@ -1,0 +1,8 @@
+use Rattle.ecp_line.proofs.Sizes.{layout_128, layout_64}
+use Rattle.pcm_top.proofs.show.show_bytes.Goals as goal
+
+pub show_lines-requires-clause-layout : goal.show_lines-requires-clause-layout
+show_lines-requires-clause-layout g c = layout_64
+
+pub show_lines-requires-in-Ok-clause-layout : goal.show_lines-requires-in-Ok-clause-layout
+show_lines-requires-in-Ok-clause-layout g c = layout_128

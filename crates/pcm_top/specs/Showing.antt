@@ -1,0 +1,75 @@
+-- What `show` writes of a saved module, and why it writes nothing.
+use Rattle.std.specs.Prelude.{◌≡◌, ℕ, ◌==◌, if◌then◌else◌, List, [], ◌∷◌, ◌++◌, codes, decimal, Option, Result, Ok, Err}
+use Rattle.std.specs.Io.KnownBytes.{Appends}
+use Rattle.hex.specs.Hex.{encode_lower}
+use Rattle.pcm_io.specs.Faults.{Rose}
+use Rattle.pcm_io.specs.Giving.{AppendsPrefix}
+use Rattle.rotation_reports.specs.Rows.{row_of, rows_from}
+use Rattle.pcm_image.specs.Saved.{Saved, total_in}
+use Rattle.pcm_image.specs.Reading.{◌>>=◌, image_of, size_of}
+use Rattle.pcm_image.specs.Standing.{stands_for}
+use Rattle.pcm_image.specs.declared.ImageFault.{ImageFault}
+use Rattle.pcm_top.specs.Reading.{ReadsWhole, SourceChange, TakesMore, TakesSome}
+use Rattle.pcm_top.specs.declared.fault.Fault.{Fault}
+use Rattle.pcm_top.specs.declared.fault.Fault.TheVariants.{Usage, Trace, Image, Read, Write, TooLong, NoMemory}
+
+-- the first line
+abbrev pub shown_header : List ℕ
+shown_header = codes "line,data\n"
+
+-- the row of a line: its number and its bytes
+abbrev pub shown_row : (ℕ → List ℕ) → ℕ → List ℕ
+shown_row bytes_of line = row_of (decimal line ∷ encode_lower (bytes_of line) ∷ [])
+
+-- the text of a saved module whose lines have e error-correcting pointers: a row for each line, with its newest bytes
+abbrev pub shown_text : {B M : ℕ} → ℕ → Saved B M → List ℕ
+shown_text e saved = shown_header ++ rows_from (shown_row (stands_for e saved)) 0 (total_in saved.head)
+
+-- reading it gives that
+abbrev pub text_with : {B M : ℕ} → ℕ → Saved B M → Result (List ℕ) ImageFault
+text_with e saved = Ok (shown_text e saved)
+
+-- the text of an image's bytes over lines of B bytes, or the first field that fails
+abbrev pub shown_as : (B M e : ℕ) → List ℕ → Result (List ℕ) ImageFault
+shown_as B M e bytes = image_of B M bytes >>= text_with e
+
+-- lines of 64 bytes have 8 check bytes and 6 pointers, those of 128 have 16 and 8
+abbrev pub shown_with : List ℕ → ℕ → Result (List ℕ) ImageFault
+shown_with bytes size = if size == 64 then shown_as 64 8 6 bytes else shown_as 128 16 8 bytes
+
+-- what is shown of an image's bytes, whatever the size of its lines
+unfoldable pub shown_of : List ℕ → Result (List ℕ) ImageFault
+shown_of bytes = size_of bytes >>= shown_with bytes
+
+-- the source was read to its end, its bytes are an image, and this is its text
+pub record ReadsImage (s : SourceChange) (text : List ℕ) : Type 0 where
+  pub bytes : List ℕ
+  pub whole : ReadsWhole 64 s bytes
+  pub shown : shown_of bytes ≡ Ok text
+
+-- exactly its text was written, or first bytes of it
+abbrev pub ShowsImage : SourceChange → Option (List ℕ) → Option (List ℕ) → Type 0
+ShowsImage s before now = (text : List ℕ) × ReadsImage s text × Appends before now text
+
+abbrev pub ShowsImageInPart : SourceChange → Option (List ℕ) → Option (List ℕ) → Type 0
+ShowsImageInPart s before now = (text : List ℕ) × ReadsImage s text × AppendsPrefix before now text
+
+-- why bytes give no text: a field fails, or memory runs out
+abbrev pub IsImageFault : Fault → Result (List ℕ) ImageFault → Type 0
+IsImageFault (Image f) shown = shown ≡ Err f
+IsImageFault NoMemory shown = Unit {0}
+IsImageFault Usage shown = ⊥
+IsImageFault (Trace f) shown = ⊥
+IsImageFault Read shown = ⊥
+IsImageFault Write shown = ⊥
+IsImageFault TooLong shown = ⊥
+
+-- why nothing is shown: the source was read to its end and a field of its bytes fails; or it failed; or it gave too many bytes
+abbrev pub IsShowFault : Fault → SourceChange → Type 0
+IsShowFault (Image f) s = (bytes : List ℕ) × ReadsWhole 64 s bytes × (shown_of bytes ≡ Err f)
+IsShowFault Read s = Rose s.faults_before s.faults_now × TakesSome 64 s
+IsShowFault TooLong s = TakesMore 64 s
+IsShowFault NoMemory s = TakesSome 64 s
+IsShowFault Usage s = ⊥
+IsShowFault (Trace f) s = ⊥
+IsShowFault Write s = ⊥

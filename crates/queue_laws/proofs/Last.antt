@@ -1,0 +1,155 @@
+-- The newest entry of a line in a history's queue is that of the line's last write.
+use Rattle.std.proofs.Common.{◌≡◌, ℕ, ◌==◌, ◌&&◌, ◌||◌, not, Bool, true, false, List, [], ◌∷◌, ◌++◌, drop, Option, Some, None, refl, sym, ap, subst, ◌∙◌, cond, eqb, eqb-true}
+use Rattle.std.proofs.lemmas.Bool.{eq-eqb}
+use Rattle.masked_bytes.specs.declared.entry.Entry.{Entry}
+use Rattle.masked_bytes.specs.Entries.{or_this, newest_row, candidate, laid_on, merged, has_row, RowsApart}
+use Rattle.bank_shape.specs.declared.BankShape.{BankShape}
+use Rattle.bank_model.specs.declared.answer.WriteAnswer.TheVariants as wrote
+use Rattle.bank_model.specs.declared.answer.Step.TheVariants as did
+use Rattle.bank_model.specs.Events.{Event, Write, Read, Serve, Begin, Iterate, Cut, newest, RowsBelow}
+use Rattle.bank_model.specs.History.{begun, queue, due_after}
+use Rattle.bank_model.specs.Answers.{MayAll, head_busy_after}
+use Rattle.bank_laws.proofs.Answering.{newest_row-there}
+use Rattle.bank_laws.proofs.Lines.{merged-candidate}
+use Rattle.bank_laws.proofs.Standing.{stand_apart}
+use Rattle.queue_laws.specs.EntryLaws.{last_write, LastWriteLaw}
+
+module _ {n : ℕ} where
+  -- the entry that a write is merged into is the newest of its line
+  candidate-newest : (busy : Bool) (es : List (Entry n)) (line old : ℕ) → candidate busy es line ≡ Some old → newest_row es line ≡ Some old
+  candidate-newest busy [] line old is = cc
+  candidate-newest busy (e ∷ es) line old is = by (newest_row es line) busy (e.line == line) is
+    where
+      by : (rest : Option ℕ) (busy at : Bool) → or_this rest (cond (not busy && at) (Some e.row) None) ≡ Some old
+          → or_this rest (cond at (Some e.row) None) ≡ Some old
+      by (Some row) busy at is = is
+      by None true at is = cc
+      by None false at is = is
+
+  -- a new entry is the newest of its line
+  newest-push : (es : List (Entry n)) (x : Entry n) (line : ℕ)
+      → newest_row (es ++ x ∷ []) line ≡ cond (x.line == line) (Some x.row) (newest_row es line)
+  newest-push [] x line = refl
+  newest-push (e ∷ es) x line = ap (λ r. or_this r (cond (e.line == line) (Some e.row) None)) (newest-push es x line) ∙ by (x.line == line)
+    where
+      by : (b : Bool)
+          → or_this (cond b (Some x.row) (newest_row es line)) (cond (e.line == line) (Some e.row) None) ≡ cond b (Some x.row) (newest_row (e ∷ es) line)
+      by true = refl
+      by false = refl
+
+  newest-drop : (es : List (Entry n)) (line row : ℕ) → newest_row (drop 1 es) line ≡ Some row → newest_row es line ≡ Some row
+  newest-drop [] line row is = is
+  newest-drop (e ∷ es) line row is = ap (λ r. or_this r (cond (e.line == line) (Some e.row) None)) is
+
+  newest-begun : (due : Option ℕ) (f : ℕ → List ℕ) (es : List (Entry n)) (line : ℕ) → newest_row (begun due f es) line ≡ newest_row es line
+  newest-begun (Some region) f es line = refl
+  newest-begun None f [] line = refl
+  newest-begun None f (e ∷ es) line = refl
+
+  module _ (old row : ℕ) (bytes : List ℕ) (given : List Bool) where
+    -- no entry of the old row, none that changes
+    merged-none : (es : List (Entry n)) → has_row es old ≡ false → merged old row bytes given es ≡ es
+    merged-none [] none = refl
+    merged-none (e ∷ es) none = by (eqb e.row old) none (λ rest. merged-none es rest)
+      where
+        by : (b : Bool) → (b || has_row es old) ≡ false → (has_row es old ≡ false → merged old row bytes given es ≡ es)
+            → cond b (laid_on row bytes given e ∷ es) (e ∷ merged old row bytes given es) ≡ e ∷ es
+        by true none go = absurd (cc)
+        by false none go = ap (λ xs. e ∷ xs) (go none)
+
+    -- a merged entry is the newest of its line where that of the old row was
+    newest-merged : (es : List (Entry n)) (line : ℕ) → RowsApart es → newest_row es line ≡ Some old
+        → newest_row (merged old row bytes given es) line ≡ Some row
+    newest-merged [] line apart is = absurd (cc)
+    newest-merged (e ∷ es) line apart is = by (newest_row es line) refl (λ t. newest-merged es line apart.1 t) is
+      where
+        own : (b c : Bool) → eqb e.line line ≡ b → eqb e.row old ≡ c → newest_row es line ≡ None → cond b (Some e.row) None ≡ Some old
+            → newest_row (cond c (laid_on row bytes given e ∷ es) (e ∷ merged old row bytes given es)) line ≡ Some row
+        own true true at same none is =
+            ap (λ r. or_this r (cond (eqb e.line line) (Some row) None)) none ∙ ap (λ b. cond b (Some row) None) at
+        own true false at other none is = let same : e.row ≡ old = cc in absurd (cc (other, eq-eqb e.row old same))
+        own false c at same none is = absurd (cc)
+
+        there : (c : Bool) → eqb e.row old ≡ c → newest_row es line ≡ Some old → newest_row (merged old row bytes given es) line ≡ Some row
+            → newest_row (cond c (laid_on row bytes given e ∷ es) (e ∷ merged old row bytes given es)) line ≡ Some row
+        there true same found rest = absurd (cc (subst (λ r. has_row es r ≡ false) (eqb-true e.row old same) apart.0, newest_row-there es line old found))
+        there false other found rest = ap (λ r. or_this r (cond (eqb e.line line) (Some e.row) None)) rest
+
+        by : (r : Option ℕ) → newest_row es line ≡ r
+            → (newest_row es line ≡ Some old → newest_row (merged old row bytes given es) line ≡ Some row)
+            → or_this r (cond (eqb e.line line) (Some e.row) None) ≡ Some old
+            → newest_row (merged old row bytes given (e ∷ es)) line ≡ Some row
+        by (Some other) found go is = there (eqb e.row old) refl (found ∙ is) (go (found ∙ is))
+        by None found go is = own (eqb e.line line) (eqb e.row old) refl refl found is
+
+    -- the other lines have the same newest entry
+    newest-aside : (es : List (Entry n)) (line at : ℕ) → RowsApart es → newest_row es line ≡ Some old → (line == at) ≡ false
+        → newest_row (merged old row bytes given es) at ≡ newest_row es at
+    newest-aside [] line at apart is off = refl
+    newest-aside (e ∷ es) line at apart is off = by (newest_row es line) refl (λ t. newest-aside es line at apart.1 t off) is
+      where
+        own : (b c : Bool) → eqb e.line line ≡ b → eqb e.row old ≡ c → cond b (Some e.row) None ≡ Some old
+            → newest_row (cond c (laid_on row bytes given e ∷ es) (e ∷ merged old row bytes given es)) at ≡ newest_row (e ∷ es) at
+        own true true here same is =
+            let away : (e.line == at) ≡ false = ap (λ l. l == at) (eqb-true e.line line here) ∙ off in
+            ap (λ b. or_this (newest_row es at) (cond b (Some row) None)) away ∙ sym (ap (λ b. or_this (newest_row es at) (cond b (Some e.row) None)) away)
+        own true false here other is = let same : e.row ≡ old = cc in absurd (cc (other, eq-eqb e.row old same))
+        own false c here same is = absurd (cc)
+
+        there : (c : Bool) → eqb e.row old ≡ c → newest_row es line ≡ Some old
+            → newest_row (merged old row bytes given es) at ≡ newest_row es at
+            → newest_row (cond c (laid_on row bytes given e ∷ es) (e ∷ merged old row bytes given es)) at ≡ newest_row (e ∷ es) at
+        there true same found rest = absurd (cc (subst (λ r. has_row es r ≡ false) (eqb-true e.row old same) apart.0, newest_row-there es line old found))
+        there false other found rest = ap (λ r. or_this r (cond (eqb e.line at) (Some e.row) None)) rest
+
+        by : (r : Option ℕ) → newest_row es line ≡ r
+            → (newest_row es line ≡ Some old → newest_row (merged old row bytes given es) at ≡ newest_row es at)
+            → or_this r (cond (eqb e.line line) (Some e.row) None) ≡ Some old
+            → newest_row (merged old row bytes given (e ∷ es)) at ≡ newest_row (e ∷ es) at
+        by (Some other) found go is = there (eqb e.row old) refl (found ∙ is) (go (found ∙ is))
+        by None found go is = own (eqb e.line line) (eqb e.row old) refl refl is
+
+accepted-last : (row : ℕ) (b : Bool) (new : ℕ) (rest last : Option ℕ) → (rest ≡ Some row → last ≡ Some row)
+    → cond b (Some new) rest ≡ Some row → cond b (Some new) last ≡ Some row
+accepted-last row true new rest last go is = is
+accepted-last row false new rest last go is = go is
+
+merged-last : {n : ℕ} (line row : ℕ) (b : Bool) (at new : ℕ) (es after : List (Entry n)) (last : Option ℕ) → eqb at line ≡ b
+    → newest_row after at ≡ Some new
+    → ((at == line) ≡ false → newest_row after line ≡ newest_row es line) → (newest_row es line ≡ Some row → last ≡ Some row)
+    → newest_row after line ≡ Some row → cond b (Some new) last ≡ Some row
+merged-last line row true at new es after last here own aside go is = sym own ∙ ap (λ l. newest_row after l) (eqb-true at line here) ∙ is
+merged-last line row false at new es after last here own aside go is = go (sym (aside here) ∙ is)
+
+module _ {n : ℕ} (shape : BankShape) (line row : ℕ) where
+  pub queue-last : (most : ℕ) (h : List (Event n)) (bound : ℕ) → MayAll shape most h → RowsBelow h bound
+      → newest_row (queue shape h) line ≡ Some row → last_write h line ≡ Some row
+  queue-last most [] bound may below is = absurd (cc)
+  queue-last most (Write new at bytes given wrote.Accepted ∷ h) bound may below is =
+      accepted-last row (at == line) new (newest_row (queue shape h) line) (last_write h line) (queue-last most h new may.1 below.1)
+      (sym (newest-push (queue shape h) (record { row = new; line = at; bytes = bytes; given = given }) line) ∙ is)
+  queue-last most (Write new at bytes given (wrote.Merged old) ∷ h) bound may below is =
+      let found : newest_row (queue shape h) at ≡ Some old =
+      candidate-newest (head_busy_after shape h) (queue shape h) at old (merged-candidate shape h at old may.0.2) in
+      let apart : RowsApart (queue shape h) = (stand_apart shape h new below.1).queued_apart in
+      merged-last line row (at == line) at new (queue shape h) (merged old new bytes given (queue shape h)) (last_write h line) refl
+      (newest-merged old new bytes given (queue shape h) at apart found)
+      (λ off. newest-aside old new bytes given (queue shape h) at line apart found off) (queue-last most h new may.1 below.1) is
+  queue-last most (Write new at bytes given wrote.Full ∷ h) bound may below is = queue-last most h new may.1 below.1 is
+  queue-last most (Write new at bytes given wrote.Exhausted ∷ h) bound may below is = queue-last most h new may.1 below.1 is
+  queue-last most (Read new at answer ∷ h) bound may below is = queue-last most h new may.1 below.1 is
+  queue-last most (Serve answer ∷ h) bound may below is = queue-last most h bound may.1 below is
+  queue-last most (Begin (did.Stored new place) ∷ h) bound may below is = queue-last most h bound may.1 below (newest-drop (queue shape h) line row is)
+  queue-last most (Begin did.More ∷ h) bound may below is = queue-last most h bound may.1 below (sym (newest-begun (due_after shape h) (newest h) (queue shape h) line) ∙ is)
+  queue-last most (Begin (did.Moved step) ∷ h) bound may below is = queue-last most h bound may.1 below (sym (newest-begun (due_after shape h) (newest h) (queue shape h) line) ∙ is)
+  queue-last most (Begin (did.Retired slot spare) ∷ h) bound may below is = queue-last most h bound may.1 below (sym (newest-begun (due_after shape h) (newest h) (queue shape h) line) ∙ is)
+  queue-last most (Begin did.Exhausted ∷ h) bound may below is = queue-last most h bound may.1 below (sym (newest-begun (due_after shape h) (newest h) (queue shape h) line) ∙ is)
+  queue-last most (Iterate (did.Stored new place) ∷ h) bound may below is = queue-last most h bound may.1 below (newest-drop (queue shape h) line row is)
+  queue-last most (Iterate did.More ∷ h) bound may below is = queue-last most h bound may.1 below is
+  queue-last most (Iterate (did.Moved step) ∷ h) bound may below is = queue-last most h bound may.1 below is
+  queue-last most (Iterate (did.Retired slot spare) ∷ h) bound may below is = queue-last most h bound may.1 below is
+  queue-last most (Iterate did.Exhausted ∷ h) bound may below is = queue-last most h bound may.1 below is
+  queue-last most (Cut tearing ∷ h) bound may below is = queue-last most h bound may.1 below is
+
+pub last_write_law : LastWriteLaw
+last_write_law n most bound line row shape h may below is = queue-last shape line row most h bound may below is
