@@ -2,5 +2,6 @@
 //! from the rules of the device.
 #![tactic(auto)]
 
+pub mod playing;
 #[cfg(test)]
 mod two_banks;

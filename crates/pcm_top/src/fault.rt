@@ -37,7 +37,8 @@ pub fn status(fault: Fault) -> u8
 {
     match fault {
         Fault::Usage => 2,
-        Fault::Trace(_) | Fault::Results(_) | Fault::Image(_) => 3,
+        Fault::Trace(_) | Fault::Results(_) => 3,
+        Fault::Image(_) => 3,
         Fault::Read => 4,
         Fault::Write => 5,
         Fault::TooLong => 6,
