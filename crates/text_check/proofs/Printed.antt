@@ -4,7 +4,7 @@ use Rattle.trace_reader.specs.declared.event.Event.{Event}
 use Rattle.result_rows.specs.declared.Outcome.{Outcome}
 use Rattle.result_rows.specs.RowText.{header_text, row_text}
 use Rattle.result_rows.specs.RowText as rows
-use Rattle.result_reader.specs.ResultRows.{AreResults, EachMayStand, rows_of}
+use Rattle.result_reader.specs.ResultRows.{rows_of}
 use Rattle.run_text.specs.ResultText.{asked, named_line, rows_text, results_text}
 use Rattle.text_check.specs.Checked.{asks_in}
 use Rattle.text_check.specs.PrintedLaw.{PrintedLaw}
