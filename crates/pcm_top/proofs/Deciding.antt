@@ -96,13 +96,14 @@ show-fault-status : (fault : Fault) (s : SourceChange) (bytes : List ℕ) → s.
 show-fault-status Usage s bytes is calm cause = absurd cause
 show-fault-status Write s bytes is calm cause = absurd cause
 show-fault-status (Trace f) s bytes is calm cause = absurd cause
+show-fault-status (Results row) s bytes is calm cause = absurd cause
 show-fault-status Read s bytes is calm cause = absurd (calm cause.0)
 show-fault-status NoMemory s bytes is calm cause = inr refl
 show-fault-status (Image f) s bytes is calm cause =
     inl (by-image bytes cause.0 3 (Err f) (reads-told 64 s bytes cause.0 is cause.1) cause.1.within cause.2 refl)
 show-fault-status TooLong s bytes is calm more =
-    let size = more-go s.left_before s.left_now bytes more.0 is more.1.first in
-    let over = more.2 in
+    let size = more-go s.left_before s.left_now bytes more.1.0 is more.1.1.first in
+    let over = more.1.2 in
     inl (inl (omega arith, refl))
 
 -- why a run has no events, by where they come from
@@ -121,6 +122,7 @@ check-fault-status : (n e : ℕ) (job : CheckJob) (fault : Fault) (s : SourceCha
     → IsCheckStatus n e job bytes (status_of fault) ⊎ (status_of fault ≡ 7)
 check-fault-status n e job Usage s bytes is calm cause = absurd cause
 check-fault-status n e job Write s bytes is calm cause = absurd cause
+check-fault-status n e job (Image f) s bytes is calm cause = absurd cause
 check-fault-status n e job Read s bytes is calm cause = absurd (calm cause.0)
 check-fault-status n e job NoMemory s bytes is calm cause = inr refl
 check-fault-status n e job (Trace f) s bytes is calm cause =
@@ -128,8 +130,8 @@ check-fault-status n e job (Trace f) s bytes is calm cause =
 check-fault-status n e job (Results row) s bytes is calm cause =
     inl (by-text n e job bytes cause.0 3 (reads-told room_line s bytes cause.0 is cause.1) cause.1.within (inr (text.Results row, cause.2, refl)))
 check-fault-status n e job TooLong s bytes is calm (inl more) =
-    let size = more-go s.left_before s.left_now bytes more.0 is more.1.first in
-    let over = more.2 in
+    let size = more-go s.left_before s.left_now bytes more.1.0 is more.1.1.first in
+    let over = more.1.2 in
     inl (inl (omega arith, refl))
 check-fault-status n e job TooLong s bytes is calm (inr many) =
     inl (by-text n e job bytes many.0 6 (reads-told room_line s bytes many.0 is many.1) many.1.within (inr (text.TooMany, many.2, refl)))
@@ -230,8 +232,8 @@ memory-cause (Ok (Run job)) left taken faults = input-memory (bytes_in job.line)
 memory-cause (Ok (Gen job)) left taken faults = refl
 memory-cause (Ok (Map job)) left taken faults = refl
 memory-cause (Ok (Moves job)) left taken faults = refl
-memory-cause (Ok Show) left taken faults = some-nothing 64 left taken faults
-memory-cause (Ok (Check job)) left taken faults = some-nothing room_line left taken faults
+memory-cause (Ok Show) left taken faults = (refl, some-nothing 64 left taken faults)
+memory-cause (Ok (Check job)) left taken faults = (refl, some-nothing room_line left taken faults)
 
 pub refused-cause : (asked : Result Job Refusal) (fault : Fault) (left : Option (List ℕ)) (taken faults : ℕ) → IsRefused asked fault → HasCause fault asked (untouched left taken faults)
 refused-cause asked fault left taken faults (inl memory) = rw memory (memory-cause asked left taken faults)

@@ -11,7 +11,7 @@ use Rattle.row_verdict.specs.declared.Verdict.TheVariants.{Yes, No}
 use Rattle.text_check.specs.Checked.{HasVerdict, IsTextFault}
 use Rattle.text_check.specs.VerdictText.{verdict_text}
 use Rattle.text_check.specs.declared.fault.TextFault.TheVariants as text
-use Rattle.pcm_top.specs.Reading.{ReadsWhole, SourceChange, TakesMore, TakesSome, trace_room}
+use Rattle.pcm_top.specs.Reading.{ReadsWhole, NeverFails, SourceChange, TakesMore, TakesSome, trace_room}
 use Rattle.pcm_top.specs.declared.run.Done.{Done}
 use Rattle.pcm_top.specs.declared.run.Done.TheVariants.{Whole, Short}
 use Rattle.pcm_top.specs.declared.fault.Fault.{Fault}
@@ -53,14 +53,15 @@ module _ (n e : ℕ) (job : CheckJob) where
     pub written : AppendsPrefix before now (verdict_text verdict)
 
 -- why there is no verdict over lines of n bytes: the source was read to its end and its trace has this fault, or too many rows, or its
--- results have; or it failed; or it gave too many bytes
+-- results have; or it failed; or it gave too many bytes; or memory ran out, and no call failed
 module _ (n : ℕ) (job : CheckJob) where
   abbrev pub IsCheckFault : Fault → SourceChange → Type 0
   IsCheckFault (Trace f) s = (bytes : List ℕ) × ReadsWhole room_line s bytes × IsTextFault n job.shape bytes (text.Trace f)
   IsCheckFault (Results row) s = (bytes : List ℕ) × ReadsWhole room_line s bytes × IsTextFault n job.shape bytes (text.Results row)
   IsCheckFault Read s = Rose s.faults_before s.faults_now × TakesSome room_line s
   IsCheckFault TooLong s =
-      TakesMore room_line s ⊎ ((bytes : List ℕ) × ReadsWhole room_line s bytes × IsTextFault n job.shape bytes text.TooMany)
-  IsCheckFault NoMemory s = TakesSome room_line s
+      (NeverFails s × TakesMore room_line s) ⊎ ((bytes : List ℕ) × ReadsWhole room_line s bytes × IsTextFault n job.shape bytes text.TooMany)
+  IsCheckFault NoMemory s = NeverFails s × TakesSome room_line s
+  IsCheckFault (Image f) s = ⊥
   IsCheckFault Usage s = ⊥
   IsCheckFault Write s = ⊥

@@ -48,12 +48,11 @@ NeverFails s = s.faults_now ≡ s.faults_before
 
 -- a trace over lines of n bytes
 module _ (n : ℕ) where
-  -- the source was read to its end, no call failed, and it gave these bytes, no more than a trace may have
+  -- the source was read to its end and gave these bytes, no more than a trace may have
   pub record ReadsWhole (s : SourceChange) (bytes : List ℕ) : Type 0 where
     pub takes : TakesBytes s bytes
     pub ended : IsAtEnd s.left_now
     pub within : length bytes ≤ trace_room n
-    pub unfailing : NeverFails s
 
   -- some bytes were taken, no more than a trace may have
   abbrev pub TakesSome : SourceChange → Type 0

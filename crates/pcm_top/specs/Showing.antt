@@ -9,7 +9,7 @@ use Rattle.pcm_image.specs.Saved.{Saved, total_in}
 use Rattle.pcm_image.specs.Reading.{◌>>=◌, image_of, size_of}
 use Rattle.pcm_image.specs.Standing.{stands_for}
 use Rattle.pcm_image.specs.declared.ImageFault.{ImageFault}
-use Rattle.pcm_top.specs.Reading.{ReadsWhole, SourceChange, TakesMore, TakesSome}
+use Rattle.pcm_top.specs.Reading.{ReadsWhole, NeverFails, SourceChange, TakesMore, TakesSome}
 use Rattle.pcm_top.specs.declared.fault.Fault.{Fault}
 use Rattle.pcm_top.specs.declared.fault.Fault.TheVariants.{Usage, Trace, Image, Read, Write, TooLong, NoMemory}
 
@@ -60,16 +60,19 @@ IsImageFault (Image f) shown = shown ≡ Err f
 IsImageFault NoMemory shown = Unit {0}
 IsImageFault Usage shown = ⊥
 IsImageFault (Trace f) shown = ⊥
+IsImageFault (Results row) shown = ⊥
 IsImageFault Read shown = ⊥
 IsImageFault Write shown = ⊥
 IsImageFault TooLong shown = ⊥
 
--- why nothing is shown: the source was read to its end and a field of its bytes fails; or it failed; or it gave too many bytes
+-- why nothing is shown: the source was read to its end and a field of its bytes fails; or it failed; or it gave too many bytes;
+-- or memory ran out, and no call failed
 abbrev pub IsShowFault : Fault → SourceChange → Type 0
 IsShowFault (Image f) s = (bytes : List ℕ) × ReadsWhole 64 s bytes × (shown_of bytes ≡ Err f)
 IsShowFault Read s = Rose s.faults_before s.faults_now × TakesSome 64 s
-IsShowFault TooLong s = TakesMore 64 s
-IsShowFault NoMemory s = TakesSome 64 s
+IsShowFault TooLong s = NeverFails s × TakesMore 64 s
+IsShowFault NoMemory s = NeverFails s × TakesSome 64 s
 IsShowFault Usage s = ⊥
 IsShowFault (Trace f) s = ⊥
+IsShowFault (Results row) s = ⊥
 IsShowFault Write s = ⊥
