@@ -15,7 +15,7 @@ use Rattle.pcm_top.specs.Reading.{ReadsWhole, NeverFails, SourceChange, TakesMor
 use Rattle.pcm_top.specs.declared.run.Done.{Done}
 use Rattle.pcm_top.specs.declared.run.Done.TheVariants.{Whole, Short}
 use Rattle.pcm_top.specs.declared.fault.Fault.{Fault}
-use Rattle.pcm_top.specs.declared.fault.Fault.TheVariants.{Usage, Trace, Results, Read, Write, TooLong, NoMemory}
+use Rattle.pcm_top.specs.declared.fault.Fault.TheVariants.{Usage, Trace, Results, Image, Read, Write, TooLong, NoMemory}
 
 -- a trace and its results together may have as many bytes as a trace over lines of 256 bytes, whatever their lines are: 268,435,456
 abbrev pub room_line : ℕ

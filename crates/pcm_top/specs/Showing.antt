@@ -11,7 +11,7 @@ use Rattle.pcm_image.specs.Standing.{stands_for}
 use Rattle.pcm_image.specs.declared.ImageFault.{ImageFault}
 use Rattle.pcm_top.specs.Reading.{ReadsWhole, NeverFails, SourceChange, TakesMore, TakesSome}
 use Rattle.pcm_top.specs.declared.fault.Fault.{Fault}
-use Rattle.pcm_top.specs.declared.fault.Fault.TheVariants.{Usage, Trace, Image, Read, Write, TooLong, NoMemory}
+use Rattle.pcm_top.specs.declared.fault.Fault.TheVariants.{Usage, Trace, Results, Image, Read, Write, TooLong, NoMemory}
 
 -- the first line
 abbrev pub shown_header : List ℕ

@@ -10,3 +10,4 @@ mod Taking
 mod Meeting
 mod Going
 mod Checking
+mod Timing

@@ -11,7 +11,8 @@ use Rattle.result_check.specs.declared.found.Found.{Found}
 use Rattle.result_check.specs.Keeping.{Knows, KnowsLines}
 
 -- some rows have passed
-pub record GoesOn {n : ℕ} (rules : Rules) (banks : List ℕ) (rows : List (Row n)) (i : ℕ) (found : Found) (cuts : ℕ) (kept : List Facts) (joined : Option ℕ) (lines : List (Line n)) : Type 0 where
+pub record GoesOn {n : ℕ} (rules : Rules) (banks : List ℕ) (rows : List (Row n)) (i : ℕ) (found : Found)
+    (cuts : ℕ) (kept : List Facts) (joined : Option ℕ) (lines : List (Line n)) : Type 0 where
   pub from : ℕ
   pub rises : rising from (drop i rows) ≡ true
   pub knows : Knows rules banks from kept joined (reverse (take i rows))

@@ -1,5 +1,6 @@
 -- What is kept of the rows that have passed, and what a row that comes leaves.
-use Rattle.std.specs.Prelude.{◌≡◌, ◌<◌, ◌≤◌, ◌+◌, max, ℕ, Bool, true, false, IsTrue, List, [], ◌∷◌, Option, Some, None, All, length, slice_get, unwrap_or}
+use Rattle.std.specs.Prelude.{◌≡◌, ◌<◌, ◌≤◌, ◌+◌, max, ℕ, Bool, true, false, IsTrue, List, [], ◌∷◌, Option, Some, None, All, length}
+use Rattle.std.specs.Prelude.{slice_get, unwrap_or}
 use Rattle.row_laws.specs.declared.Row.{Row}
 use Rattle.row_laws.specs.Rules.{Rules}
 use Rattle.row_judging.specs.Keys.{reach}
@@ -30,17 +31,20 @@ banks_from number [] = number
 banks_from number (bank ∷ banks) = banks_from (max number (bank + 1)) banks
 
 -- this is known of all banks by a tick, the last row having this line, if it has one
-pub record Knows {n : ℕ} (rules : Rules) (banks : List ℕ) (tick : ℕ) (kept : List Facts) (joined : Option ℕ) (before : List (Row n)) : Type 0 where
+pub record Knows {n : ℕ} (rules : Rules) (banks : List ℕ) (tick : ℕ)
+    (kept : List Facts) (joined : Option ℕ) (before : List (Row n)) : Type 0 where
   pub at : ℕ → ℕ
   pub passed : Passed rules banks tick at (facts_in kept) joined before
 
 -- this is known of all lines
 abbrev pub KnowsLines : {n : ℕ} → List ℕ → ℕ → List (Line n) → List (Row n) → Type 0
 KnowsLines {n} banks tick lines before =
-    (l : ℕ) (line : Line n) → slice_get lines l ≡ Some line → KeptLine n tick l (beside banks l before) line.newest line.unclosed line.runs.items
+    (l : ℕ) (line : Line n) → slice_get lines l ≡ Some line
+    → KeptLine n tick l (beside banks l before) line.newest line.unclosed line.runs.items
 
 -- a row comes between these rows; this is known of the rows before it at its tick, and whether each bank has room
-pub record IsNext {n : ℕ} (rules : Rules) (banks : List ℕ) (found : Found) (before : List (Row n)) (r : Row n) (after : List (Row n)) (kept : List Facts) (joined : Option ℕ) (lines : List (Line n)) (room : Bool) : Type 0 where
+pub record IsNext {n : ℕ} (rules : Rules) (banks : List ℕ) (found : Found) (before : List (Row n)) (r : Row n) (after : List (Row n))
+    (kept : List Facts) (joined : Option ℕ) (lines : List (Line n)) (room : Bool) : Type 0 where
   pub knows : Knows rules banks r.tick kept joined before
   pub seen : room ≡ true → Knows rules banks r.tick kept None before
   pub all : all_have_room banks rules before r after ≡ room
@@ -54,13 +58,15 @@ pub record IsNext {n : ℕ} (rules : Rules) (banks : List ℕ) (found : Found) (
   pub exist : All (λ bank. bank < length kept) banks
 
 -- the rule that the row breaks first, and what is known behind it where it breaks none
-pub record HasPassed {n : ℕ} (rules : Rules) (banks : List ℕ) (before : List (Row n)) (r : Row n) (after : List (Row n)) (broken : Option Rule) (kept : List Facts) (joined : Option ℕ) (lines : List (Line n)) : Type 0 where
+pub record HasPassed {n : ℕ} (rules : Rules) (banks : List ℕ) (before : List (Row n)) (r : Row n) (after : List (Row n))
+    (broken : Option Rule) (kept : List Facts) (joined : Option ℕ) (lines : List (Line n)) : Type 0 where
   pub told : broken ≡ broken_by rules banks all_rules before r after
   pub knows : broken ≡ None → Knows rules banks r.tick kept joined (r ∷ before)
   pub lines_known : broken ≡ None → KnowsLines banks r.tick lines (r ∷ before)
 
 -- a row comes between these rows, of which this was known behind the last one before it; this is what the rows behind it bring
-pub record Meets {n : ℕ} (rules : Rules) (banks : List ℕ) (found : Found) (before : List (Row n)) (r : Row n) (after : List (Row n)) (kept : List Facts) (joined : Option ℕ) (lines : List (Line n)) (cuts : List ℕ) (coming : Coming) : Type 0 where
+pub record Meets {n : ℕ} (rules : Rules) (banks : List ℕ) (found : Found) (before : List (Row n)) (r : Row n) (after : List (Row n))
+    (kept : List Facts) (joined : Option ℕ) (lines : List (Line n)) (cuts : List ℕ) (coming : Coming) : Type 0 where
   pub from : ℕ
   pub passed_by : from ≤ r.tick
   pub knows : Knows rules banks from kept joined before

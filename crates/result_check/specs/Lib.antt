@@ -1,5 +1,6 @@
 pub mod Checkable
 pub mod Watching
+pub mod Worked
 pub mod Finding
 pub mod Coming
 pub mod Tables

@@ -15,7 +15,8 @@ pub record IsLineBehind (n tick : ℕ) (bytes : List ℕ) (given : List Bool) (o
   pub refused : accepts outcome ≡ false → new ≡ old
 
 -- the lines behind a write of this one
-pub record LinePasses (n tick : ℕ) (bytes : List ℕ) (given : List Bool) (outcome : Outcome n) (line : ℕ) (lines : List (Line n)) (old : Line n) (after : List (Line n)) : Type 0 where
+pub record LinePasses (n tick : ℕ) (bytes : List ℕ) (given : List Bool) (outcome : Outcome n)
+    (line : ℕ) (lines : List (Line n)) (old : Line n) (after : List (Line n)) : Type 0 where
   pub new : Line n
   pub own : IsLineBehind n tick bytes given outcome old new
   pub all : after ≡ slice_set lines line new

@@ -40,9 +40,12 @@ impl Found {
     ) -> Result<(), AllocError>
         requires line { IsBelow (length banks.now) (asks_of event.now.op) }
         requires short { IsTrue (keys.is_short outcome.now) }
-        ensures stores { IfOk result (λ _. self.new.stores.items ≡ self.old.stores.items ++ keys.store_keys (bank_in banks.now) (row_of event.now outcome.now ∷ [])) }
-        ensures lines { IfOk result (λ _. self.new.lines.items ≡ self.old.lines.items ++ keys.store_keys (λ line. line) (row_of event.now outcome.now ∷ [])) }
-        ensures reads { IfOk result (λ _. self.new.reads.items ≡ self.old.reads.items ++ keys.read_keys (bank_in banks.now) (row_of event.now outcome.now ∷ [])) }
+        ensures stores { IfOk result (λ _. self.new.stores.items
+            ≡ self.old.stores.items ++ keys.store_keys (bank_in banks.now) (row_of event.now outcome.now ∷ [])) }
+        ensures lines { IfOk result (λ _. self.new.lines.items
+            ≡ self.old.lines.items ++ keys.store_keys (λ line. line) (row_of event.now outcome.now ∷ [])) }
+        ensures reads { IfOk result (λ _. self.new.reads.items
+            ≡ self.old.reads.items ++ keys.read_keys (bank_in banks.now) (row_of event.now outcome.now ∷ [])) }
         ensures cuts { IfOk result (λ _. self.new.cuts.items ≡ self.old.cuts.items ++ cut_ticks (row_of event.now outcome.now ∷ [])) }
     {
         match event.op {

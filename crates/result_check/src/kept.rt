@@ -1,6 +1,7 @@
 //! What is kept of the rows that have passed, and how the next row passes.
 
-ghost use Rattle.std.specs.Prelude.{◌≡◌, ◌<◌, ◌≤◌, ◌+◌, ℕ, List, [], None, Some, true, length, max, slice_get, slice_set, All, IsTrue, IfOk, IfSome};
+ghost use Rattle.std.specs.Prelude.{◌≡◌, ◌<◌, ◌≤◌, ◌+◌, ℕ, List, [], None, Some, true, length, max};
+ghost use Rattle.std.specs.Prelude.{slice_get, slice_set, All, IsTrue, IfOk, IfSome};
 ghost use Rattle.std.specs.List.Sorted.{IsNonDecreasing};
 ghost use Rattle.row_laws.specs.Answers as answers;
 ghost use Rattle.row_laws.specs.Serving.{may_have};
@@ -193,7 +194,8 @@ impl<const B: usize> Kept<B> {
     fn settle(&mut self, banks: &[u8], tick: u64, line: u32)
         requires line { line < length banks.now }
         requires exist { bank_in banks.now line < length self.old.banks.items }
-        ensures banks { self.new.banks.items ≡ slice_set self.old.banks.items (bank_in banks.now line) (settled tick (facts_in self.old.banks.items (bank_in banks.now line))) }
+        ensures banks { let bank = bank_in banks.now line in
+            self.new.banks.items ≡ slice_set self.old.banks.items bank (settled tick (facts_in self.old.banks.items bank)) }
         ensures lines { self.new.lines.items ≡ self.old.lines.items }
         ensures joined { self.new.joined ≡ self.old.joined }
     {
@@ -256,7 +258,8 @@ impl<const B: usize> Kept<B> {
         requires exist { bank < length self.old.banks.items }
         requires line { line < length self.old.lines.items }
         ensures banks { IfOk result (λ _. (m : Member) × (sight m ≡ sight_of (a_row tick (Writes line [] []) outcome.now))
-            × (self.new.banks.items ≡ slice_set self.old.banks.items bank (after_write line m outcome.now (facts_in self.old.banks.items bank)))) }
+            × (self.new.banks.items
+            ≡ slice_set self.old.banks.items bank (after_write line m outcome.now (facts_in self.old.banks.items bank)))) }
         ensures number { IfOk result (λ _. length self.new.lines.items ≡ length self.old.lines.items) }
         ensures lines { IfOk result (λ _. (old : Line B) → slice_get self.old.lines.items line ≡ Some old
             → LinePasses B tick bytes.now given.now outcome.now line self.old.lines.items old self.new.lines.items) }
@@ -279,7 +282,8 @@ impl<const B: usize> Kept<B> {
     ) -> Result<(), AllocError>
         requires exist { bank < length self.old.banks.items }
         requires few { (facts_in self.old.banks.items bank).lost ≤ 400_000 }
-        ensures banks { IfOk result (λ _. self.new.banks.items ≡ slice_set self.old.banks.items bank (after_read tick outcome.now (facts_in self.old.banks.items bank))) }
+        ensures banks { IfOk result (λ _. self.new.banks.items
+            ≡ slice_set self.old.banks.items bank (after_read tick outcome.now (facts_in self.old.banks.items bank))) }
         ensures lines { IfOk result (λ _. self.new.lines.items ≡ self.old.lines.items) }
         ensures joined { IfOk result (λ _. self.new.joined ≡ Some line) }
     {
@@ -320,8 +324,10 @@ impl<const B: usize> Kept<B> {
         ensures lines { IfOk result (λ _. length self.new.lines.items ≡ length self.old.lines.items) }
         ensures passes { (before after : List (Row B)) → coming.next ≡ next_accepted line (beside banks.now line after)
             → coming.worn ≡ first_worn (beside banks.now line after) → cuts.now ≡ cut_ticks after
-            → IsNext (rules_by rules.now) banks.now found.now before (a_write tick line bytes.now given.now outcome.now) after self.old.banks.items self.old.joined self.old.lines.items room
-            → IfOk result (λ broken. HasPassed (rules_by rules.now) banks.now before (a_write tick line bytes.now given.now outcome.now) after broken self.new.banks.items self.new.joined self.new.lines.items) }
+            → IsNext (rules_by rules.now) banks.now found.now before (a_write tick line bytes.now given.now outcome.now) after
+            self.old.banks.items self.old.joined self.old.lines.items room
+            → IfOk result (λ broken. HasPassed (rules_by rules.now) banks.now before (a_write tick line bytes.now given.now outcome.now) after
+            broken self.new.banks.items self.new.joined self.new.lines.items) }
     {
         let number = bank_of(banks, line);
         self.settle(banks, tick, line);
@@ -385,9 +391,12 @@ impl<const B: usize> Kept<B> {
         requires few { let f = settled tick (facts_in self.old.banks.items (bank_in banks.now line)) in length f.waits + f.lost ≤ 400_000 }
         ensures number { IfOk result (λ _. length self.new.banks.items ≡ length self.old.banks.items) }
         ensures lines { IfOk result (λ _. length self.new.lines.items ≡ length self.old.lines.items) }
-        ensures passes { (before after : List (Row B)) → coming.soonest ≡ soonest line (beside banks.now line after) → cuts.now ≡ cut_ticks after
-            → IsNext (rules_by rules.now) banks.now found.now before (a_read tick line outcome.now) after self.old.banks.items self.old.joined self.old.lines.items room
-            → IfOk result (λ broken. HasPassed (rules_by rules.now) banks.now before (a_read tick line outcome.now) after broken self.new.banks.items self.new.joined self.new.lines.items) }
+        ensures passes { (before after : List (Row B))
+            → coming.soonest ≡ soonest line (beside banks.now line after) → cuts.now ≡ cut_ticks after
+            → IsNext (rules_by rules.now) banks.now found.now before (a_read tick line outcome.now) after
+            self.old.banks.items self.old.joined self.old.lines.items room
+            → IfOk result (λ broken. HasPassed (rules_by rules.now) banks.now before (a_read tick line outcome.now) after
+            broken self.new.banks.items self.new.joined self.new.lines.items) }
     {
         let number = bank_of(banks, line);
         self.settle(banks, tick, line);
@@ -465,12 +474,16 @@ impl<const B: usize> Kept<B> {
         requires usable { IsUsable found.now }
         requires cuts { IsNonDecreasing cuts.now }
         requires few { length cuts.now ≤ 400_000 }
-        requires met { (before : List (Row B)) × (after : List (Row B)) × Meets (rules_by rules.now) banks.now found.now before (row_of event.now outcome.now) after self.old.banks.items self.old.joined self.old.lines.items cuts.now coming }
+        requires met { (before : List (Row B)) × (after : List (Row B))
+            × Meets (rules_by rules.now) banks.now found.now before (row_of event.now outcome.now) after
+            self.old.banks.items self.old.joined self.old.lines.items cuts.now coming }
         ensures number { IfOk result (λ _. length self.new.banks.items ≡ length self.old.banks.items) }
         ensures lines { IfOk result (λ _. length self.new.lines.items ≡ length self.old.lines.items) }
         ensures passes { (before after : List (Row B))
-            → Meets (rules_by rules.now) banks.now found.now before (row_of event.now outcome.now) after self.old.banks.items self.old.joined self.old.lines.items cuts.now coming
-            → IfOk result (λ broken. HasPassed (rules_by rules.now) banks.now before (row_of event.now outcome.now) after broken self.new.banks.items self.new.joined self.new.lines.items) }
+            → Meets (rules_by rules.now) banks.now found.now before (row_of event.now outcome.now) after
+            self.old.banks.items self.old.joined self.old.lines.items cuts.now coming
+            → IfOk result (λ broken. HasPassed (rules_by rules.now) banks.now before (row_of event.now outcome.now) after
+            broken self.new.banks.items self.new.joined self.new.lines.items) }
     {
         let tick = event.tick;
         let room = self.find_room(rules, banks, tick);

@@ -68,7 +68,8 @@ fn pass_rows<const B: usize>(
     requires table { IsTable (length banks.now) (rows_with events.now results.now) }
     requires found { IsFound banks.now (rows_with events.now results.now) found.now }
     requires coming { coming.now ≡ coming_of banks.now (rows_with events.now results.now) }
-    requires begun { GoesOn (rules_by rules.now) banks.now (rows_with events.now results.now) 0 found.now 0 kept.old.banks.items kept.old.joined kept.old.lines.items }
+    requires begun { GoesOn (rules_by rules.now) banks.now (rows_with events.now results.now) 0 found.now 0
+        kept.old.banks.items kept.old.joined kept.old.lines.items }
     ensures exact { IfOk result (λ verdict. verdict ≡ verdict_of (rules_by rules.now) banks.now (rows_with events.now results.now)) }
 {
     let mut cuts = 0;
@@ -105,3 +106,6 @@ pub fn check<const B: usize>(
     let mut kept = Kept::new(alloc, banks)?;
     pass_rows(events, results, banks, rules, &found, &coming, &mut kept)
 }
+
+#[cfg(test)]
+mod tests;

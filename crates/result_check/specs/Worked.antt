@@ -1,0 +1,55 @@
+-- Worked tables of lines of two bytes, beside those of row_laws.
+use Rattle.std.specs.Prelude.{ℕ, List, [], ◌∷◌, Bool, true, false, if◌then◌else◌, Option, Some, None, nat_lt, ◌^◌}
+use Rattle.result_rows.specs.declared.Outcome.{Outcome}
+use Rattle.result_rows.specs.declared.Outcome.TheVariants as out
+use Rattle.result_rows.specs.Outcomes.{tick_of}
+use Rattle.bank_shape.specs.Pausing.{Pausing}
+use Rattle.row_laws.specs.declared.Row.{Row}
+use Rattle.row_laws.specs.Rules.{Rules}
+use Rattle.row_laws.specs.Worked.{W, R, C, whole}
+
+-- four lines of one bank
+abbrev pub one_bank : List ℕ
+one_bank = 0 ∷ 0 ∷ 0 ∷ 0 ∷ []
+
+-- the small bank with its registers in the array
+abbrev pub with_registers : Pausing → Rules
+with_registers policy =
+    record { writes = 4; reads = 4; spares = 2; read = 5; iter = 10; steps = 160; policy = policy; twice = true }
+
+-- a write, and a read of it that is read at this tick with these bytes
+abbrev pub read_back : ℕ → List ℕ → List (Row 2)
+read_back tick bytes = W 0 0 0xff (out.Stored 15 3) ∷ R 100 0 (out.Read tick 3 bytes) ∷ []
+
+-- a write that is stored at this tick
+abbrev pub stored_at : ℕ → List (Row 2)
+stored_at tick = W 0 0 0xff (out.Stored tick 3) ∷ []
+
+-- two writes where one fits, and a cut
+abbrev pub one_too_many : ℕ → List (Row 2)
+one_too_many tick = W 0 0 0xff (out.Stored 15 3) ∷ W 0 1 0x11 (out.Stored 30 1) ∷ C tick ∷ []
+
+-- a write is accepted behind a worn row; one is stored behind the tick of a worn row that comes later
+abbrev pub accepted_behind_worn : List (Row 2)
+accepted_behind_worn = W 0 0 0xff (out.Queued 0) ∷ W 700 1 0x11 (out.Worn 700) ∷ W 800 1 0x11 (out.Queued 800) ∷ []
+
+abbrev pub stored_behind_worn : List (Row 2)
+stored_behind_worn = W 0 0 0xff (out.Stored 15 3) ∷ W 10 1 0x11 (out.Worn 10) ∷ []
+
+-- a pair of writes of one line that is gone before the next write comes
+abbrev pub pair_that_left : List (Row 2)
+pair_that_left =
+    W 0 0 0xff (out.Queued 0) ∷ W 1 0 0x11 (out.Merged 2) ∷ W 2 0 0x22 (out.Stored 15 3) ∷ W 20 1 0x33 (out.Stored 35 1)
+    ∷ R 21 2 (out.Read 26 2 (whole 0)) ∷ []
+
+-- the later row's store lies too near the earlier row's
+abbrev pub too_near : List (Row 2)
+too_near = W 0 0 0xff (out.Stored 19 3) ∷ W 0 1 0x11 (out.Stored 15 1) ∷ []
+
+-- an outcome is set, and its tick has at most 15 digits
+abbrev pub is_below : Option ℕ → Bool
+is_below None = false
+is_below (Some tick) = nat_lt tick (10 ^ 15)
+
+abbrev pub is_timed : {n : ℕ} → Outcome n → Bool
+is_timed outcome = is_below (tick_of outcome)
