@@ -261,6 +261,12 @@ too-much n lines NoMemory s cause low over = absurd (within-count n s cause.1 lo
 too-much n lines (Trace f) s cause low over = absurd (within-count n s (cause.0, cause.1.takes, cause.1.within) low over)
 too-much n lines TooLong s cause low over = refl
 
+-- memory may run out behind the events
+pub memory-after : (n : ℕ) (job : RunJob) (input : Input) (s : SourceChange) (events : List (Event n)) → ComeFrom n job input s events → s.faults_now ≡ s.faults_before
+    → IsFaultOf n job input NoMemory s
+memory-after n job Source s events come calm = (calm, (come.bytes, come.whole.takes, come.whole.within))
+memory-after n job (Drawn mix) s events come calm = refl
+
 -- a source that was read to its end within its room, and one of which nothing was taken
 come-within : (n : ℕ) (job : RunJob) (input : Input) (s : SourceChange) (events : List (Event n)) → ComeFrom n job input s events → s.taken_before + trace_room n < 2 ^ 64 - 1 → s.taken_before + trace_room n < s.taken_now → ⊥
 come-within n job Source s events come low over = within-count n s (come.bytes, come.whole.takes, come.whole.within) low over

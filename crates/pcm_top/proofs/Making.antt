@@ -21,6 +21,15 @@ use Rattle.pcm_top.specs.RunText.{HaveRoles, IsRunText}
 use Rattle.pcm_top.specs.Running.{RunIsWritten, RunIsWrittenInPart, Runs, done_by}
 use Rattle.pcm_top.specs.Laws.{CanBePrinted, PrintableLaw}
 use Rattle.pcm_top.specs.declared.run.Done.{Done}
+use Rattle.pcm_top.specs.Ready.{IsReady}
+
+-- a module that is ready is so by its own sizes and seed
+pub ready-itself : {n m e : ℕ} (raw : RawShape) (seed rows count : ℕ) (module_ : ModuleState n m e) (array : ArrayState n m) (results : List (Outcome n))
+    → rows ≡ count → IsReady raw seed rows module_ array results → IsReady module_.shape module_.seed count module_ array results
+ready-itself raw seed rows count module_ array results same ready =
+    let counted = subst (λ c. IsReady raw seed c module_ array results) same ready in
+    let seeded = subst (λ s. IsReady raw s count module_ array results) (sym ready.seeded) counted in
+    subst (λ r. IsReady r module_.seed count module_ array results) (sym ready.shape) seeded
 
 module _ {n m e : ℕ} (job : RunJob) (array : ArrayState n m) (events : List (Event n)) (outcomes : List (Outcome n)) (pcm : ModuleState n m e)
     (shape : pcm.shape ≡ job.shape) (seeded : pcm.seed ≡ job.seed) (size : length outcomes ≡ length events)

@@ -1,5 +1,5 @@
 // The events of a run: those of the trace that the source gives, or those that a seed draws.
-ghost use Rattle.std.specs.Prelude.{◌≡◌, ◌+◌, ◌-◌, ◌^◌, ◌<◌, ◌≤◌, false, vec_len, Err, IfOk, IfErr};
+ghost use Rattle.std.specs.Prelude.{◌≡◌, ◌+◌, ◌-◌, ◌^◌, ◌<◌, ◌≤◌, false, vec_len, Err, IfOk, IfErr, OnOk};
 ghost use Rattle.trace_gen.specs.Generated.{IsMix, generated};
 ghost use Rattle.trace_reader.specs.Events.{AreEventsFor};
 ghost use Rattle.module_shape.specs.Limits.{IsShape, total_of};
@@ -28,6 +28,7 @@ fn read_trace<const B: usize, S: Source>(
     ensures trace { IfOk result (λ events. ReadsTrace B lines (source_change S.left S.taken S.faults source.old source.new) events.items) }
     ensures events { IfOk result (λ events. AreEventsFor lines 0 events.items) }
     ensures rows { IfOk result (λ events. vec_len events ≤ MOST_ROWS) }
+    ensures unfailing { OnOk result (S.faults source.new ≡ S.faults source.old) }
     ensures fault { IfErr result (λ fault. IsReadFault B lines fault (source_change S.left S.taken S.faults source.old source.new)) }
     ensures never_falls { S.faults source.old ≤ S.faults source.new }
 {
@@ -78,6 +79,7 @@ pub fn events_of<const B: usize, S: Source>(
     ensures come { IfOk result (λ events. ComeFrom B job.now job.now.input (source_change S.left S.taken S.faults source.old source.new) events.items) }
     ensures events { IfOk result (λ events. AreEventsFor (total_of job.now.shape) 0 events.items) }
     ensures rows { IfOk result (λ events. vec_len events ≤ MOST_ROWS) }
+    ensures unfailing { OnOk result (S.faults source.new ≡ S.faults source.old) }
     ensures fault { IfErr result (λ fault. IsFaultOf B job.now job.now.input fault (source_change S.left S.taken S.faults source.old source.new)) }
     ensures untouched { is_source job.now.input ≡ false → source.new ≡ source.old }
     ensures never_falls { S.faults source.old ≤ S.faults source.new }

@@ -5,7 +5,35 @@ use Rattle.pcm_top.specs.Played.{IsPlayed}
 use Rattle.pcm_top.proofs.Making.{can-print, run-part, run-written}
 use Rattle.pcm_top.proofs.Saving.{right-now}
 use Rattle.pcm_top.proofs.Sizes.{event_fits}
+use Rattle.pcm_top.proofs.Deciding.{memory-after}
+use Rattle.pcm_top.proofs.Making.{ready-itself}
 use Rattle.pcm_top.proofs.run.run.Goals as goal
+
+pub returns-in-Err-clause-cause : goal.returns-in-Err-clause-cause
+returns-in-Err-clause-cause g c = λ _.
+    memory-after g.row.B c.args.job.now c.args.job.now.input _ _ c.in_ok-events.ensures.come c.in_ok-events.ensures.unfailing
+
+pub replay-requires : goal.replay-requires
+replay-requires g c =
+    let few = c.in_ok-events.ensures.rows in (
+      omega arith,
+      (
+        event_fits g.row.B c.requires.layout.shape.1,
+        (
+          omega arith,
+          (
+            c.requires.layout,
+            (
+              ready-itself _ _ _ _ _ _ _ (omega (arith, c.len.ensures, c.as_slice.ensures.len, few)) c.in-Ok.ensures.ready,
+              (
+                rw (c.as_slice.ensures.value, c.in-Ok.ensures.ready.shape) c.in_ok-events.ensures.events,
+                omega (arith, c.as_slice.ensures.len, few),
+              ),
+            ),
+          ),
+        ),
+      ),
+    )
 
 pub drop-pcm-inside-requires-room-T-Destruct : goal.drop-pcm-inside-requires-room-T-Destruct
 drop-pcm-inside-requires-room-T-Destruct g c κs = timed_fits g.row.B g.row.M g.row.E c.requires.layout
