@@ -29,6 +29,7 @@ fn read_verdict<const B: usize, const E: usize, S: Source>(
     requires size { B ≤ 128 }
     requires few { E ≤ 8 }
     ensures verdict { IfOk result (ReadsVerdict B E job.now (source_change S.left S.taken S.faults source.old source.new)) }
+    ensures unfailing { OnOk result (S.faults source.new ≡ S.faults source.old) }
     ensures fault { IfErr result (λ fault. IsCheckFault B job.now fault (source_change S.left S.taken S.faults source.old source.new)) }
     ensures never_falls { S.faults source.old ≤ S.faults source.new }
 {

@@ -136,6 +136,7 @@ fn show_bytes<K: Sink>(alloc: Global, bytes: &[u8], out: &mut K) -> Result<(), F
 // The bytes of the source, read to its end.
 fn read_whole<S: Source>(alloc: Global, source: &mut S) -> Result<Vec<u8>, Fault>
     ensures whole { IfOk result (λ bytes. ReadsWhole 64 (source_change S.left S.taken S.faults source.old source.new) bytes.items) }
+    ensures unfailing { OnOk result (S.faults source.new ≡ S.faults source.old) }
     ensures cause { IfErr result (λ fault. IsShowFault fault (source_change S.left S.taken S.faults source.old source.new)) }
     ensures too_long { S.taken source.old + trace_room 64 < 2 ^ 64 - 1 → S.taken source.old + trace_room 64 < S.taken source.new → result ≡ Err Fault.TooLong }
     ensures never_falls { S.faults source.old ≤ S.faults source.new }
