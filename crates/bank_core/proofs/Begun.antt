@@ -22,10 +22,10 @@ use Rattle.power_recovery.specs.Events.{is_store, is_copy, completed_kept, store
 use Rattle.power_recovery.proofs.Bundle.{next_work-store, next_work-copy, head-known}
 use Rattle.power_recovery.proofs.Placing.{slot_of-within}
 use Rattle.power_recovery.proofs.Frames.{next_work-completed}
-use Rattle.bank_model.specs.declared.answer.Step.{Step}
-use Rattle.bank_model.specs.declared.answer.Step.TheVariants as did
+use Rattle.bank_shape.specs.declared.answer.Step.{Step}
+use Rattle.bank_shape.specs.declared.answer.Step.TheVariants as did
 use Rattle.bank_model.specs.Events.{Event, Begin}
-use Rattle.bank_invariant.specs.declared.Waiting.{Waiting}
+use Rattle.bank_shape.specs.declared.waiting.Waiting.{Waiting}
 use Rattle.bank_invariant.specs.State.{BankState, Operation, target_of, is_free, may_begin}
 use Rattle.bank_invariant.specs.Tied.{decoded, AreSound, IsOf, IsTied, IsSoundLine}
 use Rattle.bank_invariant.specs.Holds.{Holds}

@@ -7,8 +7,8 @@ use Rattle.masked_bytes.specs.Entries.{or_this, newest_row, candidate, laid_on, 
 use Rattle.masked_bytes.specs.declared.entry.Entry.{Entry}
 use Rattle.masked_bytes.proofs.Layering.{joined-all_given, gives_all-all_given}
 use Rattle.bank_shape.specs.declared.BankShape.{BankShape}
-use Rattle.bank_model.specs.declared.answer.WriteAnswer.TheVariants as wrote
-use Rattle.bank_model.specs.declared.answer.Step.TheVariants as did
+use Rattle.bank_shape.specs.declared.answer.WriteAnswer.TheVariants as wrote
+use Rattle.bank_shape.specs.declared.answer.Step.TheVariants as did
 use Rattle.bank_model.specs.Events.{Event, Write, Read, Serve, Begin, Iterate, Cut, newest}
 use Rattle.bank_model.specs.History.{Awaited, queue, waits, begun, due_after, has_exhausted, in_progress}
 use Rattle.bank_model.specs.After.{due_work, work_after, is_ready, is_store}

@@ -21,7 +21,7 @@ use Rattle.power_recovery.proofs.Frames.{next_work-completed}
 use Rattle.power_recovery.proofs.Bundle.{next_work-store, next_work-copy, head-known, IsKept-completed}
 use Rattle.bank_model.specs.Events.{newest}
 use Rattle.bank_model.specs.History.{begun, due_after}
-use Rattle.bank_invariant.specs.declared.Waiting.{Waiting}
+use Rattle.bank_shape.specs.declared.waiting.Waiting.{Waiting}
 use Rattle.bank_invariant.specs.State.{target_of, is_free}
 use Rattle.bank_invariant.specs.Tied.{decoded, AreSound, IsOf}
 use Rattle.bank_invariant.specs.Holds.{Holds}

@@ -14,12 +14,13 @@ use Rattle.row_laws.specs.Answers.{accepts}
 use Rattle.row_laws.specs.Rows.{accepted_of}
 use Rattle.row_laws.specs.Queueing.{merges_at, merge_fits}
 use Rattle.bank_shape.specs.declared.BankShape.{BankShape}
-use Rattle.bank_model.specs.declared.answer.WriteAnswer.{WriteAnswer}
-use Rattle.bank_model.specs.declared.answer.WriteAnswer.TheVariants as wrote
-use Rattle.bank_model.specs.declared.answer.Step.TheVariants as did
+use Rattle.bank_shape.specs.declared.answer.WriteAnswer.{WriteAnswer}
+use Rattle.bank_shape.specs.declared.answer.WriteAnswer.TheVariants as wrote
+use Rattle.bank_shape.specs.declared.answer.Step.TheVariants as did
 use Rattle.bank_model.specs.Events.{Write, Read, Serve, Begin, Iterate, Cut, newest}
 use Rattle.bank_model.specs.History.{begun, queue, due_after}
-use Rattle.bank_model.specs.Timing.{Pacing, Happens, Core, Regs, Timed, core, core_of}
+use Rattle.bank_shape.specs.declared.pace.Pace.{Pace}
+use Rattle.bank_model.specs.Timing.{Happens, Core, Regs, Timed, core, core_of}
 use Rattle.bank_model.specs.Lawful.{Lawful, MayCome}
 use Rattle.bank_laws.specs.Outcomes.{on_row, outcome_with, outcome_of, ended, row_with, rows_from}
 use Rattle.bank_laws.specs.Settling.{AreOpen}
@@ -138,7 +139,7 @@ module _ {n m : ℕ} (shape : BankShape) where
       ⊎ (StoredBy zs tick h row
       ⊎ ((u : ℕ) × (unwrap_or (outcome_with shape zs h tick row) (outcome_of shape zs row) ≡ out.Merged u) × (merges_at line u between ≡ true))))
 
-module _ {n m : ℕ} (shape : BankShape) (pace : Pacing) (e : ℕ) where
+module _ {n m : ℕ} (shape : BankShape) (pace : Pace) (e : ℕ) where
   pub stays_there : (P : List (Entry n) → Type 0) (row : ℕ) → IsKept P row → (zs : List (Timed n m)) (x : Timed n m) (h : Happens n) → MayCome shape pace e zs x h → SparesRow h row
       → P (queue shape (core zs)) → P (queue shape (core_of h (core zs))) ⊎ StoredBy shape zs x.tick h row
   stays_there P row k zs x (Core (Write at line bytes given wrote.Accepted)) may spares p = inl (k.push (queue shape (core zs)) _ p)

@@ -8,8 +8,8 @@ use Rattle.masked_bytes.specs.Entries.{merged, laid_on, newest_row, candidate, o
 use Rattle.masked_bytes.proofs.Layering.{length-joined, gives_all-all_given}
 use Rattle.bank_shape.specs.declared.BankShape.{BankShape}
 use Rattle.bank_shape.specs.declared.Work.TheVariants.{Nothing}
-use Rattle.bank_model.specs.declared.answer.WriteAnswer.TheVariants as wrote
-use Rattle.bank_model.specs.declared.answer.Step.TheVariants as did
+use Rattle.bank_shape.specs.declared.answer.WriteAnswer.TheVariants as wrote
+use Rattle.bank_shape.specs.declared.answer.Step.TheVariants as did
 use Rattle.bank_model.specs.Events.{Event, Write, Read, Serve, Begin, Iterate, Cut, newest}
 use Rattle.bank_model.specs.History.{Awaited, begun, queue, waits, due_after, has_exhausted, in_progress}
 use Rattle.bank_model.specs.After.{is_ready, is_store, due_work}

@@ -11,14 +11,15 @@ use Rattle.row_laws.specs.Answers.{accepts, is_full, is_merged, is_queued, store
 use Rattle.row_laws.specs.Rows.{accepted_of}
 use Rattle.row_laws.specs.Queueing.{merges_at, pending}
 use Rattle.bank_shape.specs.declared.BankShape.{BankShape}
-use Rattle.bank_model.specs.declared.answer.WriteAnswer.{WriteAnswer}
-use Rattle.bank_model.specs.declared.answer.WriteAnswer.TheVariants as wrote
-use Rattle.bank_model.specs.declared.answer.Step.TheVariants as did
+use Rattle.bank_shape.specs.declared.answer.WriteAnswer.{WriteAnswer}
+use Rattle.bank_shape.specs.declared.answer.WriteAnswer.TheVariants as wrote
+use Rattle.bank_shape.specs.declared.answer.Step.TheVariants as did
 use Rattle.bank_model.specs.Events.{Event, Write, Read, Serve, Begin, Iterate, Cut, RowsBelow, newest}
 use Rattle.bank_model.specs.History.{queue, due_after, has_exhausted}
 use Rattle.bank_model.specs.Answers.{head_busy_after, accept_answer, write_answer}
 use Rattle.bank_model.specs.Sensing.{most_steps}
-use Rattle.bank_model.specs.Timing.{Pacing, Happens, Core, Regs, Timed, core, core_of, last_tick}
+use Rattle.bank_shape.specs.declared.pace.Pace.{Pace}
+use Rattle.bank_model.specs.Timing.{Happens, Core, Regs, Timed, core, core_of, last_tick}
 use Rattle.bank_model.specs.Lawful.{Lawful, MayCome}
 use Rattle.bank_laws.specs.Outcomes.{outcome_with, outcome_of, ended, row_with, rows_from}
 use Rattle.bank_laws.specs.Ticks.{ends_action}
@@ -163,7 +164,7 @@ refused_set shape ys tick at line bytes given (wrote.Merged old) ref un = absurd
 refused_set {n} shape ys tick at line bytes given wrote.Full ref un = let both : ◌≡◌ {A = Outcome n} (out.Full tick) out.Unset = sym (own_row at (out.Full tick) (outcome_of shape ys at)) ∙ un in absurd (cc)
 refused_set {n} shape ys tick at line bytes given wrote.Exhausted ref un = let both : ◌≡◌ {A = Outcome n} (out.Worn tick) out.Unset = sym (own_row at (out.Worn tick) (outcome_of shape ys at)) ∙ un in absurd (cc)
 
-module _ {n m : ℕ} (shape : BankShape) (pace : Pacing) (e : ℕ) where
+module _ {n m : ℕ} (shape : BankShape) (pace : Pace) (e : ℕ) where
   pub last-later : (later zs : List (Timed n m)) → 1 ≤ pace.read → 1 ≤ pace.iter → Lawful shape pace e (later ++ zs) → last_tick zs ≤ last_tick (later ++ zs)
   last-later [] zs r i l = omega arith
   last-later (y ∷ later) zs r i l =
@@ -201,7 +202,7 @@ module _ {n m : ℕ} (shape : BankShape) (pace : Pacing) (e : ℕ) where
       by (inr stored) =
           inr (stored.0, stored.1, step_stays shape pace e (later ++ zs) y y.happens row l.1 (opens shape pace e (later ++ zs) l.1) l.0 (λ un. let k : ◌≡◌ {A = Outcome n} (out.Stored stored.0 stored.1) out.Unset = sym stored.2 ∙ un in absurd (cc)) ∙ stored.2)
 
-module _ {n m : ℕ} (shape : BankShape) (pace : Pacing) (e : ℕ) (all : List (Timed n m)) where
+module _ {n m : ℕ} (shape : BankShape) (pace : Pace) (e : ℕ) (all : List (Timed n m)) where
   pub left_by : (t tick : ℕ) (o : Outcome n) → IsLeft o → ((u p : ℕ) → o ≡ out.Stored u p → t < u) → stands_by t tick false o ≡ true
   left_by t tick out.Unset left above = absurd left
   left_by t tick (out.Stored at place) left above = by_stored_later n t tick false at place (above at place refl)

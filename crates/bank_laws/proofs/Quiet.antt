@@ -12,12 +12,13 @@ use Rattle.row_laws.specs.Rows.{accepted}
 use Rattle.row_laws.specs.Wearing.{worn_row, worn_by, store_fits, is_wear_final, is_wear_earned}
 use Rattle.bank_shape.specs.declared.BankShape.{BankShape}
 use Rattle.bank_shape.specs.declared.Work.TheVariants.{Nothing}
-use Rattle.bank_model.specs.declared.answer.WriteAnswer.{WriteAnswer}
-use Rattle.bank_model.specs.declared.answer.WriteAnswer.TheVariants as wrote
+use Rattle.bank_shape.specs.declared.answer.WriteAnswer.{WriteAnswer}
+use Rattle.bank_shape.specs.declared.answer.WriteAnswer.TheVariants as wrote
 use Rattle.bank_model.specs.Events.{Event, Write, Read, Serve, Begin, Iterate, Cut}
 use Rattle.bank_model.specs.History.{first_or, stores, stored_in, moved_in, due_after, queue, waits, has_exhausted, in_progress}
 use Rattle.bank_model.specs.After.{is_ready, due_work, may_begin_after}
-use Rattle.bank_model.specs.Timing.{Pacing, Happens, Core, Regs, Timed, core, core_of}
+use Rattle.bank_shape.specs.declared.pace.Pace.{Pace}
+use Rattle.bank_model.specs.Timing.{Happens, Core, Regs, Timed, core, core_of}
 use Rattle.bank_model.specs.Lawful.{Lawful, MayCome}
 use Rattle.bank_laws.specs.Outcomes.{outcome_of, ended, row_with, rows_from}
 use Rattle.bank_laws.specs.Settling.{AreOpen}
@@ -61,7 +62,7 @@ module _ {n : ℕ} (shape : BankShape) (h : List (Event n)) where
       by false false None [] fine none empty m = absurd (cc)
       by false false None (e ∷ es) fine none empty m = absurd (cc)
 
-module _ {n m : ℕ} (shape : BankShape) (pace : Pacing) (e : ℕ) (all : List (Timed n m)) where
+module _ {n m : ℕ} (shape : BankShape) (pace : Pace) (e : ℕ) (all : List (Timed n m)) where
   -- where no row is an accepted write the bank is quiet
   quiet : (later ys : List (Timed n m)) → 1 ≤ shape.psi → Lawful shape pace e all → AreOpen shape all → all ≡ later ++ ys → list_any accepted (rows_from shape all ys) ≡ false
       → IsQuiet shape (core ys)

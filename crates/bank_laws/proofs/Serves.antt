@@ -10,16 +10,19 @@ use Rattle.row_laws.specs.Rows as rows
 use Rattle.row_laws.specs.Rows.{each_row}
 use Rattle.row_laws.specs.Serving.{may_have, same_bytes, is_served}
 use Rattle.bank_shape.specs.declared.BankShape.{BankShape}
-use Rattle.bank_model.specs.declared.answer.WriteAnswer.{WriteAnswer}
-use Rattle.bank_model.specs.declared.answer.WriteAnswer.TheVariants as wrote
-use Rattle.bank_model.specs.declared.answer.ReadAnswer.{ReadAnswer}
-use Rattle.bank_model.specs.declared.answer.ReadAnswer.TheVariants as came
-use Rattle.bank_model.specs.declared.clock.Doing.TheVariants as doing
+use Rattle.bank_shape.specs.declared.answer.WriteAnswer.{WriteAnswer}
+use Rattle.bank_shape.specs.declared.answer.WriteAnswer.TheVariants as wrote
+use Rattle.bank_shape.specs.declared.answer.ReadAnswer.{ReadAnswer}
+use Rattle.bank_shape.specs.declared.answer.ReadAnswer.TheVariants as came
+use Rattle.bank_shape.specs.declared.clock.Doing.TheVariants as doing
 use Rattle.bank_model.specs.Events.{Event, Write, Read, Serve, Begin, Iterate, Cut, newest}
 use Rattle.bank_model.specs.History.{Awaited, awaited, queue, waits}
 use Rattle.bank_model.specs.Answers.{read_answer}
-use Rattle.bank_model.specs.Timing.{Pacing, Happens, Core, Regs, Timed, core, core_of, is_empty}
-use Rattle.bank_model.specs.Running.{Choice, chosen_by, gives_way, choice_after}
+use Rattle.bank_shape.specs.declared.pace.Pace.{Pace}
+use Rattle.bank_model.specs.Timing.{Happens, Core, Regs, Timed, core, core_of, is_empty}
+use Rattle.bank_shape.specs.Pausing.{gives_way}
+use Rattle.bank_shape.specs.Acting.{Choice, chosen_by}
+use Rattle.bank_model.specs.Running.{choice_after}
 use Rattle.bank_model.specs.Lawful.{Lawful, IsIdle, MayCome}
 use Rattle.bank_laws.specs.Outcomes.{outcome_of, ended, row_with, rows_from}
 use Rattle.bank_laws.specs.Settling.{AreOpen}
@@ -50,7 +53,7 @@ empty-waits : (ws : List Awaited) → not (is_empty ws) ≡ false → ws ≡ []
 empty-waits [] h = refl
 empty-waits (w ∷ ws) h = absurd (cc)
 
-pub idle-waits : {n m : ℕ} (shape : BankShape) (pace : Pacing) (xs : List (Timed n m)) → IsIdle shape pace xs → waits shape (core xs) ≡ []
+pub idle-waits : {n m : ℕ} (shape : BankShape) (pace : Pace) (xs : List (Timed n m)) → IsIdle shape pace xs → waits shape (core xs) ≡ []
 idle-waits shape pace xs idle = empty-waits (waits shape (core xs)) (none-waits (gives_way pace.policy) (not (is_empty (waits shape (core xs)))) (choice_after shape pace xs) idle.chosen)
 
 lay_taken : (a b : Bool) (xs ys : List ℕ) → b ≡ true → cond (a && b) xs ys ≡ cond a xs ys
@@ -73,7 +76,7 @@ module _ {n : ℕ} where
       by false true f = absurd (cc)
       by false false f = absurd (cc)
 
-module _ {n m : ℕ} (shape : BankShape) (pace : Pacing) (e : ℕ) (all : List (Timed n m)) where
+module _ {n m : ℕ} (shape : BankShape) (pace : Pace) (e : ℕ) (all : List (Timed n m)) where
   -- of each split of a lawful history: its event was allowed, and what it leaves stands in the end
   pub may_at : (later : List (Timed n m)) (x : Timed n m) (ys : List (Timed n m)) → Lawful shape pace e all → all ≡ later ++ x ∷ ys → MayCome shape pace e ys x x.happens
   may_at later x ys l same = (lawful_before shape pace e later (x ∷ ys) (subst (λ (xs : List (Timed n m)). Lawful shape pace e xs) same l)).0

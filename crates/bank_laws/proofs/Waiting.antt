@@ -12,11 +12,12 @@ use Rattle.row_laws.specs.Rows.{is_cut}
 use Rattle.row_laws.specs.Queueing.{waiting}
 use Rattle.bank_shape.specs.declared.BankShape.{BankShape}
 use Rattle.bank_shape.specs.Pausing.{is_cancelling, most_cancels}
-use Rattle.bank_model.specs.declared.answer.ReadAnswer.{ReadAnswer}
-use Rattle.bank_model.specs.declared.answer.ReadAnswer.TheVariants as came
+use Rattle.bank_shape.specs.declared.answer.ReadAnswer.{ReadAnswer}
+use Rattle.bank_shape.specs.declared.answer.ReadAnswer.TheVariants as came
 use Rattle.bank_model.specs.Events.{Event, Write, Read, Serve, Begin, Iterate, Cut, RowsBelow, newest}
 use Rattle.bank_model.specs.History.{Awaited, awaited, queue, waits}
-use Rattle.bank_model.specs.Timing.{Pacing, Happens, Core, Regs, Timed, core, core_of, last_tick, is_empty, is_writing}
+use Rattle.bank_shape.specs.declared.pace.Pace.{Pace}
+use Rattle.bank_model.specs.Timing.{Happens, Core, Regs, Timed, core, core_of, last_tick, is_empty, is_writing}
 use Rattle.bank_model.specs.Running.{running_at, cancels_after}
 use Rattle.bank_model.specs.Lawful.{Lawful, MayCome, would_cancel}
 use Rattle.bank_laws.specs.Outcomes.{on_row, outcome_with, outcome_of, row_with, rows_from}
@@ -75,7 +76,7 @@ pub wait-new : (ws : List Awaited) (w : Awaited) → has_wait (ws ++ w ∷ []) w
 wait-new [] w = or_left_of (w.row == w.row) false (eq-eqb w.row w.row refl)
 wait-new (v ∷ ws) w = or_right_of (v.row == w.row) _ (wait-new ws w)
 
-module _ {n m : ℕ} (shape : BankShape) (pace : Pacing) (e : ℕ) (all : List (Timed n m)) where
+module _ {n m : ℕ} (shape : BankShape) (pace : Pace) (e : ℕ) (all : List (Timed n m)) where
   -- a read that waits waits on, is read, or is lost at a cut that has a row
   abbrev Waits : List (Timed n m) → Timed n m → Happens n → ℕ → Type 0
   Waits zs x h row =
@@ -279,7 +280,7 @@ waits-asked {n} {m} shape (z ∷ zs) r there = by z.happens (λ t. waits-asked s
     by (Core (Iterate answer)) go there = go there
     by (Core (Cut tearing)) go there = absurd (cc)
 
-pub may_all : {n m : ℕ} (shape : BankShape) (pace : Pacing) (e : ℕ) (zs : List (Timed n m)) → Lawful shape pace e zs → MayAll shape (most_steps e) (core zs)
+pub may_all : {n m : ℕ} (shape : BankShape) (pace : Pace) (e : ℕ) (zs : List (Timed n m)) → Lawful shape pace e zs → MayAll shape (most_steps e) (core zs)
 may_all shape pace e [] l = tt
 may_all {n} {m} shape pace e (z ∷ zs) l = by z.happens l.0 (may_all shape pace e zs l.1)
   where
@@ -293,7 +294,7 @@ cond_length true false q xs k is same = absurd (cc)
 cond_length false true q xs k is same = absurd (cc)
 cond_length false false q xs k is same = same
 
-module _ {n m : ℕ} (shape : BankShape) (pace : Pacing) (e : ℕ) (all : List (Timed n m)) where
+module _ {n m : ℕ} (shape : BankShape) (pace : Pace) (e : ℕ) (all : List (Timed n m)) where
   -- how the read of an event begins
   abbrev pub StateBy : List (Timed n m) → ℕ → Happens n → ℕ → Type 0
   StateBy ys tick h row = ((has_wait (waits shape (core_of h (core ys))) row ≡ true) × (false ≡ false)) ⊎ IsPast shape pace e all (unwrap_or (outcome_with shape ys h tick row) (outcome_of shape ys row)) tick []

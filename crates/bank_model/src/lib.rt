@@ -3,7 +3,5 @@
 //! and the laws of a bank's rows both speak of them.
 #![tactic(auto)]
 
-pub mod answer;
-pub mod clock;
 #[cfg(test)]
 mod worked;

@@ -7,12 +7,12 @@ use Rattle.masked_bytes.specs.Masked.{gives_all}
 use Rattle.masked_bytes.specs.Entries.{layer_of, has_row}
 use Rattle.result_rows.specs.declared.Outcome.{Outcome}
 use Rattle.bank_shape.specs.Pausing.{is_cancelling, most_cancels}
-use Rattle.bank_model.specs.declared.answer.ReadAnswer.{ReadAnswer}
-use Rattle.bank_model.specs.declared.answer.ReadAnswer.TheVariants as came
-use Rattle.bank_model.specs.declared.clock.Doing.TheVariants.{Iterating}
+use Rattle.bank_shape.specs.declared.answer.ReadAnswer.{ReadAnswer}
+use Rattle.bank_shape.specs.declared.answer.ReadAnswer.TheVariants as came
+use Rattle.bank_shape.specs.declared.clock.Doing.TheVariants.{Iterating}
 use Rattle.bank_model.specs.Events.{Event, Read, Cut}
 use Rattle.bank_model.specs.History.{Awaited, waits}
-use Rattle.bank_model.specs.declared.clock.Action.{Action}
+use Rattle.bank_shape.specs.declared.clock.Action.{Action}
 use Rattle.bank_model.specs.Timing.{Timed, core, is_doing, is_writing}
 use Rattle.bank_laws.specs.Outcomes.{outcome_with}
 use Rattle.bank_model.specs.Touching.{Touches}
@@ -22,7 +22,7 @@ use Rattle.reg_lines.specs.Keeping.{broken_off, torn_line as regs_torn}
 use Rattle.register_laws.proofs.Staying.{stays_law}
 use Rattle.register_laws.proofs.Writing.{broken_law}
 use Rattle.power_recovery.specs.Kept.{KeptState}
-use Rattle.bank_invariant.specs.declared.Waiting.{Waiting}
+use Rattle.bank_shape.specs.declared.waiting.Waiting.{Waiting}
 use Rattle.bank_invariant.specs.State.{BankState}
 use Rattle.bank_invariant.specs.Holds.{Holds, waiting_of}
 use Rattle.bank_invariant.specs.Steps.{cut_off}

@@ -6,14 +6,14 @@ use Rattle.pcm_cells.specs.Device.{ArrayState}
 use Rattle.result_rows.specs.declared.Outcome.{Outcome}
 use Rattle.result_rows.specs.declared.Outcome.TheVariants as out
 use Rattle.result_rows.specs.Table.{HasRow, with_outcome}
-use Rattle.bank_model.specs.declared.clock.Doing.{Doing}
-use Rattle.bank_model.specs.declared.clock.Doing.TheVariants.{Serving, Beginning, Iterating}
-use Rattle.bank_model.specs.declared.clock.Action.{Action}
+use Rattle.bank_shape.specs.declared.clock.Doing.{Doing}
+use Rattle.bank_shape.specs.declared.clock.Doing.TheVariants.{Serving, Beginning, Iterating}
+use Rattle.bank_shape.specs.declared.clock.Action.{Action}
 use Rattle.bank_model.specs.Events.{Event, Cut}
 use Rattle.bank_model.specs.History.{waits}
 use Rattle.bank_model.specs.Timing.{Timed, core, is_doing, same_doing}
 use Rattle.bank_model.specs.Touching.{Touches}
-use Rattle.bank_invariant.specs.declared.Waiting.{Waiting}
+use Rattle.bank_shape.specs.declared.waiting.Waiting.{Waiting}
 use Rattle.bank_invariant.specs.State.{BankState, Operation}
 use Rattle.bank_invariant.specs.Holds.{Holds}
 use Rattle.bank_invariant.specs.Steps.{cut_off}
@@ -43,8 +43,7 @@ use Rattle.clock_laws.proofs.Together.{controls_stay_law, cut_touches_law}
 use Rattle.clock_laws.proofs.Deciding.{or_left, or_right, or_back}
 use Rattle.clock_laws.proofs.Others.{apart_law, same_wait, other_rows_law}
 use Rattle.bank_timing.specs.Extending.{Extends, AreOpen, IsOpen, LeavesOthers, outcome_in}
-use Rattle.pace.specs.declared.Pace.{Pace}
-use Rattle.pace.specs.Policies.{pacing_of}
+use Rattle.bank_shape.specs.declared.pace.Pace.{Pace}
 use Rattle.bank_timing.specs.Clock.{IsClock}
 use Rattle.bank_timing.specs.Losing.{lost_recorded, LosesOpen, bank_with_lost}
 use Rattle.bank_timing.proofs.Rows.{rows-set, has-set, in-set, open-set}
@@ -115,7 +114,7 @@ lose-none tick (at ∷ lost) results none = absurd (cc)
 
 -- a bank with its clock, as contracts see it
 abbrev pub view_by : {n m e : ℕ} → BankState n m e → RegsState n m e → Pace → ℕ → Option Action → List ℕ → ℕ → Bool → ClockState n m e
-view_by bank regs pace tick action arrivals cancels drained = record { bank = bank; regs = regs; pace = pacing_of pace; tick = tick; action = action; arrivals = arrivals; cancels = cancels; drained = drained }
+view_by bank regs pace tick action arrivals cancels drained = record { bank = bank; regs = regs; pace = pace; tick = tick; action = action; arrivals = arrivals; cancels = cancels; drained = drained }
 
 -- what the lost rows are doesn't matter to an action
 pub lost-clock : {n m e : ℕ} (rows : List ℕ) (bank : BankState n m e) (regs : RegsState n m e) (pace : Pace) (tick places : ℕ) (action : Option Action) → IsClock bank regs pace tick action places

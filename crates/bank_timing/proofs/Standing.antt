@@ -4,7 +4,7 @@ use Rattle.result_rows.specs.declared.Outcome.{Outcome}
 use Rattle.result_rows.specs.Table.{HasRow, with_outcome}
 use Rattle.masked_bytes.specs.declared.entry.Entry.{Entry}
 use Rattle.masked_bytes.specs.Entries.{has_row, head_row, completed}
-use Rattle.bank_invariant.specs.declared.Waiting.{Waiting}
+use Rattle.bank_shape.specs.declared.waiting.Waiting.{Waiting}
 use Rattle.clock_laws.specs.Standing.{has_waiting, AreApart}
 use Rattle.clock_laws.proofs.Deciding.{or_first, or_back}
 use Rattle.bank_timing.specs.Extending.{StandOpen}

@@ -12,15 +12,17 @@ use Rattle.power_recovery.specs.Kept.{KeptState, next_work}
 use Rattle.power_recovery.specs.Events.{is_store, is_copy, accepted_kept}
 use Rattle.power_recovery.proofs.Frames.{next_work-accepted, next_work-due}
 use Rattle.power_recovery.proofs.Bundle.{next_work-store, next_work-copy}
-use Rattle.bank_model.specs.declared.clock.Doing.{Doing}
-use Rattle.bank_model.specs.declared.clock.Doing.TheVariants.{Serving, Beginning, Iterating}
-use Rattle.bank_model.specs.declared.clock.Action.{Action}
+use Rattle.bank_shape.specs.declared.clock.Doing.{Doing}
+use Rattle.bank_shape.specs.declared.clock.Doing.TheVariants.{Serving, Beginning, Iterating}
+use Rattle.bank_shape.specs.declared.clock.Action.{Action}
 use Rattle.bank_model.specs.After.{is_store_of}
-use Rattle.bank_model.specs.Running.{gives_way, choice, chosen_by, busy_by, ready_by}
+use Rattle.bank_shape.specs.Pausing.{gives_way}
+use Rattle.bank_shape.specs.Acting.{choice, chosen_by}
+use Rattle.bank_model.specs.Running.{busy_by, ready_by}
 use Rattle.reg_lines.specs.declared.Change.{Change}
 use Rattle.reg_lines.specs.Regs.{RegsState}
 use Rattle.register_laws.specs.Telling.{item_of}
-use Rattle.bank_invariant.specs.declared.Waiting.{Waiting}
+use Rattle.bank_shape.specs.declared.waiting.Waiting.{Waiting}
 use Rattle.bank_invariant.specs.State.{BankState, is_free, may_begin}
 use Rattle.bank_invariant.specs.Serving.{kept_with, waits_too}
 use Rattle.bank_invariant.specs.Writes.{taken}

@@ -8,8 +8,8 @@ use Rattle.masked_bytes.specs.Entries.{Layer, no_layer, stacked, layer_by, layer
 use Rattle.masked_bytes.proofs.Layering.{length-laid, length-joined, laid-all_given, laid-none_given, all_given-gives_all, laid-laid}
 use Rattle.masked_bytes.proofs.Standing.{layer_of-head}
 use Rattle.bank_shape.specs.declared.BankShape.{BankShape}
-use Rattle.bank_model.specs.declared.answer.WriteAnswer.TheVariants as wrote
-use Rattle.bank_model.specs.declared.answer.Step.TheVariants as did
+use Rattle.bank_shape.specs.declared.answer.WriteAnswer.TheVariants as wrote
+use Rattle.bank_shape.specs.declared.answer.Step.TheVariants as did
 use Rattle.bank_model.specs.Events.{Event, Write, Read, Serve, Begin, Iterate, Cut, newest, up_to, RowsBelow}
 use Rattle.bank_model.specs.History.{queue, begun, due_after, has_exhausted}
 use Rattle.bank_model.specs.Answers.{MayAll, head_busy_after}

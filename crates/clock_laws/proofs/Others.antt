@@ -7,21 +7,22 @@ use Rattle.masked_bytes.specs.declared.entry.Entry.{Entry}
 use Rattle.masked_bytes.specs.Entries.{or_this, newest_row, candidate, has_row, head_row}
 use Rattle.bank_shape.specs.declared.BankShape.{BankShape}
 use Rattle.bank_shape.specs.declared.Work.TheVariants.{Nothing}
-use Rattle.bank_model.specs.declared.answer.WriteAnswer.TheVariants as wrote
-use Rattle.bank_model.specs.declared.answer.ReadAnswer.TheVariants as came
-use Rattle.bank_model.specs.declared.answer.Served.{Served}
-use Rattle.bank_model.specs.declared.answer.Step.TheVariants as did
+use Rattle.bank_shape.specs.declared.answer.WriteAnswer.TheVariants as wrote
+use Rattle.bank_shape.specs.declared.answer.ReadAnswer.TheVariants as came
+use Rattle.bank_shape.specs.declared.answer.Served.{Served}
+use Rattle.bank_shape.specs.declared.answer.Step.TheVariants as did
 use Rattle.bank_model.specs.Events.{Event, Write, Read, Serve, Begin, Iterate, Cut}
 use Rattle.bank_model.specs.History.{Awaited, queue, waits, due_after, has_exhausted}
 use Rattle.bank_model.specs.After.{due_work}
 use Rattle.bank_model.specs.Answers.{MayHappen, IsServed, IsDone, head_busy_after}
-use Rattle.bank_model.specs.Timing.{Pacing, Happens, Core, Regs, Timed, core, core_of}
+use Rattle.bank_shape.specs.declared.pace.Pace.{Pace}
+use Rattle.bank_model.specs.Timing.{Happens, Core, Regs, Timed, core, core_of}
 use Rattle.bank_model.specs.Lawful.{Lawful, MayCome}
 use Rattle.bank_model.specs.Sensing.{most_steps}
 use Rattle.bank_laws.specs.Outcomes.{outcome_by, outcome_with, on_row}
 use Rattle.bank_laws.specs.Standing.{has_wait, WaitsApart, AreRowsApart}
 use Rattle.bank_laws.proofs.Standing.{stand_apart}
-use Rattle.bank_invariant.specs.declared.Waiting.{Waiting}
+use Rattle.bank_shape.specs.declared.waiting.Waiting.{Waiting}
 use Rattle.bank_invariant.specs.Holds.{waiting_of}
 use Rattle.bank_invariant.proofs.Taking.{answer_merged}
 use Rattle.clock_laws.specs.Recording.{outcome_on}
@@ -131,7 +132,7 @@ module _ {n : ℕ} where
     no-outcome most tick (Iterate did.Exhausted) may off = refl
     no-outcome most tick (Cut tearing) may off = ap (λ b. cond b (Some (out.Lost tick)) None) waits_not
 
-module _ {n m : ℕ} (shape : BankShape) (pace : Pacing) (e row : ℕ) (before : ℕ → Outcome n) where
+module _ {n m : ℕ} (shape : BankShape) (pace : Pace) (e row : ℕ) (before : ℕ → Outcome n) where
   -- a row that neither stands nor waits after events, and whose outcome is as before them
   record IsAside (added xs : List (Timed n m)) : Type 0 where
     queued : has_row (queue shape (core (added ++ xs))) row ≡ false

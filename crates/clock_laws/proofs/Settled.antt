@@ -9,16 +9,17 @@ use Rattle.masked_bytes.specs.Entries.{candidate, laid_on, merged, has_row, head
 use Rattle.bank_shape.specs.declared.BankShape.{BankShape}
 use Rattle.bank_shape.specs.declared.Work.{Work}
 use Rattle.bank_shape.specs.declared.Work.TheVariants.{Nothing, Store, Copy}
-use Rattle.bank_model.specs.declared.answer.WriteAnswer.{WriteAnswer}
-use Rattle.bank_model.specs.declared.answer.WriteAnswer.TheVariants as wrote
-use Rattle.bank_model.specs.declared.answer.ReadAnswer.TheVariants as came
-use Rattle.bank_model.specs.declared.answer.Served.{Served}
-use Rattle.bank_model.specs.declared.answer.Step.TheVariants as did
+use Rattle.bank_shape.specs.declared.answer.WriteAnswer.{WriteAnswer}
+use Rattle.bank_shape.specs.declared.answer.WriteAnswer.TheVariants as wrote
+use Rattle.bank_shape.specs.declared.answer.ReadAnswer.TheVariants as came
+use Rattle.bank_shape.specs.declared.answer.Served.{Served}
+use Rattle.bank_shape.specs.declared.answer.Step.TheVariants as did
 use Rattle.bank_model.specs.Events.{Event, Write, Read, Serve, Begin, Iterate, Cut, newest, RowsBelow}
 use Rattle.bank_model.specs.History.{Awaited, queue, waits, begun, due_after, has_exhausted}
 use Rattle.bank_model.specs.After.{work_after}
 use Rattle.bank_model.specs.Answers.{MayHappen, IsServed, IsDone, head_busy_after}
-use Rattle.bank_model.specs.Timing.{Pacing, Happens, Core, Regs, Timed, core, core_of}
+use Rattle.bank_shape.specs.declared.pace.Pace.{Pace}
+use Rattle.bank_model.specs.Timing.{Happens, Core, Regs, Timed, core, core_of}
 use Rattle.bank_model.specs.Lawful.{Lawful, MayCome}
 use Rattle.bank_model.specs.Sensing.{most_steps}
 use Rattle.bank_model.specs.Told.{tick_by, tick_of_row}
@@ -182,7 +183,7 @@ module _ {n : ℕ} (shape : BankShape) (h : List (Event n)) (row tick : ℕ) (be
   step most (Cut tearing) may (inr stands) =
       kept-by (has_wait (waits shape h) row) (out.Lost tick) (queue shape h) (queue shape h) (waits shape h) [] refl (λ off there. there) (λ off waiting. cc) stands
 
-module _ {n m : ℕ} (shape : BankShape) (pace : Pacing) (e row : ℕ) where
+module _ {n m : ℕ} (shape : BankShape) (pace : Pace) (e row : ℕ) where
   stands : (xs : List (Timed n m)) → Lawful shape pace e xs → arrives_with xs row ≡ true → Stands shape (core xs) row 0 (outcome_of shape xs row) (queue shape (core xs)) (waits shape (core xs)) (outcome_of shape xs row)
   stands [] lawful came = cc
   stands (x ∷ xs) lawful came = by x.happens lawful.0 (which (is_arrival_of x.happens row) came (stands xs lawful.1))

@@ -11,12 +11,13 @@ use Rattle.row_laws.specs.Answers.{stored_before}
 use Rattle.bank_shape.specs.declared.BankShape.{BankShape}
 use Rattle.bank_shape.specs.Shape.{slots_of, slot_moved}
 use Rattle.power_recovery.specs.Kept.{array_line}
-use Rattle.bank_model.specs.declared.answer.Step.TheVariants as did
+use Rattle.bank_shape.specs.declared.answer.Step.TheVariants as did
 use Rattle.bank_model.specs.Events.{Event, Write, Read, Serve, Begin, Iterate, Cut}
 use Rattle.bank_model.specs.History.{retired, moved_in, stored_in}
 use Rattle.bank_model.specs.After.{slot_after, array_line_after, stands_at_after}
 use Rattle.bank_model.specs.Sensing.{most_steps}
-use Rattle.bank_model.specs.Timing.{Pacing, Happens, Core, Regs, Timed, core, core_of}
+use Rattle.bank_shape.specs.declared.pace.Pace.{Pace}
+use Rattle.bank_model.specs.Timing.{Happens, Core, Regs, Timed, core, core_of}
 use Rattle.bank_model.specs.Lawful.{Lawful}
 use Rattle.bank_laws.specs.Laws.{IsSized, LeavesArray, is_worn_at}
 use Rattle.bank_laws.specs.Outcomes.{outcome_of, ended, row_with, rows_from}
@@ -96,7 +97,7 @@ follows-later {n} slots slot (x ∷ later) zs exists = by x.happens (follows-lat
     by (Core event) f = follows-event slots slot (retired (core zs)) exists event (core (later ++ zs)) f
     by (Regs event) f = f
 
-module _ {n m : ℕ} (shape : BankShape) (pace : Pacing) (e : ℕ) (all : List (Timed n m)) (array : ArrayState n m) (sized : IsSized shape pace) (l : Lawful shape pace e all) (left : LeavesArray e shape all array)
+module _ {n m : ℕ} (shape : BankShape) (pace : Pace) (e : ℕ) (all : List (Timed n m)) (array : ArrayState n m) (sized : IsSized shape pace) (l : Lawful shape pace e all) (left : LeavesArray e shape all array)
     (table : ℕ → ℕ) (is_table : (slot : ℕ) → table slot ≡ array_line_after shape (core all) slot) where
   -- the line that a slot had at some time has its place by the table of the end
   had_place : (later zs : List (Timed n m)) (slot : ℕ) → all ≡ later ++ zs → slot < slots_of shape

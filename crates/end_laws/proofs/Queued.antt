@@ -12,7 +12,8 @@ use Rattle.bank_shape.specs.declared.BankShape.{BankShape}
 use Rattle.bank_model.specs.Events.{Write, Read, Serve, Begin, Iterate, Cut}
 use Rattle.bank_model.specs.History.{queue}
 use Rattle.bank_model.specs.Sensing.{most_steps}
-use Rattle.bank_model.specs.Timing.{Pacing, Happens, Core, Regs, Timed, core, core_of}
+use Rattle.bank_shape.specs.declared.pace.Pace.{Pace}
+use Rattle.bank_model.specs.Timing.{Happens, Core, Regs, Timed, core, core_of}
 use Rattle.bank_model.specs.Lawful.{Lawful}
 use Rattle.bank_laws.specs.Outcomes.{outcome_of, ended, row_with, rows_from, table_of}
 use Rattle.bank_laws.proofs.Fates.{or_first, or_second}
@@ -45,7 +46,7 @@ module _ {n m : ℕ} (shape : BankShape) (all : List (Timed n m)) where
       by (Core (Cut tearing)) true w go = go w
       by (Core (Cut tearing)) false w go = go w
 
-module _ {n m : ℕ} (shape : BankShape) (pace : Pacing) (e : ℕ) (all : List (Timed n m)) (l : Lawful shape pace e all) where
+module _ {n m : ℕ} (shape : BankShape) (pace : Pace) (e : ℕ) (all : List (Timed n m)) (l : Lawful shape pace e all) where
   stands-queued : (row line : ℕ) → Stands (queue shape (core all)) row line → list_any (λ (r : Row n). write_of line r && is_queued r.outcome) (table_of shape all) ≡ true
   stands-queued row line s =
       let bound = above_all shape pace e all l in

@@ -7,17 +7,18 @@ use Rattle.spare_pool.proofs.Lines.{line_by-within}
 use Rattle.bank_shape.specs.Pausing.{is_cancelling}
 use Rattle.bank_shape.specs.declared.BankShape.{BankShape}
 use Rattle.bank_shape.specs.Shape.{slots_of, control_line}
-use Rattle.bank_model.specs.declared.answer.Step.{Step}
-use Rattle.bank_model.specs.declared.answer.Keep.TheVariants as keep
-use Rattle.bank_model.specs.declared.clock.Action.{Action}
-use Rattle.bank_model.specs.declared.clock.Doing.TheVariants.{Iterating}
+use Rattle.bank_shape.specs.declared.answer.Step.{Step}
+use Rattle.bank_shape.specs.declared.answer.Keep.TheVariants as keep
+use Rattle.bank_shape.specs.declared.clock.Action.{Action}
+use Rattle.bank_shape.specs.declared.clock.Doing.TheVariants.{Iterating}
 use Rattle.bank_model.specs.Events.{Event, Write, Read, Serve, Begin, Iterate, Cut}
 use Rattle.bank_model.specs.History.{retired}
 use Rattle.bank_model.specs.After.{work_after, slot_of_work, target_after}
 use Rattle.bank_model.specs.Changes.{change_after, change_by, changed_by, keeping_after, keeping_by, rounds_after, rounds_by, halted_after, halted_by, line_of_change}
 use Rattle.bank_model.specs.Running.{running_at, cancels_after, cancels_with}
 use Rattle.bank_model.specs.Sensing.{is_at, most_steps, pulses_of, pulsed_by, torn_control, kept_pulsed}
-use Rattle.bank_model.specs.Timing.{Pacing, Happens, Core, Regs, KeepBegin, KeepIterate, KeepCut, Timed, is_doing, core, core_of}
+use Rattle.bank_shape.specs.declared.pace.Pace.{Pace}
+use Rattle.bank_model.specs.Timing.{Happens, Core, Regs, KeepBegin, KeepIterate, KeepCut, Timed, is_doing, core, core_of}
 use Rattle.bank_model.specs.Lawful.{Lawful, MayCome}
 use Rattle.bank_laws.specs.Laws.{IsSized}
 use Rattle.bank_laws.proofs.Changing.{halted-stops}
@@ -365,13 +366,13 @@ first-of : (a b : Bool) → (a && b) ≡ true → a ≡ true
 first-of true b is = refl
 first-of false b is = absurd (cc (is))
 
-module _ {n m : ℕ} (shape : BankShape) (pace : Pacing) (e item : ℕ) where
+module _ {n m : ℕ} (shape : BankShape) (pace : Pace) (e item : ℕ) where
   abbrev pub Kept : List (Timed n m) → Type 0
   Kept xs =
       IsKept (most_steps e) (pulses_of xs (control_line shape item)) (rounds_after xs) (changes_of shape item (core xs)) (cuts_in xs) (cancels_after xs)
       (is_item item (change_after shape xs)) (keeping_after xs) (halted_after xs) (is_cancelling pace.policy)
 
-module _ {n m : ℕ} (shape : BankShape) (pace : Pacing) (e item : ℕ) (sized : IsSized shape pace) where
+module _ {n m : ℕ} (shape : BankShape) (pace : Pace) (e item : ℕ) (sized : IsSized shape pace) where
   -- the bank's own line write writes no control line
   target-low : (xs : List (Timed n m)) → Lawful shape pace e xs → target_after shape (core xs) < control_line shape item
   target-low xs l =

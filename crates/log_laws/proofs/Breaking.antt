@@ -3,12 +3,13 @@ use Rattle.std.proofs.Common.{◌≡◌, ℕ, ◌≤◌, ◌&&◌, Bool, true, f
 use Rattle.std.specs.Prelude.{IsTrue, nat_le}
 use Rattle.std.proofs.lemmas.Bool.{le-leb}
 use Rattle.std.proofs.lemmas.List.Folds.{list_any-append}
-use Rattle.row_laws.specs.Rules.{Rules}
+use Rattle.row_laws.specs.declared.Rules.{Rules}
 use Rattle.bank_shape.specs.Pausing.{is_cancelling}
 use Rattle.bank_shape.specs.declared.BankShape.{BankShape}
-use Rattle.bank_model.specs.declared.answer.ReadAnswer.TheVariants as came
+use Rattle.bank_shape.specs.declared.answer.ReadAnswer.TheVariants as came
 use Rattle.bank_model.specs.Events.{Event, Write, Read, Serve, Begin, Iterate, Cut}
-use Rattle.bank_model.specs.Timing.{Pacing, Happens, Core, Regs, Timed}
+use Rattle.bank_shape.specs.declared.pace.Pace.{Pace}
+use Rattle.bank_model.specs.Timing.{Happens, Core, Regs, Timed}
 use Rattle.bank_model.specs.Lawful.{Lawful, MayCome, IsRead}
 use Rattle.bank_laws.specs.Outcomes.{row_with, rows_from}
 use Rattle.bank_laws.specs.Logs.{is_broken}
@@ -74,7 +75,7 @@ module _ {n m : ℕ} (shape : BankShape) (rules : Rules) where
       (subst (λ b. is_broken rules (row_with shape all (Core (Cut tearing)) x.tick b) from to ≡ true) (sym c) (cut_breaks all x.tick from to tearing le lt)))
 
   -- and so does the read behind a cancel
-  pub read-behind : (pace : Pacing) (e : ℕ) (all pre : List (Timed n m)) (z x : Timed n m) (xs : List (Timed n m)) (from to : ℕ)
+  pub read-behind : (pace : Pace) (e : ℕ) (all pre : List (Timed n m)) (z x : Timed n m) (xs : List (Timed n m)) (from to : ℕ)
       → Lawful shape pace e all → all ≡ pre ++ z ∷ x ∷ xs → is_cancelling rules.policy ≡ true → x.cancels ≡ true → from ≤ x.tick → x.tick ≤ to → is_broken rules (rows_from shape all all) from to ≡ true
   read-behind pace e all pre z x xs from to l same cancelling c le lt =
       behind z.happens (lawful_before shape pace e pre (z ∷ x ∷ xs) (subst (λ (zs : List (Timed n m)). Lawful shape pace e zs) same l)).0 refl
@@ -87,7 +88,7 @@ module _ {n m : ℕ} (shape : BankShape) (rules : Rules) where
           (read_breaks all event z.tick from to z.cancels cancelling read.1 (omega (arith, read.0)) (omega (arith, read.0))))
       behind (Regs event) may its = absurd (cc (may.behind, c))
 
-  pub cut-broken : (pace : Pacing) (e : ℕ) (all pre : List (Timed n m)) (z x : Timed n m) (xs : List (Timed n m)) (tearing : Bool) (from to : ℕ)
+  pub cut-broken : (pace : Pace) (e : ℕ) (all pre : List (Timed n m)) (z x : Timed n m) (xs : List (Timed n m)) (tearing : Bool) (from to : ℕ)
       → Lawful shape pace e all → all ≡ pre ++ z ∷ x ∷ xs → x.happens ≡ Core (Cut tearing)
       → (IsTrue x.cancels → is_cancelling rules.policy ≡ true) → from ≤ x.tick → x.tick ≤ to → is_broken rules (rows_from shape all all) from to ≡ true
   cut-broken pace e all pre z x xs tearing from to l same is cancelling le lt = by x.cancels refl

@@ -11,7 +11,8 @@ use Rattle.bank_model.specs.Events.{Write, Read, Serve, Begin, Iterate, Cut}
 use Rattle.bank_model.specs.Adding.{senses_of}
 use Rattle.bank_model.specs.Changes.{all_controls}
 use Rattle.bank_model.specs.Sensing.{pulses_of, read_again}
-use Rattle.bank_model.specs.Timing.{Pacing, Happens, Core, Regs, Timed}
+use Rattle.bank_shape.specs.declared.pace.Pace.{Pace}
+use Rattle.bank_model.specs.Timing.{Happens, Core, Regs, Timed}
 use Rattle.bank_model.specs.Lawful.{Lawful, MayCome}
 use Rattle.bank_laws.specs.Laws.{log_of}
 use Rattle.bank_laws.specs.Logs.{has_controls}
@@ -49,7 +50,7 @@ module _ {n m : ℕ} where
   any-later p [] x ys there = list_any-append p (senses_of ys) x.senses ∙ or_second (list_any p (senses_of ys)) _ there
   any-later p (y ∷ later) x ys there = list_any-append p (senses_of (later ++ x ∷ ys)) y.senses ∙ or_first (list_any p (senses_of (later ++ x ∷ ys))) _ (any-later p later x ys there)
 
-module _ {n m : ℕ} (shape : BankShape) (pace : Pacing) (e : ℕ) (all : List (Timed n m)) (log extra : List (Sense n m)) (l : Lawful shape pace e all) (shown : log_of shape log ≡ senses_of all ++ extra) where
+module _ {n m : ℕ} (shape : BankShape) (pace : Pace) (e : ℕ) (all : List (Timed n m)) (log extra : List (Sense n m)) (l : Lawful shape pace e all) (shown : log_of shape log ≡ senses_of all ++ extra) where
   in-log : (p : Sense n m → Bool) → list_any p (senses_of all) ≡ true → list_any p log ≡ true
   in-log p there =
       any-filter p (λ s. nat_le shape.base s.line && nat_lt s.line (shape.base + lines_in shape)) log

@@ -5,11 +5,14 @@ use Rattle.std.proofs.lemmas.List.Elements.{filter-append}
 use Rattle.pcm_cells.specs.declared.array.Sense.{Sense}
 use Rattle.bank_shape.specs.declared.BankShape.{BankShape}
 use Rattle.bank_shape.specs.Shape.{slots_of, lines_in, controls_from}
-use Rattle.bank_model.specs.declared.clock.Doing.TheVariants.{Serving}
+use Rattle.bank_shape.specs.declared.clock.Doing.TheVariants.{Serving}
 use Rattle.bank_model.specs.History.{waits}
-use Rattle.bank_model.specs.Timing.{Pacing, Timed, core, is_empty}
+use Rattle.bank_shape.specs.declared.pace.Pace.{Pace}
+use Rattle.bank_model.specs.Timing.{Timed, core, is_empty}
 use Rattle.bank_model.specs.After.{may_begin_after}
-use Rattle.bank_model.specs.Running.{Choice, chosen_by, gives_way, choice_after, ready_by, ready_after}
+use Rattle.bank_shape.specs.Pausing.{gives_way}
+use Rattle.bank_shape.specs.Acting.{Choice, chosen_by}
+use Rattle.bank_model.specs.Running.{choice_after, ready_by, ready_after}
 use Rattle.bank_model.specs.Changes.{change_after, keeping_after, halted_after, line_of_change}
 use Rattle.bank_model.specs.Adding.{senses_of}
 use Rattle.bank_model.specs.Sensing.{pulses_of}
@@ -39,7 +42,7 @@ none-begins way reads c is = by (way && reads) c.busy reads c.ready is
     by false false false true is = absurd (cc)
     by false false false false is = refl
 
-module _ {n m : ℕ} (e : ℕ) (shape : BankShape) (pace : Pacing) (wears : Bool) (line : ℕ) (wears_is : wears ≡ nat_lt line (controls_from shape)) (all : List (Timed n m)) (sized : IsSized shape pace) (lawful : Lawful shape pace e all) where
+module _ {n m : ℕ} (e : ℕ) (shape : BankShape) (pace : Pace) (wears : Bool) (line : ℕ) (wears_is : wears ≡ nat_lt line (controls_from shape)) (all : List (Timed n m)) (sized : IsSized shape pace) (lawful : Lawful shape pace e all) where
   abbrev Known : List (Timed n m) → Type 0
   Known zs = Shown shape pace (rules_of e shape pace) (rows_from shape all all) wears line all zs
 

@@ -9,17 +9,18 @@ use Rattle.result_rows.specs.declared.Outcome.{Outcome}
 use Rattle.result_rows.specs.declared.Outcome.TheVariants as out
 use Rattle.row_laws.specs.Serving.{same_bytes}
 use Rattle.bank_shape.specs.declared.BankShape.{BankShape}
-use Rattle.bank_model.specs.declared.answer.Served.{Served}
-use Rattle.bank_model.specs.declared.answer.WriteAnswer.TheVariants as wrote
-use Rattle.bank_model.specs.declared.answer.ReadAnswer.TheVariants as came
-use Rattle.bank_model.specs.declared.answer.Step.TheVariants as did
+use Rattle.bank_shape.specs.declared.answer.Served.{Served}
+use Rattle.bank_shape.specs.declared.answer.WriteAnswer.TheVariants as wrote
+use Rattle.bank_shape.specs.declared.answer.ReadAnswer.TheVariants as came
+use Rattle.bank_shape.specs.declared.answer.Step.TheVariants as did
 use Rattle.bank_model.specs.Events.{Write, Read, Serve, Begin, Iterate, Cut, RowsBelow}
 use Rattle.bank_model.specs.History.{Awaited, waits}
 use Rattle.bank_model.specs.After.{stands_at_after}
 use Rattle.bank_model.specs.Answers.{IsServed}
 use Rattle.bank_model.specs.Adding.{senses_of}
 use Rattle.bank_model.specs.Sensing.{pulses_of, stand_of, IsLaid, IsReadRight}
-use Rattle.bank_model.specs.Timing.{Pacing, Happens, Core, Regs, Timed, core, core_of}
+use Rattle.bank_shape.specs.declared.pace.Pace.{Pace}
+use Rattle.bank_model.specs.Timing.{Happens, Core, Regs, Timed, core, core_of}
 use Rattle.bank_model.specs.Lawful.{Lawful, MayCome}
 use Rattle.bank_laws.specs.Logs.{is_sensed}
 use Rattle.bank_laws.specs.Outcomes.{on_row, outcome_with, outcome_of}
@@ -116,7 +117,7 @@ module _ {n m : ℕ} (shape : BankShape) where
   answers-now zs y (Core (Iterate did.Exhausted)) row u p bytes s = inr s
   answers-now zs y (Core (Cut tearing)) row u p bytes s = inr (lost_not_read (has_wait (waits shape (core zs)) row) y.tick _ u p bytes s)
 
-module _ {n m : ℕ} (shape : BankShape) (pace : Pacing) (e : ℕ) (mine : Awaited) where
+module _ {n m : ℕ} (shape : BankShape) (pace : Pace) (e : ℕ) (mine : Awaited) where
   -- a read's row is above those before, so its wait stays the only one
   only-next : (zs : List (Timed n m)) (y : Timed n m) (h : Happens n) → MayCome shape pace e zs y h → ((row : ℕ) → RowsBelow (core zs) row → mine.row < row) → OnlyOne mine (waits shape (core zs)) → OnlyOne mine (waits shape (core_of h (core zs)))
   only-next zs y (Core (Write row line bytes given answer)) may above k = k

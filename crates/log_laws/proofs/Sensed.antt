@@ -17,13 +17,14 @@ use Rattle.row_laws.specs.Rows.{each_row}
 use Rattle.row_laws.specs.Serving.{may_have, same_bytes}
 use Rattle.bank_shape.specs.declared.BankShape.{BankShape}
 use Rattle.bank_shape.specs.Shape.{lines_in}
-use Rattle.bank_model.specs.declared.answer.WriteAnswer.{WriteAnswer}
-use Rattle.bank_model.specs.declared.answer.ReadAnswer.{ReadAnswer}
-use Rattle.bank_model.specs.declared.answer.ReadAnswer.TheVariants as came
+use Rattle.bank_shape.specs.declared.answer.WriteAnswer.{WriteAnswer}
+use Rattle.bank_shape.specs.declared.answer.ReadAnswer.{ReadAnswer}
+use Rattle.bank_shape.specs.declared.answer.ReadAnswer.TheVariants as came
 use Rattle.bank_model.specs.Events.{Write, Read, Serve, Begin, Iterate, Cut, newest}
 use Rattle.bank_model.specs.History.{Awaited, awaited, queue, waits}
 use Rattle.bank_model.specs.Adding.{senses_of}
-use Rattle.bank_model.specs.Timing.{Pacing, Happens, Core, Regs, Timed, core, core_of}
+use Rattle.bank_shape.specs.declared.pace.Pace.{Pace}
+use Rattle.bank_model.specs.Timing.{Happens, Core, Regs, Timed, core, core_of}
 use Rattle.bank_model.specs.Lawful.{Lawful, MayCome}
 use Rattle.bank_laws.specs.Laws.{IsSized, log_of}
 use Rattle.bank_laws.specs.Logs.{is_sensed, outcome_sensed, has_sense}
@@ -55,7 +56,7 @@ waits-some : {n : ℕ} (all full : Bool) (bytes : List ℕ) → ◌≡◌ {A = R
 waits-some true full bytes is = absurd (cc)
 waits-some false full bytes is = refl
 
-module _ {n m : ℕ} (shape : BankShape) (pace : Pacing) (e : ℕ) (all : List (Timed n m)) (log extra : List (Sense n m)) (sized : IsSized shape pace) (l : Lawful shape pace e all) (o : AreOpen shape all) (shown : log_of shape log ≡ senses_of all ++ extra) where
+module _ {n m : ℕ} (shape : BankShape) (pace : Pace) (e : ℕ) (all : List (Timed n m)) (log extra : List (Sense n m)) (sized : IsSized shape pace) (l : Lawful shape pace e all) (o : AreOpen shape all) (shown : log_of shape log ≡ senses_of all ++ extra) where
   -- what the history sensed is in the log
   in-log : (place tick : ℕ) (gives : List ℕ → Bool) → is_sensed (decode e) (senses_of all) place tick gives ≡ true → is_sensed (decode e) log place tick gives ≡ true
   in-log place tick gives there =

@@ -9,16 +9,17 @@ use Rattle.pcm_cells.specs.Device.{counted}
 use Rattle.bank_shape.specs.Pausing.{is_cancelling}
 use Rattle.bank_shape.specs.declared.BankShape.{BankShape}
 use Rattle.bank_shape.specs.Shape.{controls_of, controls_from}
-use Rattle.bank_model.specs.declared.answer.Served.{Served}
-use Rattle.bank_model.specs.declared.answer.Keep.{Keep}
-use Rattle.bank_model.specs.declared.answer.Keep.TheVariants as keep
-use Rattle.bank_model.specs.declared.answer.Step.{Step}
-use Rattle.bank_model.specs.declared.clock.Doing.TheVariants.{Iterating}
-use Rattle.bank_model.specs.declared.clock.Action.{Action}
+use Rattle.bank_shape.specs.declared.answer.Served.{Served}
+use Rattle.bank_shape.specs.declared.answer.Keep.{Keep}
+use Rattle.bank_shape.specs.declared.answer.Keep.TheVariants as keep
+use Rattle.bank_shape.specs.declared.answer.Step.{Step}
+use Rattle.bank_shape.specs.declared.clock.Doing.TheVariants.{Iterating}
+use Rattle.bank_shape.specs.declared.clock.Action.{Action}
 use Rattle.bank_model.specs.Events.{Event, Write, Read, Serve, Begin, Iterate, Cut}
 use Rattle.bank_model.specs.History.{queue, due_after, has_exhausted, in_progress}
 use Rattle.bank_model.specs.After.{target_after, sources_of, work_after}
-use Rattle.bank_model.specs.Timing.{Pacing, Happens, Core, Regs, Keeping, KeepBegin, KeepIterate, KeepCut, Timed, is_doing, core, core_of, last_tick}
+use Rattle.bank_shape.specs.declared.pace.Pace.{Pace}
+use Rattle.bank_model.specs.Timing.{Happens, Core, Regs, Keeping, KeepBegin, KeepIterate, KeepCut, Timed, is_doing, core, core_of, last_tick}
 use Rattle.bank_model.specs.Running.{tears_bank, running, running_at, chosen_after, left, left_by}
 use Rattle.bank_model.specs.Changes.{change_after, change_by, written_by, keeping_after, keeping_by, halted_after, halted_by, line_of_change, all_controls}
 use Rattle.bank_model.specs.Sensing.{is_at, most_steps, pulses_of, read_again, kept_sensed}
@@ -93,7 +94,7 @@ both-false : (a b : Bool) → b ≡ false → (a && b) ≡ false
 both-false true b h = h
 both-false false b h = refl
 
-module _ {n m : ℕ} (e : ℕ) (shape : BankShape) (pace : Pacing) (wears : Bool) (line : ℕ) (wears_is : wears ≡ nat_lt line (controls_from shape)) (all : List (Timed n m)) (sized : IsSized shape pace) (lawful : Lawful shape pace e all) (open_rows : AreOpen shape all) (pre : List (Timed n m)) (x : Timed n m) (xs : List (Timed n m)) (same : all ≡ pre ++ x ∷ xs) where
+module _ {n m : ℕ} (e : ℕ) (shape : BankShape) (pace : Pace) (wears : Bool) (line : ℕ) (wears_is : wears ≡ nat_lt line (controls_from shape)) (all : List (Timed n m)) (sized : IsSized shape pace) (lawful : Lawful shape pace e all) (open_rows : AreOpen shape all) (pre : List (Timed n m)) (x : Timed n m) (xs : List (Timed n m)) (same : all ≡ pre ++ x ∷ xs) where
   abbrev Known : List (Timed n m) → Type 0
   Known zs = Shown shape pace (rules_of e shape pace) (rows_from shape all all) wears line all zs
 

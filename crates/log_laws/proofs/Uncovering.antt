@@ -11,12 +11,13 @@ use Rattle.row_laws.specs.Answers.{accepts, is_stored, stored_by}
 use Rattle.row_laws.specs.Rows.{write_of}
 use Rattle.row_laws.specs.Queueing.{unstored, cover}
 use Rattle.bank_shape.specs.declared.BankShape.{BankShape}
-use Rattle.bank_model.specs.declared.answer.WriteAnswer.{WriteAnswer}
-use Rattle.bank_model.specs.declared.answer.WriteAnswer.TheVariants as wrote
+use Rattle.bank_shape.specs.declared.answer.WriteAnswer.{WriteAnswer}
+use Rattle.bank_shape.specs.declared.answer.WriteAnswer.TheVariants as wrote
 use Rattle.bank_model.specs.Events.{Write, Read, Serve, Begin, Iterate, Cut}
 use Rattle.bank_model.specs.History.{queue}
 use Rattle.bank_model.specs.Sensing.{most_steps}
-use Rattle.bank_model.specs.Timing.{Pacing, Happens, Core, Regs, Timed, core, core_of, last_tick}
+use Rattle.bank_shape.specs.declared.pace.Pace.{Pace}
+use Rattle.bank_model.specs.Timing.{Happens, Core, Regs, Timed, core, core_of, last_tick}
 use Rattle.bank_model.specs.Lawful.{Lawful, MayCome}
 use Rattle.bank_laws.specs.Laws.{IsSized}
 use Rattle.bank_laws.specs.Outcomes.{outcome_of, ended, row_with, rows_from}
@@ -107,7 +108,7 @@ refused_row n true true acc given before rest out is same = absurd (cc)
 refused_row n true false true given before rest out is same = absurd (cc)
 refused_row n true false false given before rest out is same = same
 
-module _ {n m : ℕ} (shape : BankShape) (pace : Pacing) (e : ℕ) (all : List (Timed n m)) (sized : IsSized shape pace) (l : Lawful shape pace e all) (o : AreOpen shape all) where
+module _ {n m : ℕ} (shape : BankShape) (pace : Pace) (e : ℕ) (all : List (Timed n m)) (sized : IsSized shape pace) (l : Lawful shape pace e all) (o : AreOpen shape all) where
   -- what isn't stored after some events isn't stored by a tick up to which they come
   stored-late : (later zs : List (Timed n m)) (row t : ℕ) → all ≡ later ++ zs → t ≤ last_tick zs → is_stored (outcome_of shape zs row) ≡ false → stored_by t (outcome_of shape all row) ≡ false
   stored-late later zs row t same le isnt =

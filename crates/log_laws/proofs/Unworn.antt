@@ -10,7 +10,8 @@ use Rattle.row_laws.specs.Wearing.{worn_row}
 use Rattle.bank_shape.specs.declared.BankShape.{BankShape}
 use Rattle.bank_model.specs.Events.{Write, Read, Serve, Begin, Iterate, Cut}
 use Rattle.bank_model.specs.History.{has_exhausted}
-use Rattle.bank_model.specs.Timing.{Pacing, Happens, Core, Regs, Timed, core, last_tick}
+use Rattle.bank_shape.specs.declared.pace.Pace.{Pace}
+use Rattle.bank_model.specs.Timing.{Happens, Core, Regs, Timed, core, last_tick}
 use Rattle.bank_model.specs.Lawful.{Lawful}
 use Rattle.bank_laws.specs.Outcomes.{outcome_of, ended, row_with, rows_from}
 use Rattle.bank_laws.specs.Settling.{AreOpen}
@@ -31,7 +32,7 @@ any-fewer p q (x ∷ xs) none = by (p x) (λ k. any-fewer p q xs k) none
 abbrev pub worn_below : {n : ℕ} → ℕ → List (Row n) → Bool
 worn_below tick rows = list_any (λ r. worn_row r && nat_lt r.tick tick) rows
 
-module _ {n m : ℕ} (shape : BankShape) (pace : Pacing) (e : ℕ) where
+module _ {n m : ℕ} (shape : BankShape) (pace : Pace) (e : ℕ) where
   -- no later event comes below an event
   pub last-above : (pre : List (Timed n m)) (x : Timed n m) (xs : List (Timed n m)) → 1 ≤ pace.read → 1 ≤ pace.iter → Lawful shape pace e (pre ++ x ∷ xs) → x.tick ≤ last_tick (pre ++ x ∷ xs)
   last-above [] x xs r i l = omega arith

@@ -10,7 +10,8 @@ use Rattle.row_laws.specs.Queueing.{has_room}
 use Rattle.row_laws.specs.Table.{is_of}
 use Rattle.bank_shape.specs.declared.BankShape.{BankShape}
 use Rattle.bank_model.specs.Events.{Write, Read, Serve, Begin, Iterate, Cut}
-use Rattle.bank_model.specs.Timing.{Pacing, Happens, Core, Regs, Timed, last_tick}
+use Rattle.bank_shape.specs.declared.pace.Pace.{Pace}
+use Rattle.bank_model.specs.Timing.{Happens, Core, Regs, Timed, last_tick}
 use Rattle.bank_model.specs.Lawful.{Lawful, IsIdle}
 use Rattle.bank_laws.specs.Laws.{IsSized, rules_of}
 use Rattle.bank_laws.specs.Room.{RoomLaw}
@@ -31,7 +32,7 @@ By tick b = b.tick ≤ tick
 too_late : {n : ℕ} (tick at : ℕ) (b : Asked n) (asked : List (Asked n)) → All (By tick) (b ∷ asked) → b.tick ≡ at → tick < at → ⊥
 too_late tick at b asked all same late = let early = All-head (By tick) b asked all in omega (arith, early, same, late)
 
-module _ {n m : ℕ} (shape : BankShape) (pace : Pacing) (e : ℕ) (read : 1 ≤ pace.read) (iter : 1 ≤ pace.iter) where
+module _ {n m : ℕ} (shape : BankShape) (pace : Pace) (e : ℕ) (read : 1 ≤ pace.read) (iter : 1 ≤ pace.iter) where
   -- a part of a history behind the row of this tick, and the events since then
   pub record IsSplit (tick : ℕ) (asked : List (Asked n)) (xs : List (Timed n m)) : Type 0 where
     pub since : List (Timed n m)
@@ -143,7 +144,7 @@ module _ {n : ℕ} (bank_of line_in : ℕ → ℕ) (bank : ℕ) where
       by true ih = All-cons (By tick) (asked_in bank_of line_in a) (asked_of bank_of line_in bank asked) (All-head (By tick) a asked all) ih
       by false ih = ih
 
-module _ {n m : ℕ} (e : ℕ) (shape : BankShape) (pace : Pacing) (bank_of line_in : ℕ → ℕ) (bank : ℕ) (outcome : ℕ → Outcome n)
+module _ {n m : ℕ} (e : ℕ) (shape : BankShape) (pace : Pace) (bank_of line_in : ℕ → ℕ) (bank : ℕ) (outcome : ℕ → Outcome n)
     (room : RoomLaw n m) (sized : IsSized shape pace) (xs : List (Timed n m)) (l : Lawful shape pace e xs) (idle : IsIdle shape pace xs) where
   abbrev IsRight : Asked n → Type 0
   IsRight a = outcome a.row ≡ last_outcome shape xs a a.asks

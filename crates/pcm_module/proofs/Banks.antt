@@ -10,7 +10,8 @@ use Rattle.pcm_cells.specs.Device.{ArrayState}
 use Rattle.result_rows.specs.declared.Outcome.{Outcome}
 use Rattle.result_rows.specs.Table.{HasRow}
 use Rattle.row_laws.specs.Table.{is_of}
-use Rattle.bank_model.specs.Timing.{Pacing, Timed}
+use Rattle.bank_shape.specs.declared.pace.Pace.{Pace}
+use Rattle.bank_model.specs.Timing.{Timed}
 use Rattle.module_shape.specs.Addresses.{ModuleShape, bank_shape, array_lines_of}
 use Rattle.clock_laws.specs.State.{ClockState}
 use Rattle.clock_laws.specs.Standing.{arrives_with}
@@ -65,7 +66,7 @@ at_get P o x is p = subst (λ o. IsSomeAnd o P) (sym is) p
 pub from_get : {X : Type 0} (P : X → Type 0) (o : Option X) (x : X) → o ≡ Some x → IsSomeAnd o P → P x
 from_get P o x is p = subst (λ o. IsSomeAnd o P) is p
 
-module _ {n m e : ℕ} (shape : ModuleShape) (pace : Pacing) where
+module _ {n m e : ℕ} (shape : ModuleShape) (pace : Pace) where
   -- each bank replays by its history what was asked of it
   abbrev pub AllReplay : ℕ → ℕ → (ℕ → List (Timed n m)) → (ℕ → List (Asked n)) → ArrayState n m → List (Outcome n) → List (ClockState n m e) → Type 0
   AllReplay tick rows h owns array results banks =

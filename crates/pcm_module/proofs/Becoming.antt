@@ -10,7 +10,7 @@ use Rattle.row_laws.specs.declared.Asks.{Asks}
 use Rattle.row_laws.specs.declared.Asks.TheVariants.{Reads, Writes, Cuts}
 use Rattle.row_laws.specs.Table.{is_of}
 use Rattle.bank_shape.specs.declared.BankShape.{BankShape}
-use Rattle.bank_model.specs.declared.answer.WriteAnswer.{WriteAnswer}
+use Rattle.bank_shape.specs.declared.answer.WriteAnswer.{WriteAnswer}
 use Rattle.bank_model.specs.Events.{Write, Read, Serve, Begin, Iterate, Cut}
 use Rattle.bank_model.specs.History.{queue}
 use Rattle.bank_model.specs.Timing.{Happens, Core, Regs, Timed, core, core_of}

@@ -8,7 +8,8 @@ use Rattle.result_rows.specs.declared.Outcome.{Outcome}
 use Rattle.result_rows.specs.declared.Outcome.TheVariants as out
 use Rattle.result_rows.specs.Table.{HasRow}
 use Rattle.bank_shape.specs.declared.BankShape.{BankShape}
-use Rattle.bank_model.specs.Timing.{Pacing, Timed}
+use Rattle.bank_shape.specs.declared.pace.Pace.{Pace}
+use Rattle.bank_model.specs.Timing.{Timed}
 use Rattle.bank_model.specs.Lawful.{Lawful}
 use Rattle.bank_laws.specs.Outcomes.{outcome_of, outcome_with}
 use Rattle.clock_laws.specs.State.{ClockState}
@@ -70,7 +71,7 @@ module _ {n m e : ℕ} (xs : List (Timed n m)) (clock : ClockState n m e) (array
     pub lawful_whole : Lawful clock.bank.kept.shape clock.pace e (added ++ xs)
     lawful_whole =
         subst (λ (s : BankShape). Lawful s clock.pace e (added ++ xs)) ext.shape
-        (subst (λ (p : Pacing). Lawful new.bank.kept.shape p e (added ++ xs)) ext.pace ext.leads.lawful)
+        (subst (λ (p : Pace). Lawful new.bank.kept.shape p e (added ++ xs)) ext.pace ext.leads.lawful)
 
     -- a row that neither stood, nor waited, nor came with these events keeps its outcome
     pub left_alone : (row : ℕ) → HasRow results row → has_row clock.bank.kept.entries row ≡ false → has_waiting clock.bank.waiting row ≡ false → arrives_with added row ≡ false

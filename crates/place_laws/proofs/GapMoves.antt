@@ -11,7 +11,7 @@ use Rattle.start_gap.specs.Turn.{Copies}
 use Rattle.start_gap.proofs.FullTurn.{has_each_pair_once}
 use Rattle.bank_shape.specs.declared.BankShape.{BankShape}
 use Rattle.bank_shape.specs.declared.Work.TheVariants.{Nothing}
-use Rattle.bank_model.specs.declared.answer.Step.TheVariants as did
+use Rattle.bank_shape.specs.declared.answer.Step.TheVariants as did
 use Rattle.bank_model.specs.Events.{Event, Write, Read, Serve, Begin, Iterate, Cut}
 use Rattle.bank_model.specs.History.{queue, moved_in, due_after, has_exhausted}
 use Rattle.bank_model.specs.After.{work_after, due_work}

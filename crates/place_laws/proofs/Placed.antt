@@ -16,7 +16,8 @@ use Rattle.bank_model.specs.Events.{Write, Read, Serve, Begin, Iterate, Cut}
 use Rattle.bank_model.specs.History.{retired, moved_in, stored_in}
 use Rattle.bank_model.specs.After.{slot_after, stands_at_after}
 use Rattle.bank_model.specs.Sensing.{most_steps}
-use Rattle.bank_model.specs.Timing.{Pacing, Happens, Core, Regs, Timed, core, core_of}
+use Rattle.bank_shape.specs.declared.pace.Pace.{Pace}
+use Rattle.bank_model.specs.Timing.{Happens, Core, Regs, Timed, core, core_of}
 use Rattle.bank_model.specs.Lawful.{Lawful}
 use Rattle.bank_laws.specs.Laws.{IsSized, LeavesArray, is_worn_at}
 use Rattle.bank_laws.specs.Outcomes.{outcome_of, ended, row_with, rows_from, table_of}
@@ -89,7 +90,7 @@ module _ {n m : ℕ} (shape : BankShape) where
   asked-later [] zs row line a = a
   asked-later (x ∷ later) zs row line a = asked-more x.happens (later ++ zs) row line (asked-later later zs row line a)
 
-module _ {n m : ℕ} (shape : BankShape) (pace : Pacing) (e : ℕ) (all : List (Timed n m)) (array : ArrayState n m) (sized : IsSized shape pace) (l : Lawful shape pace e all) (leaves : LeavesArray e shape all array) where
+module _ {n m : ℕ} (shape : BankShape) (pace : Pace) (e : ℕ) (all : List (Timed n m)) (array : ArrayState n m) (sized : IsSized shape pace) (l : Lawful shape pace e all) (leaves : LeavesArray e shape all array) where
   -- a slot that was given a spare had a line that is worn in the end
   home_worn : (slot : ℕ) → slot < slots_of shape → IsAway shape (core all) slot → is_worn_at e array (shape.base + slot) ≡ true
   home_worn slot exists away =

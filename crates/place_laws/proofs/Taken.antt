@@ -13,11 +13,12 @@ use Rattle.row_laws.specs.Rows.{RowTest, each_row}
 use Rattle.row_laws.specs.Queueing.{pending}
 use Rattle.row_laws.specs.Serving.{may_have, is_served}
 use Rattle.bank_shape.specs.declared.BankShape.{BankShape}
-use Rattle.bank_model.specs.declared.answer.WriteAnswer.{WriteAnswer}
-use Rattle.bank_model.specs.declared.answer.WriteAnswer.TheVariants as wrote
+use Rattle.bank_shape.specs.declared.answer.WriteAnswer.{WriteAnswer}
+use Rattle.bank_shape.specs.declared.answer.WriteAnswer.TheVariants as wrote
 use Rattle.bank_model.specs.Events.{Write, Read, Serve, Begin, Iterate, Cut}
 use Rattle.bank_model.specs.History.{queue, has_exhausted}
-use Rattle.bank_model.specs.Timing.{Pacing, Happens, Core, Regs, Timed, core}
+use Rattle.bank_shape.specs.declared.pace.Pace.{Pace}
+use Rattle.bank_model.specs.Timing.{Happens, Core, Regs, Timed, core}
 use Rattle.bank_model.specs.Changes.{change_after, halted_after}
 use Rattle.bank_model.specs.Running.{over_by, is_over}
 use Rattle.bank_shape.specs.Shape.{controls_of, control_line}
@@ -88,7 +89,7 @@ module _ {n : ℕ} where
       and_both _ _ (pass rows x after (both_first _ _ p) (both_first _ _ q) (both_first _ _ r))
       (each-of one two three test pass rows (x ∷ after) (both_second _ _ p) (both_second _ _ q) (both_second _ _ r))
 
-module _ {n m : ℕ} (shape : BankShape) (pace : Pacing) (e : ℕ) (all : List (Timed n m)) (array : ArrayState n m) (sized : IsSized shape pace) (l : Lawful shape pace e all) (idle : IsIdle shape pace all) (leaves : LeavesArray e shape all array) where
+module _ {n m : ℕ} (shape : BankShape) (pace : Pace) (e : ℕ) (all : List (Timed n m)) (array : ArrayState n m) (sized : IsSized shape pace) (l : Lawful shape pace e all) (idle : IsIdle shape pace all) (leaves : LeavesArray e shape all array) where
   pub leaves_work : is_over shape all ≡ true → may_leave shape (is_worn_at e array) ≡ true
   leaves_work over = by (change_after shape all) (change-within shape pace e all sized.regions sized.lines l) over leaves.halted
     where
@@ -156,7 +157,7 @@ module _ {n : ℕ} (shape : BankShape) (worn : ℕ → Bool) where
   taken_outcome tick line bytes given count out_worn left (out.Lost at) may full wear queued on none lt = absurd (cc)
   taken_outcome tick line bytes given count out_worn left (out.Cut at) may full wear queued on none lt = absurd (cc)
 
-module _ {n : ℕ} (e : ℕ) (shape : BankShape) (pace : Pacing) (worn : ℕ → Bool) where
+module _ {n : ℕ} (e : ℕ) (shape : BankShape) (pace : Pace) (worn : ℕ → Bool) where
   taken_row : (tick : ℕ) (asks : Asks n) (o : Outcome n) (before after : List (Row n)) → is_served before (record { tick = tick; asks = asks; outcome = o }) after ≡ true
       → is_room_fair shape.writes before (record { tick = tick; asks = asks; outcome = o }) after ≡ true → is_wear_true shape worn before (record { tick = tick; asks = asks; outcome = o }) after ≡ true
       → is_taken (rules_of e shape pace) shape worn before (record { tick = tick; asks = asks; outcome = o }) after ≡ true

@@ -9,7 +9,8 @@ use Rattle.row_laws.specs.Queueing.{waiting}
 use Rattle.bank_shape.specs.declared.BankShape.{BankShape}
 use Rattle.bank_model.specs.Events.{Write, Read, Serve, Begin, Iterate, Cut}
 use Rattle.bank_model.specs.History.{waits}
-use Rattle.bank_model.specs.Timing.{Pacing, Happens, Core, Regs, Timed, core, last_tick}
+use Rattle.bank_shape.specs.declared.pace.Pace.{Pace}
+use Rattle.bank_model.specs.Timing.{Happens, Core, Regs, Timed, core, last_tick}
 use Rattle.bank_model.specs.Lawful.{Lawful}
 use Rattle.bank_laws.specs.Outcomes.{outcome_of, row_with, rows_from}
 use Rattle.bank_laws.specs.Standing.{has_wait}
@@ -21,7 +22,7 @@ use Rattle.bank_laws.proofs.Counting.{hits, waits-counted}
 use Rattle.bank_laws.proofs.Waiting.{ReadState, StateBy, state, state_new, Onward, onward_step, comb_true, read_rows, reads_in, reads-fall, waits-asked, cond_length}
 use Rattle.queue_laws.proofs.Stood.{EndsAbove}
 
-module _ {n m : ℕ} (shape : BankShape) (pace : Pacing) (e : ℕ) (all later now : List (Timed n m)) (t : ℕ) (r : 1 ≤ pace.read) (i : 1 ≤ pace.iter) (l : Lawful shape pace e all) (same : all ≡ later ++ now)
+module _ {n m : ℕ} (shape : BankShape) (pace : Pace) (e : ℕ) (all later now : List (Timed n m)) (t : ℕ) (r : 1 ≤ pace.read) (i : 1 ≤ pace.iter) (l : Lawful shape pace e all) (same : all ≡ later ++ now)
     (up : last_tick now ≤ t) (ends : EndsAbove t later) (none : waits shape (core all) ≡ []) where
   whole : Lawful shape pace e (later ++ now)
   whole = subst (λ (xs : List (Timed n m)). Lawful shape pace e xs) same l

@@ -9,16 +9,17 @@ use Rattle.masked_bytes.specs.Masked.{joined, none_given, gives_all}
 use Rattle.masked_bytes.specs.Entries.{RowsApart, has_row, candidate, merged}
 use Rattle.row_laws.specs.Answers.{is_stored}
 use Rattle.bank_shape.specs.declared.BankShape.{BankShape}
-use Rattle.bank_model.specs.declared.answer.WriteAnswer.{WriteAnswer}
-use Rattle.bank_model.specs.declared.answer.WriteAnswer.TheVariants as wrote
-use Rattle.bank_model.specs.declared.answer.ReadAnswer.TheVariants as came
-use Rattle.bank_model.specs.declared.answer.Step.{Step}
-use Rattle.bank_model.specs.declared.answer.Step.TheVariants as did
+use Rattle.bank_shape.specs.declared.answer.WriteAnswer.{WriteAnswer}
+use Rattle.bank_shape.specs.declared.answer.WriteAnswer.TheVariants as wrote
+use Rattle.bank_shape.specs.declared.answer.ReadAnswer.TheVariants as came
+use Rattle.bank_shape.specs.declared.answer.Step.{Step}
+use Rattle.bank_shape.specs.declared.answer.Step.TheVariants as did
 use Rattle.bank_model.specs.Events.{Write, Read, Serve, Begin, Iterate, Cut, RowsBelow, newest}
 use Rattle.bank_model.specs.History.{begun, queue, waits, due_after, has_exhausted, in_progress}
 use Rattle.bank_model.specs.Answers.{head_busy_after}
 use Rattle.bank_model.specs.Sensing.{most_steps}
-use Rattle.bank_model.specs.Timing.{Pacing, Happens, Core, Regs, Timed, core, core_of}
+use Rattle.bank_shape.specs.declared.pace.Pace.{Pace}
+use Rattle.bank_model.specs.Timing.{Happens, Core, Regs, Timed, core, core_of}
 use Rattle.bank_model.specs.Told.{tick_of_row}
 use Rattle.bank_model.specs.Lawful.{Lawful, MayCome}
 use Rattle.bank_laws.specs.Pairs.{ArePaired}
@@ -64,7 +65,7 @@ module _ {n m : ℕ} (shape : BankShape) where
     above : (row line : ℕ) → Stands (queue shape (core_of h (core zs))) row line → floor_of (λ row. unwrap_or (outcome_with shape zs h tick row) (outcome_of shape zs row)) (core_of h (core zs)) line ≤ row
     asked : (row line : ℕ) → Stands (queue shape (core_of h (core zs))) row line → Asked (core_of h (core zs)) row line
 
-module _ {n m : ℕ} (shape : BankShape) (pace : Pacing) (e : ℕ) where
+module _ {n m : ℕ} (shape : BankShape) (pace : Pace) (e : ℕ) where
   pub none_new : (zs : List (Timed n m)) (x : Timed n m) (h : Happens n) (row u p : ℕ) → Storeless h → unwrap_or (outcome_with shape zs h x.tick row) (outcome_of shape zs row) ≡ out.Stored u p → outcome_of shape zs row ≡ out.Stored u p
   none_new zs x (Core (Write at line bytes given wrote.Accepted)) row u p less s = s
   none_new zs x (Core (Write at line bytes given (wrote.Merged old))) row u p less s = not_stored old row (out.Merged x.tick) (outcome_of shape zs row) u p (λ is. absurd (cc)) s

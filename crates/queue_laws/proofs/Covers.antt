@@ -14,7 +14,8 @@ use Rattle.row_laws.specs.Rows.{write_of}
 use Rattle.row_laws.specs.Queueing.{unstored, cover}
 use Rattle.bank_shape.specs.declared.BankShape.{BankShape}
 use Rattle.bank_model.specs.Events.{Write, Read, Serve, Begin, Iterate, Cut, RowsBelow}
-use Rattle.bank_model.specs.Timing.{Pacing, Happens, Core, Regs, Timed, core, core_of, last_tick}
+use Rattle.bank_shape.specs.declared.pace.Pace.{Pace}
+use Rattle.bank_model.specs.Timing.{Happens, Core, Regs, Timed, core, core_of, last_tick}
 use Rattle.bank_model.specs.Lawful.{Lawful, MayCome}
 use Rattle.bank_laws.specs.Outcomes.{outcome_of, ended, row_with, rows_from}
 use Rattle.bank_laws.proofs.Entries.{or_none}
@@ -63,7 +64,7 @@ rows_before {n} {m} (x ∷ mid) now bound b = by x.happens (λ bound b. rows_bef
     by (Core (Iterate answer)) go b = go bound b
     by (Core (Cut tearing)) go b = go bound b
 
-module _ {n m : ℕ} (shape : BankShape) (pace : Pacing) (e : ℕ) (all later now : List (Timed n m)) (t : ℕ) (r : 1 ≤ pace.read) (i : 1 ≤ pace.iter) (l : Lawful shape pace e all) (same : all ≡ later ++ now)
+module _ {n m : ℕ} (shape : BankShape) (pace : Pace) (e : ℕ) (all later now : List (Timed n m)) (t : ℕ) (r : 1 ≤ pace.read) (i : 1 ≤ pace.iter) (l : Lawful shape pace e all) (same : all ≡ later ++ now)
     (up : last_tick now ≤ t) (ends : EndsAbove t later) where
   whole : Lawful shape pace e (later ++ now)
   whole = subst (λ (xs : List (Timed n m)). Lawful shape pace e xs) same l

@@ -11,13 +11,14 @@ use Rattle.row_laws.specs.Answers.{is_forwarded}
 use Rattle.row_laws.specs.Rows.{write_of}
 use Rattle.row_laws.specs.Queueing.{pending, waiting, cover, is_at_head, read_fits}
 use Rattle.bank_shape.specs.declared.BankShape.{BankShape}
-use Rattle.bank_model.specs.declared.answer.ReadAnswer.{ReadAnswer}
-use Rattle.bank_model.specs.declared.answer.ReadAnswer.TheVariants as came
+use Rattle.bank_shape.specs.declared.answer.ReadAnswer.{ReadAnswer}
+use Rattle.bank_shape.specs.declared.answer.ReadAnswer.TheVariants as came
 use Rattle.bank_model.specs.Events.{Event, Write, Read, Serve, Begin, Iterate, Cut, RowsBelow, newest}
 use Rattle.bank_model.specs.History.{awaited, queue, waits}
 use Rattle.bank_model.specs.Answers.{read_answer}
 use Rattle.bank_model.specs.Sensing.{most_steps}
-use Rattle.bank_model.specs.Timing.{Pacing, Happens, Core, Regs, Timed, core, core_of, last_tick}
+use Rattle.bank_shape.specs.declared.pace.Pace.{Pace}
+use Rattle.bank_model.specs.Timing.{Happens, Core, Regs, Timed, core, core_of, last_tick}
 use Rattle.bank_model.specs.Lawful.{Lawful, MayCome}
 use Rattle.bank_laws.specs.Outcomes.{outcome_of, row_with, rows_from}
 use Rattle.bank_laws.specs.RowLaws.{waits_fit}
@@ -111,7 +112,7 @@ one_down {n} x ys bound b = by x.happens b
     by (Core (Iterate answer)) b = b
     by (Core (Cut tearing)) b = b
 
-module _ {n m : ℕ} (shape : BankShape) (pace : Pacing) (e : ℕ) (all later : List (Timed n m)) (x : Timed n m) (ys : List (Timed n m)) (r : 1 ≤ pace.read) (i : 1 ≤ pace.iter) (l : Lawful shape pace e all) (same : all ≡ later ++ x ∷ ys)
+module _ {n m : ℕ} (shape : BankShape) (pace : Pace) (e : ℕ) (all later : List (Timed n m)) (x : Timed n m) (ys : List (Timed n m)) (r : 1 ≤ pace.read) (i : 1 ≤ pace.iter) (l : Lawful shape pace e all) (same : all ≡ later ++ x ∷ ys)
     (arrives : ends_action x.happens ≡ false) where
   over : Lawful shape pace e (later ++ x ∷ ys)
   over = subst (λ (xs : List (Timed n m)). Lawful shape pace e xs) same l
@@ -184,7 +185,7 @@ module _ {n m : ℕ} (shape : BankShape) (pace : Pacing) (e : ℕ) (all later : 
       by true is = absurd (cc (g, covers line is))
       by false is = refl
 
-module _ {n m : ℕ} (shape : BankShape) (pace : Pacing) (e : ℕ) (all : List (Timed n m)) where
+module _ {n m : ℕ} (shape : BankShape) (pace : Pace) (e : ℕ) (all : List (Timed n m)) where
   -- what a read finds, by what the queue gives
   record Finds (later : List (Timed n m)) (x : Timed n m) (ys : List (Timed n m)) (h : Happens n) : Type 0 where
     forwards : (line : ℕ) → ((row : ℕ) → Asked (core_of h (core ys)) row line → Asked (core ys) row line) → gives_all ((layer_of (queue shape (core ys)) line).given) ≡ true

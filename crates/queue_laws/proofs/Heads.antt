@@ -12,11 +12,12 @@ use Rattle.row_laws.specs.Answers.{is_stored, stored_before}
 use Rattle.row_laws.specs.Rows.{write_of}
 use Rattle.row_laws.specs.Queueing.{least, store_of, next_store, is_first}
 use Rattle.bank_shape.specs.declared.BankShape.{BankShape}
-use Rattle.bank_model.specs.declared.answer.WriteAnswer.TheVariants as wrote
-use Rattle.bank_model.specs.declared.answer.Step.TheVariants as did
+use Rattle.bank_shape.specs.declared.answer.WriteAnswer.TheVariants as wrote
+use Rattle.bank_shape.specs.declared.answer.Step.TheVariants as did
 use Rattle.bank_model.specs.Events.{Write, Read, Serve, Begin, Iterate, Cut, newest}
 use Rattle.bank_model.specs.History.{begun, queue, due_after}
-use Rattle.bank_model.specs.Timing.{Pacing, Happens, Core, Regs, Timed, core, core_of, last_tick}
+use Rattle.bank_shape.specs.declared.pace.Pace.{Pace}
+use Rattle.bank_model.specs.Timing.{Happens, Core, Regs, Timed, core, core_of, last_tick}
 use Rattle.bank_model.specs.Lawful.{Lawful, MayCome}
 use Rattle.bank_laws.specs.Outcomes.{on_row, outcome_with, outcome_of, ended, row_with, rows_from}
 use Rattle.bank_laws.specs.Ticks.{ends_action}
@@ -177,7 +178,7 @@ module _ {n m : ℕ} (shape : BankShape) (now : List (Timed n m)) (t line : ℕ)
   LineFirstBy zs tick h =
       (HasHead line (queue shape (core_of h (core zs))) × NoneStored shape now (λ row. unwrap_or (outcome_with shape zs h tick row) (outcome_of shape zs row))) ⊎ IsStoredFirstBy zs tick h
 
-module _ {n m : ℕ} (shape : BankShape) (pace : Pacing) (e : ℕ) (now : List (Timed n m)) (t line : ℕ) where
+module _ {n m : ℕ} (shape : BankShape) (pace : Pace) (e : ℕ) (now : List (Timed n m)) (t line : ℕ) where
   asked_more : (zs : List (Timed n m)) (h : Happens n) (row : ℕ) → Asked (core zs) row line → Asked (core_of h (core zs)) row line
   asked_more zs (Core (Write at k bytes given answer)) row a = inr a
   asked_more zs (Core (Read at k answer)) row a = a

@@ -4,14 +4,15 @@ use Rattle.masked_bytes.specs.declared.entry.Entry.{Entry}
 use Rattle.masked_bytes.specs.Entries.{has_row, RowsApart, merged, laid_on, newest_row, candidate, or_this}
 use Rattle.bank_shape.specs.declared.BankShape.{BankShape}
 use Rattle.bank_shape.specs.declared.Work.TheVariants.{Nothing}
-use Rattle.bank_model.specs.declared.answer.WriteAnswer.{WriteAnswer}
-use Rattle.bank_model.specs.declared.answer.WriteAnswer.TheVariants as wrote
-use Rattle.bank_model.specs.declared.answer.Step.TheVariants as did
+use Rattle.bank_shape.specs.declared.answer.WriteAnswer.{WriteAnswer}
+use Rattle.bank_shape.specs.declared.answer.WriteAnswer.TheVariants as wrote
+use Rattle.bank_shape.specs.declared.answer.Step.TheVariants as did
 use Rattle.bank_model.specs.Events.{Event, Write, Read, Serve, Begin, Iterate, Cut, newest}
 use Rattle.bank_model.specs.History.{begun, queue, due_after, has_exhausted, in_progress}
 use Rattle.bank_model.specs.After.{is_store, due_work}
 use Rattle.bank_model.specs.Answers.{head_busy_after}
-use Rattle.bank_model.specs.Timing.{Pacing, Happens, Core, Regs, KeepBegin, KeepIterate, KeepCut, Timed, core, core_of, last_tick}
+use Rattle.bank_shape.specs.declared.pace.Pace.{Pace}
+use Rattle.bank_model.specs.Timing.{Happens, Core, Regs, KeepBegin, KeepIterate, KeepCut, Timed, core, core_of, last_tick}
 use Rattle.bank_model.specs.Told.{tick_by, tick_of_row}
 use Rattle.bank_model.specs.Sensing.{most_steps}
 use Rattle.bank_model.specs.Lawful.{Lawful, MayCome}
@@ -203,7 +204,7 @@ pick_tick : (b : Bool) (tick old : ℕ) → old ≤ tick → cond b tick old ≤
 pick_tick true tick old le = omega arith
 pick_tick false tick old le = le
 
-module _ {n m : ℕ} (shape : BankShape) (pace : Pacing) (e : ℕ) where
+module _ {n m : ℕ} (shape : BankShape) (pace : Pace) (e : ℕ) where
   -- the tick of a write that came stays
   tick_step : (zs : List (Timed n m)) (x : Timed n m) (h : Happens n) (row : ℕ) → MayCome shape pace e zs x h → among (writes_in zs) row ≡ true → tick_by row h x.tick (tick_of_row row zs) ≡ tick_of_row row zs
   tick_step zs x (Core (Write at line bytes given answer)) row may there =

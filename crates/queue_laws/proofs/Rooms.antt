@@ -12,12 +12,13 @@ use Rattle.row_laws.specs.Answers.{is_full}
 use Rattle.row_laws.specs.Rows.{write_of}
 use Rattle.row_laws.specs.Queueing.{pending, waiting, has_room, pairs_few, is_refused}
 use Rattle.bank_shape.specs.declared.BankShape.{BankShape}
-use Rattle.bank_model.specs.declared.answer.WriteAnswer.TheVariants as wrote
+use Rattle.bank_shape.specs.declared.answer.WriteAnswer.TheVariants as wrote
 use Rattle.bank_model.specs.Events.{Event, Write, Read, Serve, Begin, Iterate, Cut}
 use Rattle.bank_model.specs.History.{queue, waits, has_exhausted}
 use Rattle.bank_model.specs.Answers.{head_busy_after, accept_answer, write_answer}
 use Rattle.bank_model.specs.Sensing.{most_steps}
-use Rattle.bank_model.specs.Timing.{Pacing, Happens, Core, Regs, Timed, core, last_tick}
+use Rattle.bank_shape.specs.declared.pace.Pace.{Pace}
+use Rattle.bank_model.specs.Timing.{Happens, Core, Regs, Timed, core, last_tick}
 use Rattle.bank_model.specs.Told.{tick_of_row}
 use Rattle.bank_model.specs.Lawful.{Lawful, MayCome}
 use Rattle.bank_laws.specs.Laws.{rules_of}
@@ -53,7 +54,7 @@ module _ {n : ℕ} (shape : BankShape) where
       by false (Some at) a = absurd (cc)
       by false None a = refl
 
-module _ {n m : ℕ} (shape : BankShape) (pace : Pacing) (e : ℕ) where
+module _ {n m : ℕ} (shape : BankShape) (pace : Pace) (e : ℕ) where
   -- Ends above a tick
 
   pub ends_later : (later zs : List (Timed n m)) (t : ℕ) → 1 ≤ pace.read → 1 ≤ pace.iter → Lawful shape pace e (later ++ zs) → t ≤ last_tick zs → EndsAbove t later × (t ≤ last_tick (later ++ zs))
@@ -225,7 +226,7 @@ no_rows shape all (Core (Begin answer)) tick cancels is = refl
 no_rows shape all (Core (Iterate answer)) tick cancels is = refl
 no_rows shape all (Core (Cut tearing)) tick cancels is = absurd (cc)
 
-module _ {n m : ℕ} (shape : BankShape) (pace : Pacing) (e : ℕ) where
+module _ {n m : ℕ} (shape : BankShape) (pace : Pace) (e : ℕ) where
   -- at the tick of the end of an action the bank is as behind it, and else as before it
   room_within : (all front : List (Timed n m)) (y : Timed n m) (now : List (Timed n m)) (t : ℕ) → 1 ≤ pace.read → 1 ≤ pace.iter → Lawful shape pace e all → waits shape (core all) ≡ [] → all ≡ front ++ y ∷ now
       → last_tick now ≤ t → t ≤ y.tick → has_room (rules_of e shape pace) t (rows_from shape all now) ≡ true

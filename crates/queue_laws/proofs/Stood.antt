@@ -12,7 +12,8 @@ use Rattle.row_laws.specs.Queueing.{pending}
 use Rattle.bank_shape.specs.declared.BankShape.{BankShape}
 use Rattle.bank_model.specs.Events.{Write, Read, Serve, Begin, Iterate, Cut}
 use Rattle.bank_model.specs.History.{queue}
-use Rattle.bank_model.specs.Timing.{Pacing, Happens, Core, Regs, Timed, core, last_tick}
+use Rattle.bank_shape.specs.declared.pace.Pace.{Pace}
+use Rattle.bank_model.specs.Timing.{Happens, Core, Regs, Timed, core, last_tick}
 use Rattle.bank_model.specs.Told.{tick_by, tick_of_row}
 use Rattle.bank_model.specs.Lawful.{Lawful, MayCome}
 use Rattle.bank_laws.specs.Outcomes.{outcome_with, outcome_of, ended, row_with, rows_from}
@@ -38,7 +39,7 @@ abbrev pub EndsAbove : {n m : ℕ} → ℕ → List (Timed n m) → Type 0
 EndsAbove t [] = Unit {0}
 EndsAbove t (x ∷ later) = (ends_action x.happens ≡ true → t < x.tick) × EndsAbove t later
 
-module _ {n m : ℕ} (shape : BankShape) (pace : Pacing) (e : ℕ) where
+module _ {n m : ℕ} (shape : BankShape) (pace : Pace) (e : ℕ) where
   -- what is stored by such events is stored above that tick
   pub stored_over : (t : ℕ) (later zs : List (Timed n m)) (row u p : ℕ) → EndsAbove t later → (outcome_of shape zs row ≡ out.Stored u p → ⊥) → Lawful shape pace e (later ++ zs)
       → outcome_of shape (later ++ zs) row ≡ out.Stored u p → t < u
@@ -49,7 +50,7 @@ module _ {n m : ℕ} (shape : BankShape) (pace : Pacing) (e : ℕ) where
       by (inl now) go = let lt : t < y.tick = ends.0 now.0 in omega (arith, lt, now.1)
       by (inr s) go = go s
 
-module _ {n m : ℕ} (shape : BankShape) (pace : Pacing) (e : ℕ) (all later now : List (Timed n m)) (t : ℕ) (r : 1 ≤ pace.read) (i : 1 ≤ pace.iter) (l : Lawful shape pace e all) (same : all ≡ later ++ now)
+module _ {n m : ℕ} (shape : BankShape) (pace : Pace) (e : ℕ) (all later now : List (Timed n m)) (t : ℕ) (r : 1 ≤ pace.read) (i : 1 ≤ pace.iter) (l : Lawful shape pace e all) (same : all ≡ later ++ now)
     (up : last_tick now ≤ t) (ends : EndsAbove t later) where
   pub whole : Lawful shape pace e (later ++ now)
   whole = subst (λ (xs : List (Timed n m)). Lawful shape pace e xs) same l

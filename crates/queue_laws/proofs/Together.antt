@@ -7,7 +7,7 @@ use Rattle.row_laws.specs.declared.Asks.TheVariants.{Reads, Writes, Cuts}
 use Rattle.row_laws.specs.declared.Row.{Row}
 use Rattle.row_laws.specs.Answers.{is_full}
 use Rattle.row_laws.specs.Rows.{RowTest, each_row, asks_read, asks_write, line_of, write_of}
-use Rattle.row_laws.specs.Rules.{Rules}
+use Rattle.row_laws.specs.declared.Rules.{Rules}
 use Rattle.row_laws.specs.Queueing.{pending, waiting, cover, is_refused, is_at_head, read_fits, merge_fits, queue_fits, is_queue_fair}
 use Rattle.bank_laws.specs.Laws.{rules_of}
 use Rattle.bank_laws.specs.Outcomes.{table_of}

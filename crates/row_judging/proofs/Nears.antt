@@ -2,7 +2,7 @@
 use Rattle.std.proofs.Common.{◌≡◌, ℕ, ◌≤◌, ◌&&◌, Bool, true, false, List, [], ◌∷◌, inl, inr, refl, sym, ap, ◌∙◌, subst, cond}
 use Rattle.std.specs.Prelude.{drop, filter}
 use Rattle.row_laws.specs.declared.Row.{Row}
-use Rattle.row_laws.specs.Rules.{Rules}
+use Rattle.row_laws.specs.declared.Rules.{Rules}
 use Rattle.row_laws.specs.Queueing.{stands, pending, waiting, pairs_few, has_room}
 use Rattle.row_judging.specs.Near.{NearRoom}
 use Rattle.row_judging.specs.Steps.{stays_behind}

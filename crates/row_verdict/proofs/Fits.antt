@@ -12,7 +12,7 @@ use Rattle.row_laws.specs.declared.Asks.{Asks}
 use Rattle.row_laws.specs.declared.Asks.TheVariants.{Reads, Writes, Cuts}
 use Rattle.row_laws.specs.declared.Row.{Row}
 use Rattle.row_laws.specs.Answers.{accepts, is_merged, is_queued, stored_after, stored_by}
-use Rattle.row_laws.specs.Rules.{Rules}
+use Rattle.row_laws.specs.declared.Rules.{Rules}
 use Rattle.row_laws.specs.Rows.{asks_write, asks_write_of, accepted, accepted_of, write_of, line_of}
 use Rattle.row_laws.specs.Queueing.{stands, pending, waiting, none_before, is_older, has_few, pairs_few, is_refused, has_room}
 use Rattle.row_judging.specs.Few.{few_by}

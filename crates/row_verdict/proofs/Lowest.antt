@@ -4,7 +4,7 @@ use Rattle.std.specs.Prelude.{reverse}
 use Rattle.std.specs.List.{list_all}
 use Rattle.std.proofs.lemmas.List.{append-nil, reverse-append}
 use Rattle.row_laws.specs.declared.Row.{Row}
-use Rattle.row_laws.specs.Rules.{Rules}
+use Rattle.row_laws.specs.declared.Rules.{Rules}
 use Rattle.row_laws.specs.Rows.{RowTest, each_row}
 use Rattle.row_verdict.specs.declared.Rule.{Rule}
 use Rattle.row_verdict.specs.declared.Verdict.{Verdict}

@@ -9,7 +9,7 @@ use Rattle.row_laws.specs.declared.Asks.{Asks}
 use Rattle.row_laws.specs.declared.Asks.TheVariants.{Reads, Writes, Cuts}
 use Rattle.row_laws.specs.declared.Row.{Row}
 use Rattle.row_laws.specs.Answers.{is_stored, is_answered}
-use Rattle.row_laws.specs.Rules.{Rules}
+use Rattle.row_laws.specs.declared.Rules.{Rules}
 use Rattle.row_laws.specs.Rows.{asks_read, asks_write}
 use Rattle.row_laws.specs.Ticking.{bound, read_in_time, store_in_time, asks_in_time, apart}
 use Rattle.row_judging.specs.Rising.{rising}

@@ -10,7 +10,7 @@ use Rattle.row_laws.specs.declared.Asks.{Asks}
 use Rattle.row_laws.specs.declared.Asks.TheVariants.{Reads, Writes, Cuts}
 use Rattle.row_laws.specs.declared.Row.{Row}
 use Rattle.row_laws.specs.Answers.{accepts, is_worn, is_answered, is_lost, stored_after, stored_by}
-use Rattle.row_laws.specs.Rules.{Rules}
+use Rattle.row_laws.specs.declared.Rules.{Rules}
 use Rattle.row_laws.specs.Rows.{newest, asks_write, asks_read, asks_write_of, lay_row, bytes_of, given_of}
 use Rattle.row_laws.specs.Serving.{may_have}
 use Rattle.row_laws.specs.Table.{is_of, of_bank}

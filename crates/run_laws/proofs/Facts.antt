@@ -18,7 +18,7 @@ use Rattle.row_laws.specs.Table.{is_of, of_bank}
 use Rattle.masked_bytes.specs.Masked.{gives_all}
 use Rattle.result_summary.specs.Shortfall.{is_short}
 use Rattle.module_laws.specs.Asking.{asks_in, row_in, bank_table}
-use Rattle.row_laws.specs.Rules.{Rules}
+use Rattle.row_laws.specs.declared.Rules.{Rules}
 use Rattle.row_laws.specs.Queueing.{waiting, queue_fits, cover, is_at_head}
 use Rattle.row_laws.specs.Serving.{may_have}
 use Rattle.row_laws.specs.Ticking.{first_cut_at, is_in_time, read_in_time, asks_in_time}

@@ -10,7 +10,8 @@ use Rattle.row_laws.specs.Rows.{is_cut}
 use Rattle.row_laws.specs.Ticking.{no_cut_below, first_cut_at}
 use Rattle.bank_shape.specs.declared.BankShape.{BankShape}
 use Rattle.bank_model.specs.Events.{Write, Read, Serve, Begin, Iterate, Cut}
-use Rattle.bank_model.specs.Timing.{Pacing, Happens, Core, Regs, Timed, last_tick}
+use Rattle.bank_shape.specs.declared.pace.Pace.{Pace}
+use Rattle.bank_model.specs.Timing.{Happens, Core, Regs, Timed, last_tick}
 use Rattle.bank_model.specs.Lawful.{Lawful}
 use Rattle.bank_laws.specs.Outcomes.{row_with}
 use Rattle.bank_laws.proofs.Ticks.{last_tick-rises}
@@ -44,7 +45,7 @@ module _ {n m : ℕ} (shape : BankShape) (all : List (Timed n m)) where
       ∙ append_assoc (rows_after shape all ys) (rows_after shape all xs) (row_with shape all x.happens x.tick x.cancels)
 
   -- the cuts behind an event come no earlier
-  pub late-cuts : (pace : Pacing) (e u : ℕ) (late zs : List (Timed n m)) → 1 ≤ pace.read → 1 ≤ pace.iter → Lawful shape pace e (late ++ zs) → u ≤ last_tick zs → no_cut_below u (rows_after shape all late) ≡ true
+  pub late-cuts : (pace : Pace) (e u : ℕ) (late zs : List (Timed n m)) → 1 ≤ pace.read → 1 ≤ pace.iter → Lawful shape pace e (late ++ zs) → u ≤ last_tick zs → no_cut_below u (rows_after shape all late) ≡ true
   late-cuts pace e u [] zs r i l le = refl
   late-cuts pace e u (y ∷ late) zs r i l le =
       list_all-append (λ (q : Row n). not (is_cut q) || nat_le u q.tick) (rows_after shape all late) _

@@ -1,8 +1,5 @@
 //! The answers of a bank to its events.
 
-ghost use Rattle.std.specs.Prelude.{◌≡◌};
-ghost use Rattle.bank_model.specs.History.{goes_on};
-
 use start_gap::Move;
 
 /// The answer to a write that arrives.
@@ -64,16 +61,4 @@ pub enum Keep {
     Done,
     /// The control line was worn: the change stays, and the bank writes nothing any more.
     Halted,
-}
-
-impl Step {
-    /// Whether the line write goes on: only after `More` is it still in progress.
-    pub fn goes_on(&self) -> bool
-        ensures { result ≡ goes_on self.now }
-    {
-        match self {
-            Step::More => true,
-            _ => false,
-        }
-    }
 }

@@ -1,11 +1,8 @@
 //! How fast a bank works: the ticks of a sense and of an iteration, and when a line write gives way to a read (write
 //! pausing, Qureshi et al., HPCA 2010).
-#![tactic(auto)]
 
 ghost use Rattle.std.specs.Prelude.{◌≡◌};
-ghost use Rattle.bank_shape.specs.Pausing.{is_cancelling};
-ghost use Rattle.bank_model.specs.Running.{gives_way};
-ghost use Rattle.pace.specs.Policies.{pausing_of};
+ghost use Rattle.bank_shape.specs.Pausing.{gives_way, is_cancelling};
 
 /// When a line write gives way to a read.
 #[derive(Clone, Copy, Debug, PartialEq, Eq)]
@@ -32,7 +29,7 @@ pub struct Pace {
 impl Policy {
     /// Whether a read ends what runs of a line write.
     pub fn cancels(&self) -> bool
-        ensures { result ≡ is_cancelling (pausing_of self.now) }
+        ensures { result ≡ is_cancelling self.now }
     {
         match self {
             Policy::Cancel => true,
@@ -42,7 +39,7 @@ impl Policy {
 
     /// Whether a line write gives way to a waiting read between two iterations.
     pub fn gives_way(&self) -> bool
-        ensures { result ≡ gives_way (pausing_of self.now) }
+        ensures { result ≡ gives_way self.now }
     {
         match self {
             Policy::Pause => true,
