@@ -20,6 +20,7 @@ use Rattle.power_recovery.specs.Kept.{KeptState, array_line, stands_at}
 use Rattle.bank_shape.specs.declared.answer.WriteAnswer.TheVariants as wrote
 use Rattle.bank_shape.specs.declared.answer.ReadAnswer.{ReadAnswer}
 use Rattle.bank_shape.specs.declared.answer.ReadAnswer.TheVariants as came
+use Rattle.bank_model.proofs.Newest.{length-newest}
 use Rattle.bank_model.specs.Events.{Event, Write, Read, Serve, Begin, Iterate, Cut, newest}
 use Rattle.bank_model.specs.History.{Awaited, awaited, queue, waits}
 use Rattle.bank_model.specs.Answers.{MayAll, IsServed}
@@ -150,23 +151,6 @@ gives_all-head {n = n} (entry ∷ es) line bytes masked whole =
     (rw all (rw (joined-all_given n top.given sized.given_len) (gives_all-all_given n)))
 
 -- What a read is answered
-
-length-laid_if : (b : Bool) (bytes : List ℕ) (given : List Bool) (under : List ℕ) (n : ℕ) → length under ≡ n → length (cond b (laid bytes given under) under) ≡ n
-length-laid_if true bytes given under n long = length-laid bytes given under ∙ long
-length-laid_if false bytes given under n long = long
-
--- a newest line has n bytes
-pub length-newest : {n : ℕ} (h : List (Event n)) (line : ℕ) → length (newest h line) ≡ n
-length-newest {n = n} [] line = length-replicate n 0
-length-newest {n = n} (Write row at bytes given wrote.Accepted ∷ h) line = length-laid_if (at == line) bytes given (newest h line) n (length-newest h line)
-length-newest {n = n} (Write row at bytes given (wrote.Merged old) ∷ h) line = length-laid_if (at == line) bytes given (newest h line) n (length-newest h line)
-length-newest (Write row at bytes given wrote.Full ∷ h) line = length-newest h line
-length-newest (Write row at bytes given wrote.Exhausted ∷ h) line = length-newest h line
-length-newest (Read row at answer ∷ h) line = length-newest h line
-length-newest (Serve answer ∷ h) line = length-newest h line
-length-newest (Begin answer ∷ h) line = length-newest h line
-length-newest (Iterate answer ∷ h) line = length-newest h line
-length-newest (Cut tearing ∷ h) line = length-newest h line
 
 -- where the queue gives every byte of a line, they are the newest
 pub layer-newest : {n m e : ℕ} (h : List (Event n)) (bank : BankState n m e) (array : ArrayState n m) (line : ℕ) → Holds h bank array

@@ -5,7 +5,8 @@ use Rattle.std.proofs.lemmas.List.{length-replicate}
 use Rattle.masked_bytes.specs.declared.entry.Entry.{Entry}
 use Rattle.masked_bytes.specs.Masked.{laid, joined, gives_all, IsMasked}
 use Rattle.masked_bytes.specs.Entries.{Layer, no_layer, stacked, layer_by, layer_of, head_row, head_line, AllMasked, or_this, newest_row, candidate, laid_on, merged, has_row, RowsApart}
-use Rattle.masked_bytes.proofs.Layering.{length-laid, length-joined, laid-all_given, laid-none_given, all_given-gives_all, laid-laid}
+use Rattle.masked_bytes.proofs.Layering.{length-laid, laid-again, laid-between, length-joined, laid-all_given, laid-none_given, all_given-gives_all, laid-laid}
+use Rattle.masked_bytes.proofs.Queueing.{candidate-newest}
 use Rattle.masked_bytes.proofs.Standing.{layer_of-head}
 use Rattle.bank_shape.specs.declared.BankShape.{BankShape}
 use Rattle.bank_shape.specs.declared.answer.WriteAnswer.TheVariants as wrote
@@ -18,33 +19,8 @@ use Rattle.bank_laws.proofs.Pairs.{no_candidate-rest, pair_law}
 use Rattle.bank_laws.proofs.Standing.{stand_apart}
 use Rattle.bank_invariant.proofs.Taking.{answer_merged}
 use Rattle.clock_laws.specs.Newest.{GiveNewest, EntryLaw}
-use Rattle.bank_invariant.proofs.Awaiting.{length-newest}
+use Rattle.bank_model.proofs.Newest.{length-newest}
 use Rattle.clock_laws.proofs.Deciding.{or_back, or_left, or_none, or_right, turned}
-
--- Bytes
-
-laid-again : (bytes : List ℕ) (given : List Bool) (under : List ℕ) → laid bytes given (laid bytes given under) ≡ laid bytes given under
-laid-again [] given under = refl
-laid-again (b ∷ bytes) [] under = refl
-laid-again (b ∷ bytes) (g ∷ given) [] = refl
-laid-again (b ∷ bytes) (true ∷ given) (u ∷ under) = ap (λ xs. b ∷ xs) (laid-again bytes given under)
-laid-again (b ∷ bytes) (false ∷ given) (u ∷ under) = ap (λ xs. u ∷ xs) (laid-again bytes given under)
-
--- bytes that change nothing of others change nothing of those that are laid over these, once they are laid over again
-laid-between : (bytes : List ℕ) (given : List Bool) (own : List ℕ) (also : List Bool) (under : List ℕ) → laid own also under ≡ under
-    → laid bytes given (laid own also (laid bytes given under)) ≡ laid bytes given under
-laid-between [] given own also under still = still
-laid-between (b ∷ bytes) [] own also under still = still
-laid-between (b ∷ bytes) (g ∷ given) [] also under still = laid-again (b ∷ bytes) (g ∷ given) under
-laid-between (b ∷ bytes) (g ∷ given) (o ∷ own) [] under still = laid-again (b ∷ bytes) (g ∷ given) under
-laid-between (b ∷ bytes) (g ∷ given) (o ∷ own) (a ∷ also) [] still = refl
-laid-between (b ∷ bytes) (true ∷ given) (o ∷ own) (a ∷ also) (u ∷ under) still =
-    let rest : laid own also under ≡ under = cc in
-    ap (λ xs. b ∷ xs) (laid-between bytes given own also under rest)
-laid-between (b ∷ bytes) (false ∷ given) (o ∷ own) (a ∷ also) (u ∷ under) still =
-    let first : cond a o u ≡ u = cc in
-    let rest : laid own also under ≡ under = cc in
-    ap (λ x. x ∷ laid bytes given (laid own also (laid bytes given under))) first ∙ ap (λ xs. u ∷ xs) (laid-between bytes given own also under rest)
 
 -- an entry of n bytes changes nothing of what was newest as of its write; and if it is the newest of its line, that is newest now
 pub record IsFresh {n : ℕ} (was now : List ℕ) (behind : Bool) (entry : Entry n) : Type 0 where
@@ -268,16 +244,6 @@ module _ {n : ℕ} where
   newest_of-if false first other at = refl
 
   module _ (shape : BankShape) (most : ℕ) where
-    -- the entry that a write is merged into is the newest of its line
-    candidate-newest : (busy : Bool) (es : List (Entry n)) (line old : ℕ) → candidate busy es line ≡ Some old → newest_row es line ≡ Some old
-    candidate-newest busy [] line old is = cc
-    candidate-newest busy (e ∷ es) line old is = by (newest_row es line) busy (e.line == line) is
-      where
-        by : (rest : Option ℕ) (busy at : Bool) → or_this rest (if not busy && at then Some e.row else None) ≡ Some old → or_this rest (if at then Some e.row else None) ≡ Some old
-        by (Some row) busy at is = is
-        by None true at is = cc
-        by None false at is = is
-
     begun-fresh : (h : List (Event n)) → MayAll shape most h → AreFresh (newest_at h) (newest h) (queue shape h)
         → AreFresh (newest_at h) (newest h) (begun (due_after shape h) (newest h) (queue shape h))
     begun-fresh h may fresh =

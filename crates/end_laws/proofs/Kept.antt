@@ -8,6 +8,7 @@ use Rattle.masked_bytes.specs.Entries.{layer_of}
 use Rattle.row_laws.specs.Answers.{is_stored}
 use Rattle.row_laws.specs.Rows as rows
 use Rattle.row_laws.specs.Queueing.{unstored}
+use Rattle.masked_bytes.proofs.Layering.{laid-over}
 use Rattle.bank_shape.specs.declared.BankShape.{BankShape}
 use Rattle.power_recovery.specs.Kept.{array_line}
 use Rattle.bank_model.specs.History.{queue, moved_in}
@@ -33,20 +34,6 @@ use Rattle.bank_invariant.specs.Tied.{decoded}
 use Rattle.end_laws.specs.Ends.{is_excepted, is_kept_line, place_by_table}
 use Rattle.end_laws.specs.EndLaws.{KeptLaw, StandsLaw, whole_head}
 use Rattle.end_laws.proofs.Leaving.{agreeing}
-
--- bytes laid over a line once more change nothing
-laid-self : (bytes : List ℕ) (given : List Bool) → laid bytes given bytes ≡ bytes
-laid-self [] given = refl
-laid-self (b ∷ bytes) [] = refl
-laid-self (b ∷ bytes) (true ∷ given) = ap (λ rest. b ∷ rest) (laid-self bytes given)
-laid-self (b ∷ bytes) (false ∷ given) = ap (λ rest. b ∷ rest) (laid-self bytes given)
-
-laid-again : (bytes : List ℕ) (given : List Bool) (under : List ℕ) → laid (laid bytes given under) given under ≡ laid bytes given under
-laid-again [] given under = laid-self under given
-laid-again (b ∷ bytes) [] under = laid-self under []
-laid-again (b ∷ bytes) (g ∷ given) [] = refl
-laid-again (b ∷ bytes) (true ∷ given) (u ∷ under) = ap (λ rest. b ∷ rest) (laid-again bytes given under)
-laid-again (b ∷ bytes) (false ∷ given) (u ∷ under) = ap (λ rest. u ∷ rest) (laid-again bytes given under)
 
 module _ {n : ℕ} where
   -- the entries of a line that isn't the head's, or whose head lacks a byte, give what the writes from the floor on give
@@ -90,7 +77,7 @@ module _ {n m : ℕ} (shape : BankShape) (pace : Pace) (e : ℕ) (all : List (Ti
 -- where the given bytes laid over a line's make the newest, so do those of the newest
 kept_line : (new bytes held : List ℕ) (given free : List Bool) → laid bytes given held ≡ new → given ≡ free → laid new free held ≡ new
 kept_line new bytes held given free is same =
-    ap (λ g. laid new g held) (sym same) ∙ ap (λ k. laid k given held) (sym is) ∙ laid-again bytes given held ∙ is
+    ap (λ g. laid new g held) (sym same) ∙ ap (λ k. laid k given held) (sym is) ∙ laid-over bytes given held ∙ is
 
 pub stands_law : StandsLaw
 stands_law n m e pace xs bank array line l holds exists =

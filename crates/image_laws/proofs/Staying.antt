@@ -23,20 +23,10 @@ use Rattle.module_shape.specs.Addresses.{module_of, bank_shape}
 use Rattle.module_laws.specs.Asking.{row_with}
 use Rattle.module_laws.specs.Serves.{BankTableLaw}
 use Rattle.end_laws.specs.Ends.{BankEnd}
+use Rattle.run_laws.proofs.Finished.{sized}
 use Rattle.run_laws.specs.Runs.{RunsRight, bank_of_line, line_in_bank, pacing_in, rules_in, table_in}
 use Rattle.pcm_image.specs.Saved.{Saved}
 use Rattle.image_laws.specs.SavedRuns.{IsLeft, SensedSince, StaysRightLaw}
-
-sized : (raw : RawShape) (bank : ℕ) → IsShape raw → IsSized (bank_shape (module_of raw) bank) (pacing_in raw)
-sized raw bank is = record {
-  regions = is.some_regions;
-  lines = omega (arith, is.some_lines);
-  writes = is.some_writes;
-  reads = is.some_reads;
-  psi = is.some_psi;
-  read = is.some_read_ticks;
-  iter = is.some_iter_ticks;
-}
 
 -- but for its log the array is as it was
 but-log : {n m : ℕ} (before after : ArrayState n m) → SensedSince before after

@@ -8,6 +8,7 @@ use Rattle.masked_bytes.specs.Masked.{laid}
 use Rattle.result_rows.specs.declared.Outcome.{Outcome}
 use Rattle.result_rows.specs.declared.Outcome.TheVariants as out
 use Rattle.row_laws.specs.Serving.{same_bytes}
+use Rattle.masked_bytes.proofs.Layering.{laid-over}
 use Rattle.bank_shape.specs.declared.BankShape.{BankShape}
 use Rattle.bank_shape.specs.declared.answer.Served.{Served}
 use Rattle.bank_shape.specs.declared.answer.WriteAnswer.TheVariants as wrote
@@ -32,20 +33,6 @@ use Rattle.bank_laws.proofs.Standing.{stand_apart}
 use Rattle.log_laws.proofs.Naming.{rows_below-end}
 use Rattle.log_laws.proofs.Outing.{core-append}
 use Rattle.log_laws.proofs.Storing.{one_sense, now-sensed, older-sensed}
-
--- bytes laid twice are laid once
-laid-self : (given : List Bool) (under : List ℕ) → laid under given under ≡ under
-laid-self given [] = refl
-laid-self [] (u ∷ under) = refl
-laid-self (true ∷ given) (u ∷ under) = ap (λ xs. u ∷ xs) (laid-self given under)
-laid-self (false ∷ given) (u ∷ under) = ap (λ xs. u ∷ xs) (laid-self given under)
-
-laid-again : (bytes : List ℕ) (given : List Bool) (under : List ℕ) → laid (laid bytes given under) given under ≡ laid bytes given under
-laid-again [] given under = laid-self given under
-laid-again (b ∷ bytes) [] under = laid-self [] under
-laid-again (b ∷ bytes) (g ∷ given) [] = refl
-laid-again (b ∷ bytes) (true ∷ given) (u ∷ under) = ap (λ xs. b ∷ xs) (laid-again bytes given under)
-laid-again (b ∷ bytes) (false ∷ given) (u ∷ under) = ap (λ xs. u ∷ xs) (laid-again bytes given under)
 
 -- a read that waits with this one's row is this one
 abbrev pub OnlyOne : Awaited → List Awaited → Type 0
@@ -206,6 +193,6 @@ module _ {n m : ℕ} (shape : BankShape) (pace : Pace) (e : ℕ) (mine : Awaited
             let k = served-sense (mid ++ x ∷ ys) y y.happens u p bytes l.0 (only-in mid l.1) now in
             let w = k.1 in
             let gives : bytes ≡ laid mine.newest mine.given (decode e w.sense.cells) =
-            w.over ∙ sym (laid-again mine.kept mine.given (decode e w.sense.cells)) ∙ ap (λ b. laid b mine.given (decode e w.sense.cells)) (sym w.over ∙ w.owed) in
+            w.over ∙ sym (laid-over mine.kept mine.given (decode e w.sense.cells)) ∙ ap (λ b. laid b mine.given (decode e w.sense.cells)) (sym w.over ∙ w.owed) in
             now-sensed (decode e) (mid ++ x ∷ ys) y w.sense p u (λ under. same_bytes bytes (laid mine.newest mine.given under)) w.are w.line (w.tick ∙ k.0) (same_bytes-same bytes _ gives)
         by (inr before) rest = older-sensed (decode e) (mid ++ x ∷ ys) y p u (λ under. same_bytes bytes (laid mine.newest mine.given under)) (rest before)

@@ -1,5 +1,5 @@
 -- Laying bytes over others: lengths, single bytes, and what is laid over what is laid.
-use Rattle.std.proofs.Common.{◌≡◌, ℕ, ◌<◌, List, [], ◌∷◌, Bool, true, false, ◌||◌, ◌&&◌, ◌==◌, if◌then◌else◌, zero, suc, length, get_or, take, replicate, refl, ap, ◌∙◌, arith, slice_set, eqb-true, bit_and, bit_xor, ◌+◌, ◌-◌, ◌%◌, ◌^◌, sym}
+use Rattle.std.proofs.Common.{◌≡◌, ℕ, ◌<◌, List, [], ◌∷◌, Bool, true, false, ◌||◌, ◌&&◌, ◌==◌, if◌then◌else◌, cond, zero, suc, length, get_or, take, replicate, refl, ap, ◌∙◌, arith, slice_set, eqb-true, bit_and, bit_xor, ◌+◌, ◌-◌, ◌%◌, ◌^◌, sym}
 use Rattle.std.specs.Int.Bits.{xor_self, xor_assoc, xor_zero_l, xor_zero_r, and_zero_r}
 use Rattle.std.proofs.lemmas.Nat.{and_mask, xor_lt}
 use Rattle.std.proofs.lemmas.List.{length-replicate}
@@ -216,3 +216,42 @@ picked true above below bit one none h k =
     let small : bit_xor below above < 2 ^ 8 = xor_lt 8 below above k h in
     let all : bit_and (bit_xor below above) (2 ^ 8 - 1) ≡ bit_xor below above = and_mask (bit_xor below above) 8 ∙ omega arith in
     rw (one refl) (ap (bit_xor below) all ∙ sym (xor_assoc below below above) ∙ rw (xor_self below) (xor_zero_l above))
+
+-- bytes laid over themselves are those
+pub laid-self : (bytes : List ℕ) (given : List Bool) → laid bytes given bytes ≡ bytes
+laid-self [] given = refl
+laid-self (b ∷ bytes) [] = refl
+laid-self (b ∷ bytes) (true ∷ given) = ap (λ rest. b ∷ rest) (laid-self bytes given)
+laid-self (b ∷ bytes) (false ∷ given) = ap (λ rest. b ∷ rest) (laid-self bytes given)
+
+-- what was made by laying bytes over others, laid over those, is the same
+pub laid-over : (bytes : List ℕ) (given : List Bool) (under : List ℕ) → laid (laid bytes given under) given under ≡ laid bytes given under
+laid-over [] given under = laid-self under given
+laid-over (b ∷ bytes) [] under = laid-self under []
+laid-over (b ∷ bytes) (g ∷ given) [] = refl
+laid-over (b ∷ bytes) (true ∷ given) (u ∷ under) = ap (λ rest. b ∷ rest) (laid-over bytes given under)
+laid-over (b ∷ bytes) (false ∷ given) (u ∷ under) = ap (λ rest. u ∷ rest) (laid-over bytes given under)
+
+-- bytes that are laid over others change nothing of them when they are laid over them again
+pub laid-again : (bytes : List ℕ) (given : List Bool) (under : List ℕ) → laid bytes given (laid bytes given under) ≡ laid bytes given under
+laid-again [] given under = refl
+laid-again (b ∷ bytes) [] under = refl
+laid-again (b ∷ bytes) (g ∷ given) [] = refl
+laid-again (b ∷ bytes) (true ∷ given) (u ∷ under) = ap (λ xs. b ∷ xs) (laid-again bytes given under)
+laid-again (b ∷ bytes) (false ∷ given) (u ∷ under) = ap (λ xs. u ∷ xs) (laid-again bytes given under)
+
+-- bytes that change nothing of others change nothing of those that are laid over these, once they are laid over again
+pub laid-between : (bytes : List ℕ) (given : List Bool) (own : List ℕ) (also : List Bool) (under : List ℕ) → laid own also under ≡ under
+    → laid bytes given (laid own also (laid bytes given under)) ≡ laid bytes given under
+laid-between [] given own also under still = still
+laid-between (b ∷ bytes) [] own also under still = still
+laid-between (b ∷ bytes) (g ∷ given) [] also under still = laid-again (b ∷ bytes) (g ∷ given) under
+laid-between (b ∷ bytes) (g ∷ given) (o ∷ own) [] under still = laid-again (b ∷ bytes) (g ∷ given) under
+laid-between (b ∷ bytes) (g ∷ given) (o ∷ own) (a ∷ also) [] still = refl
+laid-between (b ∷ bytes) (true ∷ given) (o ∷ own) (a ∷ also) (u ∷ under) still =
+    let rest : laid own also under ≡ under = cc in
+    ap (λ xs. b ∷ xs) (laid-between bytes given own also under rest)
+laid-between (b ∷ bytes) (false ∷ given) (o ∷ own) (a ∷ also) (u ∷ under) still =
+    let first : cond a o u ≡ u = cc in
+    let rest : laid own also under ≡ under = cc in
+    ap (λ x. x ∷ laid bytes given (laid own also (laid bytes given under))) first ∙ ap (λ xs. u ∷ xs) (laid-between bytes given own also under rest)

@@ -36,7 +36,8 @@ use Rattle.bank_laws.proofs.Lines.{Stands, stands-one, merged-candidate, merges-
 use Rattle.bank_laws.proofs.Waiting.{may_all}
 use Rattle.bank_laws.proofs.Pending.{queue-asked, writes_in, writes-fall}
 use Rattle.queue_laws.proofs.Order.{Leads, InOrder, in_order, stands-pushed, stands-was, below_among}
-use Rattle.queue_laws.proofs.Showing.{Front, Tails, front-same, tails-same, front-push, tails-push, front-merged, tails-merged, candidate-newest, front-push_other, tails-push_other, front-merged_other, tails-merged_other, front-begun, tails-begun, front-stored, front-stored_other}
+use Rattle.masked_bytes.proofs.Queueing.{candidate-newest}
+use Rattle.queue_laws.proofs.Showing.{Front, Tails, front-same, tails-same, front-push, tails-push, front-merged, tails-merged, front-push_other, tails-push_other, front-merged_other, tails-merged_other, front-begun, tails-begun, front-stored, front-stored_other}
 use Rattle.queue_laws.proofs.Floors.{since, floor_of, Asked, asked-one, since-none, since-joins, since-other, floor-bound, floor-agree, floor-above, floor-own, floor-new, stored-agree}
 
 module _ {n : ℕ} where

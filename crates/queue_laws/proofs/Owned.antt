@@ -6,12 +6,13 @@ use Rattle.std.proofs.lemmas.List.{length-replicate}
 use Rattle.masked_bytes.specs.declared.entry.Entry.{Entry}
 use Rattle.masked_bytes.specs.Masked.{laid, IsMasked}
 use Rattle.masked_bytes.specs.Entries.{Layer, stacked, laid_on, merged, completed_by, has_row, RowsApart}
-use Rattle.masked_bytes.proofs.Layering.{length-laid, length-joined, laid-all_given, laid-laid, gives_all-all_given, all_given-gives_all}
+use Rattle.masked_bytes.proofs.Layering.{length-laid, laid-again, laid-between, length-joined, laid-all_given, laid-laid, gives_all-all_given, all_given-gives_all}
 use Rattle.bank_shape.specs.declared.BankShape.{BankShape}
 use Rattle.bank_shape.specs.declared.Work.TheVariants.{Nothing}
 use Rattle.bank_shape.specs.declared.answer.WriteAnswer.TheVariants as wrote
 use Rattle.bank_shape.specs.declared.answer.Step.TheVariants as did
 use Rattle.bank_model.specs.Events.{Event, Write, Read, Serve, Begin, Iterate, Cut, newest, RowsBelow}
+use Rattle.bank_model.proofs.Newest.{length-newest}
 use Rattle.bank_model.specs.History.{Awaited, begun, queue, waits, due_after, has_exhausted, in_progress}
 use Rattle.bank_model.specs.After.{is_ready, due_work}
 use Rattle.bank_model.specs.Answers.{MayAll}
@@ -20,49 +21,6 @@ use Rattle.bank_laws.proofs.Lines.{Stands, stands-row, merges-stands}
 use Rattle.bank_laws.proofs.Pairs.{and_right, gives_all-joined}
 use Rattle.bank_laws.proofs.Standing.{stand_apart}
 use Rattle.queue_laws.specs.EntryLaws.{line_written, given_by, is_head_begun, Gives, EntryLineLaw, EntryBytesLaw}
-
--- Bytes
-
--- bytes that are laid over others change nothing of them when they are laid over them again
-laid-again : (bytes : List ℕ) (given : List Bool) (under : List ℕ) → laid bytes given (laid bytes given under) ≡ laid bytes given under
-laid-again [] given under = refl
-laid-again (b ∷ bytes) [] under = refl
-laid-again (b ∷ bytes) (g ∷ given) [] = refl
-laid-again (b ∷ bytes) (true ∷ given) (u ∷ under) = ap (λ xs. b ∷ xs) (laid-again bytes given under)
-laid-again (b ∷ bytes) (false ∷ given) (u ∷ under) = ap (λ xs. u ∷ xs) (laid-again bytes given under)
-
--- nor do those that changed nothing of them before
-laid-between : (bytes : List ℕ) (given : List Bool) (own : List ℕ) (also : List Bool) (under : List ℕ) → laid own also under ≡ under
-    → laid bytes given (laid own also (laid bytes given under)) ≡ laid bytes given under
-laid-between [] given own also under still = still
-laid-between (b ∷ bytes) [] own also under still = still
-laid-between (b ∷ bytes) (g ∷ given) [] also under still = laid-again (b ∷ bytes) (g ∷ given) under
-laid-between (b ∷ bytes) (g ∷ given) (o ∷ own) [] under still = laid-again (b ∷ bytes) (g ∷ given) under
-laid-between (b ∷ bytes) (g ∷ given) (o ∷ own) (a ∷ also) [] still = refl
-laid-between (b ∷ bytes) (true ∷ given) (o ∷ own) (a ∷ also) (u ∷ under) still =
-    let rest : laid own also under ≡ under = cc in
-    ap (λ xs. b ∷ xs) (laid-between bytes given own also under rest)
-laid-between (b ∷ bytes) (false ∷ given) (o ∷ own) (a ∷ also) (u ∷ under) still =
-    let first : cond a o u ≡ u = cc in
-    let rest : laid own also under ≡ under = cc in
-    ap (λ x. x ∷ laid bytes given (laid own also (laid bytes given under))) first ∙ ap (λ xs. u ∷ xs) (laid-between bytes given own also under rest)
-
-length-laid_if : (b : Bool) (bytes : List ℕ) (given : List Bool) (under : List ℕ) (n : ℕ) → length under ≡ n
-    → length (cond b (laid bytes given under) under) ≡ n
-length-laid_if true bytes given under n len = length-laid bytes given under ∙ len
-length-laid_if false bytes given under n len = len
-
-length-newest : {n : ℕ} (h : List (Event n)) (line : ℕ) → length (newest h line) ≡ n
-length-newest {n = n} [] line = length-replicate n 0
-length-newest {n = n} (Write row at bytes given wrote.Accepted ∷ h) line = length-laid_if (at == line) bytes given (newest h line) n (length-newest h line)
-length-newest {n = n} (Write row at bytes given (wrote.Merged old) ∷ h) line = length-laid_if (at == line) bytes given (newest h line) n (length-newest h line)
-length-newest (Write row at bytes given wrote.Full ∷ h) line = length-newest h line
-length-newest (Write row at bytes given wrote.Exhausted ∷ h) line = length-newest h line
-length-newest (Read row at answer ∷ h) line = length-newest h line
-length-newest (Serve answer ∷ h) line = length-newest h line
-length-newest (Begin answer ∷ h) line = length-newest h line
-length-newest (Iterate answer ∷ h) line = length-newest h line
-length-newest (Cut tearing ∷ h) line = length-newest h line
 
 -- Entries
 

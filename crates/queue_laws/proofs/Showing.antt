@@ -112,16 +112,6 @@ module _ {n : ℕ} where
             ((λ k. spread-merged old at bytes given es line apart.1 l.1 long (is ∙ h) ∙ ap (λ k. joined given k) (f.0 k) ∙ sym (joins (suc e.row) (omega (arith, lt)))), go (is ∙ h))
         by None is go h = own (eqb e.line line) refl is h
 
-  -- the candidate of a write is the newest of its line
-  pub candidate-newest : (busy : Bool) (es : List (Entry n)) (line old : ℕ) → candidate busy es line ≡ Some old → newest_row es line ≡ Some old
-  candidate-newest busy [] line old c = c
-  candidate-newest busy (e ∷ es) line old c = by (merges_into busy e es line old c)
-    where
-      by : MergesInto busy e es line old → newest_row (e ∷ es) line ≡ Some old
-      by (inl new) = ap (λ r. or_this r (cond (eqb e.line line) (Some e.row) None)) new
-      by (inr is) =
-          ap (λ r. or_this r (cond (eqb e.line line) (Some e.row) None)) is.0 ∙ ap (λ b. cond b (Some e.row) None) (eq-eqb e.line line is.2) ∙ ap Some is.1
-
   -- A write of another line
 
   module _ (s : ℕ → List Bool) (line : ℕ) where

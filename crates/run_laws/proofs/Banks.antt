@@ -15,16 +15,8 @@ use Rattle.clock_laws.specs.Ending.{LeavingLaw}
 use Rattle.clock_laws.specs.State.{ClockState}
 use Rattle.clock_laws.specs.Leads.{Leads}
 use Rattle.end_laws.specs.Ends.{EndsWith}
+use Rattle.end_laws.proofs.Ending.{excepted-whole}
 use Rattle.end_laws.specs.EndLaws.{IsHaltedWorn, IsEndOf, RemappedLaw, GapsLaw, KeptLaw, QueuedLaw, StillThereLaw, end_of, whole_head}
-
--- an excepted line is the head's, which gives every byte
-excepted-whole : {n : ℕ} (es : List (Entry n)) → IfSome (whole_head es) (λ line. IsSomeAnd (slice_get es 0) (λ head. (head.line ≡ line) × IsTrue (gives_all head.given)))
-excepted-whole [] = tt
-excepted-whole (x ∷ es) = by (gives_all x.given) refl
-  where
-    by : (b : Bool) → gives_all x.given ≡ b → IfSome (cond b (Some x.line) None) (λ line. (x.line ≡ line) × IsTrue (gives_all x.given))
-    by true all = (refl, all)
-    by false lacks = tt
 
 module _ {n m e : ℕ} (xs : List (Timed n m)) (clock : ClockState n m e) (array : ArrayState n m) (leads : Leads xs clock array) where
   -- the end of a bank is that of what it keeps

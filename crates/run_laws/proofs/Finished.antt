@@ -55,7 +55,7 @@ pub record BankLaws : Type 0 where
   pub still : StillThereLaw
 
 -- each bank of a module has its sizes
-sized : (raw : RawShape) (bank : ℕ) → IsShape raw → IsSized (bank_shape (module_of raw) bank) (pacing_in raw)
+pub sized : (raw : RawShape) (bank : ℕ) → IsShape raw → IsSized (bank_shape (module_of raw) bank) (pacing_in raw)
 sized raw bank is = record {
   regions = is.some_regions;
   lines = omega (arith, is.some_lines);

@@ -2,7 +2,7 @@ use Rattle.std.proofs.Common.{◌∙◌, arith}
 use Rattle.row_verdict.specs.Verdicts.{rows_with}
 use Rattle.result_check.proofs.Checking.{table_of}
 use Rattle.result_check.proofs.Going.{goes_first}
-use Rattle.result_check.proofs.Sizes.{event_fits}
+use Rattle.trace_reader.proofs.Sizes.{event_fits}
 use Rattle.result_check.proofs.check.Goals as goal
 
 pub of-requires : goal.of-requires

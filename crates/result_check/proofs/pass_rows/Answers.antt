@@ -8,7 +8,8 @@ use Rattle.result_check.specs.Tables.{IsRowOf}
 use Rattle.result_check.proofs.Finding.{rows_next, rows_length, outcome_there}
 use Rattle.result_check.proofs.Going.{cuts_below, coming_length, coming_got, meets, goes_on, goes_no, goes_yes, next_cuts, usable, piece_sorted, piece_few}
 use Rattle.result_check.proofs.Rows.{one_of_every}
-use Rattle.result_check.proofs.Sizes.{event_fits, outcome_fits, op_fits}
+use Rattle.trace_reader.proofs.Sizes.{event_fits, op_fits}
+use Rattle.result_rows.proofs.Sizes.{outcome_fits}
 use Rattle.result_check.proofs.pass_rows.Goals as goal
 
 pub cuts_with-cuts-requires : goal.cuts_with-cuts-requires

@@ -10,7 +10,8 @@ use Rattle.result_check.specs.Finding.{IsBelow, row_of}
 use Rattle.result_check.specs.Keeping.{IsNext, HasPassed}
 use Rattle.result_check.proofs.Meeting.{next_of, fourth_below, few_wait}
 use Rattle.result_check.proofs.Rows.{short_of_brief}
-use Rattle.result_check.proofs.Sizes.{op_fits, outcome_fits}
+use Rattle.trace_reader.proofs.Sizes.{op_fits}
+use Rattle.result_rows.proofs.Sizes.{outcome_fits}
 use Rattle.result_check.proofs.kept.Kept.take.Goals as goal
 
 pub take_read-requires : goal.take_read-requires

@@ -17,3 +17,10 @@ line_le b h = omega arith
 
 pub event_fits : (b : ℕ) → b ≤ 128 → up 8 (8 + up 4 (max 8 (max (8 + (b * 1)) (max (up 1 (8 + (b * 1)) + (b * 1)) 1)))) < 9223372036854775808
 event_fits b h = below _ (ops_le _ _ (line_le b h) (masked_le _ b (line_le b h) h))
+
+-- and so does its operation
+ops_below : (ops : ℕ) → ops ≤ 269 → ops < 9223372036854775808
+ops_below ops h = omega arith
+
+pub op_fits : (b : ℕ) → b ≤ 128 → up 4 (max 8 (max (8 + (b * 1)) (max (up 1 (8 + (b * 1)) + (b * 1)) 1))) < 9223372036854775808
+op_fits b h = ops_below _ (ops_le _ _ (line_le b h) (masked_le _ b (line_le b h) h))
