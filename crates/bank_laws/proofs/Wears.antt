@@ -2,7 +2,7 @@
 use Rattle.std.proofs.Common.{◌≡◌, ◌≢◌, ℕ, ◌<◌, ◌≤◌, ◌&&◌, ◌||◌, ◌⊎◌, inl, inr, Bool, true, false, List, [], ◌∷◌, ◌++◌, Option, Some, None, length, refl, sym, ap, ◌∙◌, subst, arith, cond, eqb, append_assoc}
 use Rattle.std.specs.Prelude.{unwrap_or, nat_le}
 use Rattle.std.specs.List.{list_any}
-use Rattle.std.proofs.lemmas.Bool.{lt-leb}
+use Rattle.std.proofs.lemmas.Bool.{lt-leb, and_left, and_right, or_from}
 use Rattle.std.proofs.lemmas.List.Folds.{list_any-append}
 use Rattle.result_rows.specs.declared.Outcome.{Outcome}
 use Rattle.result_rows.specs.declared.Outcome.TheVariants as out
@@ -27,20 +27,12 @@ use Rattle.bank_laws.specs.Outcomes.{on_row, outcome_with, outcome_of, ended, ro
 use Rattle.bank_laws.specs.Standing.{has_wait}
 use Rattle.bank_laws.specs.Settling.{AreOpen}
 use Rattle.bank_laws.specs.Ticks.{ends_action}
-use Rattle.bank_laws.proofs.Entries.{either, or_none}
+use Rattle.bank_laws.proofs.Entries.{either}
 use Rattle.bank_laws.proofs.Settling.{lawful_before}
 use Rattle.bank_laws.proofs.Ticks.{last_tick-rises, last-below}
 use Rattle.bank_laws.proofs.Walking.{rows_after}
 use Rattle.bank_laws.proofs.Ending.{Onwards, IsOutcome, write_outcome, outcome-accepts}
 use Rattle.bank_laws.proofs.Serves.{may_at, onwards_at}
-
-and_first : (a b : Bool) → a ≡ false → (a && b) ≡ false
-and_first true b h = absurd (cc)
-and_first false b h = refl
-
-pub and_second : (a b : Bool) → b ≡ false → (a && b) ≡ false
-and_second true b h = h
-and_second false b h = refl
 
 or_rest : (a b : Bool) → a ≡ false → (a || b) ≡ true → b ≡ true
 or_rest true b h k = absurd (cc)
@@ -267,8 +259,8 @@ module _ {n m : ℕ} (shape : BankShape) (pace : Pace) (e : ℕ) (all : List (Ti
           let ex : has_exhausted (core ys) ≡ true =
           refused-exhausted shape (core ys) line
           (sym (worn_outcome x.tick answer (ended x.tick (outcome_of shape all at)) (write_outcome shape pace e all ys x at line bytes given answer o may on) worn) ∙ may.may.2) in
-          or_none (is_worn (ended x.tick (outcome_of shape all at)) && nat_le x.tick u) false (and_second (is_worn (ended x.tick (outcome_of shape all at))) _ (lt-leb x.tick u (above ex))) refl)
-          (λ fine. or_none (is_worn (ended x.tick (outcome_of shape all at)) && nat_le x.tick u) false (and_first (is_worn (ended x.tick (outcome_of shape all at))) _ fine) refl)
+          or_from (is_worn (ended x.tick (outcome_of shape all at)) && nat_le x.tick u) false (and_right (is_worn (ended x.tick (outcome_of shape all at))) _ (lt-leb x.tick u (above ex))) refl)
+          (λ fine. or_from (is_worn (ended x.tick (outcome_of shape all at)) && nat_le x.tick u) false (and_left (is_worn (ended x.tick (outcome_of shape all at))) _ fine) refl)
       by (Core (Read at line answer)) cancels may on above = refl
       by (Core (Serve answer)) cancels may on above = refl
       by (Regs event) cancels may on above = refl
@@ -282,7 +274,7 @@ module _ {n m : ℕ} (shape : BankShape) (pace : Pace) (e : ℕ) (all : List (Ti
   none_worn_before later [] row u p r i l o same s = refl
   none_worn_before later (x ∷ ys) row u p r i l o same s =
       list_any-append (λ (q : Row n). worn_row q && nat_le q.tick u) (row_with shape all x.happens x.tick x.cancels) (rows_from shape all ys)
-      ∙ or_none _ _ (not_worn_here later x ys row u p r i l o same s)
+      ∙ or_from _ _ (not_worn_here later x ys row u p r i l o same s)
       (none_worn_before (later ++ x ∷ []) ys row u p r i l o (same ∙ sym (append_assoc later (x ∷ []) ys)) s)
 
   pub none_worn_after : (pre later zs : List (Timed n m)) (row u p : ℕ) → 1 ≤ pace.read → 1 ≤ pace.iter → Lawful shape pace e all → AreOpen shape all → all ≡ pre ++ (later ++ zs)
@@ -290,7 +282,7 @@ module _ {n m : ℕ} (shape : BankShape) (pace : Pace) (e : ℕ) (all : List (Ti
   none_worn_after pre [] zs row u p r i l o same s = refl
   none_worn_after pre (x ∷ later) zs row u p r i l o same s =
       list_any-append (λ (q : Row n). worn_row q && nat_le q.tick u) (rows_after shape all later) (row_with shape all x.happens x.tick x.cancels)
-      ∙ or_none _ _ (none_worn_after (pre ++ x ∷ []) later zs row u p r i l o (same ∙ sym (append_assoc pre (x ∷ []) (later ++ zs))) s)
+      ∙ or_from _ _ (none_worn_after (pre ++ x ∷ []) later zs row u p r i l o (same ∙ sym (append_assoc pre (x ∷ []) (later ++ zs))) s)
       (not_worn_here pre x (later ++ zs) row u p r i l o same s)
 
   -- a worn row among earlier ones comes of a bank that is exhausted

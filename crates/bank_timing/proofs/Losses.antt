@@ -1,6 +1,7 @@
 -- A power cut: what becomes of the clock, the array and the results.
 use Rattle.std.proofs.Common.{◌≡◌, ℕ, ◌+◌, ◌<◌, ◌==◌, ◌||◌, ◌&&◌, not, Bool, true, false, List, [], ◌∷◌, length, map, drop, Option, Some, None, is_some, refl, sym, ap, subst, ◌∙◌, arith, eq-eqb}
-use Rattle.std.proofs.lemmas.Bool.{false≢true, ne_eqb}
+use Rattle.masked_bytes.proofs.Truth.{neither_first, neither_second, and_first, and_second}
+use Rattle.std.proofs.lemmas.Bool.{false≢true, ne_eqb, or_right}
 use Rattle.std.specs.Prelude.{unwrap_or, IsTrue, if◌then◌else◌, slice_get}
 use Rattle.pcm_cells.specs.Device.{ArrayState}
 use Rattle.result_rows.specs.declared.Outcome.{Outcome}
@@ -40,7 +41,6 @@ use Rattle.clock_laws.proofs.Tearing.{cut_ends_law}
 use Rattle.clock_laws.proofs.Fitting.{needs_law}
 use Rattle.clock_laws.proofs.Elsewhere.{holds-same}
 use Rattle.clock_laws.proofs.Together.{controls_stay_law, cut_touches_law}
-use Rattle.clock_laws.proofs.Deciding.{or_left, or_right, or_back}
 use Rattle.clock_laws.proofs.Others.{apart_law, same_wait, other_rows_law}
 use Rattle.bank_timing.specs.Extending.{Extends, AreOpen, IsOpen, LeavesOthers, outcome_in}
 use Rattle.bank_shape.specs.declared.pace.Pace.{Pace}
@@ -62,7 +62,7 @@ module _ {n : ℕ} (tick : ℕ) where
   rest-open : (w : Waiting n) (ws : List (Waiting n)) (results : List (Outcome n)) → WaitingApart (w ∷ ws) → ((row : ℕ) → has_waiting (w ∷ ws) row ≡ true → IsOpen results row)
       → (row : ℕ) → has_waiting ws row ≡ true → IsOpen (with_outcome results w.row (out.Lost tick)) row
   rest-open w ws results apart unset row there =
-      open-set results w.row (out.Lost tick) row (unset w.row (waits-head w ws)).exists (apart-by (has_waiting ws) row w.row there apart.0) (unset row (or_back (w.row == row) (has_waiting ws row) there))
+      open-set results w.row (out.Lost tick) row (unset w.row (waits-head w ws)).exists (apart-by (has_waiting ws) row w.row there apart.0) (unset row (or_right (w.row == row) (has_waiting ws row) there))
 
   pub loses-open : (ws : List (Waiting n)) (results : List (Outcome n)) → WaitingApart ws → ((row : ℕ) → has_waiting ws row ≡ true → IsOpen results row) → LosesOpen tick (rows_of ws) results
   loses-open [] results apart unset = tt
@@ -74,8 +74,8 @@ module _ {n : ℕ} (tick : ℕ) where
       → has_waiting ws row ≡ false → IsOpen results row → IsOpen (lost_recorded tick (rows_of ws) results) row
   kept-open [] results row apart unset none own = own
   kept-open (w ∷ ws) results row apart unset none own =
-      kept-open ws (with_outcome results w.row (out.Lost tick)) row apart.1 (rest-open w ws results apart unset) (or_right (w.row == row) _ none)
-      (open-set results w.row (out.Lost tick) row (unset w.row (waits-head w ws)).exists (λ same. absurd (differ (w.row == row) (or_left (w.row == row) _ none) (eq-eqb w.row row (sym same)))) own)
+      kept-open ws (with_outcome results w.row (out.Lost tick)) row apart.1 (rest-open w ws results apart unset) (neither_second (w.row == row) _ none)
+      (open-set results w.row (out.Lost tick) row (unset w.row (waits-head w ws)).exists (λ same. absurd (differ (w.row == row) (neither_first (w.row == row) _ none) (eq-eqb w.row row (sym same)))) own)
     where
       differ : (a : Bool) → a ≡ false → a ≡ true → ⊥
       differ true h k = cc
@@ -145,14 +145,6 @@ iterating-fits {n} {m} {e} bank regs (Some a) fit is = iterates a.doing fit is
     iterates Beginning fit is = absurd (cc)
     iterates Iterating fit is = fit
 
-pub both-left : (a b : Bool) → (a && b) ≡ true → a ≡ true
-both-left true b is = refl
-both-left false b is = is
-
-pub both-right : (a b : Bool) → (a && b) ≡ true → b ≡ true
-both-right true b is = is
-both-right false b is = absurd (cc)
-
 pub not-some : {A : Type 0} (x : Option A) → not (is_some x) ≡ true → x ≡ None
 not-some None is = refl
 not-some (Some a) is = absurd (cc)
@@ -213,14 +205,14 @@ module _ {n m e : ℕ} {clock : ClockState n m e} {old : ArrayState n m} {result
   pub cut-ready : (tearing : Bool) → tearing ≡ (iterating && not stands) → IsTrue tearing → IsTrue (is_some clock.bank.running)
   cut-ready tearing is torn =
       let both : (iterating && not stands) ≡ true = sym is ∙ torn in
-      (needs_law n m e clock.bank clock.regs).iterates (not-some clock.regs.change (both-right iterating (not stands) both))
-      (iterating-fits clock.bank clock.regs clock.action c.fit (both-left iterating (not stands) both))
+      (needs_law n m e clock.bank clock.regs).iterates (not-some clock.regs.change (and_second iterating (not stands) both))
+      (iterating-fits clock.bank clock.regs clock.action c.fit (and_first iterating (not stands) both))
 
   pub cut-change-ready : (tearing : Bool) → tearing ≡ (iterating && stands) → IsTrue tearing → IsTrue (is_some clock.regs.writer)
   cut-change-ready tearing is torn =
       let both : (iterating && stands) ≡ true = sym is ∙ torn in
-      (needs_law n m e clock.bank clock.regs).iterates_change (both-right iterating stands both)
-      (iterating-fits clock.bank clock.regs clock.action c.fit (both-left iterating stands both))
+      (needs_law n m e clock.bank clock.regs).iterates_change (and_second iterating stands both)
+      (iterating-fits clock.bank clock.regs clock.action c.fit (and_first iterating stands both))
 
   -- the reads that the cut takes away have no outcome yet
   pub cut-open : LosesOpen clock.tick (rows_of clock.bank.waiting) results

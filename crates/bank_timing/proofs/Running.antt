@@ -1,5 +1,6 @@
 -- A bank runs on: action after action, and time between them.
 use Rattle.std.proofs.Common.{◌≡◌, ℕ, ◌+◌, ◌^◌, ◌<◌, ◌≤◌, false, List, [], ◌∷◌, ◌++◌, Some, refl, sym, ap, subst, ◌∙◌, arith}
+use Rattle.std.proofs.lemmas.Bool.{or_from}
 use Rattle.std.specs.Prelude.{IsTrue, unwrap_or}
 use Rattle.std.proofs.lemmas.List.Elements.{All-nil, All-cons, All-head, All-tail}
 use Rattle.pcm_cells.specs.Device.{ArrayState}
@@ -18,7 +19,6 @@ use Rattle.clock_laws.specs.State.{ClockState, next_action}
 use Rattle.clock_laws.specs.Leads.{Leads}
 use Rattle.clock_laws.specs.Passing.{at_tick}
 use Rattle.clock_laws.specs.Standing.{is_arrival_of, arrives_with}
-use Rattle.clock_laws.proofs.Deciding.{or_none}
 use Rattle.clock_laws.proofs.Draining.{ends-at}
 use Rattle.clock_laws.proofs.Extending.{nothing_added_law, both_added_law}
 use Rattle.clock_laws.proofs.Others.{other_rows_law}
@@ -52,7 +52,7 @@ module _ {n m : ℕ} where
   none-arrives : (added : List (Timed n m)) (row : ℕ) → IsQuiet added → arrives_with added row ≡ false
   none-arrives [] row quiet = refl
   none-arrives (x ∷ added) row quiet =
-      or_none (is_arrival_of x.happens row) _ (end-brings_none x.happens row (All-head Ends x added quiet)) (none-arrives added row (All-tail Ends x added quiet))
+      or_from (is_arrival_of x.happens row) _ (end-brings_none x.happens row (All-head Ends x added quiet)) (none-arrives added row (All-tail Ends x added quiet))
 
 module _ {n m e : ℕ} where
   pub no-events : (xs : List (Timed n m)) (clock : ClockState n m e) (array : ArrayState n m) (results : List (Outcome n)) → Leads xs clock array

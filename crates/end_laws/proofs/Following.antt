@@ -1,6 +1,6 @@
 -- What becomes of the line that a slot had: the slot has it still, or a later spare, and then it is worn.
 use Rattle.std.proofs.Common.{◌≡◌, ℕ, ◌+◌, ◌*◌, ◌/◌, ◌<◌, ◌≤◌, ◌==◌, ◌⊎◌, inl, inr, Bool, true, false, List, [], ◌∷◌, ◌++◌, length, length-append, refl, sym, ap, ◌∙◌, subst, arith, cond, append_assoc}
-use Rattle.std.proofs.lemmas.Bool.{eq-eqb, le-leb, lt-ltb}
+use Rattle.std.proofs.lemmas.Bool.{eq-eqb, le-leb, lt-ltb, and_from, or_left, or_right}
 use Rattle.result_rows.specs.declared.Outcome.{Outcome}
 use Rattle.result_rows.specs.declared.Outcome.TheVariants as out
 use Rattle.pcm_cells.specs.Device.{ArrayState}
@@ -24,13 +24,13 @@ use Rattle.bank_laws.specs.Outcomes.{outcome_of, ended, row_with, rows_from}
 use Rattle.bank_laws.specs.Places.{region_stores}
 use Rattle.bank_laws.proofs.Settling.{lawful_before, above_all}
 use Rattle.bank_laws.proofs.Waiting.{may_all}
-use Rattle.bank_laws.proofs.Walking.{Passes, walk, rows_after, and_both}
+use Rattle.bank_laws.proofs.Walking.{Passes, walk, rows_after}
 use Rattle.place_laws.proofs.Asked.{Asked, asked-within, wrote-asked, queue-wrote}
 use Rattle.place_laws.proofs.Moves.{keeps, none-due}
 use Rattle.place_laws.proofs.Tables.{between}
 use Rattle.place_laws.proofs.Slots.{slot_moved-within}
 use Rattle.place_laws.proofs.Splits.{IsStoredAt, stored-at}
-use Rattle.place_laws.proofs.Placed.{or_one, or_other, between_products, asked-later, SumsUp, stores-below, same_line}
+use Rattle.place_laws.proofs.Placed.{between_products, asked-later, SumsUp, stores-below, same_line}
 use Rattle.end_laws.specs.Ends.{has_place, outcome_ends, is_still_there}
 use Rattle.end_laws.specs.EndLaws.{StillThereLaw}
 use Rattle.end_laws.proofs.Leaving.{agreeing, recounted, leaves}
@@ -126,10 +126,10 @@ module _ {n m : ℕ} (shape : BankShape) (pace : Pace) (e : ℕ) (all : List (Ti
           omega (arith, here, less))
 
       by : (now ≡ was) ⊎ ((was < now) × (slots ≤ now)) → has_place (shape.base + slots) (is_worn_at e array) (shape.base + now) (shape.base + was) ≡ true
-      by (inl is) = or_one _ _ (eq-eqb (shape.base + now) (shape.base + was) (ap (λ k. shape.base + k) is))
+      by (inl is) = or_left _ _ (eq-eqb (shape.base + now) (shape.base + was) (ap (λ k. shape.base + k) is))
       by (inr up) =
-          or_other _ _ (and_both _ _ (lt-ltb (shape.base + was) (shape.base + now) (omega (arith, up.0)))
-          (and_both _ _ (le-leb (shape.base + slots) (shape.base + now) (omega (arith, up.1))) (gone up.0)))
+          or_right _ _ (and_from _ _ (lt-ltb (shape.base + was) (shape.base + now) (omega (arith, up.0)))
+          (and_from _ _ (le-leb (shape.base + slots) (shape.base + now) (omega (arith, up.1))) (gone up.0)))
 
   still_there : (rows : List (Row n)) (row line u p : ℕ) → SumsUp shape pace e all array sized l left rows → Asked (core all) row line → IsStoredAt shape all row u p
       → has_place (shape.base + slots_of shape) (is_worn_at e array) (table (slot_moved shape line (region_stores (stored_before u) shape (line / shape.lines) rows / shape.psi))) p ≡ true

@@ -1,5 +1,6 @@
 -- The pulses of one control line, by the changes of its item.
 use Rattle.std.proofs.Common.{◌≡◌, ℕ, ◌+◌, ◌*◌, ◌<◌, ◌≤◌, ◌==◌, ◌&&◌, not, Bool, true, false, List, [], ◌∷◌, inl, inr, Option, Some, None, refl, sym, ap, ◌∙◌, subst, arith, cond}
+use Rattle.masked_bytes.proofs.Truth.{and_first}
 use Rattle.std.specs.Prelude.{is_some}
 use Rattle.std.proofs.lemmas.Bool.{eqb-true, eq-eqb, ne_eqb, cases_eq}
 use Rattle.spare_pool.specs.Table.{Table}
@@ -362,10 +363,6 @@ begun-item : {n : ℕ} (shape : BankShape) (item : ℕ) (h : List (Event n)) (an
 begun-item shape item h answer None is = refl
 begun-item shape item h answer (Some other) is = absurd (cc (is))
 
-first-of : (a b : Bool) → (a && b) ≡ true → a ≡ true
-first-of true b is = refl
-first-of false b is = absurd (cc (is))
-
 module _ {n m : ℕ} (shape : BankShape) (pace : Pace) (e item : ℕ) where
   abbrev pub Kept : List (Timed n m) → Type 0
   Kept xs =
@@ -478,7 +475,7 @@ module _ {n m : ℕ} (shape : BankShape) (pace : Pace) (e item : ℕ) (sized : I
           (spent-iterate _ _ _ _ _ _ _ _ _ _ k (pulses_of (x ∷ xs) at) (on_change may.pulsed) may.may.0 may.may.1) (unhalted may.may.0) four
       by (Regs (KeepCut tearing)) c is may k =
           kept-broken _ _ _ _ _ _ _ _ _ _ k (pulses_of (x ∷ xs) at) (is_at (kept_pulsed (line_of_change shape (change_after shape xs)) (KeepCut tearing)) at)
-          (is_item item (change_after shape xs) && keeping_after xs) refl (more _ may.pulsed) (torn tearing may.may) unhalted (first-of (is_cancelling pace.policy) _ may.on_time.3)
+          (is_item item (change_after shape xs) && keeping_after xs) refl (more _ may.pulsed) (torn tearing may.may) unhalted (and_first (is_cancelling pace.policy) _ may.on_time.3)
         where
           torn : (tearing : Bool) → (tearing ≡ true → keeping_after xs ≡ true) → is_at (kept_pulsed (line_of_change shape (change_after shape xs)) (KeepCut tearing)) at ≡ true
               → (is_item item (change_after shape xs) && keeping_after xs) ≡ true

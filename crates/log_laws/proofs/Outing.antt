@@ -1,5 +1,6 @@
 -- A write of a line is out of the queue exactly where its row was stored.
 use Rattle.std.proofs.Common.{◌≡◌, ℕ, ◌==◌, ◌⊎◌, inl, inr, Bool, true, false, List, [], ◌∷◌, ◌++◌, Some, None, refl, sym, ap, ◌∙◌, subst, arith, cond, eqb, eq-eqb, eqb-true}
+use Rattle.std.proofs.lemmas.Bool.{or_right}
 use Rattle.std.specs.Prelude.{unwrap_or}
 use Rattle.result_rows.specs.declared.Outcome.{Outcome}
 use Rattle.result_rows.specs.declared.Outcome.TheVariants as out
@@ -19,7 +20,6 @@ use Rattle.bank_laws.specs.Outcomes.{on_row, outcome_with, outcome_of}
 use Rattle.bank_laws.specs.Standing.{has_wait}
 use Rattle.bank_laws.specs.Ticks.{ends_action}
 use Rattle.bank_laws.proofs.Entries.{either}
-use Rattle.bank_laws.proofs.Fates.{or_second}
 use Rattle.bank_laws.proofs.Settling.{opens, above_all, step_stays}
 use Rattle.bank_laws.proofs.Waiting.{may_all}
 use Rattle.bank_laws.proofs.Wears.{stored_by}
@@ -71,7 +71,7 @@ module _ {n : ℕ} where
   on_row-out line h at row tick place o is was none = by (eqb at row) refl
     where
       own : (b : Bool) → b ≡ true → eqb at row ≡ true → true ≡ out_with b (out_in line h) at row
-      own true k same = sym (or_second (out_in line h row) _ same)
+      own true k same = sym (or_right (out_in line h row) _ same)
       own false k same = absurd (cc)
 
       by : (b : Bool) → eqb at row ≡ b → is_stored (unwrap_or (cond b (Some (out.Stored tick place)) None) o) ≡ out_with (line_of_row at h == line) (out_in line h) at row

@@ -1,5 +1,6 @@
 -- A row that was read has a sense of its place at its tick, over which the bytes of the queue give those that were read.
 use Rattle.std.proofs.Common.{◌≡◌, ◌≢◌, ℕ, ◌<◌, ◌≤◌, ◌==◌, ◌⊎◌, inl, inr, Bool, true, false, List, [], ◌∷◌, ◌++◌, Some, None, drop, refl, sym, ap, ◌∙◌, subst, arith, cond, eqb, eq-eqb, eqb-true}
+use Rattle.masked_bytes.proofs.Truth.{neither_first, neither_second}
 use Rattle.std.specs.Prelude.{All, map, unwrap_or}
 use Rattle.std.proofs.lemmas.List.Elements.{All-head}
 use Rattle.pcm_cells.specs.declared.array.Sense.{Sense}
@@ -26,7 +27,6 @@ use Rattle.bank_model.specs.Lawful.{Lawful, MayCome}
 use Rattle.bank_laws.specs.Logs.{is_sensed}
 use Rattle.bank_laws.specs.Outcomes.{on_row, outcome_with, outcome_of}
 use Rattle.bank_laws.specs.Standing.{has_wait}
-use Rattle.bank_laws.proofs.Entries.{or_left, or_right}
 use Rattle.bank_laws.proofs.Serves.{same_bytes-same}
 use Rattle.bank_laws.proofs.Settling.{opens}
 use Rattle.bank_laws.proofs.Standing.{stand_apart}
@@ -50,8 +50,8 @@ only-drop mine (w ∷ ws) k = k.1
 only-lacks : (mine : Awaited) (ws : List Awaited) → has_wait ws mine.row ≡ false → OnlyOne mine ws
 only-lacks mine [] lacks = tt
 only-lacks mine (w ∷ ws) lacks = (
-  λ same. absurd (cc (eq-eqb w.row mine.row same, or_left (w.row == mine.row) _ lacks)),
-  only-lacks mine ws (or_right (w.row == mine.row) _ lacks),
+  λ same. absurd (cc (eq-eqb w.row mine.row same, neither_first (w.row == mine.row) _ lacks)),
+  only-lacks mine ws (neither_second (w.row == mine.row) _ lacks),
 )
 
 module _ {n : ℕ} where

@@ -1,5 +1,6 @@
 -- Each row that was stored or read has its sense in the log.
 use Rattle.std.proofs.Common.{◌≡◌, ℕ, ◌+◌, ◌==◌, ◌&&◌, ◌||◌, inl, inr, Bool, true, false, List, [], ◌∷◌, ◌++◌, refl, sym, ap, ◌∙◌, subst, cond, length, append_assoc}
+use Rattle.std.proofs.lemmas.Bool.{or_left}
 use Rattle.std.specs.Prelude.{filter, nat_le, nat_lt}
 use Rattle.std.specs.List.{list_any}
 use Rattle.std.proofs.lemmas.List.Folds.{list_any-append}
@@ -32,7 +33,7 @@ use Rattle.bank_laws.specs.Outcomes.{outcome_of, ended, row_with, rows_from}
 use Rattle.bank_laws.specs.Settling.{AreOpen}
 use Rattle.bank_laws.specs.Ticks.{ends_action}
 use Rattle.bank_laws.proofs.Ending.{Onwards, own_answer, outcome-may, write_outcome}
-use Rattle.bank_laws.proofs.Fates.{Awaits, IsSettled, ReadFate, awaits-new, or_first}
+use Rattle.bank_laws.proofs.Fates.{Awaits, IsSettled, ReadFate, awaits-new}
 use Rattle.bank_laws.proofs.Serves.{idle-waits, may_at, newest_same, onwards_at}
 use Rattle.bank_laws.proofs.Settling.{opens}
 use Rattle.bank_laws.proofs.Walking.{Passes, walk, rows_after}
@@ -61,7 +62,7 @@ module _ {n m : ℕ} (shape : BankShape) (pace : Pace) (e : ℕ) (all : List (Ti
   in-log : (place tick : ℕ) (gives : List ℕ → Bool) → is_sensed (decode e) (senses_of all) place tick gives ≡ true → is_sensed (decode e) log place tick gives ≡ true
   in-log place tick gives there =
       any-filter (λ (s : Sense n m). s.line == place && (s.tick == tick && gives (decode e s.cells))) (λ s. nat_le shape.base s.line && nat_lt s.line (shape.base + lines_in shape)) log
-      (ap (λ ss. is_sensed (decode e) ss place tick gives) shown ∙ list_any-append _ (senses_of all) extra ∙ or_first (is_sensed (decode e) (senses_of all) place tick gives) _ there)
+      (ap (λ ss. is_sensed (decode e) ss place tick gives) shown ∙ list_any-append _ (senses_of all) extra ∙ or_left (is_sensed (decode e) (senses_of all) place tick gives) _ there)
 
   module _ (later : List (Timed n m)) (x : Timed n m) (ys : List (Timed n m)) (same : all ≡ later ++ x ∷ ys) where
     whole : Lawful shape pace e (later ++ x ∷ ys)

@@ -1,5 +1,6 @@
 -- A row that was stored has a sense of its place at its tick, which reads as the newest bytes of its line.
 use Rattle.std.proofs.Common.{◌≡◌, ℕ, ◌==◌, ◌⊎◌, inl, inr, Bool, true, false, List, [], ◌∷◌, ◌++◌, Some, None, refl, sym, ap, ◌∙◌, subst, cond, eqb, eq-eqb, eqb-true}
+use Rattle.std.proofs.lemmas.Bool.{and_from, or_left, or_right}
 use Rattle.std.specs.Prelude.{All, map, unwrap_or}
 use Rattle.std.proofs.lemmas.List.Elements.{All-head}
 use Rattle.std.proofs.lemmas.List.Folds.{list_any-append}
@@ -29,9 +30,7 @@ use Rattle.bank_model.specs.Lawful.{Lawful, MayCome}
 use Rattle.bank_laws.specs.Logs.{is_sensed}
 use Rattle.bank_laws.specs.Outcomes.{on_row, outcome_with, outcome_of}
 use Rattle.bank_laws.specs.Standing.{has_wait}
-use Rattle.bank_laws.proofs.Fates.{or_first, or_second}
 use Rattle.bank_laws.proofs.Serves.{same_bytes-same}
-use Rattle.bank_laws.proofs.Walking.{and_both}
 use Rattle.bank_laws.proofs.Wears.{not_stored, lost_not_stored}
 use Rattle.log_laws.proofs.Outing.{line-in, up_to-in, unstored-first}
 
@@ -46,14 +45,14 @@ pub now-sensed : {n m : ℕ} (read_as : Cells n m → List ℕ) (xs : List (Time
     → is_sensed read_as (senses_of (y ∷ xs)) place tick gives ≡ true
 now-sensed read_as xs y s place tick gives are line at reads =
     list_any-append _ (senses_of xs) y.senses
-    ∙ or_second (is_sensed read_as (senses_of xs) place tick gives) _
+    ∙ or_right (is_sensed read_as (senses_of xs) place tick gives) _
     (subst (λ ss. is_sensed read_as ss place tick gives ≡ true) (sym are)
-    (or_first _ false (and_both (s.line == place) _ (eq-eqb s.line place line) (and_both (s.tick == tick) _ (eq-eqb s.tick tick at) reads))))
+    (or_left _ false (and_from (s.line == place) _ (eq-eqb s.line place line) (and_from (s.tick == tick) _ (eq-eqb s.tick tick at) reads))))
 
 -- or an earlier one
 pub older-sensed : {n m : ℕ} (read_as : Cells n m → List ℕ) (xs : List (Timed n m)) (y : Timed n m) (place tick : ℕ) (gives : List ℕ → Bool) → is_sensed read_as (senses_of xs) place tick gives ≡ true
     → is_sensed read_as (senses_of (y ∷ xs)) place tick gives ≡ true
-older-sensed read_as xs y place tick gives there = list_any-append _ (senses_of xs) y.senses ∙ or_first (is_sensed read_as (senses_of xs) place tick gives) _ there
+older-sensed read_as xs y place tick gives there = list_any-append _ (senses_of xs) y.senses ∙ or_left (is_sensed read_as (senses_of xs) place tick gives) _ there
 
 module _ {n : ℕ} (shape : BankShape) (h : List (Event n)) where
   -- a line write that ends with a store was a store, and has its target as place

@@ -1,7 +1,7 @@
 -- Where a bank's history stands as a row of its module comes, so that the row finds what the bank holds there.
 use Rattle.std.proofs.Common.{◌≡◌, ℕ, ◌<◌, ◌≤◌, ◌&&◌, ◌⊎◌, inl, inr, Bool, true, false, List, [], ◌∷◌, ◌++◌, map, refl, sym, ap, ◌∙◌, subst, cond, arith, append_assoc, le_refl}
 use Rattle.std.specs.Prelude.{filter, All}
-use Rattle.std.proofs.lemmas.Bool.{cases_lt}
+use Rattle.std.proofs.lemmas.Bool.{cases_lt, and_from}
 use Rattle.std.proofs.lemmas.List.Elements.{All-head, All-tail, All-nil, All-cons, All-append, All-weaker}
 use Rattle.result_rows.specs.declared.Outcome.{Outcome}
 use Rattle.row_laws.specs.declared.Row.{Row}
@@ -21,10 +21,6 @@ use Rattle.bank_laws.proofs.Settling.{lawful_before}
 use Rattle.module_laws.specs.Asking.{Asked, row_with, asked_in, asked_of, bank_table, AreAsked, IsAsked}
 use Rattle.module_laws.specs.Serves.{AreRecorded, TicksFall, last_outcome, finds_room_in, RoomByBankLaw}
 use Rattle.module_laws.proofs.Tables.{rows_of_asked, rows_are}
-
-both : (a b : Bool) → a ≡ true → b ≡ true → (a && b) ≡ true
-both true b h k = k
-both false b h k = h
 
 abbrev By : {n : ℕ} → ℕ → Asked n → Type 0
 By tick b = b.tick ≤ tick
@@ -182,7 +178,7 @@ module _ {n m : ℕ} (e : ℕ) (shape : BankShape) (pace : Pace) (bank_of line_i
       let rest : AreRecorded shape xs outcome (asked_of bank_of line_in bank asked) = rest_right a asked (is_of bank_of bank a.asks) rec in
       let rows : bank_table bank_of line_in bank (map (row_with outcome) asked) ≡ rows_from shape xs s.past =
       rows_of_asked bank_of line_in bank outcome asked ∙ rows_are shape xs outcome s.past (asked_of bank_of line_in bank asked) s.asked_before rest in
-      both _ _
+      and_from _ _
       (ap (λ (rs : List (Row n)). has_room (rules_of e shape pace) a.tick rs) rows
       ∙ ap (λ (zs : List (Timed n m)). has_room (rules_of e shape pace) a.tick (rows_from shape zs s.past)) same'
       ∙ room e shape pace s.past newer' a.tick sized (subst (λ (zs : List (Timed n m)). Lawful shape pace e zs) same' l) (subst (λ (zs : List (Timed n m)). IsIdle shape pace zs) same' idle) s.before late')

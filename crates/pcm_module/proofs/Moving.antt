@@ -1,5 +1,7 @@
 -- What a row that arrives at one bank leaves of that bank and of the others.
 use Rattle.std.proofs.Common.{◌≡◌, ◌⊎◌, ℕ, ◌-◌, Bool, true, false, List, [], ◌∷◌, ◌++◌, length, Some, refl, sym, ap, subst, ◌∙◌, inl, inr, arith}
+use Rattle.std.proofs.lemmas.Bool.{or_from}
+use Rattle.masked_bytes.proofs.Truth.{neither_first, neither_second}
 use Rattle.std.specs.Prelude.{unwrap_or}
 use Rattle.circular_buffer.proofs.Places.{slice_get-some}
 use Rattle.pcm_cells.specs.Device.{ArrayState}
@@ -20,7 +22,6 @@ use Rattle.clock_laws.proofs.Recording.{whole_outcome_law}
 use Rattle.clock_laws.proofs.Others.{other_rows_law}
 use Rattle.module_laws.specs.Asking.{Asked, AreAsked}
 use Rattle.bank_timing.specs.Extending.{Extends, IsOpen, outcome_in}
-use Rattle.clock_laws.proofs.Deciding.{or_left, or_right, or_none}
 use Rattle.pcm_module.proofs.Standing.{StandsNot, stands_not}
 use Rattle.pcm_module.proofs.Naming.{names, not_named}
 
@@ -28,8 +29,8 @@ module _ {n m : ℕ} where
   pub off_both : (row : ℕ) (added xs : List (Timed n m)) → arrives_with (added ++ xs) row ≡ false → (arrives_with added row ≡ false) × (arrives_with xs row ≡ false)
   off_both row [] xs off = (refl, off)
   off_both row (x ∷ added) xs off =
-      let rest = off_both row added xs (or_right (is_arrival_of x.happens row) _ off) in
-      (or_none (is_arrival_of x.happens row) _ (or_left (is_arrival_of x.happens row) _ off) rest.0, rest.1)
+      let rest = off_both row added xs (neither_second (is_arrival_of x.happens row) _ off) in
+      (or_from (is_arrival_of x.happens row) _ (neither_first (is_arrival_of x.happens row) _ off) rest.0, rest.1)
 
   -- the outcome of a row depends on its own alone
   pub outcome_at_row : (shape : BankShape) (added xs : List (Timed n m)) (before other : ℕ → Outcome n) (row : ℕ) → before row ≡ other row

@@ -1,5 +1,6 @@
 -- Over a lawful history the queue gives of each line what its accepted writes behind the last stored one give, and a completed head more.
 use Rattle.std.proofs.Common.{◌≡◌, ℕ, ◌<◌, ◌≤◌, ◌==◌, ◌⊎◌, inl, inr, Bool, true, false, suc, List, [], ◌∷◌, ◌++◌, Option, Some, None, drop, refl, sym, ap, ◌∙◌, subst, arith, cond, eqb, eqb-true}
+use Rattle.masked_bytes.proofs.Truth.{and_first, and_second}
 use Rattle.std.specs.Prelude.{unwrap_or}
 use Rattle.std.proofs.lemmas.Bool.{eq-eqb, ne_eqb}
 use Rattle.result_rows.specs.declared.Outcome.{Outcome}
@@ -29,7 +30,7 @@ use Rattle.bank_laws.proofs.Entries.{either, differ}
 use Rattle.bank_laws.proofs.Standing.{stand_apart}
 use Rattle.bank_laws.proofs.Answering.{IsHead, stored-head}
 use Rattle.bank_laws.proofs.Settling.{opens, above_all, step_stays}
-use Rattle.bank_laws.proofs.Pairs.{AllLong, HeadFull, KeepsPairs, keeps_pairs, busy-full, no_candidate-head, accepted-none, and_left, and_right}
+use Rattle.bank_laws.proofs.Pairs.{AllLong, HeadFull, KeepsPairs, keeps_pairs, busy-full, no_candidate-head, accepted-none}
 use Rattle.bank_laws.proofs.Ending.{accepting}
 use Rattle.bank_laws.proofs.Wears.{not_stored, lost_not_stored}
 use Rattle.bank_laws.proofs.Lines.{Stands, stands-one, merged-candidate, merges-stands}
@@ -156,7 +157,7 @@ module _ {n m : ℕ} (shape : BankShape) (pace : Pace) (e : ℕ) where
         let found : candidate (head_busy_after shape (core zs)) (f ∷ rest) k ≡ None = subst (λ (es : List (Entry n)). candidate (head_busy_after shape (core zs)) es k ≡ None) is none in
         let busy : head_busy_after shape (core zs) ≡ true = no_candidate-head (head_busy_after shape (core zs)) f rest k found (eq-eqb k f.line same) in
         let full : HeadFull (queue shape (core zs)) =
-        busy-full shape (core zs) (has_exhausted (core zs)) (due_after shape (core zs)) (queue shape (core zs)) (pairs.working (and_left (in_progress (core zs)) _ busy)) (and_right (in_progress (core zs)) _ busy) in
+        busy-full shape (core zs) (has_exhausted (core zs)) (due_after shape (core zs)) (queue shape (core zs)) (pairs.working (and_first (in_progress (core zs)) _ busy)) (and_second (in_progress (core zs)) _ busy) in
         subst (λ (es : List (Entry n)). HeadFull es) is full
 
     accepted : (at k : ℕ) (bytes : List ℕ) (given : List Bool) → MayCome shape pace e zs x (Core (Write at k bytes given wrote.Accepted)) → CoveredBy shape zs x.tick (Core (Write at k bytes given wrote.Accepted))

@@ -1,5 +1,6 @@
 -- When a read is forwarded, by the rows; and all that the rows show of the queue and of the waiting reads.
 use Rattle.std.proofs.Common.{◌≡◌, ℕ, ◌≤◌, ◌==◌, ◌||◌, ◌⊎◌, inl, inr, Bool, true, false, List, [], ◌∷◌, ◌++◌, length, refl, sym, ap, ◌∙◌, subst, arith, cond, eqb}
+use Rattle.std.proofs.lemmas.Bool.{and_from}
 use Rattle.std.specs.List.{list_any}
 use Rattle.result_rows.specs.declared.Outcome.{Outcome}
 use Rattle.result_rows.specs.declared.Outcome.TheVariants as out
@@ -27,7 +28,7 @@ use Rattle.bank_laws.proofs.Ticks.{last_tick-rises}
 use Rattle.bank_laws.proofs.Settling.{lawful_before, rows_below-more}
 use Rattle.bank_laws.proofs.Pairs.{AllLong, keeps_pairs}
 use Rattle.bank_laws.proofs.Fates.{IsSettled, awaits-new}
-use Rattle.bank_laws.proofs.Walking.{Passes, walk, rows_after, and_both}
+use Rattle.bank_laws.proofs.Walking.{Passes, walk, rows_after}
 use Rattle.bank_laws.proofs.Ending.{Onwards, own_answer}
 use Rattle.bank_laws.proofs.Serves.{may_at, onwards_at, idle-waits}
 use Rattle.bank_laws.proofs.Lines.{Stands, stands-row}
@@ -153,7 +154,7 @@ module _ {n m : ℕ} (shape : BankShape) (pace : Pace) (e : ℕ) (all later : Li
       → is_at_head x.tick line (pending x.tick [] (rows_from shape all ys)) (rows_from shape all ys) (rows_after shape all later) ≡ true
   at_head line asks head =
       subst (λ (rows : List (Row n)). is_at_head x.tick line rows (rows_from shape all ys) (rows_after shape all later) ≡ true) (sym (pending_is shape pace e all (later ++ x ∷ []) ys x.tick r i l split up ends))
-      (and_both (list_any (write_of line) (items (standing (λ row. has_row (queue shape (core ys)) row) (written shape all ys)))) _
+      (and_from (list_any (write_of line) (items (standing (λ row. has_row (queue shape (core ys)) row) (written shape all ys)))) _
       (any_entry shape all (λ row. has_row (queue shape (core ys)) row) entry.0 line ys (stands-row (queue shape (core ys)) entry.0 line entry.1) ((is_covered shape pace e ys r i there.1).asked entry.0 line entry.1))
       (line_is_first shape all ys (stands_well shape pace e all (later ++ x ∷ []) ys r i l split) line x.tick (rows_from shape all ys ++ rows_after shape all later)
       (standing (λ row. has_row (queue shape (core ys)) row) (written shape all ys)) (stood_each shape pace e all (later ++ x ∷ []) ys x.tick r i l split up ends)

@@ -1,7 +1,7 @@
 -- What a bank holds at a row, and at any tick between two of its events.
 use Rattle.std.proofs.Common.{◌≡◌, ℕ, ◌<◌, ◌≤◌, ◌||◌, ◌⊎◌, inl, inr, not, Bool, true, false, List, [], ◌∷◌, ◌++◌, Option, Some, None, length, refl, sym, ap, ◌∙◌, subst, arith, cond, append_assoc}
 use Rattle.std.specs.Prelude.{nat_le, filter, All}
-use Rattle.std.proofs.lemmas.Bool.{eq-eqb, le-leb}
+use Rattle.std.proofs.lemmas.Bool.{eq-eqb, le-leb, and_from}
 use Rattle.std.proofs.lemmas.List.Elements.{All-head, All-tail}
 use Rattle.std.proofs.Math.Nat.{eq-or-lt_of_le}
 use Rattle.result_rows.specs.declared.Outcome.TheVariants as out
@@ -29,7 +29,7 @@ use Rattle.bank_laws.proofs.Ticks.{last_tick-rises, last-below}
 use Rattle.bank_laws.proofs.Answering.{IsHead}
 use Rattle.bank_laws.proofs.Settling.{opens, lawful_before}
 use Rattle.bank_laws.proofs.Pairs.{keeps_pairs, no_candidate-head, no_candidate-rest}
-use Rattle.bank_laws.proofs.Walking.{Passes, walk, rows_after, and_both}
+use Rattle.bank_laws.proofs.Walking.{Passes, walk, rows_after}
 use Rattle.bank_laws.proofs.Ending.{Onwards, write_outcome}
 use Rattle.bank_laws.proofs.Serves.{may_at, onwards_at, idle-waits}
 use Rattle.bank_laws.proofs.Holding.{bound_law}
@@ -107,8 +107,8 @@ module _ {n m : ℕ} (shape : BankShape) (pace : Pace) (e : ℕ) where
         let bound = bound_law n (most_steps e) shape (core now) (may_all shape pace e now here) in
         let stand : length (pending t [] (rows_from shape all now)) ≡ length (queue shape (core now)) = stood_length shape pace e all later now t r i l same up ends in
         let wait : length (waiting t [] (rows_from shape all now)) ≡ length (waits shape (core now)) = awaiting_length shape pace e all later now t r i l same up ends none in
-        and_both (nat_le (length (pending t [] (rows_from shape all now))) shape.writes) _ (le-leb (length (pending t [] (rows_from shape all now))) shape.writes (omega (arith, stand, bound.writes)))
-        (and_both (nat_le (length (waiting t [] (rows_from shape all now))) shape.reads) _ (le-leb (length (waiting t [] (rows_from shape all now))) shape.reads (omega (arith, wait, bound.reads))) pairs_at)
+        and_from (nat_le (length (pending t [] (rows_from shape all now))) shape.writes) _ (le-leb (length (pending t [] (rows_from shape all now))) shape.writes (omega (arith, stand, bound.writes)))
+        (and_from (nat_le (length (waiting t [] (rows_from shape all now))) shape.reads) _ (le-leb (length (waiting t [] (rows_from shape all now))) shape.reads (omega (arith, wait, bound.reads))) pairs_at)
 
   -- At a row
 

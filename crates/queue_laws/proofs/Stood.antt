@@ -1,5 +1,6 @@
 -- The writes that a row finds are those that stand in the queue, at any tick up to the next end of an action.
 use Rattle.std.proofs.Common.{◌≡◌, ◌≢◌, ℕ, ◌<◌, ◌≤◌, ◌==◌, ◌⊎◌, inl, inr, not, Bool, true, false, List, [], ◌∷◌, ◌++◌, length, refl, sym, ap, ◌∙◌, subst, arith, cond, append_assoc}
+use Rattle.std.proofs.lemmas.Bool.{or_left}
 use Rattle.std.specs.Prelude.{unwrap_or}
 use Rattle.std.specs.List.{list_any}
 use Rattle.result_rows.specs.declared.Outcome.{Outcome}
@@ -30,7 +31,7 @@ use Rattle.bank_laws.proofs.Wears.{stored_by, stored_up_to}
 use Rattle.bank_laws.proofs.Lines.{Stands, covered-stands, stands-row}
 use Rattle.bank_laws.proofs.Merging.{Fate, FateBy, fate, fate_new}
 use Rattle.bank_laws.proofs.Counting.{among, entries-counted}
-use Rattle.bank_laws.proofs.Pending.{stands_by, by_refused, any_merges, by_stored_later, by_stored_before, write_rows, writes_in, writes-fall, queue-asked, refused_set, CoveredOn, covered_on, left_by, or_on_left}
+use Rattle.bank_laws.proofs.Pending.{stands_by, by_refused, any_merges, by_stored_later, by_stored_before, write_rows, writes_in, writes-fall, queue-asked, refused_set, CoveredOn, covered_on, left_by}
 use Rattle.queue_laws.proofs.Order.{tick_stays}
 use Rattle.queue_laws.proofs.Written.{Written, items, standing, Each, NumbersFall, cond_items, cond_each, written_by, written, IsEntry, standing-falls, standing-count}
 
@@ -154,7 +155,7 @@ module _ {n m : ℕ} (shape : BankShape) (pace : Pace) (e : ℕ) (all later now 
         cond_each (λ w. IsEntry shape all now w) (has_row (queue shape (core now)) at) _ (stood ys)
             (λ stands. record {
               there = own stands (accepting answer) refl;
-              came = sym (ticks at (or_on_left (at == at) _ (eqb-same at)) ∙ ap (λ b. cond b z.tick (tick_of_row at ys)) (eqb-same at));
+              came = sym (ticks at (or_left (at == at) _ (eqb-same at)) ∙ ap (λ b. cond b z.tick (tick_of_row at ys)) (eqb-same at));
               fate = refl;
             })
             each,

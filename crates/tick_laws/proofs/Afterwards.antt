@@ -2,7 +2,7 @@
 use Rattle.std.proofs.Common.{◌≡◌, ℕ, ◌≤◌, ◌==◌, ◌&&◌, ◌||◌, not, Bool, true, false, List, [], ◌∷◌, ◌++◌, refl, sym, ap, ◌∙◌, arith, cond, append_assoc}
 use Rattle.std.specs.Prelude.{nat_le}
 use Rattle.std.specs.List.{list_any}
-use Rattle.std.proofs.lemmas.Bool.{le-leb}
+use Rattle.std.proofs.lemmas.Bool.{le-leb, and_from}
 use Rattle.std.proofs.lemmas.List.{append-nil}
 use Rattle.std.proofs.lemmas.List.Folds.{list_all-append}
 use Rattle.row_laws.specs.declared.Row.{Row}
@@ -15,7 +15,7 @@ use Rattle.bank_model.specs.Timing.{Happens, Core, Regs, Timed, last_tick}
 use Rattle.bank_model.specs.Lawful.{Lawful}
 use Rattle.bank_laws.specs.Outcomes.{row_with}
 use Rattle.bank_laws.proofs.Ticks.{last_tick-rises}
-use Rattle.bank_laws.proofs.Walking.{rows_after, and_both}
+use Rattle.bank_laws.proofs.Walking.{rows_after}
 use Rattle.bank_laws.proofs.Pending.{last-later}
 
 module _ {n : ℕ} where
@@ -49,7 +49,7 @@ module _ {n m : ℕ} (shape : BankShape) (all : List (Timed n m)) where
   late-cuts pace e u [] zs r i l le = refl
   late-cuts pace e u (y ∷ late) zs r i l le =
       list_all-append (λ (q : Row n). not (is_cut q) || nat_le u q.tick) (rows_after shape all late) _
-      ∙ and_both _ _ (late-cuts pace e u late zs r i l.1 le) (by y.happens y.cancels)
+      ∙ and_from _ _ (late-cuts pace e u late zs r i l.1 le) (by y.happens y.cancels)
     where
       up : u ≤ y.tick
       up =
@@ -65,4 +65,4 @@ module _ {n m : ℕ} (shape : BankShape) (all : List (Timed n m)) where
       by (Core (Begin answer)) cancels = refl
       by (Core (Iterate answer)) cancels = refl
       by (Core (Cut tearing)) true = refl
-      by (Core (Cut tearing)) false = and_both _ _ (le-leb u y.tick up) refl
+      by (Core (Cut tearing)) false = and_from _ _ (le-leb u y.tick up) refl
