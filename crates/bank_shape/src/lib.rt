@@ -13,7 +13,6 @@ mod pace;
 pub mod waiting;
 
 pub use pace::{Pace, Policy};
-
 use start_gap::Move;
 
 /// Where a bank keeps its registers, its remap table and the mark of a bank that found no spare.

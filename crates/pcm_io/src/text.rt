@@ -17,7 +17,7 @@ pub struct Text {
 impl Model for Text {
     ghost use Rattle.std.specs.Prelude.{◌≤◌, length, vec_capacity};
     ghost use Rattle.hex.specs.Hex.{encode_lower};
-ghost use Rattle.pcm_io.specs.Reserved.{Reserved};
+    ghost use Rattle.pcm_io.specs.Reserved.{Reserved};
 
     ghost Value = { Reserved };
 
