@@ -1,6 +1,7 @@
 -- Which action runs after a timed history, and which is chosen next.
 use Rattle.std.specs.Prelude.{ℕ, ◌+◌, ◌&&◌, ◌||◌, not, nat_lt, Bool, true, false, if◌then◌else◌, List, [], ◌∷◌, Option, Some, None}
 use Rattle.bank_shape.specs.declared.BankShape.{BankShape}
+use Rattle.bank_shape.specs.Acting.{Choice, choice, chosen_by}
 use Rattle.bank_shape.specs.Pausing.{gives_way}
 use Rattle.bank_shape.specs.declared.answer.Step.TheVariants as did
 use Rattle.bank_shape.specs.declared.answer.ReadAnswer.TheVariants as came

@@ -1,6 +1,7 @@
 -- Events with their times, the newest first, and the actions of a bank.
 use Rattle.std.specs.Prelude.{ℕ, ◌+◌, ◌||◌, Bool, true, false, List, [], ◌∷◌, Option, Some, None}
 use Rattle.pcm_cells.specs.declared.array.Sense.{Sense}
+use Rattle.bank_shape.specs.Acting.{ends_with}
 use Rattle.bank_shape.specs.declared.pace.Pace.{Pace}
 use Rattle.bank_shape.specs.declared.clock.Doing.{Doing}
 use Rattle.bank_shape.specs.declared.clock.Doing.TheVariants.{Serving, Beginning, Iterating}
