@@ -10,7 +10,6 @@ use Rattle.row_laws.specs.Table.{KeepsRows}
 use Rattle.bank_shape.specs.declared.BankShape.{BankShape}
 use Rattle.spare_pool.specs.Table.{line_from}
 use Rattle.bank_shape.specs.Shape.{slots_of, controls_of, control_line, lines_in}
-use Rattle.bank_model.specs.Aging.{AreAged}
 use Rattle.bank_model.specs.After.{array_line_after, slot_of_work, due_work}
 use Rattle.bank_model.specs.History.{retired, has_exhausted, due_after, queue}
 use Rattle.bank_model.specs.Timing.{Pacing, Timed, core}
@@ -46,11 +45,10 @@ module _ {n m : ℕ} (e : ℕ) (shape : BankShape) (array : ArrayState n m) wher
         → IsTrue (is_line_fair rules rows log (nat_lt line (shape.base + slots_of shape + shape.spares)) line (array.line line).pulses)
     pub controls : IsTrue (each_row (has_controls shape log) rows [])
 
--- what holds of the array in the end: each line has the pulses of the history, and has aged by its line writes; the lines that were
--- retired, the target that found no spare, and the control line at which the writing of a change has halted, are worn
+-- what holds of the array in the end: each line has the pulses of the history; the lines that were retired, the target that found no
+-- spare, and the control line at which the writing of a change has halted, are worn
 pub record LeavesArray {n m : ℕ} (e : ℕ) (shape : BankShape) (xs : List (Timed n m)) (array : ArrayState n m) : Type 0 where
   pub pulses : (line : ℕ) → line < lines_in shape → (array.line (shape.base + line)).pulses ≡ pulses_of xs (shape.base + line)
-  pub aged : AreAged shape (core xs) array
   pub retired : (line : ℕ) → line < slots_of shape + length (retired (core xs))
       → ((slot : ℕ) → slot < slots_of shape → line_from (slots_of shape) slot (retired (core xs)) slot ≢ line)
       → IsTrue (is_worn_at e array (shape.base + line))

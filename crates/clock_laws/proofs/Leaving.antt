@@ -17,7 +17,6 @@ leaving_law n m e xs clock array leads =
     let table = leads.holds.table in
     record {
       pulses = leads.pulses;
-      aged = leads.aged;
       retired = λ line below none.
           leads.holds.tied.sound.worn line (omega (arith, below, ap (λ (t : Table). used_by t) table))
           (λ slot own same. none slot own (ap (λ (t : Table). line_by t slot) (sym table) ∙ same));
