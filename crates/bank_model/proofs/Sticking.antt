@@ -1,5 +1,5 @@
 -- A pulse or a tear leaves stuck what was stuck, and its cells stick no earlier than they endure.
-use Rattle.std.proofs.Common.{◌≡◌, inl, inr, ℕ, ◌≤◌, Bool, true, false, sym, ◌∙◌}
+use Rattle.std.proofs.Common.{◌≡◌, inl, inr, ℕ, ◌≤◌, Bool, true, false, refl}
 use Rattle.pcm_cells.specs.declared.row.Cells.{Cells}
 use Rattle.pcm_cells.specs.Rows.{cell}
 use Rattle.pcm_cells.specs.Device.{CellBounds, LineState, CellPulsed, CellTorn, DeviceStep, TornStep}
