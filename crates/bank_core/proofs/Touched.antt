@@ -20,7 +20,7 @@ module _ {n m : ℕ} where
   pub touches-nothing : (tick : ℕ) (old new : ArrayState n m) → new ≡ old → Touches tick [] None false old new
   touches-nothing tick old new same =
       subst (λ (a : ArrayState n m). Touches tick [] None false old a) (sym same)
-      (record { lines = refl; others = λ at off. refl; pulses = λ at on. cc; tears = refl; log = λ after is. (after, is, sym (append-nil after)); wear = refl })
+      (record { lines = refl; others = λ at off. refl; pulses = λ at on. cc; tears = refl; log = λ after is. (after, is, sym (append-nil after)); wear = refl; bounds = refl })
 
   -- one sense
   pub touches-sense : (tick line : ℕ) (old new : ArrayState n m) → Senses (sense_of line tick (old.line line)) old new → Touches tick (line ∷ []) None false old new
@@ -30,6 +30,7 @@ module _ {n m : ℕ} where
     pulses = λ at on. cc;
     tears = sense.tears;
     wear = sense.wear;
+    bounds = sense.bounds;
     log = λ after is.
         let was = sense.log after is in
         (was.0, was.1, was.2 ∙ ap (λ (l : LineState n m). was.0 ++ sense_of line tick l ∷ []) (sym (sense.line line)));
@@ -44,6 +45,7 @@ module _ {n m : ℕ} where
     pulses = λ at on. cc;
     tears = second.tears ∙ first.tears;
     wear = second.wear ∙ first.wear;
+    bounds = second.bounds ∙ first.bounds;
     log = λ after is.
         let late = second.log after is in
         let early = first.log late.0 late.1 in (
@@ -68,6 +70,7 @@ module _ {n m : ℕ} where
         subst P (eqb-true line at on) (ap (λ (l : LineState n m). l.pulses) (round.sense.line line) ∙ round.pulse.pulses);
     tears = round.sense.tears ∙ round.tears;
     wear = round.sense.wear ∙ round.others.wear;
+    bounds = round.sense.bounds ∙ round.others.bounds;
     log = λ after is.
         let was = round.sense.log after is in
         let pulses : (new.line line).pulses ≡ (round.between.line line).pulses = ap (λ (l : LineState n m). l.pulses) (round.sense.line line) in
@@ -84,6 +87,7 @@ module _ {n m : ℕ} where
         subst P (eqb-true line at on) tear.tear.pulses;
     tears = tear.tears;
     wear = tear.others.wear;
+    bounds = tear.others.bounds;
     log = λ after is. (after, sym tear.others.log ∙ is, sym (append-nil after));
   }
 

@@ -37,3 +37,4 @@ pub record Adds {n m : ℕ} (shape : BankShape) (added : List (Timed n m)) (old 
   pub log : (after : List (Sense n m)) → new.log ≡ Some after
       → (before : List (Sense n m)) × (old.log ≡ Some before) × (after ≡ before ++ senses_of added)
   pub wear : new.wear ≡ old.wear
+  pub bounds : new.bounds ≡ old.bounds

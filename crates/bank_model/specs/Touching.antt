@@ -8,8 +8,9 @@ use Rattle.bank_model.specs.Sensing.{is_at}
 abbrev pub shown : {n m : ℕ} → ℕ → List ℕ → ArrayState n m → List (Sense n m)
 shown tick sensed array = map (λ line. sense_of line tick (array.line line)) sensed
 
--- an event pulses or tears one line or none, and then senses these lines, in this order: every other line and the wear stay as they
--- were, a pulse and a tear are counted, and a log that is told has gained the senses, which show the lines as the event leaves them
+-- an event pulses or tears one line or none, and then senses these lines, in this order: every other line, the wear and what cells keep
+-- to stay as they were, a pulse and a tear are counted, and a log that is told has gained the senses, which show the lines as the event
+-- leaves them
 pub record Touches {n m : ℕ} (tick : ℕ) (sensed : List ℕ) (pulsed : Option ℕ) (tearing : Bool) (old new : ArrayState n m) : Type 0 where
   pub lines : new.lines ≡ old.lines
   pub others : (line : ℕ) → is_at pulsed line ≡ false → new.line line ≡ old.line line
@@ -18,3 +19,4 @@ pub record Touches {n m : ℕ} (tick : ℕ) (sensed : List ℕ) (pulsed : Option
   pub log : (after : List (Sense n m)) → new.log ≡ Some after
       → (before : List (Sense n m)) × (old.log ≡ Some before) × (after ≡ before ++ shown tick sensed new)
   pub wear : new.wear ≡ old.wear
+  pub bounds : new.bounds ≡ old.bounds

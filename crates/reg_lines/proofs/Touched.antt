@@ -14,7 +14,7 @@ module _ {n m : ℕ} where
   pub touches-nothing : (tick : ℕ) (old new : ArrayState n m) → new ≡ old → Touches tick [] None false old new
   touches-nothing tick old new same =
       subst (λ (a : ArrayState n m). Touches tick [] None false old a) (sym same)
-      (record { lines = refl; others = λ at off. refl; pulses = λ at on. cc; tears = refl; log = λ after is. (after, is, sym (append-nil after)); wear = refl })
+      (record { lines = refl; others = λ at off. refl; pulses = λ at on. cc; tears = refl; log = λ after is. (after, is, sym (append-nil after)); wear = refl; bounds = refl })
 
   -- a tear
   pub touches-tear : (tick line : ℕ) (prog : Prog n m) (old new : ArrayState n m) → IsTear line prog old new → Touches tick [] (Some line) true old new
@@ -26,5 +26,6 @@ module _ {n m : ℕ} where
         subst P (eqb-true line at on) tear.tear.pulses;
     tears = tear.tears;
     wear = tear.others.wear;
+    bounds = tear.others.bounds;
     log = λ after is. (after, sym tear.others.log ∙ is, sym (append-nil after));
   }
