@@ -40,11 +40,11 @@ use Rattle.bank_invariant.proofs.Agreeing.{agree_law}
 module _ {n m : ℕ} where
   -- as a sense leaves them
   pub StandsAs-sensed : (sensed : Sense n m) (old new : ArrayState n m) → Senses sensed old new → StandsAs old new
-  StandsAs-sensed sensed old new sense = record { lines = sense.lines; line = sense.line }
+  StandsAs-sensed sensed old new sense = record { lines = sense.lines; line = sense.line; bounds = sense.bounds }
 
   -- and an event that pulses no line
   pub StandsAs-touched : (tick : ℕ) (sensed : List ℕ) (old new : ArrayState n m) → Touches tick sensed None false old new → StandsAs old new
-  StandsAs-touched tick sensed old new touches = record { lines = touches.lines; line = λ at. touches.others at refl }
+  StandsAs-touched tick sensed old new touches = record { lines = touches.lines; line = λ at. touches.others at refl; bounds = touches.bounds }
 
 module _ {n m : ℕ} (e : ℕ) (old new : ArrayState n m) (stands : StandsAs old new) where
   same_decoded : (line : ℕ) → decoded e new line ≡ decoded e old line
@@ -86,7 +86,7 @@ module _ {n m : ℕ} (e : ℕ) (old new : ArrayState n m) (stands : StandsAs old
     lines = omega (arith, tied.lines, stands.lines);
     sound = sound_sensed kept tied.sound;
     unused = AreUntouched-same e old new _ _ (λ line below. stands.line (kept.shape.base + line)) tied.unused;
-    orderly = AreOrderly-same old new _ _ (λ line below. stands.line (kept.shape.base + line)) tied.orderly;
+    orderly = AreOrderly-same old new _ _ stands.bounds (λ line below. stands.line (kept.shape.base + line)) tied.orderly;
     operation = running_sensed kept waiting running tied.operation;
     exhausted = λ mark.
         let own = tied.exhausted mark in

@@ -296,6 +296,7 @@ begun_stored_law n m e line slot h bank old new head holds may next first stands
       differs = record {
         others = λ l off. refl;
         lines = refl;
+        bounds = refl;
         sound = now.tied.sound.slots slot exists;
         stuck = λ number is. is;
         unused = λ own. own;

@@ -151,7 +151,7 @@ module _ {n m e : ℕ} where
   rounds-later h bank old new op after holds is differs later under live =
       let run = running_of h bank old op holds is in
       let before : IsLive (old.line op.target) = λ number. false_from_ne_true _ (λ stuck. both_ways _ (live number) (differs.stuck number stuck)) in
-      let orderly : IsOrderly (old.line op.target) =
+      let orderly : IsOrderly old.bounds.misses (old.line op.target) =
       target-orderly bank.kept bank.waiting op.target (target_slot bank.kept op.work) old holds.kept holds.tied.orderly (target_of_running h bank old op holds is) in
       let was = plain op.writer (old.line op.target) run.writing.more run.writing.writes orderly before in
       let now = plain after.writer (new.line op.target) under.more under.writes (differs.orderly orderly) live in

@@ -192,7 +192,8 @@ module _ {n m : ℕ} where
   -- and each orderly line is orderly still
   pub AreOrderly-differs : (e target from lines : ℕ) (old new : ArrayState n m) → DiffersAt e target old new
       → AreOrderly old from lines → AreOrderly new from lines
-  AreOrderly-differs e target from lines old new differs own = AreOrderly-beside old new target from lines differs.others differs.orderly own
+  AreOrderly-differs e target from lines old new differs own =
+      AreOrderly-beside old new target from lines differs.bounds differs.others differs.orderly own
 
   -- Where the premises come from
 
@@ -202,6 +203,7 @@ module _ {n m : ℕ} where
   DiffersAt-round e line tick writer after old new under round sound leaves = record {
     others = λ at off. round.sense.line at ∙ round.others.others at off;
     lines = round.sense.lines ∙ round.others.lines;
+    bounds = round.sense.bounds ∙ round.others.bounds;
     sound = sound;
     stuck = (leaves-round line tick writer.prog after old new round).stuck;
     unused = untouched-round e line tick writer.prog after old new round leaves;
@@ -214,6 +216,7 @@ module _ {n m : ℕ} where
   DiffersAt-tear e line writer old new under tear sound leaves = record {
     others = tear.others.others;
     lines = tear.others.lines;
+    bounds = tear.others.bounds;
     sound = sound;
     stuck = λ number is. (tear.tear.stuck number is).0;
     unused = untouched-tear e line writer.prog old new tear leaves;
@@ -230,8 +233,8 @@ module _ {n m : ℕ} where
   -- and orderly
   pub target-orderly : (kept : KeptState n) (waiting : List (Waiting n)) (target slot : ℕ) (array : ArrayState n m)
       → IsKept kept → AreOrderly array kept.shape.base (slots_of kept.shape + kept.shape.spares) → IsTargetOf kept waiting target slot
-      → IsOrderly (array.line target)
+      → IsOrderly array.bounds.misses (array.line target)
   target-orderly kept waiting target slot array range own is =
       let within : line_by kept.table slot < kept.table.slots + used_by kept.table = line_by-within kept.table slot (omega (arith, is.exists, range.slots)) in
-      subst (λ (at : ℕ). IsOrderly (array.line at)) (sym is.place)
+      subst (λ (at : ℕ). IsOrderly array.bounds.misses (array.line at)) (sym is.place)
       (own (line_by kept.table slot) (omega (arith, within, range.slots, range.spares, range.table.within)))

@@ -5,7 +5,7 @@ use Rattle.std.proofs.lemmas.Bool.{cases_eq, ne_eqb}
 use Rattle.std.proofs.lemmas.Grind.{get_or-set_at}
 use Rattle.masked_bytes.specs.Masked.{laid}
 use Rattle.masked_bytes.specs.Entries.{layer_of}
-use Rattle.pcm_cells.specs.Device.{ArrayState, LineState}
+use Rattle.pcm_cells.specs.Device.{ArrayState, LineState, CellBounds}
 use Rattle.start_gap.specs.declared.Move.{Move}
 use Rattle.start_gap.specs.Rotation.{StandsFor, place_by, move_by, advanced}
 use Rattle.start_gap.proofs.Turning.{stands-advanced}
@@ -293,10 +293,13 @@ moved_at_once_law n m e region step h bank old new holds idle next stands copied
     let differs : DiffersAt e (target_of bank.kept (Copy region step)) old new = record {
       others = λ line off. stands.line line;
       lines = stands.lines;
+      bounds = stands.bounds;
       sound = subst (λ (l : LineState n m). IsSoundLine e l) (sym (stands.line (target_of bank.kept (Copy region step))))
           (holds.tied.sound.slots (slot_at bank.kept.shape region step.to) (gap-within bank.kept region step holds.kept next));
       stuck = λ number is. ap (λ (l : LineState n m). l.stuck number) (stands.line (target_of bank.kept (Copy region step))) ∙ is;
       unused = λ own. subst (λ (l : LineState n m). HasUntouched e l) (sym (stands.line (target_of bank.kept (Copy region step)))) own;
-      orderly = λ own. subst (λ (l : LineState n m). IsOrderly l) (sym (stands.line (target_of bank.kept (Copy region step)))) own;
+      orderly = λ own.
+          subst (λ (b : CellBounds). IsOrderly b.misses (new.line (target_of bank.kept (Copy region step)))) (sym stands.bounds)
+          (subst (λ (l : LineState n m). IsOrderly old.bounds.misses l) (sym (stands.line (target_of bank.kept (Copy region step)))) own);
     } in
     moved_by_beginning region step h bank old new holds next differs copied idle

@@ -18,10 +18,11 @@ use Rattle.power_recovery.specs.Kept.{KeptState, array_line, due_region, due_wor
 use Rattle.bank_invariant.specs.declared.Waiting.{Waiting}
 use Rattle.bank_invariant.specs.State.{BankState, Operation, target_of}
 
--- an array stands as it was: it has as many lines, and each of them is as it was
+-- an array stands as it was: it has as many lines, each of them is as it was, and its cells keep to the same bounds
 pub record StandsAs {n m : ℕ} (old new : ArrayState n m) : Type 0 where
   pub lines : new.lines ≡ old.lines
   pub line : (at : ℕ) → new.line at ≡ old.line at
+  pub bounds : new.bounds ≡ old.bounds
 
 -- what an array line is read as
 abbrev pub decoded : {n m : ℕ} → ℕ → ArrayState n m → ℕ → List ℕ

@@ -2,7 +2,7 @@
 
 ghost use Rattle.bank_invariant.specs.Fine.{FineWriteLaw};
 
-/// A line write on a line of which no cell is stuck has had at most as many iterations as a cell of the line has missed.
+/// A line write in progress on a line of which no cell is stuck has had at most as many iterations as the cells of its array may miss.
 pub fn fine_lines_are_written_soon()
     ensures { FineWriteLaw }
 {}

@@ -3,7 +3,7 @@ use Rattle.std.proofs.Common.{◌≡◌, ◌≢◌, ℕ, zero, suc, ◌+◌, ◌
 use Rattle.std.proofs.lemmas.Bool.{and_left, and_parts, both_ways, cases_eq, false_from_ne_true}
 use Rattle.pcm_cells.specs.declared.row.Cells.{Cells}
 use Rattle.pcm_cells.specs.Rows.{cell, members, xor}
-use Rattle.pcm_cells.specs.Device.{ArrayState, LineState, IsBlank}
+use Rattle.pcm_cells.specs.Device.{ArrayState, LineState, CellBounds, CellTorn, TornStep, IsBlank}
 use Rattle.ecp_line.specs.Layout.{source_below, is_inert, Prefix}
 use Rattle.ecp_line.proofs.Sources.{source-none}
 use Rattle.program_verify.specs.declared.prog.Prog.{Prog}
@@ -16,7 +16,7 @@ use Rattle.line_writer.specs.Writing.{IsInPhase, Writes, phases_left, steps_left
 use Rattle.line_writer.specs.Orderly.{IsLive, IsOrderly, AreOrderly}
 use Rattle.line_writer.proofs.Leaving.{Leaves}
 use Rattle.line_writer.proofs.Keeping.{clearing-within}
-use Rattle.line_writer.proofs.Rounds.{going, leaves-round}
+use Rattle.line_writer.proofs.Rounds.{going, device-torn, leaves-round, leaves-tear}
 
 -- none of so many numbers has the property
 pub members-none : (has : ℕ → Bool) (n : ℕ) → ((k : ℕ) → k < n → has k ≡ false) → members has n ≡ 0
@@ -67,7 +67,7 @@ plain-phase {B} {M} E w bytes Fill prog f stuck live checks none seen goes p = (
 plain-phase {B} {M} E w bytes Point prog f stuck live checks none seen goes p = absurd (both_ways _ (live _) p.charged)
 plain-phase {B} {M} E w bytes Switch prog f stuck live checks none seen goes p = absurd (omega (arith, none-charged B M f stuck (w + 1) live p.charged))
 
-pub plain : {B M E : ℕ} (writer : LineWriter B M E) (line : LineState B M) → writer.progress ≡ More → Writes writer line → IsOrderly line → IsLive line → IsPlain writer
+pub plain : {B M E most : ℕ} (writer : LineWriter B M E) (line : LineState B M) → writer.progress ≡ More → Writes writer line → IsOrderly most line → IsLive line → IsPlain writer
 plain {B} {M} {E} writer line more writes orderly live =
     let h = writes.writing in
     let goes : IsGoing writer.prog = going writer line more writes in
@@ -76,15 +76,32 @@ plain {B} {M} {E} writer line more writes orderly live =
     (none-charged B M (cell line.held) line.stuck writer.entries live h.charged) seen goes h.phase in
     record { data_cells = cells; left = omega (arith, phases); rounds = goes.rounds }
 
+-- a cell that a tear leaves live was live before, and has missed no more often than cells do
+missed-torn : {B M : ℕ} (bounds : CellBounds) (mask : Cells B M) (old new : LineState B M) → TornStep bounds mask old new
+    → ((n : ℕ) → old.stuck n ≡ false → old.misses n ≤ bounds.misses) → (n : ℕ) → new.stuck n ≡ false → new.misses n ≤ bounds.misses
+missed-torn bounds mask old new step own n live = by (cell mask n) refl
+  where
+    torn : CellTorn bounds new n → new.misses n ≤ bounds.misses
+    torn (inl cell) = cell.1
+    torn (inr stuck) = absurd (both_ways _ live stuck.0)
+
+    by : (b : Bool) → cell mask n ≡ b → new.misses n ≤ bounds.misses
+    by true on = torn (step.live n on (false_from_ne_true _ (λ stuck. both_ways _ live (step.stuck n stuck).0)))
+    by false off =
+        let kept = step.unmasked n off in
+        omega (arith, kept.misses, own n (sym kept.stuck ∙ live))
+
 -- so what it leaves is orderly
-left-orderly : {B M E : ℕ} (writer : LineWriter B M E) (old new : LineState B M) → writer.progress ≡ More → Writes writer old
-    → Leaves (cell writer.prog.which) (cell old.held) old.stuck (cell new.held) new.stuck → IsOrderly old → IsOrderly new
-left-orderly {B} writer old new more writes leaves orderly = record {
+left-orderly : {B M E most : ℕ} (writer : LineWriter B M E) (old new : LineState B M) → writer.progress ≡ More → Writes writer old
+    → Leaves (cell writer.prog.which) (cell old.held) old.stuck (cell new.held) new.stuck
+    → ((n : ℕ) → new.stuck n ≡ false → new.misses n ≤ most) → IsOrderly most old → IsOrderly most new
+left-orderly {B} writer old new more writes leaves missed orderly = record {
   checks = λ live number check.
       let before : IsLive old = live-before live in
       let within = plain writer old more writes orderly before in
       leaves.others number (false_from_ne_true _ (λ on. let lt = within.data_cells number on in absurd (omega (arith, lt, check))))
       ∙ orderly.checks before number check;
+  missed = missed;
 }
   where
     live-before : IsLive new → IsLive old
@@ -93,38 +110,50 @@ left-orderly {B} writer old new more writes leaves orderly = record {
 -- a round leaves an orderly line
 pub orderly-round : {B M E : ℕ} (writer : LineWriter B M E) (line tick : ℕ) (after : Prog B M) (old new : ArrayState B M)
     → writer.progress ≡ More → Writes writer (old.line line) → IsRound line tick writer.prog after old new
-    → IsOrderly (old.line line) → IsOrderly (new.line line)
-orderly-round writer line tick after old new more writes round =
-    left-orderly writer (old.line line) (new.line line) more writes (leaves-round line tick writer.prog after old new round)
+    → IsOrderly old.bounds.misses (old.line line) → IsOrderly new.bounds.misses (new.line line)
+orderly-round {B} {M} writer line tick after old new more writes round orderly =
+    let missed : ((n : ℕ) → (new.line line).stuck n ≡ false → (new.line line).misses n ≤ old.bounds.misses) =
+    subst (λ (l : LineState B M). (n : ℕ) → l.stuck n ≡ false → l.misses n ≤ old.bounds.misses) (sym (round.sense.line line))
+    (missed-torn old.bounds round.mask (old.line line) (round.between.line line)
+    (device-torn old.bounds round.mask writer.prog.want (old.line line) (round.between.line line) round.pulse) orderly.missed) in
+    subst (λ (b : CellBounds). IsOrderly b.misses (new.line line)) (sym (round.sense.bounds ∙ round.others.bounds))
+    (left-orderly writer (old.line line) (new.line line) more writes (leaves-round line tick writer.prog after old new round) missed orderly)
 
 -- and so does a tear
 pub orderly-tear : {B M E : ℕ} (writer : LineWriter B M E) (line : ℕ) (old new : ArrayState B M)
-    → writer.progress ≡ More → Writes writer (old.line line) → IsTear line writer.prog old new → IsOrderly (old.line line) → IsOrderly (new.line line)
-orderly-tear {B} {M} writer line old new more writes torn =
-    left-orderly writer (old.line line) (new.line line) more writes (record {
-      others = λ n off. (torn.tear.unmasked n (torn.masked n ∙ and_left (cell writer.prog.which n) _ off)).value;
-      held = λ n at. (torn.tear.stuck n at).1;
-      stuck = λ n at. (torn.tear.stuck n at).0;
-    })
+    → writer.progress ≡ More → Writes writer (old.line line) → IsTear line writer.prog old new
+    → IsOrderly old.bounds.misses (old.line line) → IsOrderly new.bounds.misses (new.line line)
+orderly-tear writer line old new more writes torn orderly =
+    subst (λ (b : CellBounds). IsOrderly b.misses (new.line line)) (sym torn.others.bounds)
+    (left-orderly writer (old.line line) (new.line line) more writes (leaves-tear line writer.prog old new torn)
+    (missed-torn old.bounds torn.mask (old.line line) (new.line line) torn.tear orderly.missed) orderly)
 
 -- a blank line is orderly
-pub orderly-blank : {n m : ℕ} (line : LineState n m) → IsBlank line → IsOrderly line
-orderly-blank line blank = record { checks = λ live number check. blank.held number }
+pub orderly-blank : {n m : ℕ} (most : ℕ) (line : LineState n m) → IsBlank line → IsOrderly most line
+orderly-blank most line blank = record {
+  checks = λ live number check. blank.held number;
+  missed = λ number live. omega (arith, blank.misses number);
+}
 
 -- Lines of arrays
 
 module _ {n m : ℕ} where
-  pub AreOrderly-same : (old new : ArrayState n m) (from lines : ℕ)
+  pub AreOrderly-same : (old new : ArrayState n m) (from lines : ℕ) → new.bounds ≡ old.bounds
       → ((line : ℕ) → line < lines → new.line (from + line) ≡ old.line (from + line)) → AreOrderly old from lines → AreOrderly new from lines
-  AreOrderly-same old new from lines same own line below = subst (λ (l : LineState n m). IsOrderly l) (sym (same line below)) (own line below)
+  AreOrderly-same old new from lines bounds same own line below =
+      subst (λ (b : CellBounds). IsOrderly b.misses (new.line (from + line))) (sym bounds)
+      (subst (λ (l : LineState n m). IsOrderly old.bounds.misses l) (sym (same line below)) (own line below))
 
   -- where only one line may have changed, which is orderly if it was
-  pub AreOrderly-beside : (old new : ArrayState n m) (target from lines : ℕ) → ((line : ℕ) → line ≢ target → new.line line ≡ old.line line)
-      → (IsOrderly (old.line target) → IsOrderly (new.line target)) → AreOrderly old from lines → AreOrderly new from lines
-  AreOrderly-beside old new target from lines others stays own line below =
+  pub AreOrderly-beside : (old new : ArrayState n m) (target from lines : ℕ) → new.bounds ≡ old.bounds
+      → ((line : ℕ) → line ≢ target → new.line line ≡ old.line line)
+      → (IsOrderly old.bounds.misses (old.line target) → IsOrderly new.bounds.misses (new.line target)) → AreOrderly old from lines → AreOrderly new from lines
+  AreOrderly-beside old new target from lines bounds others stays own line below =
       elim (cases_eq (from + line) target) [
         | inl same ↦
-            subst (λ (at : ℕ). IsOrderly (new.line at)) (sym same)
-            (stays (subst (λ (at : ℕ). IsOrderly (old.line at)) same (own line below)))
-        | inr off ↦ subst (λ (l : LineState n m). IsOrderly l) (sym (others (from + line) off)) (own line below)
+            subst (λ (at : ℕ). IsOrderly new.bounds.misses (new.line at)) (sym same)
+            (stays (subst (λ (at : ℕ). IsOrderly old.bounds.misses (old.line at)) same (own line below)))
+        | inr off ↦
+            subst (λ (b : CellBounds). IsOrderly b.misses (new.line (from + line))) (sym bounds)
+            (subst (λ (l : LineState n m). IsOrderly old.bounds.misses l) (sym (others (from + line) off)) (own line below))
       ]

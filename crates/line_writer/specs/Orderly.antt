@@ -8,15 +8,11 @@ module _ {n m : ℕ} where
   abbrev pub IsLive : LineState n m → Type 0
   IsLive line = (number : ℕ) → line.stuck number ≡ false
 
-  -- no cell of a line is stuck, and none has missed more often since its last change
-  pub record IsFine (most : ℕ) (line : LineState n m) : Type 0 where
-    pub live : IsLive line
-    pub misses : (number : ℕ) → line.misses number ≤ most
-
-  -- while no cell of a line is stuck, each check cell holds 0
-  pub record IsOrderly (line : LineState n m) : Type 0 where
+  -- while no cell of a line is stuck, each check cell holds 0; and no live cell has missed more often than this since its last change
+  pub record IsOrderly (most : ℕ) (line : LineState n m) : Type 0 where
     pub checks : IsLive line → (number : ℕ) → 8 * n ≤ number → cell line.held number ≡ false
+    pub missed : (number : ℕ) → line.stuck number ≡ false → line.misses number ≤ most
 
-  -- and so it is of so many lines of an array, from one on
+  -- so many lines of an array, from one on, are orderly, with no more misses than its cells keep to
   abbrev pub AreOrderly : ArrayState n m → ℕ → ℕ → Type 0
-  AreOrderly array from lines = (line : ℕ) → line < lines → IsOrderly (array.line (from + line))
+  AreOrderly array from lines = (line : ℕ) → line < lines → IsOrderly array.bounds.misses (array.line (from + line))
