@@ -68,7 +68,7 @@ controls_stay_law n m e tick item sensed tearing op xs clock old new leads is be
 
 pub bank_stays_law : BankStaysLaw
 bank_stays_law n m e tick item sensed tearing h bank old new holds touches =
-    holds-same h bank old new holds touches.lines
+    holds-same h bank old new holds touches.lines touches.bounds
     (λ line own. touches.others line (ne_eqb (control_line bank.kept.shape item) line (λ same. omega (arith, own.1, same))))
 
 -- The calls of a power cut
