@@ -23,7 +23,10 @@ use Rattle.power_recovery.specs.Kept.{KeptState, array_line, stands_at}
 use Rattle.bank_shape.specs.declared.answer.WriteAnswer.TheVariants as wrote
 use Rattle.bank_shape.specs.declared.answer.ReadAnswer.{ReadAnswer}
 use Rattle.bank_shape.specs.declared.answer.ReadAnswer.TheVariants as came
+<<<<<<< HEAD
 use Rattle.bank_model.proofs.Newest.{length-newest}
+=======
+>>>>>>> d73bcfffd6433effb3aca7e23564635f52db24ed
 use Rattle.bank_model.specs.Events.{Event, Write, Read, Serve, Begin, Iterate, Cut, newest}
 use Rattle.bank_model.specs.History.{Awaited, awaited, queue, waits, iterated}
 use Rattle.bank_model.specs.Answers.{MayAll, IsServed}
