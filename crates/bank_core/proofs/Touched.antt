@@ -7,7 +7,8 @@ use Rattle.pcm_cells.specs.Device.{ArrayState, LineState, Senses, counted, sense
 use Rattle.program_verify.specs.declared.prog.Prog.{Prog}
 use Rattle.program_verify.specs.Programming.{IsRound, IsTear}
 use Rattle.bank_model.specs.declared.answer.Step.{Step}
-use Rattle.bank_model.specs.Touching.{Touches}
+use Rattle.bank_model.specs.Touching.{Sticks, Touches}
+use Rattle.bank_model.proofs.Sticking.{sticks-pulsed, sticks-torn}
 use Rattle.bank_invariant.specs.State.{BankState, Operation}
 use Rattle.bank_core.specs.Stepping.{IsIteration}
 use Rattle.bank_core.specs.Cutting.{IsTorn, torn_line}
@@ -20,7 +21,7 @@ module _ {n m : ℕ} where
   pub touches-nothing : (tick : ℕ) (old new : ArrayState n m) → new ≡ old → Touches tick [] None false old new
   touches-nothing tick old new same =
       subst (λ (a : ArrayState n m). Touches tick [] None false old a) (sym same)
-      (record { lines = refl; others = λ at off. refl; pulses = λ at on. cc; tears = refl; log = λ after is. (after, is, sym (append-nil after)); wear = refl; bounds = refl })
+      (record { lines = refl; others = λ at off. refl; pulses = λ at on. cc; sticks = λ at on. cc; tears = refl; log = λ after is. (after, is, sym (append-nil after)); wear = refl; bounds = refl })
 
   -- one sense
   pub touches-sense : (tick line : ℕ) (old new : ArrayState n m) → Senses (sense_of line tick (old.line line)) old new → Touches tick (line ∷ []) None false old new
@@ -28,6 +29,7 @@ module _ {n m : ℕ} where
     lines = sense.lines;
     others = λ at off. sense.line at;
     pulses = λ at on. cc;
+    sticks = λ at on. cc;
     tears = sense.tears;
     wear = sense.wear;
     bounds = sense.bounds;
@@ -43,6 +45,7 @@ module _ {n m : ℕ} where
     lines = second.lines ∙ first.lines;
     others = λ at off. second.line at ∙ first.line at;
     pulses = λ at on. cc;
+    sticks = λ at on. cc;
     tears = second.tears ∙ first.tears;
     wear = second.wear ∙ first.wear;
     bounds = second.bounds ∙ first.bounds;
@@ -68,6 +71,11 @@ module _ {n m : ℕ} where
     pulses = λ at on.
         let P : ℕ → Type 0 = λ at. (new.line at).pulses ≡ counted (old.line at).pulses in
         subst P (eqb-true line at on) (ap (λ (l : LineState n m). l.pulses) (round.sense.line line) ∙ round.pulse.pulses);
+    sticks = λ at on.
+        let P : ℕ → Type 0 = λ at. Sticks old.bounds (old.line at) (new.line at) in
+        subst P (eqb-true line at on)
+        (subst (λ (l : LineState n m). Sticks old.bounds (old.line line) l) (sym (round.sense.line line))
+        (sticks-pulsed old.bounds round.mask (old.line line) (round.between.line line) before.want round.pulse));
     tears = round.sense.tears ∙ round.tears;
     wear = round.sense.wear ∙ round.others.wear;
     bounds = round.sense.bounds ∙ round.others.bounds;
@@ -85,6 +93,9 @@ module _ {n m : ℕ} where
     pulses = λ at on.
         let P : ℕ → Type 0 = λ at. (new.line at).pulses ≡ counted (old.line at).pulses in
         subst P (eqb-true line at on) tear.tear.pulses;
+    sticks = λ at on.
+        let P : ℕ → Type 0 = λ at. Sticks old.bounds (old.line at) (new.line at) in
+        subst P (eqb-true line at on) (sticks-torn old.bounds tear.mask (old.line line) (new.line line) tear.tear);
     tears = tear.tears;
     wear = tear.others.wear;
     bounds = tear.others.bounds;

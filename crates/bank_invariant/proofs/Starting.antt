@@ -104,8 +104,8 @@ pub AreSound-completed : {n m : ℕ} (e : ℕ) (kept : KeptState n) (under : Lis
 AreSound-completed e kept under array sound = record { apart = sound.apart; slots = sound.slots; spares = sound.spares; worn = sound.worn }
 
 pub begun_store_law : BegunStoreLaw
-begun_store_law n m e line slot h bank old new op holds may next many same work target bytes under_way few =
-    let now : Holds h bank new = sensed_law n m e h bank old new holds many same in
+begun_store_law n m e line slot h bank old new op holds may next stands work target bytes under_way few =
+    let now : Holds h bank new = sensed_law n m e h bank old new holds stands in
     let kept : KeptState n = bank.kept in
     let under : List ℕ = decoded e old (array_line kept slot) in
     let agrees = agree_law n m e h bank new now in
@@ -114,7 +114,7 @@ begun_store_law n m e line slot h bank old new op holds may next many same work 
     let at_head : head_line kept.entries ≡ line = next_store-line kept line slot kept.exhausted (due_region kept) kept.entries (sym next) in
     let known : line < bank_lines kept.shape =
     subst (λ (l : ℕ). l < bank_lines kept.shape) at_head (head-known kept.entries (bank_lines kept.shape) holds.kept.known some.2) in
-    let read : decoded e new (array_line kept slot) ≡ under = ap (λ (l : LineState n m). decode e l.held) (same (array_line kept slot)) in
+    let read : decoded e new (array_line kept slot) ≡ under = ap (λ (l : LineState n m). decode e l.held) (stands.line (array_line kept slot)) in
     let len : length under ≡ n = length-decode e (old.line (array_line kept slot)).held in
     let free : is_free bank.waiting (Store line slot) ≡ true =
     ap (λ work. is_free bank.waiting work) (sym next) ∙ both_so (not (is_some bank.running)) (is_free bank.waiting (next_work kept)) may in
@@ -147,10 +147,12 @@ begun_store_law n m e line slot h bank old new op holds may next many same work 
       served = now.served;
       running = refl;
       steps = omega (arith, few);
+      rounds = λ live. omega arith;
       tied = record {
         lines = now.tied.lines;
         sound = AreSound-completed e kept under new now.tied.sound;
         unused = now.tied.unused;
+        orderly = now.tied.orderly;
         operation = record {
           next = work ∙ sym next ∙ sym (next_work-completed kept under);
           target = target ∙ ap (λ work. target_of (completed_kept under kept) work) (sym work);
@@ -172,8 +174,8 @@ begun_store_law n m e line slot h bank old new op holds may next many same work 
     }
 
 pub begun_copy_law : BegunCopyLaw
-begun_copy_law n m e region step h bank old new op holds may next many same work target bytes under_way few =
-    let now : Holds h bank new = sensed_law n m e h bank old new holds many same in
+begun_copy_law n m e region step h bank old new op holds may next stands work target bytes under_way few =
+    let now : Holds h bank new = sensed_law n m e h bank old new holds stands in
     let kept : KeptState n = bank.kept in
     let agrees = agree_law n m e h bank new now in
     let some = next_work-copy kept (ap is_copy next) in
@@ -187,15 +189,17 @@ begun_copy_law n m e region step h bank old new op holds may next many same work
       served = now.served;
       running = refl;
       steps = omega (arith, few);
+      rounds = λ live. omega arith;
       tied = record {
         lines = now.tied.lines;
         sound = now.tied.sound;
         unused = now.tied.unused;
+        orderly = now.tied.orderly;
         operation = record {
           next = work ∙ sym next;
           target = target;
           of = subst (λ (w : Work). IsOf e kept new bank.waiting op.writer.bytes w) (sym work)
-              (bytes ∙ ap (λ (l : LineState n m). decode e l.held) (sym (same source)));
+              (bytes ∙ ap (λ (l : LineState n m). decode e l.held) (sym (stands.line source)));
           writing = under_way;
         };
         exhausted = λ mark. let no : kept.exhausted ≡ true = mark in let off : kept.exhausted ≡ false = some.0 in absurd cc;

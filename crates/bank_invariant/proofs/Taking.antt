@@ -209,6 +209,7 @@ module _ {n m : ℕ} where
     lines = tied.lines;
     sound = record { apart = tied.sound.apart; slots = tied.sound.slots; spares = tied.sound.spares; worn = tied.sound.worn };
     unused = tied.unused;
+    orderly = tied.orderly;
     operation = operation-taken kept array waiting busy entry running is tied.operation;
     exhausted = λ mark. let no : kept.exhausted ≡ true = mark in absurd cc;
   }
@@ -240,6 +241,7 @@ accepted_law n m e row line bytes given busy h bank array holds above may storin
       served = holds.served;
       running = holds.running;
       steps = holds.steps;
+      rounds = holds.rounds;
       tied = tied-taken kept array bank.waiting busy entry bank.running storing going holds.tied;
       regions = holds.regions;
       due_last = holds.due_last;
@@ -277,6 +279,7 @@ merged_law n m e row line old bytes given busy h bank array holds above may stor
       served = holds.served;
       running = holds.running;
       steps = holds.steps;
+      rounds = holds.rounds;
       tied = tied-taken kept array bank.waiting busy entry bank.running storing going holds.tied;
       regions = holds.regions;
       due_last = holds.due_last;

@@ -20,6 +20,7 @@ pub mod beginning;
 pub mod bridge;
 pub mod iterations;
 pub mod moving;
+pub mod pulses;
 pub mod serving;
 pub mod steps;
 pub mod storing;

@@ -40,4 +40,4 @@ module _ {n m e : ℕ} where
       start_law n m e (first_clock shape pace) array holds refl refl refl refl refl
       (control_law n m e shape array (wide-controls shape n wide) fresh.lines
       (λ item below. subst (λ (at : ℕ). IsBlank (array.line at)) (place shape item) (fresh.blank (slots_of shape + shape.spares + item) (omega (arith, below)))))
-      refl refl refl refl (λ line few. (fresh.blank line few).pulses)
+      refl refl refl refl fresh.blank

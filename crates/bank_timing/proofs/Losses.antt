@@ -260,7 +260,7 @@ module _ {n m e : ℕ} {clock : ClockState n m e} {old : ArrayState n m} {result
 
         holds-then : (h : List (Event n)) → Holds h clock.bank old → Holds (Cut work ∷ h) after new
         holds-then h was =
-            holds-same (Cut work ∷ h) after between new (holds h was) (third.lines ∙ second.lines)
+            holds-same (Cut work ∷ h) after between new (holds h was) (third.lines ∙ second.lines) (third.bounds ∙ second.bounds)
             (λ line is. third.others line refl ∙ second.others line (change-leaves clock.bank.kept clock.regs between change line cut-control is.1))
 
         tears-same : (change : Option Change) → (iterating && not (is_some change)) ≡ tears_bank (item_of change) clock.action

@@ -109,8 +109,10 @@ untouched tick array = record {
   lines = refl;
   others = λ line off. refl;
   pulses = λ line is. absurd (cc);
+  sticks = λ line is. absurd (cc);
   tears = refl;
   wear = refl;
+  bounds = refl;
   log = λ after is. (after, is, sym (append-nil after));
 }
 

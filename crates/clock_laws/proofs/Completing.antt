@@ -174,7 +174,7 @@ kept-apart shape (Some item) (KeepCut true) line known own = ne_eqb (control_lin
 pub kept-holds : {n m e : ℕ} (xs : List (Timed n m)) (clock : ClockState n m e) (event : Keeping) (tick : ℕ) (sensed : List ℕ) (tearing : Bool) (old new : ArrayState n m) → Reaches xs clock old
     → Touches tick sensed (kept_pulsed (line_kept clock) event) tearing old new → Holds (core xs) clock.bank new
 kept-holds xs clock event tick sensed tearing old new r touches =
-    holds-same (core xs) clock.bank old new r.holds touches.lines
+    holds-same (core xs) clock.bank old new r.holds touches.lines touches.bounds
     (λ line own. touches.others line (kept-apart clock.bank.kept.shape (item_of clock.regs.change) event line (change-known clock.bank.kept clock.regs r.control) own))
 
 pub keeping_law : KeepingLaw

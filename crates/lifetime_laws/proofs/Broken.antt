@@ -29,8 +29,9 @@ use Rattle.place_laws.proofs.Tables.{region-all}
 use Rattle.place_laws.proofs.Trying.{cuts_in, cuts_power}
 use Rattle.place_laws.proofs.Pulses.{cuts-counted}
 use Rattle.place_laws.proofs.Cancels.{cancels-kept}
-use Rattle.log_laws.proofs.Targets.{WorkAfter, spares_work, working, target-same}
-use Rattle.lifetime_laws.specs.Works.{tally, works_on, stores_at, most_works, WorksLaw}
+use Rattle.bank_laws.proofs.Targets.{WorkAfter, spares_work, working, target-same}
+use Rattle.bank_model.specs.Works.{tally, works_on}
+use Rattle.lifetime_laws.specs.Works.{stores_at, most_works, WorksLaw}
 use Rattle.lifetime_laws.proofs.Counting.{one, one-few, passing-within}
 use Rattle.lifetime_laws.proofs.Landing.{any, stored_tally, stores-landed}
 use Rattle.lifetime_laws.proofs.Stays.{copies_law}

@@ -19,9 +19,9 @@ use Rattle.bank_model.specs.Answers.{IsDone, MayAll}
 use Rattle.place_laws.proofs.Moves.{last_region, some-due}
 use Rattle.place_laws.proofs.Working.{done-move}
 use Rattle.place_laws.proofs.Slots.{IsAway, away-more, begin-retires_none, begin-exhausts_none}
-use Rattle.log_laws.proofs.Targets.{WorkAfter, working, unexhausted}
+use Rattle.bank_laws.proofs.Targets.{WorkAfter, working, unexhausted}
 use Rattle.lifetime_laws.specs.Spread.{passing}
-use Rattle.lifetime_laws.specs.Works.{tally, works_on}
+use Rattle.bank_model.specs.Works.{tally, works_on}
 use Rattle.lifetime_laws.proofs.Counting.{one, passing-at, passing-within}
 use Rattle.lifetime_laws.proofs.Landing.{any, stored_tally}
 

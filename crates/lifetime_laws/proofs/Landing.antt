@@ -28,7 +28,8 @@ use Rattle.place_laws.proofs.Storing.{none_first}
 use Rattle.place_laws.proofs.Tables.{rows-counted}
 use Rattle.place_laws.proofs.Working.{IsStoreOf, done-store}
 use Rattle.lifetime_laws.specs.Spread.{is_stored_on, stores_on}
-use Rattle.lifetime_laws.specs.Works.{tally, stores_at}
+use Rattle.bank_model.specs.Works.{tally}
+use Rattle.lifetime_laws.specs.Works.{stores_at}
 
 -- a store's answer for such a line with this place
 abbrev pub is_done_on : {n : ℕ} → (ℕ → Bool) → ℕ → List (Event n) → Step → Bool

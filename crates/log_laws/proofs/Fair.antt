@@ -26,7 +26,7 @@ use Rattle.log_laws.proofs.Chains.{last_of, follow-same, begin-same}
 use Rattle.log_laws.proofs.Owning.{own, own-kept, own-log}
 use Rattle.log_laws.proofs.Pulsing.{Torn, Due, Busy, Shown}
 use Rattle.log_laws.proofs.Stepping.{step}
-use Rattle.log_laws.proofs.Targets.{work-begins}
+use Rattle.bank_laws.proofs.Targets.{work-begins}
 
 -- where nothing is chosen no line write may be begun
 none-begins : (way reads : Bool) (c : Choice) → chosen_by way reads c ≡ None → c.ready ≡ false

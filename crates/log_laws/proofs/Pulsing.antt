@@ -18,7 +18,7 @@ use Rattle.bank_model.specs.Sensing.{pulses_of}
 use Rattle.bank_model.specs.Adding.{senses_of}
 use Rattle.bank_laws.specs.Logs.{is_broken, follows, follow_on}
 use Rattle.log_laws.proofs.Chains.{last_of, last_of-more, last_of-all, Follow, follow-more, follow-alike}
-use Rattle.log_laws.proofs.Targets.{WorkAfter}
+use Rattle.bank_laws.proofs.Targets.{WorkAfter}
 use Rattle.log_laws.proofs.Firsts.{BeganFrom}
 use Rattle.log_laws.proofs.Owning.{own}
 

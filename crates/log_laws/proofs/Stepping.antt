@@ -38,11 +38,11 @@ use Rattle.bank_laws.proofs.Waiting.{may_all}
 use Rattle.place_laws.proofs.WornOut.{change-within}
 use Rattle.log_laws.proofs.Breaking.{cut-here, read-behind, cut-broken}
 use Rattle.log_laws.proofs.Chains.{last_of, same_follows, step_follows}
-use Rattle.log_laws.proofs.Counted.{counted-cases, pulses-few}
+use Rattle.bank_laws.proofs.Counted.{counted-cases, pulses-few}
 use Rattle.log_laws.proofs.Firsts.{BeganFrom, started-from, left-from}
 use Rattle.log_laws.proofs.Owning.{own, among, own-none, own-lacks, own-all, numbers-from, numbers-all}
 use Rattle.log_laws.proofs.Pulsing.{Due, Busy, Torn, Unseen, Seen, Shown, quiet, noted, tears}
-use Rattle.log_laws.proofs.Targets.{WorkAfter, spares_work, working, target-same, begin-works, unexhausted}
+use Rattle.bank_laws.proofs.Targets.{WorkAfter, spares_work, working, target-same, begin-works, unexhausted}
 use Rattle.log_laws.proofs.Unworn.{worn_below, unworn}
 
 -- what goes on after an event was spared by it

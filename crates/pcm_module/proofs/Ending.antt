@@ -185,7 +185,7 @@ module _ {n m e : ℕ} (xs added : List (Timed n m)) (old new : ClockState n m e
 
     -- another bank has its history, its senses and its outcomes as before
     leads_beside : Leads ys clock before → Leads ys clock after
-    leads_beside of = elsewhere_law n m e ys clock before after of adds.lines (λ line low high. adds.others line (off' line (low, high)))
+    leads_beside of = elsewhere_law n m e ys clock before after of adds.lines adds.bounds (λ line low high. adds.others line (off' line (low, high)))
       where
         off' : AreOff own clock.bank.kept.shape
         off' = subst (λ (s : BankShape). AreOff own s) (sym shaped) off

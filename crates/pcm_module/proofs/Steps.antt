@@ -69,7 +69,7 @@ module _ {n m e : ℕ} where
       → tick ≤ later → rows ≤ above → BankReplays shape pace later above xs asked after recorded clock
   other_replays shape own pace tick rows later above xs ys added asked clock old new before after results recorded f leads ext shaped off has apart in_time below =
       stays_replayed shape pace tick rows later above xs asked clock before after results recorded f
-      (elsewhere_law n m e xs clock before after f.leads adds.lines (λ line low high. adds.others line (off' line (low, high))))
+      (elsewhere_law n m e xs clock before after f.leads adds.lines adds.bounds (λ line low high. adds.others line (off' line (low, high))))
       (logged_off own added before after adds (own_senses own ys added new after ext.leads (ext.shape ∙ shaped)) shape xs off f.logged)
       ext.rows
       (All-both (λ (c : Asked n). HasRow results c.row) (λ (c : Asked n). arrives_with (added ++ ys) c.row ≡ false) (λ (c : Asked n). outcome_in recorded c.row ≡ outcome_in results c.row)

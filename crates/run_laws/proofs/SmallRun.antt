@@ -25,7 +25,7 @@ use Rattle.bank_invariant.specs.Tied.{decoded}
 use Rattle.end_laws.specs.Ends.{BankEnd, EndsWith, IsRemapped, is_kept_line, place_by_table}
 use Rattle.lifetime_laws.specs.Lifetime.{KeepsLines}
 use Rattle.run_laws.specs.Runs.{bank_of_line, line_in_bank, line_named, rules_in, table_in, RunsRight}
-use Rattle.run_laws.specs.Worked.{small, reading, misplaced, first_bank, second_bank, senses, holding, ended, touched, forgotten, NeverRight, unmoved, hammered}
+use Rattle.run_laws.specs.Worked.{small, reading, misplaced, first_bank, second_bank, senses, holding, ended, touched, forgotten, NeverRight, unmoved, hammered, strained}
 
 pub where_8_is : (bank_of_line small 0 8 ≡ 1) × (line_in_bank small 0 8 ≡ 5) × (line_named small 0 1 5 ≡ 8)
 unfolding next_u64 stream_of
@@ -86,11 +86,28 @@ few_pulses at = by (at == 17)
     by true = lit≤ tt
     by false = lit≤ tt
 
+none_stuck : (at c : ℕ) → (ended.line at).stuck c ≡ false
+none_stuck at c = by (at == 17)
+  where
+    by : (b : Bool) → (cond b (holding 0x11 1) (holding 0 0)).stuck c ≡ false
+    by true = refl
+    by false = refl
+
 first_lines : KeepsLines (bank_shape (module_of small) 0) ended (rules_in 1 small 0) (first_bank 0)
-first_lines = record { pulses = λ slot exists. omega (arith, few_pulses ((bank_shape (module_of small) 0).base + slot)); controls = λ item exists. absurd (omega (arith, exists)) }
+first_lines = record {
+  pulses = λ slot exists. omega (arith, few_pulses ((bank_shape (module_of small) 0).base + slot));
+  ages = λ slot exists. record { live = λ none. omega (arith, few_pulses ((bank_shape (module_of small) 0).base + slot)); stuck = λ c is. absurd (cc (is, none_stuck ((bank_shape (module_of small) 0).base + slot) c)) };
+  controls = λ item exists. absurd (omega (arith, exists));
+  endure = λ item exists. absurd (omega (arith, exists));
+}
 
 second_lines : KeepsLines (bank_shape (module_of small) 1) ended (rules_in 1 small 1) (second_bank 0x11)
-second_lines = record { pulses = λ slot exists. omega (arith, few_pulses ((bank_shape (module_of small) 1).base + slot)); controls = λ item exists. absurd (omega (arith, exists)) }
+second_lines = record {
+  pulses = λ slot exists. omega (arith, few_pulses ((bank_shape (module_of small) 1).base + slot));
+  ages = λ slot exists. record { live = λ none. omega (arith, few_pulses ((bank_shape (module_of small) 1).base + slot)); stuck = λ c is. absurd (cc (is, none_stuck ((bank_shape (module_of small) 1).base + slot) c)) };
+  controls = λ item exists. absurd (omega (arith, exists));
+  endure = λ item exists. absurd (omega (arith, exists));
+}
 
 -- a line of a bank is shown by the log
 abbrev shows : ℕ → List (Row 2) → ℕ → Bool
@@ -231,3 +248,8 @@ forgotten_is_wrong right = absurd (cc ((right.end 1 (lit< tt)).kept 5 (lit< tt))
 pub hammered_is_wrong : RunsRight 1 small 0 rows hammered unmoved → ⊥
 unfolding next_u64 stream_of
 hammered_is_wrong right = let many : 100 ≤ 80 = (right.serves.lines 1 (lit< tt)).pulses 6 (lit< tt) in absurd (omega (arith, many))
+
+-- one with no cell stuck that was pulsed more often than its stores account for where cells never miss, though not more than they might
+pub strained_is_wrong : RunsRight 1 small 0 rows strained unmoved → ⊥
+unfolding next_u64 stream_of
+strained_is_wrong right = let many : 10 ≤ 2 = ((right.serves.lines 1 (lit< tt)).ages 6 (lit< tt)).live (λ c. refl) in absurd (omega (arith, many))

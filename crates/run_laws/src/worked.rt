@@ -4,7 +4,7 @@
 ghost use Rattle.std.specs.Prelude.{◌≡◌, ℕ};
 ghost use Rattle.end_laws.specs.Ends.{BankEnd};
 ghost use Rattle.run_laws.specs.Runs.{RunsRight, bank_of_line, line_in_bank, line_named, table_in};
-ghost use Rattle.run_laws.specs.Worked.{small, reading, misplaced, first_bank, second_bank, ended, touched, forgotten, hammered, unmoved, NeverRight};
+ghost use Rattle.run_laws.specs.Worked.{small, reading, misplaced, first_bank, second_bank, ended, touched, forgotten, hammered, strained, unmoved, NeverRight};
 
 use crate::{
     array_lines_are_few, array_lines_have_one_role, finished_runs_are_right,
@@ -28,6 +28,7 @@ fn worked_runs_are_judged()
     ensures touched { RunsRight 1 small 0 (reading 0x11 0) touched unmoved → ⊥ }
     ensures forgotten { RunsRight 1 small 0 (reading 0x11 0) forgotten unmoved → ⊥ }
     ensures hammered { RunsRight 1 small 0 (reading 0x11 0) hammered unmoved → ⊥ }
+    ensures strained { RunsRight 1 small 0 (reading 0x11 0) strained unmoved → ⊥ }
 {}
 
 /// The laws are facts, and cost nothing to ask for.
