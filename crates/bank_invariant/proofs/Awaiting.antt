@@ -23,13 +23,7 @@ use Rattle.power_recovery.specs.Kept.{KeptState, array_line, stands_at}
 use Rattle.bank_shape.specs.declared.answer.WriteAnswer.TheVariants as wrote
 use Rattle.bank_shape.specs.declared.answer.ReadAnswer.{ReadAnswer}
 use Rattle.bank_shape.specs.declared.answer.ReadAnswer.TheVariants as came
-<<<<<<< HEAD
-<<<<<<< HEAD
 use Rattle.bank_model.proofs.Newest.{length-newest}
-=======
->>>>>>> d73bcfffd6433effb3aca7e23564635f52db24ed
-=======
->>>>>>> b25983d24480ae2e834dce8d8737630177f756cd
 use Rattle.bank_model.specs.Events.{Event, Write, Read, Serve, Begin, Iterate, Cut, newest}
 use Rattle.bank_model.specs.History.{Awaited, awaited, queue, waits, iterated}
 use Rattle.bank_model.specs.Answers.{MayAll, IsServed}
