@@ -5,5 +5,3 @@
 
 pub mod answer;
 pub mod clock;
-#[cfg(test)]
-mod worked;
