@@ -4,5 +4,3 @@
 
 pub mod first;
 pub mod rows;
-#[cfg(test)]
-mod worked;

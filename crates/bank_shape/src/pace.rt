@@ -48,31 +48,3 @@ impl Policy {
         }
     }
 }
-
-#[cfg(test)]
-mod tests {
-    use super::*;
-
-    #[test]
-    fn a_pausing_write_gives_way(rt: HostRuntime) {
-        assert!(rt; Policy::Pause.gives_way());
-        assert!(rt; !Policy::Plain.gives_way());
-        assert!(rt; Policy::Cancel.gives_way());
-    }
-
-    #[test]
-    fn tells_paces_apart(rt: HostRuntime) {
-        let pace = Pace {
-            read: 5,
-            iter: 10,
-            policy: Policy::Pause,
-        };
-        assert!(rt; pace == pace);
-        let plain = Pace {
-            read: 5,
-            iter: 10,
-            policy: Policy::Plain,
-        };
-        assert!(rt; pace != plain);
-    }
-}

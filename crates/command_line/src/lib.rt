@@ -9,6 +9,3 @@ mod table;
 
 pub use job::{CheckJob, GenJob, Input, Job, LineSize, MapJob, MovesJob, Print, Refusal, RunJob};
 pub use read::read_job;
-
-#[cfg(test)]
-mod tests;

@@ -4,8 +4,6 @@
 
 mod ecp;
 mod mask;
-#[cfg(test)]
-mod tests;
 
 pub use ecp::Ecp;
 pub use mask::lowest;

@@ -1,4 +1,3 @@
 pub mod Ends
 pub mod EndLaws
 pub mod Roles
-pub mod Worked

@@ -2,9 +2,6 @@
 //! is what a function here ensures; the functions do nothing when they run.
 #![tactic(auto)]
 
-#[cfg(test)]
-mod worked;
-
 ghost use Rattle.end_laws.specs.EndLaws.{EndLaw, GapsLaw, KeptLaw, QueuedLaw, RemappedLaw, StandsLaw, StillThereLaw};
 ghost use Rattle.end_laws.specs.Roles.{RoleLaw, UsedLaw};
 

@@ -3,9 +3,6 @@
 //! A law is what a function here ensures; the functions do nothing when they run.
 #![tactic(auto)]
 
-#[cfg(test)]
-mod worked;
-
 ghost use Rattle.lifetime_laws.specs.Spread.{AnyLineLaw, CopiesLaw, EvenLaw, FoundLaw, OneStayLaw, SpreadLaw, StayLaw, TightLaw};
 ghost use Rattle.lifetime_laws.specs.Endurance.{NoneRetiredLaw, SoundRowsLaw, UnwornLaw};
 ghost use Rattle.lifetime_laws.specs.Works.{ControlPulsesLaw, LineAgesLaw, LinePulsesLaw, PulsesOnLaw, WorksLaw};

@@ -14,9 +14,6 @@ use power_recovery::kept::Kept;
 use spare_pool::Owner;
 use wear_report::Role;
 
-#[cfg(test)]
-mod tests;
-
 /// What one of the bank's array lines is used for. A line goes by its number in the bank: its region times the lines of a
 /// region, and its number there.
 pub fn role_in<const B: usize>(kept: &Kept<B>, array_line: u32) -> Role

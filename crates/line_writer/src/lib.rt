@@ -2,8 +2,6 @@
 //! After every step, and after a power cut in one, each entry that the line relies on is paid for by a stuck cell of its own.
 #![tactic(auto)]
 
-#[cfg(test)]
-mod tests;
 mod writer;
 
 pub use writer::{Cause, LineWriter, Progress};

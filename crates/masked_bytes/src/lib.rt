@@ -4,5 +4,3 @@
 
 pub mod entry;
 pub mod layers;
-#[cfg(test)]
-mod tests;

@@ -4,4 +4,6 @@
 
 pub mod playing;
 #[cfg(test)]
+mod roles;
+#[cfg(test)]
 mod two_banks;

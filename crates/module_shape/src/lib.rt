@@ -9,6 +9,3 @@ pub use bank_shape::Home;
 pub use bank_shape::{Pace, Policy};
 pub use raw::{BadShape, Field, RawShape};
 pub use shape::{BankLine, Shape};
-
-#[cfg(test)]
-mod tests;

@@ -20,6 +20,3 @@ pub use logged::LoggedArray;
 pub use row::Cells;
 pub use script::{Act, Script, ScriptArray};
 pub use seeded::{MemArray, SeededCell};
-
-#[cfg(test)]
-mod tests;

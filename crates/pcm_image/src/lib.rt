@@ -59,6 +59,3 @@ pub enum ImageKind {
     /// A byte follows the last field.
     Extra,
 }
-
-#[cfg(test)]
-mod tests;

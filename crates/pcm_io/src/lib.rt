@@ -16,6 +16,3 @@ pub use sink::{MemSink, NeverFailSink, Sink, StdSink};
 pub use source::{MemSource, NeverFailSource, Source, StdSource};
 pub use text::Text;
 pub use whole::{read_all, write_all};
-
-#[cfg(test)]
-mod tests;

@@ -3,7 +3,5 @@
 #![tactic(auto)]
 
 pub mod kept;
-#[cfg(test)]
-mod tests;
 
 pub use bank_shape::{BankShape, Work};

@@ -5,6 +5,3 @@
 mod prog;
 
 pub use prog::{Prog, Turn};
-
-#[cfg(test)]
-mod tests;

@@ -4,5 +4,3 @@
 
 pub mod accept;
 pub mod queue;
-#[cfg(test)]
-mod tests;

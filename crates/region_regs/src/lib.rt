@@ -101,23 +101,3 @@ impl Region {
         self.counter
     }
 }
-
-#[cfg(test)]
-mod tests {
-    use super::*;
-
-    #[test]
-    fn a_move_is_due_at_the_second_of_two_writes(rt: HostRuntime) {
-        let mut region = Region::new(4, 2);
-        region.stored();
-        assert!(rt; !region.due());
-        region.stored();
-        assert!(rt; region.due());
-        assert_eq!(rt; region.counter(), 2);
-        region.moved();
-        assert!(rt; !region.due());
-        assert_eq!(rt; region.counter(), 0);
-        assert_eq!(rt; region.registers().gap(), 3);
-        assert_eq!(rt; Region::at(4, 2, 1, 3, 0).registers().start(), 3);
-    }
-}

@@ -21,6 +21,3 @@ pub use split::find_results;
 pub fn results_are_read_once()
     ensures { ReadOnceLaw }
 {}
-
-#[cfg(test)]
-mod tests;

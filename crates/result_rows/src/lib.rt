@@ -70,6 +70,3 @@ pub enum Outcome<const B: usize> {
         tick: u64,
     },
 }
-
-#[cfg(test)]
-mod tests;

@@ -13,6 +13,3 @@ pub use laws::{each_row_is_counted_once, short_rows_are_counted};
 pub use print::print_summary;
 pub use pulses::{add_pulses, sum_pulses};
 pub use shortfall::{any_short, is_short};
-
-#[cfg(test)]
-mod tests;

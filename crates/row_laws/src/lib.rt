@@ -6,9 +6,6 @@
 use bank_shape::Policy;
 use result_rows::Outcome;
 
-#[cfg(test)]
-mod worked;
-
 /// What a row of a trace asks for.
 #[derive(Clone, Copy)]
 pub enum Asks<const B: usize> {

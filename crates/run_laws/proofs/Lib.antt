@@ -6,4 +6,3 @@ mod Facts
 mod Rows
 mod Roles
 mod Lasting
-mod SmallRun

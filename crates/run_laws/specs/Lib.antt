@@ -3,4 +3,3 @@ pub mod Finishing
 pub mod FinishedLaws
 pub mod RowsOfRuns
 pub mod Lasting
-pub mod Worked

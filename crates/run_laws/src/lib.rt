@@ -2,9 +2,6 @@
 //! ensures; the functions do nothing when they run.
 #![tactic(auto)]
 
-#[cfg(test)]
-mod worked;
-
 ghost use Rattle.run_laws.specs.FinishedLaws.{FinishedLaw, LinesLaw, NamedLaw, RolesLaw};
 ghost use Rattle.run_laws.specs.Lasting.{AliveLaw, AskedAliveLaw};
 ghost use Rattle.run_laws.specs.RowsOfRuns.{OwnOutcomesLaw, PlacesExistLaw, FewArrayLinesLaw, NoneLostLaw, RoomIsTakenLaw, NoneShortLaw};

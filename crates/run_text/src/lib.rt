@@ -11,6 +11,3 @@ pub use counts::print_counts;
 pub use results::print_results;
 pub use room::{ROW_ROOM, TEXT_ROOM, make_room, print_rest};
 pub use wear::{print_wear_header, print_wear_row};
-
-#[cfg(test)]
-mod tests;

@@ -41,6 +41,3 @@ pub fn banks_keep_their_room()
 {
     banks_have_room();
 }
-
-#[cfg(test)]
-mod worked;

@@ -11,6 +11,3 @@ mod print;
 pub use generator::{Generator, generate};
 pub use mix::Mix;
 pub use print::{header, print_event};
-
-#[cfg(test)]
-mod tests;

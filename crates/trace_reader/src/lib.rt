@@ -15,6 +15,3 @@ pub use event::{Event, EventOp};
 pub use fault::{Kind, ParseFault, TraceFault};
 pub use row::LATEST_TICK;
 pub use trace::{MOST_ROWS, parse};
-
-#[cfg(test)]
-mod tests;

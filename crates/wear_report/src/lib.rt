@@ -8,9 +8,6 @@ ghost use Rattle.wear_report.specs.WearText.{wear_header_text, role_text, wear_r
 
 use pcm_io::Text;
 
-#[cfg(test)]
-mod tests;
-
 /// What an array line is used for.
 #[derive(Clone, Copy, Debug, PartialEq, Eq)]
 pub enum Role {

@@ -1,0 +1,206 @@
+use pcm_image::*;
+use pcm_cells::Cells;
+use pcm_io::Text;
+use std::test::*;
+
+// The numbers of a module of one bank of one region of four lines, and what its bank kept, but for its rows of cells.
+fn begin(text: &mut Text, spares: u16, replaced: &[u32], entries: &[EntryImage<64>]) {
+    if text.room() < 600 || entries.len() > 4 || replaced.len() > 4 {
+        return;
+    }
+    write_head(text, 64, 1, 1, 4, spares, 0, 0);
+    write_bank(text, 0, replaced.len() as u16);
+    for slot in replaced {
+        if text.room() >= 4 {
+            write_slot(text, *slot);
+        }
+    }
+    if text.room() < 8 {
+        return;
+    }
+    let region = RegionImage {
+        start: 0,
+        gap: 4,
+        counter: 0,
+    };
+    write_region(text, &region);
+    write_count(text, entries.len() as u16);
+    for entry in entries {
+        if text.room() >= 76 {
+            write_entry(text, entry);
+        }
+    }
+}
+
+// Its rows of cells: those of these numbers have ones alone as data.
+fn rows(text: &mut Text, count: u32, ones: &[u32]) {
+    for row in 0..count {
+        let mut cells = Cells::<64, 8>::zero();
+        if ones.contains(&row) {
+            cells.bits = [0xff; 64];
+        }
+        if text.room() >= 72 {
+            write_cells(text, &cells);
+        }
+    }
+}
+
+// Two spares, and nothing was written.
+fn empty_image(rt: &HostRuntime) -> Result<Text, Fail> {
+    let mut text = Text::new(rt.alloc(), 1000)?;
+    begin(&mut text, 2, &[], &[]);
+    rows(&mut text, 7, &[]);
+    Ok(text)
+}
+
+fn fault_of(rt: &HostRuntime, bytes: &[u8]) -> Option<(u32, ImageKind)> {
+    match read_image::<64, 8>(rt.alloc(), bytes) {
+        Ok(_) => None,
+        Err(ReadImage::NoMemory) => None,
+        Err(ReadImage::Bad(fault)) => Some((fault.at, fault.kind)),
+    }
+}
+
+// The bytes with some of them changed.
+fn changed(rt: &HostRuntime, bytes: &[u8], changes: &[(usize, u8)]) -> Result<Vec<u8>, Fail> {
+    let mut bytes = Vec::from_slice(rt.alloc(), bytes)?;
+    for (at, byte) in changes {
+        if *at < bytes.len() {
+            bytes[*at] = *byte;
+        }
+    }
+    Ok(bytes)
+}
+
+#[test]
+fn an_image_that_was_written_is_read(rt: HostRuntime) -> Result<(), Fail> {
+    let text = empty_image(&rt)?;
+    let bytes = text.bytes();
+    assert_eq!(rt; bytes.len(), 539);
+    assert_eq!(rt; size_of_line(bytes), Ok(64));
+    match read_image::<64, 8>(rt.alloc(), bytes) {
+        Ok(image) => {
+            assert_eq!(rt; (image.banks, image.lines, image.spares), (1, 4, 2));
+            assert_eq!(rt; image.parts.len(), 1);
+            assert_eq!(rt; image.cells.len(), 7);
+        }
+        Err(_) => assert!(rt; false),
+    }
+    Ok(())
+}
+
+#[test]
+fn the_first_field_that_fails_is_named(rt: HostRuntime) -> Result<(), Fail> {
+    let text = empty_image(&rt)?;
+    let bytes = text.bytes();
+    for (at, byte, fault) in [
+        (7, b'2', (0, ImageKind::Magic)),
+        (8, 63, (8, ImageKind::Size)),
+        (9, 3, (9, ImageKind::Shape)),
+        (10, 17, (10, ImageKind::Shape)),
+        (11, 5, (11, ImageKind::Shape)),
+        (14, 5, (13, ImageKind::Shape)),
+        (23, 2, (23, ImageKind::Shape)),
+        (24, 2, (24, ImageKind::Bank)),
+        (25, 3, (25, ImageKind::Bank)),
+        (25, 1, (27, ImageKind::Bank)),
+        (27, 4, (27, ImageKind::Bank)),
+        (29, 5, (29, ImageKind::Bank)),
+        (34, 2, (33, ImageKind::Bank)),
+        (33, 1, (103, ImageKind::Entry)),
+        (10, 2, (473, ImageKind::Short)),
+        (13, 1, (467, ImageKind::Extra)),
+    ] {
+        let bytes = changed(&rt, bytes, &[(at, byte)])?;
+        assert_eq!(rt; fault_of(&rt, bytes.as_slice()), Some(fault));
+    }
+    Ok(())
+}
+
+#[test]
+fn an_image_has_each_of_its_bytes_and_no_more(rt: HostRuntime) -> Result<(), Fail> {
+    let mut text = empty_image(&rt)?;
+    assert_eq!(rt; fault_of(&rt, &[]), Some((0, ImageKind::Short)));
+    assert_eq!(rt; fault_of(&rt, b"PCMIMG01"), Some((8, ImageKind::Short)));
+    if let Some((_, front)) = text.bytes().split_last() {
+        assert_eq!(rt; fault_of(&rt, front), Some((467, ImageKind::Short)));
+    }
+    if text.room() >= 4 {
+        write_slot(&mut text, 0);
+    }
+    assert_eq!(rt; fault_of(&rt, text.bytes()), Some((539, ImageKind::Extra)));
+
+    // The numbers of the largest module alone promise rows that don't follow.
+    let mut alone = Text::new(rt.alloc(), 24)?;
+    write_head(&mut alone, 64, 16, 16, 256, 1024, 0, 1);
+    assert_eq!(rt; fault_of(&rt, alone.bytes()), Some((24, ImageKind::Short)));
+    Ok(())
+}
+
+// A write of a line of a bank that gives its first byte alone.
+fn first_byte(line: u32, byte: u8) -> EntryImage<64> {
+    let mut bytes = [0; 64];
+    let mut given = [false; 64];
+    bytes[0] = byte;
+    given[0] = true;
+    EntryImage { line, bytes, given }
+}
+
+#[test]
+fn a_byte_that_is_not_given_is_zero(rt: HostRuntime) -> Result<(), Fail> {
+    let mut text = Text::new(rt.alloc(), 1000)?;
+    begin(&mut text, 0, &[], &[first_byte(1, 7)]);
+    rows(&mut text, 5, &[]);
+    let bytes = text.bytes();
+    assert_eq!(rt; bytes.len(), 471);
+    assert_eq!(rt; fault_of(&rt, bytes), None);
+    let other = changed(&rt, bytes, &[(40, 7)])?;
+    assert_eq!(rt;
+        fault_of(&rt, other.as_slice()),
+        Some((103, ImageKind::Entry))
+    );
+    let given = changed(&rt, bytes, &[(40, 7), (103, 3)])?;
+    assert_eq!(rt; fault_of(&rt, given.as_slice()), None);
+    let far = changed(&rt, bytes, &[(38, 128)])?;
+    assert_eq!(rt; fault_of(&rt, far.as_slice()), Some((35, ImageKind::Entry)));
+    Ok(())
+}
+
+// The first two bytes of the first line, which is line 3 of its bank.
+fn first_line(rt: &HostRuntime, bytes: &[u8]) -> Option<(u8, u8)> {
+    let Ok(image) = read_image::<64, 8>(rt.alloc(), bytes) else {
+        return None;
+    };
+    if image.total() == 0 {
+        return None;
+    }
+    let bytes = image.stands::<6>(0);
+    Some((bytes[0], bytes[1]))
+}
+
+#[test]
+fn a_line_is_read_where_its_slot_was_given_a_spare(rt: HostRuntime) -> Result<(), Fail> {
+    let mut own = Text::new(rt.alloc(), 1000)?;
+    begin(&mut own, 2, &[], &[]);
+    rows(&mut own, 7, &[3]);
+    assert_eq!(rt; first_line(&rt, own.bytes()), Some((0xff, 0xff)));
+    let mut last = Text::new(rt.alloc(), 1000)?;
+    begin(&mut last, 2, &[3, 3], &[]);
+    rows(&mut last, 7, &[6]);
+    assert_eq!(rt; first_line(&rt, last.bytes()), Some((0xff, 0xff)));
+    Ok(())
+}
+
+#[test]
+fn the_newest_write_of_a_line_lies_on_top(rt: HostRuntime) -> Result<(), Fail> {
+    let mut text = Text::new(rt.alloc(), 1000)?;
+    begin(
+        &mut text,
+        0,
+        &[],
+        &[first_byte(3, 1), first_byte(2, 2), first_byte(3, 3)],
+    );
+    rows(&mut text, 5, &[3]);
+    assert_eq!(rt; first_line(&rt, text.bytes()), Some((3, 0xff)));
+    Ok(())
+}

@@ -1,0 +1,4 @@
+pub mod Ends
+pub mod Lifetimes
+pub mod Runs
+pub mod WholeTables

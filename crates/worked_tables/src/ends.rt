@@ -1,0 +1,33 @@
+//! Worked ends of a small bank, and altered ones that are refused. Each clause is computed from the definitions; there is
+//! nothing to run.
+
+ghost use Rattle.std.specs.Prelude.{◌≡◌, ◌∷◌, [], Some, None, true, false};
+ghost use Rattle.row_laws.specs.Rows.{each_row};
+ghost use Rattle.row_laws.specs.Worked.{whole};
+ghost use Rattle.bank_laws.specs.Worked.{none_worn};
+ghost use Rattle.bank_model.specs.Worked.{small};
+ghost use Rattle.end_laws.specs.Ends.{is_excused, is_kept_line, is_still_there};
+ghost use Rattle.end_laws.specs.Roles.{used_spares};
+ghost use Rattle.worked_tables.specs.Ends.{half_stored_rows, slot_3_has, stored_rows, worn_3};
+
+/// Of a line of a finished bank every byte is the newest one, in the array or in the queue; of others it isn't.
+pub fn worked_lines_are_kept()
+    ensures kept { is_kept_line stored_rows 3 (whole 0x11) ≡ true }
+    ensures other { is_kept_line stored_rows 3 (0x11 ∷ 0x22 ∷ []) ≡ false }
+    ensures unwritten { is_kept_line stored_rows 2 (whole 0x11) ≡ false }
+    ensures queued_byte { is_kept_line half_stored_rows 3 (0x77 ∷ 0x11 ∷ []) ≡ true }
+    ensures stored_byte { is_kept_line half_stored_rows 3 (0xee ∷ 0x22 ∷ []) ≡ false }
+    ensures excused { is_excused (Some 3) half_stored_rows ≡ true }
+    ensures not_excused { is_excused (Some 3) stored_rows ≡ false }
+    ensures excused_other { is_excused (Some 2) half_stored_rows ≡ false }
+{}
+
+/// The slot of a stored row has the row's place in the end, or a later spare where that place is worn.
+pub fn worked_rows_are_still_there()
+    ensures same { each_row (is_still_there small none_worn (slot_3_has 3)) stored_rows [] ≡ true }
+    ensures spare { each_row (is_still_there small worn_3 (slot_3_has 6)) stored_rows [] ≡ true }
+    ensures unworn { each_row (is_still_there small none_worn (slot_3_has 6)) stored_rows [] ≡ false }
+    ensures no_spare { each_row (is_still_there small worn_3 (slot_3_has 4)) stored_rows [] ≡ false }
+    ensures none_used { used_spares small (slot_3_has 3) ≡ 0 }
+    ensures two_used { used_spares small (slot_3_has 6) ≡ 2 }
+{}

@@ -1,0 +1,46 @@
+//! Worked bounds, and wrong statements that a table refutes. Each clause is computed from the definitions; there is nothing to
+//! run.
+
+ghost use Rattle.std.specs.Prelude.{◌≡◌, ◌+◌, ◌*◌, ◌/◌, true, []};
+ghost use Rattle.row_laws.specs.Rows.{each_row};
+ghost use Rattle.row_laws.specs.Answers.{is_stored};
+ghost use Rattle.row_laws.specs.Ticking.{is_in_time};
+ghost use Rattle.row_laws.specs.Worked.{small};
+ghost use Rattle.bank_shape.specs.declared.pace.Policy.TheVariants.{Pause};
+ghost use Rattle.bank_laws.specs.Places.{is_placed, region_stores};
+ghost use Rattle.lifetime_laws.specs.Spread.{most_at, most_moves, stores_on};
+ghost use Rattle.lifetime_laws.specs.Works.{stores_at};
+ghost use Rattle.worked_tables.specs.Lifetimes.{two_lines, none_worn, storing, always, waiting_for_slot_0, stores_of};
+
+/// Sixteen lines, a gap move for each ten stores: of 20,000 and of 50,000 stores of one line at most 1,280 and 3,040 are on one
+/// array line, and 118 and 295 moves go into one place. Without moves all 50,000 are.
+pub fn worked_bounds_are_computed()
+    ensures twenty { most_at 16 10 20000 ≡ 1280 }
+    ensures fifty { most_at 16 10 50000 ≡ 3040 }
+    ensures moves { most_moves 16 2000 ≡ 118 }
+    ensures more_moves { most_moves 16 5000 ≡ 295 }
+    ensures unmoved { most_at 16 65535 50000 ≡ 50000 }
+    ensures slower { most_at 16 100 50000 ≡ 3200 }
+{}
+
+/// A table of 24 stores of line 0 alone meets the bound.
+pub fn worked_table_meets_the_bound()
+    ensures in_time { each_row (is_in_time (small Pause)) (storing always 24) [] ≡ true }
+    ensures placed { each_row (is_placed two_lines none_worn) (storing always 24) [] ≡ true }
+    ensures most { most_at 2 1 24 ≡ 8 }
+    ensures on { stores_on 0 0 (storing always 24) ≡ 8 }
+{}
+
+/// Line 0 is stored while it is at slot 0, and else line 1: the table is placed and in time, and all 8 stores of line 0 are on one
+/// array line, and 16 of all 24. So the bound is by the region's stores, and not by those of the line; and it is a bound for each
+/// line, and not for all lines together.
+pub fn worked_table_refutes_stronger_bounds()
+    ensures in_time { each_row (is_in_time (small Pause)) (storing waiting_for_slot_0 24) [] ≡ true }
+    ensures placed { each_row (is_placed two_lines none_worn) (storing waiting_for_slot_0 24) [] ≡ true }
+    ensures own { stores_of 0 (storing waiting_for_slot_0 24) ≡ 8 }
+    ensures own_on { stores_on 0 0 (storing waiting_for_slot_0 24) ≡ 8 }
+    ensures by_the_line { most_at 2 1 8 ≡ 4 }
+    ensures even_by_the_line { 8 / (2 + 1) + 2 * 1 ≡ 4 }
+    ensures all { region_stores is_stored two_lines 0 (storing waiting_for_slot_0 24) ≡ 24 }
+    ensures all_on { stores_at 0 (storing waiting_for_slot_0 24) ≡ 16 }
+{}

@@ -1,0 +1,27 @@
+//! A worked run of a small module, and altered ones that are refused. Each clause is computed from the definitions; there is
+//! nothing to run.
+
+ghost use Rattle.std.specs.Prelude.{◌≡◌, ℕ};
+ghost use Rattle.end_laws.specs.Ends.{BankEnd};
+ghost use Rattle.run_laws.specs.Runs.{RunsRight, bank_of_line, line_in_bank, line_named, table_in};
+ghost use Rattle.worked_tables.specs.Runs.{small, reading, misplaced, first_bank, second_bank, ended, touched, forgotten, hammered, strained, unmoved, NeverRight};
+
+/// Which bank has line 8, under which number, and which rows each bank gets.
+pub fn worked_lines_are_mixed()
+    ensures bank { bank_of_line small 0 8 ≡ 1 }
+    ensures own { line_in_bank small 0 8 ≡ 5 }
+    ensures named { line_named small 0 1 5 ≡ 8 }
+    ensures first { table_in small 0 0 (reading 0x11 0) ≡ first_bank 0 }
+    ensures second { table_in small 0 1 (reading 0x11 0) ≡ second_bank 0x11 }
+{}
+
+/// A run is right; stale bytes, another place, a touched unused cell, a forgotten line and needless pulses aren't.
+pub fn worked_runs_are_judged()
+    ensures right { RunsRight 1 small 0 (reading 0x11 0) ended unmoved }
+    ensures stale { NeverRight (reading 0 0) }
+    ensures misplaced { (ends : ℕ → BankEnd) → RunsRight 1 small 0 misplaced ended ends → ⊥ }
+    ensures touched { RunsRight 1 small 0 (reading 0x11 0) touched unmoved → ⊥ }
+    ensures forgotten { RunsRight 1 small 0 (reading 0x11 0) forgotten unmoved → ⊥ }
+    ensures hammered { RunsRight 1 small 0 (reading 0x11 0) hammered unmoved → ⊥ }
+    ensures strained { RunsRight 1 small 0 (reading 0x11 0) strained unmoved → ⊥ }
+{}
