@@ -15,7 +15,6 @@ mod read_back;
 #[cfg(test)]
 mod rows;
 #[cfg(test)]
-#[cfg(test)]
 mod sources;
 #[cfg(test)]
 mod summaries;
