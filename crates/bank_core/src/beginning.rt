@@ -19,8 +19,8 @@ ghost use Rattle.bank_core.specs.Stepping.{step_from, left_by};
 ghost use Rattle.bank_core.specs.Beginning.{IsBegin, IsOfSoundLine};
 
 use crate::bank::{Bank, Running};
-use bank_shape::answer::Step;
 use bank_shape::Work;
+use bank_shape::answer::Step;
 use ecp_line::Ecp;
 use line_writer::{LineWriter, Progress};
 use pcm_cells::{CellArray, Cells};

@@ -2,4 +2,3 @@
 //! which ticks, with which senses and pulses. The definitions stand beside the code of a bank and its clock: their contracts
 //! and the laws of a bank's rows both speak of them.
 #![tactic(auto)]
-
