@@ -11,14 +11,14 @@ use Rattle.line_writer.specs.Writing.{most_steps}
 use Rattle.power_recovery.specs.Kept.{KeptState, IsKept, stands_at}
 use Rattle.power_recovery.specs.Events.{completed_kept}
 use Rattle.power_recovery.specs.Slots.{bank_lines}
-use Rattle.bank_model.specs.declared.answer.ReadAnswer.{ReadAnswer}
-use Rattle.bank_model.specs.declared.answer.ReadAnswer.TheVariants as came
-use Rattle.bank_model.specs.declared.answer.Served.{Served}
+use Rattle.bank_shape.specs.declared.answer.ReadAnswer.{ReadAnswer}
+use Rattle.bank_shape.specs.declared.answer.ReadAnswer.TheVariants as came
+use Rattle.bank_shape.specs.declared.answer.Served.{Served}
 use Rattle.bank_model.specs.Events.{Event, Read, Serve}
 use Rattle.bank_model.specs.Answers.{MayHappen}
-use Rattle.bank_invariant.specs.declared.Waiting.{Waiting}
+use Rattle.bank_shape.specs.declared.waiting.Waiting.{Waiting}
 use Rattle.bank_invariant.specs.State.{BankState}
-use Rattle.bank_invariant.specs.Tied.{IsTied}
+use Rattle.bank_invariant.specs.Tied.{StandsAs, IsTied}
 use Rattle.bank_invariant.specs.Holds.{Holds}
 use Rattle.bank_invariant.specs.Serving.{kept_with, read_from, served_from, served}
 use Rattle.bank_invariant.proofs.Quiet.{same_said, forwarded_law, busy_law}
@@ -89,12 +89,12 @@ module _ {n m e : ℕ} where
   pub lost_law : (h : List (Event n)) (bank : BankState n m e) (array : ArrayState n m) → Holds h bank array → Holds h (lost_taken bank) array
   lost_law h bank array holds = same_said h h bank array (drop 1 bank.lost) bank.rows_below holds refl holds.past holds.rows
 
-  pub serve_tied : (bank : BankState n m e) (old new : ArrayState n m) → new.lines ≡ old.lines → ((line : ℕ) → new.line line ≡ old.line line)
+  pub serve_tied : (bank : BankState n m e) (old new : ArrayState n m) → StandsAs old new
       → IsTied bank old → IsTied (served bank) new
-  serve_tied bank old new many same tied =
+  serve_tied bank old new stands tied =
       tied_waiting e bank.kept new bank.running bank.waiting (drop 1 bank.waiting)
       (λ line bytes whole off. All-drop (λ w. w.line ≢ line) 1 bank.waiting off)
-      (tied_sensed e old new same bank.kept bank.running bank.waiting many tied)
+      (tied_sensed e old new stands bank.kept bank.running bank.waiting tied)
 
   -- what was read where the line stands, with the kept bytes over it, is the answer
   pub answers : (bank : BankState n m e) (array : ArrayState n m) (w : Waiting n) (place : ℕ) (bytes : List ℕ)
@@ -106,12 +106,12 @@ module _ {n m e : ℕ} where
       cc
 
   pub serve_law : (h : List (Event n)) (bank : BankState n m e) (old new : ArrayState n m) (w : Waiting n) (ws : List (Waiting n)) (answer : Served n)
-      → bank.waiting ≡ w ∷ ws → answer ≡ served_from bank old w → new.lines ≡ old.lines → ((line : ℕ) → new.line line ≡ old.line line)
+      → bank.waiting ≡ w ∷ ws → answer ≡ served_from bank old w → StandsAs old new
       → Holds h bank old → Holds (Serve answer ∷ h) (served bank) new
-  serve_law h bank old new w ws answer first is many same holds =
+  serve_law h bank old new w ws answer first is stands holds =
       served_law n m e h bank old new answer holds
       (subst (λ (a : Served n). MayHappen bank.kept.shape h (most_steps e) (Serve a)) (sym is) (may_serve_law n m e h bank old w ws holds first))
-      many same
+      stands
 
 module _ {n : ℕ} (m e : ℕ) where
   pub IsBank-push : (kept : KeptState n) (waiting : List (Waiting n)) (w : Waiting n) (places lost : ℕ) → length waiting < places → w.line < bank_lines kept.shape

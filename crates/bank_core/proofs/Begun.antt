@@ -1,5 +1,6 @@
 -- That the begin of a line write keeps the tie and the invariant.
 use Rattle.std.proofs.Common.{◌≡◌, ℕ, ◌<◌, ◌≤◌, ◌&&◌, not, refl, sym, ap, subst, ◌∙◌, arith, Bool, true, false, List, [], ◌∷◌, length, slice_get, Option, Some, None, is_some}
+use Rattle.std.proofs.lemmas.Bool.{and_parts}
 use Rattle.std.specs.Prelude.{IsSomeAnd, IfSome, IsTrue}
 use Rattle.masked_bytes.specs.Masked.{laid}
 use Rattle.masked_bytes.specs.Entries.{completed, head_line, head_row}
@@ -8,6 +9,7 @@ use Rattle.pcm_cells.specs.declared.row.Cells.{Cells}
 use Rattle.pcm_cells.specs.Device.{ArrayState, LineState}
 use Rattle.ecp_line.specs.Reading.{decode}
 use Rattle.start_gap.specs.declared.Move.{Move}
+use Rattle.start_gap.specs.Rotation.{move_by}
 use Rattle.bank_shape.specs.declared.Work.{Work}
 use Rattle.bank_shape.specs.declared.Work.TheVariants.{Nothing, Store, Copy}
 use Rattle.bank_shape.specs.declared.BankShape.{BankShape}
@@ -17,33 +19,29 @@ use Rattle.line_writer.specs.declared.writer.Progress.{Progress}
 use Rattle.line_writer.specs.declared.writer.Progress.TheVariants as progress
 use Rattle.line_writer.specs.Writing.{IsProgress, HasBegun, Writes, steps_left, most_steps}
 use Rattle.power_recovery.specs.Slots.{bank_lines}
-use Rattle.power_recovery.specs.Kept.{KeptState, IsKept, slot_of, array_line, due_region, next_work}
+use Rattle.power_recovery.specs.Kept.{KeptState, IsKept, region_at, slot_of, array_line, due_region, next_work}
 use Rattle.power_recovery.specs.Events.{is_store, is_copy, completed_kept, stored_kept}
-use Rattle.power_recovery.proofs.Bundle.{next_work-store, next_work-copy, head-known}
+use Rattle.power_recovery.proofs.Bundle.{next_work-store, next_work-copy, head-known, due_region-Some}
 use Rattle.power_recovery.proofs.Placing.{slot_of-within}
 use Rattle.power_recovery.proofs.Frames.{next_work-completed}
-use Rattle.bank_model.specs.declared.answer.Step.{Step}
-use Rattle.bank_model.specs.declared.answer.Step.TheVariants as did
+use Rattle.bank_shape.specs.declared.answer.Step.{Step}
+use Rattle.bank_shape.specs.declared.answer.Step.TheVariants as did
 use Rattle.bank_model.specs.Events.{Event, Begin}
-use Rattle.bank_invariant.specs.declared.Waiting.{Waiting}
+use Rattle.bank_shape.specs.declared.waiting.Waiting.{Waiting}
 use Rattle.bank_invariant.specs.State.{BankState, Operation, target_of, is_free, may_begin}
-use Rattle.bank_invariant.specs.Tied.{decoded, AreSound, IsOf, IsTied, IsSoundLine}
+use Rattle.bank_invariant.specs.Tied.{StandsAs, decoded, AreSound, IsOf, IsTied, IsSoundLine}
 use Rattle.bank_invariant.specs.Holds.{Holds}
 use Rattle.bank_invariant.specs.Beginning.{begun_with}
 use Rattle.bank_invariant.specs.Storing.{resting}
 use Rattle.bank_invariant.specs.Retiring.{ended}
-use Rattle.bank_invariant.proofs.Targets.{next_store-slot}
+use Rattle.bank_invariant.proofs.Targets.{next_store-slot, next_copy-region}
+use Rattle.bank_invariant.proofs.Iterating.{from-within}
 use Rattle.bank_invariant.proofs.Awaiting.{tied_sensed}
 use Rattle.bank_invariant.proofs.Starting.{begun_store_law, begun_copy_law, whole-completed, free-off, AreSound-completed}
 use Rattle.bank_invariant.proofs.Finishing.{begun_stored_law, next_store-line}
 use Rattle.bank_invariant.proofs.Turned.{moved_at_once_law}
 use Rattle.bank_core.specs.Stepping.{with_kept, step_from, left_by, done_from, done_kept}
 use Rattle.bank_core.specs.Beginning.{head_over, bytes_for, begun_kept, IsBegin}
-
-both : (a b : Bool) → (a && b) ≡ true → (a ≡ true) × (b ≡ true)
-both true true h = (refl, refl)
-both true false h = cc
-both false b h = cc
 
 isn't-some : {A : Type 0} (x : Option A) → not (is_some x) ≡ true → x ≡ None
 isn't-some None h = refl
@@ -75,7 +73,7 @@ going kept (Store line slot) ws next free = (next_work-store kept (ap is_store n
 going kept (Copy region step) ws next free = (next_work-copy kept (ap is_copy next)).0
 
 module _ {n m e : ℕ} (bank : BankState n m e) (op : Operation n m e) (before after : ArrayState n m) where
-  -- a line write that was just begun for this work, of an array of which each line is as it was
+  -- a line write that was just begun for this work, of an array that stands as it was
   pub record IsFor (due : Work) : Type 0 where
     pub may : IsTrue (may_begin bank)
     pub next : next_work bank.kept ≡ due
@@ -84,21 +82,20 @@ module _ {n m e : ℕ} (bank : BankState n m e) (op : Operation n m e) (before a
     pub bytes : op.writer.bytes ≡ bytes_for e bank.kept before due
     pub writes : Writes op.writer (after.line op.target)
     pub few : steps_left op.writer ≤ most_steps e
-    pub lines : after.lines ≡ before.lines
-    pub same : (at : ℕ) → after.line at ≡ before.line at
+    pub stands : StandsAs before after
 
   free-for : (work : Work) → IsFor work → is_free bank.waiting work ≡ true
-  free-for work is = ap (λ w. is_free bank.waiting w) (sym is.next) ∙ (both (not (is_some bank.running)) (is_free bank.waiting (next_work bank.kept)) is.may).1
+  free-for work is = ap (λ w. is_free bank.waiting w) (sym is.next) ∙ (and_parts (not (is_some bank.running)) (is_free bank.waiting (next_work bank.kept)) is.may).1
 
   idle-for : (work : Work) → IsFor work → bank.running ≡ None
-  idle-for work is = isn't-some bank.running (both (not (is_some bank.running)) (is_free bank.waiting (next_work bank.kept)) is.may).0
+  idle-for work is = isn't-some bank.running (and_parts (not (is_some bank.running)) (is_free bank.waiting (next_work bank.kept)) is.may).0
 
   -- a write that is done as it begins finds its line read as its bytes
   read-so : (work : Work) → IsFor work → op.writer.progress ≡ progress.Stored → decoded e before (target_of bank.kept work) ≡ bytes_for e bank.kept before work
   read-so work is stored =
       let answer = subst (λ (p : Progress). IsProgress op.writer (after.line op.target) p) stored is.writes.answer in
       ap (λ (l : ℕ). decoded e before l) (sym is.target)
-      ∙ ap (λ (l : LineState n m). decode e l.held) (sym (is.same op.target))
+      ∙ ap (λ (l : LineState n m). decode e l.held) (sym (is.stands.line op.target))
       ∙ answer.2 ∙ is.bytes
 
   -- The invariant
@@ -107,11 +104,11 @@ module _ {n m e : ℕ} (bank : BankState n m e) (op : Operation n m e) (before a
       → Holds (Begin did.More ∷ h) (begun_with (begun_kept e bank.kept before work) op bank) after
   holds-more h Nothing holds is more = let no : false ≡ true = free-for Nothing is in cc
   holds-more h (Store line slot) holds is more =
-      begun_store_law n m e line slot h bank before after op holds is.may is.next is.lines is.same is.work is.target
+      begun_store_law n m e line slot h bank before after op holds is.may is.next is.stands is.work is.target
       (over_head bank.kept.entries (decoded e before (array_line bank.kept slot)) op.writer.bytes (some-entries bank.kept line slot is.next) is.bytes)
       (record { more = more; writes = is.writes }) is.few
   holds-more h (Copy region step) holds is more =
-      begun_copy_law n m e region step h bank before after op holds is.may is.next is.lines is.same is.work
+      begun_copy_law n m e region step h bank before after op holds is.may is.next is.stands is.work
       (is.target ∙ ap (λ w. target_of bank.kept w) (sym is.work)) is.bytes
       (record { more = more; writes = is.writes }) is.few
 
@@ -124,16 +121,16 @@ module _ {n m e : ℕ} (bank : BankState n m e) (op : Operation n m e) (before a
       let P : ℕ → Type 0 =
       λ at. Holds (Begin (did.Stored (head_row bank.kept.entries) at) ∷ h) (resting (stored_kept (completed_kept under bank.kept)) bank) after in
       subst P (sym is.target)
-      (begun_stored_law n m e line slot h bank before after first.0 holds is.may is.next first.1 is.lines is.same
+      (begun_stored_law n m e line slot h bank before after first.0 holds is.may is.next first.1 is.stands
       (sym first.2 ∙ sym (read-so (Store line slot) is stored)))
   holds-done h (Copy region step) holds is stored =
-      moved_at_once_law n m e region step h bank before after holds (idle-for (Copy region step) is) is.next is.lines is.same
-      (ap (λ (l : LineState n m). decode e l.held) (is.same (target_of bank.kept (Copy region step))) ∙ read-so (Copy region step) is stored)
+      moved_at_once_law n m e region step h bank before after holds (idle-for (Copy region step) is) is.next is.stands
+      (ap (λ (l : LineState n m). decode e l.held) (is.stands.line (target_of bank.kept (Copy region step))) ∙ read-so (Copy region step) is stored)
 
   -- The tie
 
   now-tied : (work : Work) → IsFor work → IsTied bank before → IsTied bank after
-  now-tied work is tied = tied_sensed e before after is.same bank.kept bank.running bank.waiting is.lines tied
+  now-tied work is tied = tied_sensed e before after is.stands bank.kept bank.running bank.waiting tied
 
   not-worn : {A : Type 0} (work : Work) → IsFor work → IsTrue bank.kept.exhausted → A
   not-worn work is mark = let unmarked : bank.kept.exhausted ≡ false = going bank.kept work bank.waiting is.next (free-for work is) in cc
@@ -156,6 +153,7 @@ module _ {n m e : ℕ} (bank : BankState n m e) (op : Operation n m e) (before a
         lines = now.lines;
         sound = AreSound-completed e kept under after now.sound;
         unused = now.unused;
+        orderly = now.orderly;
         operation = record {
           next = is.work ∙ sym is.next ∙ sym (next_work-completed kept under);
           target = is.target ∙ ap (λ w. target_of (completed_kept under kept) w) (sym is.work);
@@ -172,11 +170,12 @@ module _ {n m e : ℕ} (bank : BankState n m e) (op : Operation n m e) (before a
         lines = now.lines;
         sound = now.sound;
         unused = now.unused;
+        orderly = now.orderly;
         operation = record {
           next = is.work ∙ sym is.next;
           target = is.target ∙ ap (λ w. target_of bank.kept w) (sym is.work);
           of = subst (λ (w : Work). IsOf e bank.kept after bank.waiting op.writer.bytes w) (sym is.work)
-              (is.bytes ∙ ap (λ (l : LineState n m). decode e l.held) (sym (is.same source)));
+              (is.bytes ∙ ap (λ (l : LineState n m). decode e l.held) (sym (is.stands.line source)));
           writing = record { more = more; writes = is.writes };
         };
         exhausted = not-worn (Copy region step) is;
@@ -191,6 +190,7 @@ module _ {n m e : ℕ} (bank : BankState n m e) (op : Operation n m e) (before a
         lines = now.lines;
         sound = record { apart = sound.apart; slots = sound.slots; spares = sound.spares; worn = sound.worn };
         unused = now.unused;
+        orderly = now.orderly;
         operation = tt;
         exhausted = not-worn (Store line slot) is;
       }
@@ -200,6 +200,7 @@ module _ {n m e : ℕ} (bank : BankState n m e) (op : Operation n m e) (before a
         lines = now.lines;
         sound = record { apart = now.sound.apart; slots = now.sound.slots; spares = now.sound.spares; worn = now.sound.worn };
         unused = now.unused;
+        orderly = now.orderly;
         operation = tt;
         exhausted = not-worn (Copy region step) is;
       }
@@ -219,9 +220,9 @@ module _ {n m e : ℕ} (bank : BankState n m e) (op : Operation n m e) (before a
   step-tied (progress.Worn cause) tied is begun at = absurd begun
 
 module _ {n m e : ℕ} (old new : BankState n m e) (answer : Step) (before after : ArrayState n m) where
-  is-for : IsTrue (may_begin old) → (b : IsBegin old new answer before after) → after.lines ≡ before.lines → ((at : ℕ) → after.line at ≡ before.line at)
+  is-for : IsTrue (may_begin old) → (b : IsBegin old new answer before after) → StandsAs before after
       → IsFor old b.op before after b.op.work
-  is-for may b lines same = record {
+  is-for may b stands = record {
     may = may;
     next = sym b.work;
     work = refl;
@@ -229,24 +230,23 @@ module _ {n m e : ℕ} (old new : BankState n m e) (answer : Step) (before after
     bytes = b.bytes;
     writes = b.writes;
     few = b.few;
-    lines = lines;
-    same = same;
+    stands = stands;
   }
 
   -- a begin keeps the invariant
-  pub begin-holds : IsTrue (may_begin old) → IsBegin old new answer before after → after.lines ≡ before.lines → ((at : ℕ) → after.line at ≡ before.line at)
+  pub begin-holds : IsTrue (may_begin old) → IsBegin old new answer before after → StandsAs before after
       → (h : List (Event n)) → Holds h old before → Holds (Begin answer ∷ h) new after
-  begin-holds may b lines same h holds =
-      let end = step-holds old b.op before after h b.op.writer.progress holds (is-for may b lines same) b.begun refl in
+  begin-holds may b stands h holds =
+      let end = step-holds old b.op before after h b.op.writer.progress holds (is-for may b stands) b.begun refl in
       subst (λ (s : Step). Holds (Begin s ∷ h) new after) (sym b.is)
       (subst (λ (bank : BankState n m e). Holds (Begin (step_from old.kept b.op b.op.writer.progress) ∷ h) bank after) (sym b.leaves) end)
 
   -- and the tie
-  pub begin-tied : IsTrue (may_begin old) → IsBegin old new answer before after → after.lines ≡ before.lines → ((at : ℕ) → after.line at ≡ before.line at)
+  pub begin-tied : IsTrue (may_begin old) → IsBegin old new answer before after → StandsAs before after
       → IsTied old before → IsTied new after
-  begin-tied may b lines same tied =
+  begin-tied may b stands tied =
       subst (λ (bank : BankState n m e). IsTied bank after) (sym b.leaves)
-      (step-tied old b.op before after b.op.writer.progress tied (is-for may b lines same) b.begun refl)
+      (step-tied old b.op before after b.op.writer.progress tied (is-for may b stands) b.begun refl)
 
 -- Where a begin comes from
 
@@ -336,6 +336,25 @@ module _ {n : ℕ} where
       let known : line < bank_lines kept.shape =
       subst (λ (l : ℕ). l < bank_lines kept.shape) at_head (head-known kept.entries (bank_lines kept.shape) range.known (some-entries kept line slot next)) in
       subst (λ (s : ℕ). s < slots_of kept.shape) (sym place) (slot_of-within kept range line known)
+
+  -- a copy is of a region of the bank, from one of its places to another
+  pub record IsCopyWithin (kept : KeptState n) (region : ℕ) (step : Move) : Type 0 where
+    pub exists : region < kept.shape.regions
+    pub from : step.from ≤ kept.shape.lines
+    pub to : step.to ≤ kept.shape.lines
+
+  pub copy-within : (kept : KeptState n) (region : ℕ) (step : Move) → IsKept kept → next_work kept ≡ Copy region step → IsCopyWithin kept region step
+  copy-within kept region step range next =
+      let moves = next_copy-region kept region step kept.exhausted (due_region kept) kept.entries (sym next) in
+      let due = due_region-Some kept region range moves.0 in
+      let own = range.regions region due.0 in
+      let to : step.to ≡ (region_at kept region).rotation.gap = ap (λ s. s.to) moves.1 in
+      let from : step.from ≡ (move_by (region_at kept region).rotation).from = ap (λ s. s.from) moves.1 in
+      record {
+        exists = due.0;
+        from = omega (arith, from, own.rotates, from-within (region_at kept region).rotation own.in_range.rotates);
+        to = omega (arith, to, own.rotates, own.in_range.rotates.gap_within);
+      }
 
   -- the line of a place of a region
   pub place-so : (kept : KeptState n) (shape : BankShape) (region place slot at : ℕ) → shape ≡ kept.shape → slot ≡ slot_at shape region place → at ≡ array_line kept slot

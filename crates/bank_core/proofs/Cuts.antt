@@ -9,7 +9,7 @@ use Rattle.bank_invariant.specs.Tied.{IsTied, IsRunning, IsUnderWay}
 use Rattle.bank_invariant.specs.Holds.{Holds}
 use Rattle.bank_invariant.specs.Steps.{cut_off}
 use Rattle.bank_invariant.specs.Tearing.{DiffersAt}
-use Rattle.bank_invariant.proofs.Targets.{IsTargetOf, running-target, AreSound-differs, AreUntouched-differs, DiffersAt-tear, target-exists}
+use Rattle.bank_invariant.proofs.Targets.{IsTargetOf, running-target, AreSound-differs, AreUntouched-differs, AreOrderly-differs, DiffersAt-tear, target-exists}
 use Rattle.bank_invariant.proofs.Quiet.{cut_law}
 use Rattle.bank_invariant.proofs.Tearing.{torn_law}
 use Rattle.bank_core.specs.Cutting.{IsTorn, stopped, reads_lost}
@@ -55,11 +55,11 @@ module _ {n m e : ℕ} where
   some_op None some = cc
   some_op (Some op) some = (op, refl)
 
-  torn-op : (bank : BankState n m e) (before after : ArrayState n m) (op : Operation n m e) → bank.running ≡ Some op
+  torn-op : (bank : BankState n m e) (before after : ArrayState n m) (op : Operation n m e) → IsTied bank before → bank.running ≡ Some op
       → IfSome bank.running (λ op. IsTorn op before after) → DiffersAt e op.target before after
-  torn-op bank before after op is torn =
+  torn-op bank before after op tied is torn =
       let by : IsTorn op before after = subst (λ (r : Option (Operation n m e)). IfSome r (λ op. IsTorn op before after)) is torn in
-      DiffersAt-tear e op.target op.writer.prog before after by.tear by.sound by.unused
+      DiffersAt-tear e op.target op.writer before after (running-is bank before op tied is).writing by.tear by.sound by.unused
 
   pub cut_holds : (tearing : Bool) (bank : BankState n m e) (before after : ArrayState n m)
       → (IsTrue tearing → IsTrue (is_some bank.running)) → (IsFalse tearing → after ≡ before)
@@ -69,13 +69,14 @@ module _ {n m e : ℕ} where
       subst (λ (a : ArrayState n m). Holds (Cut false ∷ h) (cut_off bank) a) (sym (quiet refl)) (cut_law n m e h bank before holds)
   cut_holds true bank before after runs quiet torn h holds =
       let some = some_op bank.running (runs refl) in
-      torn_law n m e h bank before after some.0 holds some.1 (torn-op bank before after some.0 some.1 (torn refl))
+      torn_law n m e h bank before after some.0 holds some.1 (torn-op bank before after some.0 holds.tied some.1 (torn refl))
 
   quiet_tied : (bank : BankState n m e) (array : ArrayState n m) → IsTied bank array → IsTied (cut_off bank) array
   quiet_tied bank array tied = record {
     lines = tied.lines;
     sound = tied.sound;
     unused = tied.unused;
+    orderly = tied.orderly;
     operation = tt;
     exhausted = λ mark. record { all_used = (tied.exhausted mark).all_used; idle = refl; worn = (tied.exhausted mark).worn };
   }
@@ -88,11 +89,12 @@ module _ {n m e : ℕ} where
   cut_tied true bank before after range runs quiet torn tied =
       let some = some_op bank.running (runs refl) in
       let op = some.0 in
-      let differs = torn-op bank before after op some.1 (torn refl) in
+      let differs = torn-op bank before after op tied some.1 (torn refl) in
       record {
         lines = omega (arith, tied.lines, differs.lines);
         sound = AreSound-differs e bank.kept bank.waiting op.target (target_slot bank.kept op.work) before after range tied.sound (target-is bank before op range tied some.1) differs;
         unused = AreUntouched-differs e op.target _ _ before after differs tied.unused;
+        orderly = AreOrderly-differs e op.target _ _ before after differs tied.orderly;
         operation = tt;
         exhausted = λ mark. let none : None ≡ Some op = sym (tied.exhausted mark).idle ∙ some.1 in cc;
       }

@@ -6,6 +6,7 @@ use Rattle.masked_bytes.proofs.Layering.{laid-none_given}
 use Rattle.pcm_cells.specs.Device.{ArrayState}
 use Rattle.ecp_line.proofs.Blank.{Sound-blank, decode-blank}
 use Rattle.line_writer.proofs.Untouched.{untouched-blank}
+use Rattle.line_writer.proofs.Orderly.{orderly-blank}
 use Rattle.start_gap.specs.Rotation.{turn}
 use Rattle.region_regs.specs.Region.{RegionState, first_region}
 use Rattle.bank_shape.specs.declared.BankShape.{BankShape}
@@ -45,6 +46,7 @@ fresh_law {n} {m} {e} shape array some few limits fresh =
       served = λ k d few. let none : ⊥ = omega (arith, few) in absurd none;
       running = refl;
       steps = tt;
+      rounds = tt;
       tied = record {
         lines = fresh.lines;
         sound = record {
@@ -57,6 +59,7 @@ fresh_law {n} {m} {e} shape array some few limits fresh =
           worn = λ line below none. absurd (none line (omega (arith, below)) refl);
         };
         unused = λ line below. untouched-blank e (array.line (shape.base + line)) (fresh.blank line (omega (arith, below)));
+        orderly = λ line below. orderly-blank array.bounds.misses (array.line (shape.base + line)) (fresh.blank line (omega (arith, below)));
         operation = tt;
         exhausted = λ mark. cc;
       };

@@ -8,13 +8,14 @@ use Rattle.line_writer.specs.declared.writer.Progress.{Progress}
 use Rattle.line_writer.specs.declared.writer.Progress.TheVariants as progress
 use Rattle.line_writer.specs.Writing.{IsProgress, IsWorn}
 use Rattle.line_writer.specs.Untouched.{AreUntouched}
+use Rattle.line_writer.specs.Orderly.{AreOrderly}
 use Rattle.bank_shape.specs.declared.Work.{Work}
 use Rattle.bank_shape.specs.declared.Work.TheVariants.{Nothing, Store, Copy}
 use Rattle.bank_shape.specs.Shape.{slots_of, lines_in}
 use Rattle.power_recovery.specs.Kept.{KeptState, IsKept, target_slot, due_region, due_work, next_work}
 use Rattle.power_recovery.specs.Events.{retired_kept, exhausted_kept}
-use Rattle.bank_model.specs.declared.answer.Step.{Step}
-use Rattle.bank_model.specs.declared.answer.Step.TheVariants as did
+use Rattle.bank_shape.specs.declared.answer.Step.{Step}
+use Rattle.bank_shape.specs.declared.answer.Step.TheVariants as did
 use Rattle.bank_model.specs.Events.{Event, Iterate}
 use Rattle.bank_invariant.specs.State.{BankState, Operation, target_of}
 use Rattle.bank_invariant.specs.Tied.{AreSound, IsOf, IsRunning, IsUnderWay, IsTied, IsWornLine}
@@ -22,7 +23,7 @@ use Rattle.bank_invariant.specs.Holds.{Holds}
 use Rattle.bank_invariant.specs.Tearing.{DiffersAt}
 use Rattle.bank_invariant.specs.Iterating.{going_on}
 use Rattle.bank_invariant.specs.Retiring.{ended}
-use Rattle.bank_invariant.proofs.Targets.{IsTargetOf, running-target, AreSound-differs, AreUntouched-differs, DiffersAt-round, target-exists}
+use Rattle.bank_invariant.proofs.Targets.{IsTargetOf, running-target, AreSound-differs, AreUntouched-differs, AreOrderly-differs, DiffersAt-round, target-exists}
 use Rattle.bank_invariant.proofs.Iterating.{iterated_law, IsOf-differs}
 use Rattle.bank_invariant.proofs.Finishing.{stored_law}
 use Rattle.bank_invariant.proofs.Turned.{moved_law}
@@ -30,7 +31,7 @@ use Rattle.bank_invariant.proofs.Tearing.{running_of, in_progress_of}
 use Rattle.bank_invariant.proofs.Agreeing.{agree_law}
 use Rattle.bank_invariant.proofs.Retiring.{exhausted_law, retired_law, may_iterate, retired-count, unmarked, marked-target, AreSound-retired}
 use Rattle.bank_model.specs.After.{work_after, slot_of_work}
-use Rattle.bank_invariant.specs.declared.Waiting.{Waiting}
+use Rattle.bank_shape.specs.declared.waiting.Waiting.{Waiting}
 use Rattle.bank_core.specs.Steps.{is_some_work}
 use Rattle.bank_core.specs.Stepping.{done_from, done_kept, step_from, left_by, IsWriterStep, IsIteration}
 
@@ -77,8 +78,9 @@ module _ {n m e : ℕ} where
   tied-going bank array op tied is mark = let none : None ≡ Some op = sym (tied.exhausted mark).idle ∙ is in cc
 
   -- a step changes the line of the target alone
-  differs_by : (tick : ℕ) (op now : Operation n m e) (before after : ArrayState n m) → IsWriterStep tick op now before after → DiffersAt e op.target before after
-  differs_by tick op now before after step = DiffersAt-round e op.target tick op.writer.prog step.round.0 before after step.round.1 step.sound step.unused
+  differs_by : (tick : ℕ) (op now : Operation n m e) (before after : ArrayState n m) → IsUnderWay op.writer (before.line op.target)
+      → IsWriterStep tick op now before after → DiffersAt e op.target before after
+  differs_by tick op now before after under step = DiffersAt-round e op.target tick op.writer step.round.0 before after under step.round.1 step.sound step.unused
 
   -- The invariant
 
@@ -86,7 +88,7 @@ module _ {n m e : ℕ} where
       → Holds h bank before → bank.running ≡ Some op → IsWriterStep tick op now before after → now.writer.progress ≡ progress.More
       → Holds (Iterate did.More ∷ h) (going_on bank now) after
   holds-more tick h bank op now before after holds is step more =
-      iterated_law n m e h bank before after op now holds is (differs_by tick op now before after step)
+      iterated_law n m e h bank before after op now holds is (differs_by tick op now before after (running_of h bank before op holds is).writing step)
       (record { work = step.work; target = step.target; bytes = step.bytes; fewer = step.fewer }) (record { more = more; writes = step.writes })
 
   holds-done : (tick : ℕ) (h : List (Event n)) (bank : BankState n m e) (op now : Operation n m e) (before after : ArrayState n m) (work : Work)
@@ -96,10 +98,10 @@ module _ {n m e : ℕ} where
   holds-done tick h bank op now before after Nothing holds is step stored same next of = absurd of
   holds-done tick h bank op now before after (Store line slot) holds is step stored same next of =
       let answer = subst (λ (p : Progress). IsProgress now.writer (after.line op.target) p) stored step.writes.answer in
-      stored_law n m e line slot h bank before after op holds is same (differs_by tick op now before after step) (answer.2 ∙ step.bytes)
+      stored_law n m e line slot h bank before after op holds is same (differs_by tick op now before after (running_of h bank before op holds is).writing step) (answer.2 ∙ step.bytes)
   holds-done tick h bank op now before after (Copy region move) holds is step stored same next of =
       let answer = subst (λ (p : Progress). IsProgress now.writer (after.line op.target) p) stored step.writes.answer in
-      moved_law n m e region move h bank before after op holds is (sym next) (differs_by tick op now before after step) (answer.2 ∙ step.bytes ∙ of)
+      moved_law n m e region move h bank before after op holds is (sym next) (differs_by tick op now before after (running_of h bank before op holds is).writing step) (answer.2 ∙ step.bytes ∙ of)
 
   holds-worn : (tick : ℕ) (h : List (Event n)) (bank : BankState n m e) (op now : Operation n m e) (before after : ArrayState n m) (left : Bool)
       → Holds h bank before → bank.running ≡ Some op → IsWriterStep tick op now before after → IsWornLine e (after.line op.target)
@@ -114,13 +116,13 @@ module _ {n m e : ℕ} where
       let run = running_of h bank before op holds is in
       let slot : target_slot bank.kept op.work ≡ slot_of_work bank.kept.shape h (work_after bank.kept.shape h) =
       slot-agrees bank.kept h op.work ∙ ap (λ work. slot_of_work bank.kept.shape h work) (run.next ∙ agrees.work) in
-      retired_law n m e (slots_of bank.kept.shape + used_by bank.kept.table) h bank before after op holds is (differs_by tick op now before after step) worn
+      retired_law n m e (slots_of bank.kept.shape + used_by bank.kept.table) h bank before after op holds is (differs_by tick op now before after (running_of h bank before op holds is).writing step) worn
       (omega (arith, few, count.1))
       (in_progress_of h bank before op holds is, (slot, omega (arith, count.0), omega (arith, few, count.0)), may_iterate h bank before op holds is, λ more. absurd cc)
   holds-worn tick h bank op now before after false holds is step worn left =
       let none : bank.kept.shape.spares ≤ used_by bank.kept.table = lt-false (used_by bank.kept.table) bank.kept.shape.spares left in
       let count = retired-count h bank before holds in
-      exhausted_law n m e h bank before after op holds is (differs_by tick op now before after step) worn
+      exhausted_law n m e h bank before after op holds is (differs_by tick op now before after (running_of h bank before op holds is).writing step) worn
       (omega (arith, none, count.1, holds.kept.table.within))
 
   holds-step : (tick : ℕ) (h : List (Event n)) (bank : BankState n m e) (op now : Operation n m e) (before after : ArrayState n m) (far : Progress)
@@ -148,16 +150,21 @@ module _ {n m e : ℕ} where
       → IsKept bank.kept → IsTied bank before → bank.running ≡ Some op → IsWriterStep tick op now before after → AreSound e bank.kept after
   tied-sound tick bank op now before after range tied is step =
       AreSound-differs e bank.kept bank.waiting op.target (target_slot bank.kept op.work) before after range tied.sound
-      (tied-target bank before op range tied is) (differs_by tick op now before after step)
+      (tied-target bank before op range tied is) (differs_by tick op now before after (tied-running bank before op tied is).writing step)
 
   tied-lines : (tick : ℕ) (bank : BankState n m e) (op now : Operation n m e) (before after : ArrayState n m)
-      → IsTied bank before → IsWriterStep tick op now before after → bank.kept.shape.base + lines_in bank.kept.shape ≤ after.lines
-  tied-lines tick bank op now before after tied step = let differs = differs_by tick op now before after step in omega (arith, tied.lines, differs.lines)
+      → IsTied bank before → bank.running ≡ Some op → IsWriterStep tick op now before after → bank.kept.shape.base + lines_in bank.kept.shape ≤ after.lines
+  tied-lines tick bank op now before after tied is step = let differs = differs_by tick op now before after (tied-running bank before op tied is).writing step in omega (arith, tied.lines, differs.lines)
 
   tied-unused : (tick : ℕ) (bank : BankState n m e) (op now : Operation n m e) (before after : ArrayState n m)
-      → IsTied bank before → IsWriterStep tick op now before after → AreUntouched e after bank.kept.shape.base (slots_of bank.kept.shape + bank.kept.shape.spares)
-  tied-unused tick bank op now before after tied step =
-      AreUntouched-differs e op.target _ _ before after (differs_by tick op now before after step) tied.unused
+      → IsTied bank before → bank.running ≡ Some op → IsWriterStep tick op now before after → AreUntouched e after bank.kept.shape.base (slots_of bank.kept.shape + bank.kept.shape.spares)
+  tied-unused tick bank op now before after tied is step =
+      AreUntouched-differs e op.target _ _ before after (differs_by tick op now before after (tied-running bank before op tied is).writing step) tied.unused
+
+  tied-orderly : (tick : ℕ) (bank : BankState n m e) (op now : Operation n m e) (before after : ArrayState n m)
+      → IsTied bank before → bank.running ≡ Some op → IsWriterStep tick op now before after → AreOrderly after bank.kept.shape.base (slots_of bank.kept.shape + bank.kept.shape.spares)
+  tied-orderly tick bank op now before after tied is step =
+      AreOrderly-differs e op.target _ _ before after (differs_by tick op now before after (tied-running bank before op tied is).writing step) tied.orderly
 
   tied-later : (tick : ℕ) (bank : BankState n m e) (op now : Operation n m e) (before after : ArrayState n m)
       → IsKept bank.kept → IsTied bank before → bank.running ≡ Some op → IsWriterStep tick op now before after → now.writer.progress ≡ progress.More
@@ -165,7 +172,7 @@ module _ {n m e : ℕ} where
   tied-later tick bank op now before after range tied is step more =
       let run = tied-running bank before op tied is in
       let differs_there : DiffersAt e (target_of bank.kept op.work) before after =
-      subst (λ (t : ℕ). DiffersAt e t before after) run.target (differs_by tick op now before after step) in
+      subst (λ (t : ℕ). DiffersAt e t before after) run.target (differs_by tick op now before after (tied-running bank before op tied is).writing step) in
       let of : IsOf e bank.kept after bank.waiting op.writer.bytes op.work =
       IsOf-differs e bank.kept bank.waiting op.writer.bytes op.work before after range tied.sound run.next differs_there run.of in
       let under : IsUnderWay now.writer (after.line op.target) = record { more = more; writes = step.writes } in
@@ -181,27 +188,30 @@ module _ {n m e : ℕ} where
       → IsKept bank.kept → IsTied bank before → bank.running ≡ Some op → IsWriterStep tick op now before after
       → IsTied (ended bank (done_kept bank.kept work)) after
   tied-done tick bank op now before after Nothing range tied is step = record {
-    lines = tied-lines tick bank op now before after tied step;
+    lines = tied-lines tick bank op now before after tied is step;
     sound = tied-sound tick bank op now before after range tied is step;
-    unused = tied-unused tick bank op now before after tied step;
+    unused = tied-unused tick bank op now before after tied is step;
+    orderly = tied-orderly tick bank op now before after tied is step;
     operation = tt;
     exhausted = λ mark. absurd (tied-going bank before op tied is mark);
   }
   tied-done tick bank op now before after (Store line slot) range tied is step =
       let sound = tied-sound tick bank op now before after range tied is step in
       record {
-        lines = tied-lines tick bank op now before after tied step;
+        lines = tied-lines tick bank op now before after tied is step;
         sound = record { apart = sound.apart; slots = sound.slots; spares = sound.spares; worn = sound.worn };
-        unused = tied-unused tick bank op now before after tied step;
+        unused = tied-unused tick bank op now before after tied is step;
+        orderly = tied-orderly tick bank op now before after tied is step;
         operation = tt;
         exhausted = λ mark. absurd (tied-going bank before op tied is mark);
       }
   tied-done tick bank op now before after (Copy region move) range tied is step =
       let sound = tied-sound tick bank op now before after range tied is step in
       record {
-        lines = tied-lines tick bank op now before after tied step;
+        lines = tied-lines tick bank op now before after tied is step;
         sound = record { apart = sound.apart; slots = sound.slots; spares = sound.spares; worn = sound.worn };
-        unused = tied-unused tick bank op now before after tied step;
+        unused = tied-unused tick bank op now before after tied is step;
+        orderly = tied-orderly tick bank op now before after tied is step;
         operation = tt;
         exhausted = λ mark. absurd (tied-going bank before op tied is mark);
       }
@@ -224,10 +234,11 @@ module _ {n m e : ℕ} where
       let at = tied-target bank before op range tied is in
       let few : used_by bank.kept.table < bank.kept.shape.spares = lt-true (used_by bank.kept.table) bank.kept.shape.spares left in
       record {
-        lines = tied-lines tick bank op now before after tied step;
+        lines = tied-lines tick bank op now before after tied is step;
         sound = AreSound-retired e bank.kept (target_slot bank.kept op.work) after range (tied-sound tick bank op now before after range tied is step)
             (subst (λ (line : ℕ). IsWornLine e (after.line line)) at.place worn) at.exists (omega (arith, few, range.spares));
-        unused = tied-unused tick bank op now before after tied step;
+        unused = tied-unused tick bank op now before after tied is step;
+        orderly = tied-orderly tick bank op now before after tied is step;
         operation = tt;
         exhausted = λ mark. absurd (tied-going bank before op tied is mark);
       }
@@ -235,9 +246,10 @@ module _ {n m e : ℕ} where
       let none : bank.kept.shape.spares ≤ used_by bank.kept.table = lt-false (used_by bank.kept.table) bank.kept.shape.spares left in
       let sound = tied-sound tick bank op now before after range tied is step in
       record {
-        lines = tied-lines tick bank op now before after tied step;
+        lines = tied-lines tick bank op now before after tied is step;
         sound = record { apart = sound.apart; slots = sound.slots; spares = sound.spares; worn = sound.worn };
-        unused = tied-unused tick bank op now before after tied step;
+        unused = tied-unused tick bank op now before after tied is step;
+        orderly = tied-orderly tick bank op now before after tied is step;
         operation = tt;
         exhausted = λ mark. record {
           all_used = omega (arith, none, range.spares, range.table.within);
@@ -250,9 +262,10 @@ module _ {n m e : ℕ} where
       → IsKept bank.kept → IsTied bank before → bank.running ≡ Some op → IsWriterStep tick op now before after → now.writer.progress ≡ far
       → IsTied (left_by bank op now far) after
   tied-step tick bank op now before after progress.More range tied is step at = record {
-    lines = tied-lines tick bank op now before after tied step;
+    lines = tied-lines tick bank op now before after tied is step;
     sound = tied-sound tick bank op now before after range tied is step;
-    unused = tied-unused tick bank op now before after tied step;
+    unused = tied-unused tick bank op now before after tied is step;
+    orderly = tied-orderly tick bank op now before after tied is step;
     operation = tied-later tick bank op now before after range tied is step at;
     exhausted = λ mark. absurd (tied-going bank before op tied is mark);
   }

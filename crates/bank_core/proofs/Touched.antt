@@ -6,8 +6,9 @@ use Rattle.pcm_cells.specs.declared.array.Sense.{Sense}
 use Rattle.pcm_cells.specs.Device.{ArrayState, LineState, Senses, counted, sense_of}
 use Rattle.program_verify.specs.declared.prog.Prog.{Prog}
 use Rattle.program_verify.specs.Programming.{IsRound, IsTear}
-use Rattle.bank_model.specs.declared.answer.Step.{Step}
-use Rattle.bank_model.specs.Touching.{Touches}
+use Rattle.bank_shape.specs.declared.answer.Step.{Step}
+use Rattle.bank_model.specs.Touching.{Sticks, Touches}
+use Rattle.bank_model.proofs.Sticking.{sticks-pulsed, sticks-torn}
 use Rattle.bank_invariant.specs.State.{BankState, Operation}
 use Rattle.bank_core.specs.Stepping.{IsIteration}
 use Rattle.bank_core.specs.Cutting.{IsTorn, torn_line}
@@ -20,7 +21,7 @@ module _ {n m : ℕ} where
   pub touches-nothing : (tick : ℕ) (old new : ArrayState n m) → new ≡ old → Touches tick [] None false old new
   touches-nothing tick old new same =
       subst (λ (a : ArrayState n m). Touches tick [] None false old a) (sym same)
-      (record { lines = refl; others = λ at off. refl; pulses = λ at on. cc; tears = refl; log = λ after is. (after, is, sym (append-nil after)); wear = refl })
+      (record { lines = refl; others = λ at off. refl; pulses = λ at on. cc; sticks = λ at on. cc; tears = refl; log = λ after is. (after, is, sym (append-nil after)); wear = refl; bounds = refl })
 
   -- one sense
   pub touches-sense : (tick line : ℕ) (old new : ArrayState n m) → Senses (sense_of line tick (old.line line)) old new → Touches tick (line ∷ []) None false old new
@@ -28,8 +29,10 @@ module _ {n m : ℕ} where
     lines = sense.lines;
     others = λ at off. sense.line at;
     pulses = λ at on. cc;
+    sticks = λ at on. cc;
     tears = sense.tears;
     wear = sense.wear;
+    bounds = sense.bounds;
     log = λ after is.
         let was = sense.log after is in
         (was.0, was.1, was.2 ∙ ap (λ (l : LineState n m). was.0 ++ sense_of line tick l ∷ []) (sym (sense.line line)));
@@ -42,8 +45,10 @@ module _ {n m : ℕ} where
     lines = second.lines ∙ first.lines;
     others = λ at off. second.line at ∙ first.line at;
     pulses = λ at on. cc;
+    sticks = λ at on. cc;
     tears = second.tears ∙ first.tears;
     wear = second.wear ∙ first.wear;
+    bounds = second.bounds ∙ first.bounds;
     log = λ after is.
         let late = second.log after is in
         let early = first.log late.0 late.1 in (
@@ -66,8 +71,14 @@ module _ {n m : ℕ} where
     pulses = λ at on.
         let P : ℕ → Type 0 = λ at. (new.line at).pulses ≡ counted (old.line at).pulses in
         subst P (eqb-true line at on) (ap (λ (l : LineState n m). l.pulses) (round.sense.line line) ∙ round.pulse.pulses);
+    sticks = λ at on.
+        let P : ℕ → Type 0 = λ at. Sticks old.bounds (old.line at) (new.line at) in
+        subst P (eqb-true line at on)
+        (subst (λ (l : LineState n m). Sticks old.bounds (old.line line) l) (sym (round.sense.line line))
+        (sticks-pulsed old.bounds round.mask (old.line line) (round.between.line line) before.want round.pulse));
     tears = round.sense.tears ∙ round.tears;
     wear = round.sense.wear ∙ round.others.wear;
+    bounds = round.sense.bounds ∙ round.others.bounds;
     log = λ after is.
         let was = round.sense.log after is in
         let pulses : (new.line line).pulses ≡ (round.between.line line).pulses = ap (λ (l : LineState n m). l.pulses) (round.sense.line line) in
@@ -82,8 +93,12 @@ module _ {n m : ℕ} where
     pulses = λ at on.
         let P : ℕ → Type 0 = λ at. (new.line at).pulses ≡ counted (old.line at).pulses in
         subst P (eqb-true line at on) tear.tear.pulses;
+    sticks = λ at on.
+        let P : ℕ → Type 0 = λ at. Sticks old.bounds (old.line at) (new.line at) in
+        subst P (eqb-true line at on) (sticks-torn old.bounds tear.mask (old.line line) (new.line line) tear.tear);
     tears = tear.tears;
     wear = tear.others.wear;
+    bounds = tear.others.bounds;
     log = λ after is. (after, sym tear.others.log ∙ is, sym (append-nil after));
   }
 

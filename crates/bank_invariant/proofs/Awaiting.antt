@@ -9,33 +9,47 @@ use Rattle.masked_bytes.specs.Entries.{Layer, layer_of, AllMasked}
 use Rattle.masked_bytes.specs.declared.entry.Entry.{Entry}
 use Rattle.masked_bytes.proofs.Layering.{length-laid, laid-all_given, joined-all_given, gives_all-all_given, all_given-gives_all}
 use Rattle.masked_bytes.proofs.Queueing.{IsLayer-layer_of}
-use Rattle.pcm_cells.specs.Device.{ArrayState, LineState}
+use Rattle.pcm_cells.specs.declared.array.Sense.{Sense}
+use Rattle.pcm_cells.specs.Device.{ArrayState, LineState, Senses}
 use Rattle.ecp_line.specs.Reading.{decode}
+use Rattle.line_writer.specs.Orderly.{IsLive}
 use Rattle.line_writer.proofs.Untouched.{AreUntouched-same}
+use Rattle.line_writer.proofs.Orderly.{AreOrderly-same}
 use Rattle.bank_shape.specs.declared.BankShape.{BankShape}
 use Rattle.bank_shape.specs.declared.Work.{Work}
 use Rattle.bank_shape.specs.declared.Work.TheVariants.{Nothing, Store, Copy}
 use Rattle.bank_shape.specs.Shape.{slot_at}
 use Rattle.power_recovery.specs.Kept.{KeptState, array_line, stands_at}
-use Rattle.bank_model.specs.declared.answer.WriteAnswer.TheVariants as wrote
-use Rattle.bank_model.specs.declared.answer.ReadAnswer.{ReadAnswer}
-use Rattle.bank_model.specs.declared.answer.ReadAnswer.TheVariants as came
+use Rattle.bank_shape.specs.declared.answer.WriteAnswer.TheVariants as wrote
+use Rattle.bank_shape.specs.declared.answer.ReadAnswer.{ReadAnswer}
+use Rattle.bank_shape.specs.declared.answer.ReadAnswer.TheVariants as came
+use Rattle.bank_model.proofs.Newest.{length-newest}
 use Rattle.bank_model.specs.Events.{Event, Write, Read, Serve, Begin, Iterate, Cut, newest}
-use Rattle.bank_model.specs.History.{Awaited, awaited, queue, waits}
+use Rattle.bank_model.specs.History.{Awaited, awaited, queue, waits, iterated}
 use Rattle.bank_model.specs.Answers.{MayAll, IsServed}
-use Rattle.bank_invariant.specs.declared.Waiting.{Waiting}
+use Rattle.bank_model.specs.Touching.{Touches}
+use Rattle.bank_shape.specs.declared.waiting.Waiting.{Waiting}
 use Rattle.bank_invariant.specs.State.{BankState, Operation}
-use Rattle.bank_invariant.specs.Tied.{decoded, IsSoundLine, IsWornLine, IsUnderWay, IsOf, IsRunning, AreSound, AreTied}
+use Rattle.bank_invariant.specs.Tied.{StandsAs, decoded, IsSoundLine, IsWornLine, IsUnderWay, IsOf, IsRunning, AreSound, AreTied}
 use Rattle.bank_invariant.specs.Holds.{Holds, waiting_of}
 use Rattle.bank_invariant.specs.Serving.{kept_with, served_from, WaitingLaw, SensedLaw, MayReadLaw, MayServeLaw, ServedLaw}
 use Rattle.bank_invariant.proofs.Quiet.{RowsBelow-more}
 use Rattle.bank_invariant.proofs.Agreeing.{agree_law}
 
--- Arrays whose lines are as before
+-- Arrays that stand as before
 
-module _ {n m : ℕ} (e : ℕ) (old new : ArrayState n m) (same : (line : ℕ) → new.line line ≡ old.line line) where
+module _ {n m : ℕ} where
+  -- as a sense leaves them
+  pub StandsAs-sensed : (sensed : Sense n m) (old new : ArrayState n m) → Senses sensed old new → StandsAs old new
+  StandsAs-sensed sensed old new sense = record { lines = sense.lines; line = sense.line; bounds = sense.bounds }
+
+  -- and an event that pulses no line
+  pub StandsAs-touched : (tick : ℕ) (sensed : List ℕ) (old new : ArrayState n m) → Touches tick sensed None false old new → StandsAs old new
+  StandsAs-touched tick sensed old new touches = record { lines = touches.lines; line = λ at. touches.others at refl; bounds = touches.bounds }
+
+module _ {n m : ℕ} (e : ℕ) (old new : ArrayState n m) (stands : StandsAs old new) where
   same_decoded : (line : ℕ) → decoded e new line ≡ decoded e old line
-  same_decoded line = ap (λ (l : LineState n m). decode e l.held) (same line)
+  same_decoded line = ap (λ (l : LineState n m). decode e l.held) (stands.line line)
 
   of_sensed : (kept : KeptState n) (waiting : List (Waiting n)) (bytes : List ℕ) (work : Work) → IsOf e kept old waiting bytes work → IsOf e kept new waiting bytes work
   of_sensed kept waiting bytes Nothing own = own
@@ -49,45 +63,52 @@ module _ {n m : ℕ} (e : ℕ) (old new : ArrayState n m) (same : (line : ℕ) �
     next = own.next;
     target = own.target;
     of = of_sensed kept waiting op.writer.bytes op.work own.of;
-    writing = subst (λ (l : LineState n m). IsUnderWay op.writer l) (sym (same op.target)) own.writing;
+    writing = subst (λ (l : LineState n m). IsUnderWay op.writer l) (sym (stands.line op.target)) own.writing;
   }
+
+  rounds_sensed : (count : ℕ) (running : Option (Operation n m e)) → IfSome running (λ op. IsLive (old.line op.target) → count ≤ op.writer.prog.rounds)
+      → IfSome running (λ op. IsLive (new.line op.target) → count ≤ op.writer.prog.rounds)
+  rounds_sensed count None own = tt
+  rounds_sensed count (Some op) own = λ live. own (subst (λ (l : LineState n m). IsLive l) (stands.line op.target) live)
 
   sound_sensed : (kept : KeptState n) → AreSound e kept old → AreSound e kept new
   sound_sensed kept own = record {
     apart = own.apart;
-    slots = λ slot below. subst (λ (l : LineState n m). IsSoundLine e l) (sym (same (array_line kept slot))) (own.slots slot below);
+    slots = λ slot below. subst (λ (l : LineState n m). IsSoundLine e l) (sym (stands.line (array_line kept slot))) (own.slots slot below);
     spares = λ spare free below.
         let was = own.spares spare free below in
-        subst (λ (l : LineState n m). IsSoundLine e l × (l.pulses ≡ 0)) (sym (same _)) was;
-    worn = λ line below none. subst (λ (l : LineState n m). IsWornLine e l) (sym (same _)) (own.worn line below none);
+        subst (λ (l : LineState n m). IsSoundLine e l × (l.pulses ≡ 0)) (sym (stands.line _)) was;
+    worn = λ line below none. subst (λ (l : LineState n m). IsWornLine e l) (sym (stands.line _)) (own.worn line below none);
   }
 
-  pub tied_sensed : (kept : KeptState n) (running : Option (Operation n m e)) (waiting : List (Waiting n)) → new.lines ≡ old.lines
+  pub tied_sensed : (kept : KeptState n) (running : Option (Operation n m e)) (waiting : List (Waiting n))
       → AreTied kept running waiting old → AreTied kept running waiting new
-  tied_sensed kept running waiting many tied = record {
-    lines = omega (arith, tied.lines, many);
+  tied_sensed kept running waiting tied = record {
+    lines = omega (arith, tied.lines, stands.lines);
     sound = sound_sensed kept tied.sound;
-    unused = AreUntouched-same e old new _ _ (λ line below. same (kept.shape.base + line)) tied.unused;
+    unused = AreUntouched-same e old new _ _ (λ line below. stands.line (kept.shape.base + line)) tied.unused;
+    orderly = AreOrderly-same old new _ _ stands.bounds (λ line below. stands.line (kept.shape.base + line)) tied.orderly;
     operation = running_sensed kept waiting running tied.operation;
     exhausted = λ mark.
         let own = tied.exhausted mark in
-        record { all_used = own.all_used; idle = own.idle; worn = subst (λ (l : LineState n m). IsWornLine e l) (sym (same _)) own.worn };
+        record { all_used = own.all_used; idle = own.idle; worn = subst (λ (l : LineState n m). IsWornLine e l) (sym (stands.line _)) own.worn };
   }
 
 pub sensed_law : SensedLaw
-sensed_law n m e h bank old new holds many same = record {
+sensed_law n m e h bank old new holds stands = record {
   past = holds.past;
   newest = λ line below.
       let layer : Layer = layer_of bank.kept.entries line in
-      ap (λ under. laid layer.bytes layer.given under) (same_decoded e old new same (stands_at bank.kept line)) ∙ holds.newest line below;
+      ap (λ under. laid layer.bytes layer.given under) (same_decoded e old new stands (stands_at bank.kept line)) ∙ holds.newest line below;
   waiting = holds.waiting;
   few_waiting = holds.few_waiting;
   served = λ k d few.
       let w : Awaited = get_or (waits bank.kept.shape h) k d in
-      ap (λ under. laid w.kept w.given under) (same_decoded e old new same (stands_at bank.kept w.line)) ∙ holds.served k d few;
+      ap (λ under. laid w.kept w.given under) (same_decoded e old new stands (stands_at bank.kept w.line)) ∙ holds.served k d few;
   running = holds.running;
   steps = holds.steps;
-  tied = tied_sensed e old new same bank.kept bank.running bank.waiting many holds.tied;
+  rounds = rounds_sensed e old new stands (iterated h) bank.running holds.rounds;
+  tied = tied_sensed e old new stands bank.kept bank.running bank.waiting holds.tied;
   regions = holds.regions;
   due_last = holds.due_last;
   entries = holds.entries;
@@ -131,6 +152,7 @@ module _ {n m : ℕ} (e : ℕ) (kept : KeptState n) (array : ArrayState n m) whe
     lines = tied.lines;
     sound = tied.sound;
     unused = tied.unused;
+    orderly = tied.orderly;
     operation = running_waiting running ws xs off tied.operation;
     exhausted = tied.exhausted;
   }
@@ -150,23 +172,6 @@ gives_all-head {n = n} (entry ∷ es) line bytes masked whole =
     (rw all (rw (joined-all_given n top.given sized.given_len) (gives_all-all_given n)))
 
 -- What a read is answered
-
-length-laid_if : (b : Bool) (bytes : List ℕ) (given : List Bool) (under : List ℕ) (n : ℕ) → length under ≡ n → length (cond b (laid bytes given under) under) ≡ n
-length-laid_if true bytes given under n long = length-laid bytes given under ∙ long
-length-laid_if false bytes given under n long = long
-
--- a newest line has n bytes
-pub length-newest : {n : ℕ} (h : List (Event n)) (line : ℕ) → length (newest h line) ≡ n
-length-newest {n = n} [] line = length-replicate n 0
-length-newest {n = n} (Write row at bytes given wrote.Accepted ∷ h) line = length-laid_if (at == line) bytes given (newest h line) n (length-newest h line)
-length-newest {n = n} (Write row at bytes given (wrote.Merged old) ∷ h) line = length-laid_if (at == line) bytes given (newest h line) n (length-newest h line)
-length-newest (Write row at bytes given wrote.Full ∷ h) line = length-newest h line
-length-newest (Write row at bytes given wrote.Exhausted ∷ h) line = length-newest h line
-length-newest (Read row at answer ∷ h) line = length-newest h line
-length-newest (Serve answer ∷ h) line = length-newest h line
-length-newest (Begin answer ∷ h) line = length-newest h line
-length-newest (Iterate answer ∷ h) line = length-newest h line
-length-newest (Cut tearing ∷ h) line = length-newest h line
 
 -- where the queue gives every byte of a line, they are the newest
 pub layer-newest : {n m e : ℕ} (h : List (Event n)) (bank : BankState n m e) (array : ArrayState n m) (line : ℕ) → Holds h bank array
@@ -228,6 +233,7 @@ waiting_law n m e row line h bank array holds above may =
           (ap (λ es. laid (layer_of es line).bytes (layer_of es line).given (decoded e array (stands_at bank.kept line))) (sym holds.entries) ∙ holds.newest line may.0);
       running = holds.running;
       steps = holds.steps;
+      rounds = holds.rounds;
       tied = tied_waiting e bank.kept array bank.running bank.waiting (bank.waiting ++ w ∷ [])
           (λ at bytes whole off. All-push (λ w. w.line ≢ at) bank.waiting w off
           (λ is.
@@ -273,8 +279,8 @@ may_serve_law n m e h bank array w ws holds first =
         subst P (sym same) (refl, (agree_law n m e h bank array holds).stands v.line (known 0 v (omega arith)), owed 0 v (omega arith))
 
 pub served_law : ServedLaw
-served_law n m e h bank old new answer holds may many same =
-    let now = sensed_law n m e h bank old new holds many same in
+served_law n m e h bank old new answer holds may stands =
+    let now = sensed_law n m e h bank old new holds stands in
     record {
       past = (may, now.past);
       newest = now.newest;
@@ -283,6 +289,7 @@ served_law n m e h bank old new answer holds may many same =
       served = All-drop (λ w. laid w.kept w.given (decoded e new (stands_at bank.kept w.line)) ≡ w.newest) 1 (waits bank.kept.shape h) now.served;
       running = now.running;
       steps = now.steps;
+      rounds = now.rounds;
       tied = tied_waiting e bank.kept new bank.running bank.waiting (drop 1 bank.waiting)
           (λ line bytes whole off. All-drop (λ w. w.line ≢ line) 1 bank.waiting off) now.tied;
       regions = now.regions;

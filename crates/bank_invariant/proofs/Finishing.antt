@@ -21,7 +21,7 @@ use Rattle.power_recovery.specs.Events.{is_store, with_entries, with_regions, co
 use Rattle.power_recovery.proofs.Frames.{slot_of-stored}
 use Rattle.power_recovery.proofs.Placing.{slot_of-within, slot_of-apart}
 use Rattle.power_recovery.proofs.Bundle.{next_work-store, none_due, head-known, head_region-exists, IsKept-stored}
-use Rattle.bank_model.specs.declared.answer.Step.TheVariants as did
+use Rattle.bank_shape.specs.declared.answer.Step.TheVariants as did
 use Rattle.bank_model.specs.Events.{Event, Begin, newest, line_of_row}
 use Rattle.bank_model.specs.History.{Awaited, waits, iterated, stored_in, moved_in}
 use Rattle.bank_model.specs.After.{work_after}
@@ -31,7 +31,7 @@ use Rattle.bank_invariant.specs.Tied.{decoded, AreSound, IsOf}
 use Rattle.bank_invariant.specs.Holds.{Holds, IsRegionAfter, stands_for}
 use Rattle.bank_invariant.specs.Tearing.{DiffersAt}
 use Rattle.bank_invariant.specs.Storing.{StoredLaw, BegunStoredLaw, resting}
-use Rattle.bank_invariant.proofs.Targets.{length-decode, next_store-slot, decoded-other, AreSound-differs, AreUntouched-differs}
+use Rattle.bank_invariant.proofs.Targets.{length-decode, next_store-slot, decoded-other, AreSound-differs, AreUntouched-differs, AreOrderly-differs}
 use Rattle.bank_invariant.proofs.Tearing.{running_of, target_of_running, in_progress_of}
 use Rattle.bank_invariant.proofs.Iterating.{under_way-steps, served-differs}
 use Rattle.bank_invariant.proofs.Agreeing.{agree_law}
@@ -257,11 +257,13 @@ stored_law n m e line slot h bank old new op holds is stores differs reads =
           ∙ served-differs h bank old new op holds is differs k d few;
       running = refl;
       steps = tt;
+      rounds = tt;
       tied = record {
         lines = omega (arith, holds.tied.lines, differs.lines);
         sound = AreSound-stored e bank.kept new
             (AreSound-differs e bank.kept bank.waiting op.target (target_slot bank.kept op.work) old new holds.kept holds.tied.sound at differs);
         unused = AreUntouched-differs e op.target _ _ old new differs holds.tied.unused;
+        orderly = AreOrderly-differs e op.target _ _ old new differs holds.tied.orderly;
         operation = tt;
         exhausted = λ mark. absurd (exhausted_stored line slot h bank old new head holds end mark);
       };
@@ -277,8 +279,8 @@ stored_law n m e line slot h bank old new op holds is stores differs reads =
 -- As it is begun
 
 pub begun_stored_law : BegunStoredLaw
-begun_stored_law n m e line slot h bank old new head holds may next first many same reads =
-    let now : Holds h bank new = sensed_law n m e h bank old new holds many same in
+begun_stored_law n m e line slot h bank old new head holds may next first stands reads =
+    let now : Holds h bank new = sensed_law n m e h bank old new holds stands in
     let under : List ℕ = decoded e old (array_line bank.kept slot) in
     let place : slot ≡ slot_of bank.kept line = next_store-slot bank.kept line slot bank.kept.exhausted (due_region bank.kept) bank.kept.entries (sym next) in
     let some = next_work-store bank.kept (ap is_store next) in
@@ -287,11 +289,19 @@ begun_stored_law n m e line slot h bank old new head holds may next first many s
     subst (λ (l : ℕ). l < bank_lines bank.kept.shape) at (head-known bank.kept.entries (bank_lines bank.kept.shape) holds.kept.known some.2) in
     let exists : slot < slots_of bank.kept.shape =
     subst (λ (s : ℕ). s < slots_of bank.kept.shape) (sym place) (slot_of-within bank.kept holds.kept line known) in
-    let read : decoded e new (array_line bank.kept slot) ≡ under = ap (λ (l : LineState n m). decode e l.held) (same (array_line bank.kept slot)) in
+    let read : decoded e new (array_line bank.kept slot) ≡ under = ap (λ (l : LineState n m). decode e l.held) (stands.line (array_line bank.kept slot)) in
     let end : IsEnd e line slot bank.kept new new head = record {
       next = sym next;
       first = first;
-      differs = record { others = λ l off. refl; lines = refl; sound = now.tied.sound.slots slot exists; unused = λ own. own };
+      differs = record {
+        others = λ l off. refl;
+        lines = refl;
+        bounds = refl;
+        sound = now.tied.sound.slots slot exists;
+        stuck = λ number is. is;
+        unused = λ own. own;
+        orderly = λ own. own;
+      };
       reads = read ∙ sym reads ∙ ap (λ bytes. laid head.bytes head.given bytes) (sym read);
     } in
     let agrees = agree_law n m e h bank new now in
@@ -306,10 +316,12 @@ begun_stored_law n m e line slot h bank old new head holds may next first many s
           ap (λ s. laid w.kept w.given (decoded e new (array_line bank.kept s))) (slot_of-stored bank.kept w.line) ∙ now.served k d few;
       running = refl;
       steps = tt;
+      rounds = tt;
       tied = record {
         lines = now.tied.lines;
         sound = AreSound-stored e bank.kept new now.tied.sound;
         unused = now.tied.unused;
+        orderly = now.tied.orderly;
         operation = tt;
         exhausted = λ mark. absurd (exhausted_stored line slot h bank new new head now end mark);
       };

@@ -1,6 +1,6 @@
 -- An iteration that goes on, and what every iteration leaves.
 use Rattle.std.proofs.Common.{◌≡◌, ◌≢◌, ℕ, ◌+◌, ◌-◌, ◌<◌, ◌≤◌, ◌==◌, inl, inr, List, [], ◌∷◌, map, get_or, refl, Option, Some, false, sym, ap, ◌∙◌, subst, arith}
-use Rattle.std.proofs.lemmas.Bool.{cases_eq, ne_eqb}
+use Rattle.std.proofs.lemmas.Bool.{both_ways, cases_eq, ne_eqb, false_from_ne_true}
 use Rattle.std.proofs.lemmas.List.{length-map}
 use Rattle.std.proofs.lemmas.List.Elements.{All-push, All-drop}
 use Rattle.std.proofs.Math.ListN.{get_or-map}
@@ -11,6 +11,8 @@ use Rattle.start_gap.specs.Rotation.{Rotation, IsRotation, below_gap, move_by}
 use Rattle.line_writer.specs.declared.writer.LineWriter.{LineWriter}
 use Rattle.line_writer.specs.declared.writer.Progress.{Progress}
 use Rattle.line_writer.specs.Writing.{IsProgress, steps_left, most_steps}
+use Rattle.line_writer.specs.Orderly.{IsLive, IsOrderly}
+use Rattle.line_writer.proofs.Orderly.{plain}
 use Rattle.bank_shape.specs.declared.BankShape.{BankShape}
 use Rattle.bank_shape.specs.declared.Work.{Work}
 use Rattle.bank_shape.specs.declared.Work.TheVariants.{Nothing, Store, Copy}
@@ -19,17 +21,17 @@ use Rattle.power_recovery.specs.Slots.{bank_lines}
 use Rattle.power_recovery.specs.Kept.{KeptState, IsKept, region_at, slot_of, array_line, stands_at, target_slot, due_region, next_work}
 use Rattle.power_recovery.proofs.Placing.{slot_of-within, slot_at-within, slot_at-place}
 use Rattle.power_recovery.proofs.Bundle.{due_region-Some}
-use Rattle.bank_model.specs.declared.answer.ReadAnswer.TheVariants as came
+use Rattle.bank_shape.specs.declared.answer.ReadAnswer.TheVariants as came
 use Rattle.bank_model.specs.Events.{Event, Write, Read, Serve, Begin, Iterate, Cut}
 use Rattle.bank_model.specs.History.{Awaited, waits, iterated}
 use Rattle.bank_model.specs.Answers.{MayAll}
-use Rattle.bank_invariant.specs.declared.Waiting.{Waiting}
+use Rattle.bank_shape.specs.declared.waiting.Waiting.{Waiting}
 use Rattle.bank_invariant.specs.State.{BankState, Operation, target_of}
 use Rattle.bank_invariant.specs.Tied.{decoded, AreSound, IsOf, IsRunning, IsUnderWay}
 use Rattle.bank_invariant.specs.Holds.{Holds, waiting_of}
 use Rattle.bank_invariant.specs.Tearing.{DiffersAt}
 use Rattle.bank_invariant.specs.Iterating.{IteratedLaw, IsLater}
-use Rattle.bank_invariant.proofs.Targets.{next_copy-region, decoded-other, decoded-off, stands_for-differs, AreSound-differs, AreUntouched-differs}
+use Rattle.bank_invariant.proofs.Targets.{target-orderly, next_copy-region, decoded-other, decoded-off, stands_for-differs, AreSound-differs, AreUntouched-differs, AreOrderly-differs}
 use Rattle.bank_invariant.proofs.Tearing.{running_of, target_of_running, in_progress_of, not_exhausted_of}
 
 -- each read that waits is of a line of the bank
@@ -142,6 +144,21 @@ module _ {n m e : ℕ} where
         writing = subst (λ (t : ℕ). IsUnderWay after.writer (new.line t)) (sym later.target) under;
       }
 
+  -- while no cell of the line is stuck, an iteration is one round more of the same programming
+  rounds-later : (h : List (Event n)) (bank : BankState n m e) (old new : ArrayState n m) (op after : Operation n m e)
+      → Holds h bank old → bank.running ≡ Some op → DiffersAt e op.target old new → IsLater after op → IsUnderWay after.writer (new.line op.target)
+      → IsLive (new.line op.target) → iterated h < after.writer.prog.rounds
+  rounds-later h bank old new op after holds is differs later under live =
+      let run = running_of h bank old op holds is in
+      let before : IsLive (old.line op.target) = λ number. false_from_ne_true _ (λ stuck. both_ways _ (live number) (differs.stuck number stuck)) in
+      let orderly : IsOrderly old.bounds.misses (old.line op.target) =
+      target-orderly bank.kept bank.waiting op.target (target_slot bank.kept op.work) old holds.kept holds.tied.orderly (target_of_running h bank old op holds is) in
+      let was = plain op.writer (old.line op.target) run.writing.more run.writing.writes orderly before in
+      let now = plain after.writer (new.line op.target) under.more under.writes (differs.orderly orderly) live in
+      let made : iterated h ≤ op.writer.prog.rounds =
+      subst (λ (r : Option (Operation n m e)). IfSome r (λ op. IsLive (old.line op.target) → iterated h ≤ op.writer.prog.rounds)) is holds.rounds before in
+      omega (arith, made, was.left, now.left, was.rounds, now.rounds, later.fewer)
+
 pub iterated_law : IteratedLaw
 iterated_law n m e h bank old new op after holds is differs later under =
     let at = target_of_running h bank old op holds is in
@@ -157,10 +174,14 @@ iterated_law n m e h bank old new op after holds is differs later under =
       served = served-differs h bank old new op holds is differs;
       running = refl;
       steps = omega (arith, steps, fewer);
+      rounds = λ live.
+          let made = rounds-later h bank old new op after holds is differs later under (subst (λ (t : ℕ). IsLive (new.line t)) later.target live) in
+          omega (arith, made);
       tied = record {
         lines = omega (arith, holds.tied.lines, differs.lines);
         sound = AreSound-differs e bank.kept bank.waiting op.target (target_slot bank.kept op.work) old new holds.kept holds.tied.sound at differs;
         unused = AreUntouched-differs e op.target _ _ old new differs holds.tied.unused;
+        orderly = AreOrderly-differs e op.target _ _ old new differs holds.tied.orderly;
         operation = IsRunning-later h bank old new op after holds is differs later under;
         exhausted = λ mark. absurd (not_exhausted_of h bank old op holds is mark);
       };

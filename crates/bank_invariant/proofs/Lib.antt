@@ -13,3 +13,4 @@ pub mod Starting
 pub mod Alone
 pub mod Arriving
 pub mod Answering
+pub mod Fine

@@ -7,8 +7,9 @@ use Rattle.pcm_cells.specs.Device.{ArrayState}
 use Rattle.bank_shape.specs.declared.BankShape.{BankShape}
 use Rattle.bank_shape.specs.Shape.{slots_of}
 use Rattle.line_writer.specs.Writing.{steps_left, most_steps}
+use Rattle.line_writer.specs.Orderly.{IsLive}
 use Rattle.power_recovery.specs.Kept.{region_at, stands_at}
-use Rattle.bank_model.specs.declared.answer.ReadAnswer.TheVariants as came
+use Rattle.bank_shape.specs.declared.answer.ReadAnswer.TheVariants as came
 use Rattle.bank_model.specs.Events.{Event, Write, Read, Serve, Begin, Iterate, Cut, newest, RowsBelow}
 use Rattle.bank_model.specs.History.{Awaited, queue, waits, in_progress, iterated, stores, stored_in, moved_in, retired, has_exhausted, first_or}
 use Rattle.bank_model.specs.Answers.{MayAll}
@@ -71,6 +72,7 @@ same_said {n} {m} {e} h later bank array lost rows holds same past below = recor
   served = subst (λ (s : Said n). All (λ w. laid w.kept w.given (decoded e array (stands_at bank.kept w.line)) ≡ w.newest) s.waits) same holds.served;
   running = subst (λ (s : Said n). is_some bank.running ≡ s.in_progress) same holds.running;
   steps = subst (λ (s : Said n). IfSome bank.running (λ op. s.iterated + steps_left op.writer ≤ most_steps e)) same holds.steps;
+  rounds = subst (λ (s : Said n). IfSome bank.running (λ op. IsLive (array.line op.target) → s.iterated ≤ op.writer.prog.rounds)) same holds.rounds;
   tied = holds.tied;
   regions = λ region within.
       subst (λ (s : Said n). IsRegionAfter (s.moved_in region) (s.stored_in region) bank.kept.shape.psi (region_at bank.kept region)) same (holds.regions region within);
@@ -102,10 +104,12 @@ cut_law n m e h bank array holds = record {
   served = λ k d few. let none : ⊥ = omega (arith, few) in absurd none;
   running = refl;
   steps = tt;
+  rounds = tt;
   tied = record {
     lines = holds.tied.lines;
     sound = holds.tied.sound;
     unused = holds.tied.unused;
+    orderly = holds.tied.orderly;
     operation = tt;
     exhausted = λ mark. record {
       all_used = (holds.tied.exhausted mark).all_used;

@@ -20,13 +20,13 @@ use Rattle.power_recovery.proofs.Bundle.{IsKept-exhausted, IsKept-retired}
 use Rattle.power_recovery.proofs.Frames.{array_line-retired}
 use Rattle.bank_model.specs.Events.{Event}
 use Rattle.bank_model.specs.History.{Awaited, waits, iterated, retired}
-use Rattle.bank_invariant.specs.declared.Waiting.{Waiting}
+use Rattle.bank_shape.specs.declared.waiting.Waiting.{Waiting}
 use Rattle.bank_invariant.specs.State.{BankState, Operation, target_of}
 use Rattle.bank_invariant.specs.Tied.{decoded, AreSound, IsSoundLine, IsWornLine}
 use Rattle.bank_invariant.specs.Holds.{Holds, stands_for}
 use Rattle.bank_invariant.specs.Tearing.{DiffersAt}
 use Rattle.bank_invariant.specs.Retiring.{ExhaustedLaw, RetiredLaw}
-use Rattle.bank_invariant.proofs.Targets.{IsTargetOf, laid-whole, length-decode, decoded-off, stands_for-differs, AreSound-differs, AreUntouched-differs}
+use Rattle.bank_invariant.proofs.Targets.{IsTargetOf, laid-whole, length-decode, decoded-off, stands_for-differs, AreSound-differs, AreUntouched-differs, AreOrderly-differs}
 use Rattle.bank_invariant.proofs.Tearing.{running_of, target_of_running, in_progress_of, not_exhausted_of}
 use Rattle.bank_invariant.proofs.Iterating.{under_way-steps, waits-off, served-differs}
 
@@ -82,10 +82,12 @@ exhausted_law n m e h bank old new op holds is differs worn used =
       served = served-differs h bank old new op holds is differs;
       running = refl;
       steps = tt;
+      rounds = tt;
       tied = record {
         lines = omega (arith, holds.tied.lines, differs.lines);
         sound = record { apart = sound.apart; slots = sound.slots; spares = sound.spares; worn = sound.worn };
         unused = AreUntouched-differs e op.target _ _ old new differs holds.tied.unused;
+        orderly = AreOrderly-differs e op.target _ _ old new differs holds.tied.orderly;
         operation = tt;
         exhausted = λ mark. record {
           all_used = used ∙ count.1;
@@ -198,11 +200,13 @@ retired_law n m e line h bank old new op holds is differs worn left may =
           ∙ served-differs h bank old new op holds is differs k d few;
       running = refl;
       steps = tt;
+      rounds = tt;
       tied = record {
         lines = omega (arith, holds.tied.lines, differs.lines);
         sound = AreSound-retired e bank.kept (target_slot bank.kept op.work) new holds.kept sound
             (subst (λ (line : ℕ). IsWornLine e (new.line line)) at.place worn) at.exists left;
         unused = AreUntouched-differs e op.target _ _ old new differs holds.tied.unused;
+        orderly = AreOrderly-differs e op.target _ _ old new differs holds.tied.orderly;
         operation = tt;
         exhausted = λ mark. absurd (not_exhausted_of h bank old op holds is mark);
       };

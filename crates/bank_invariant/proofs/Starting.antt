@@ -1,5 +1,6 @@
 -- The begin of a line write that goes on.
 use Rattle.std.proofs.Common.{◌≡◌, ◌≢◌, ℕ, ◌<◌, ◌==◌, ◌||◌, ◌&&◌, not, inl, inr, ◌⊎◌, Bool, true, false, List, [], ◌∷◌, zero, suc, length, slice_get, None, is_some, refl, sym, ap, subst, ◌∙◌, arith, eq-eqb}
+use Rattle.masked_bytes.proofs.Truth.{and_second}
 use Rattle.std.specs.Prelude.{IsSomeAnd, IsTrue, All}
 use Rattle.std.specs.List.{list_any}
 use Rattle.std.proofs.lemmas.Bool.{cases_eq, ne_eqb}
@@ -21,7 +22,7 @@ use Rattle.power_recovery.proofs.Frames.{next_work-completed}
 use Rattle.power_recovery.proofs.Bundle.{next_work-store, next_work-copy, head-known, IsKept-completed}
 use Rattle.bank_model.specs.Events.{newest}
 use Rattle.bank_model.specs.History.{begun, due_after}
-use Rattle.bank_invariant.specs.declared.Waiting.{Waiting}
+use Rattle.bank_shape.specs.declared.waiting.Waiting.{Waiting}
 use Rattle.bank_invariant.specs.State.{target_of, is_free}
 use Rattle.bank_invariant.specs.Tied.{decoded, AreSound, IsOf}
 use Rattle.bank_invariant.specs.Holds.{Holds}
@@ -39,10 +40,6 @@ laid-twice (b ∷ bytes) [] under = refl
 laid-twice (b ∷ bytes) (g ∷ given) [] = refl
 laid-twice (b ∷ bytes) (true ∷ given) (u ∷ under) = ap (λ xs. b ∷ xs) (laid-twice bytes given under)
 laid-twice (b ∷ bytes) (false ∷ given) (u ∷ under) = ap (λ xs. u ∷ xs) (laid-twice bytes given under)
-
-both_so : (a b : Bool) → (a && b) ≡ true → b ≡ true
-both_so true b h = h
-both_so false b h = cc
 
 module _ {n : ℕ} where
   -- a store that may begin has no read of its line that waits
@@ -104,8 +101,8 @@ pub AreSound-completed : {n m : ℕ} (e : ℕ) (kept : KeptState n) (under : Lis
 AreSound-completed e kept under array sound = record { apart = sound.apart; slots = sound.slots; spares = sound.spares; worn = sound.worn }
 
 pub begun_store_law : BegunStoreLaw
-begun_store_law n m e line slot h bank old new op holds may next many same work target bytes under_way few =
-    let now : Holds h bank new = sensed_law n m e h bank old new holds many same in
+begun_store_law n m e line slot h bank old new op holds may next stands work target bytes under_way few =
+    let now : Holds h bank new = sensed_law n m e h bank old new holds stands in
     let kept : KeptState n = bank.kept in
     let under : List ℕ = decoded e old (array_line kept slot) in
     let agrees = agree_law n m e h bank new now in
@@ -114,10 +111,10 @@ begun_store_law n m e line slot h bank old new op holds may next many same work 
     let at_head : head_line kept.entries ≡ line = next_store-line kept line slot kept.exhausted (due_region kept) kept.entries (sym next) in
     let known : line < bank_lines kept.shape =
     subst (λ (l : ℕ). l < bank_lines kept.shape) at_head (head-known kept.entries (bank_lines kept.shape) holds.kept.known some.2) in
-    let read : decoded e new (array_line kept slot) ≡ under = ap (λ (l : LineState n m). decode e l.held) (same (array_line kept slot)) in
+    let read : decoded e new (array_line kept slot) ≡ under = ap (λ (l : LineState n m). decode e l.held) (stands.line (array_line kept slot)) in
     let len : length under ≡ n = length-decode e (old.line (array_line kept slot)).held in
     let free : is_free bank.waiting (Store line slot) ≡ true =
-    ap (λ work. is_free bank.waiting work) (sym next) ∙ both_so (not (is_some bank.running)) (is_free bank.waiting (next_work kept)) may in
+    ap (λ work. is_free bank.waiting work) (sym next) ∙ and_second (not (is_some bank.running)) (is_free bank.waiting (next_work kept)) may in
     let shown : laid (layer_of kept.entries (head_line kept.entries)).bytes (layer_of kept.entries (head_line kept.entries)).given under ≡ newest h (head_line kept.entries) =
     ap (λ s. laid (layer_of kept.entries (head_line kept.entries)).bytes (layer_of kept.entries (head_line kept.entries)).given (decoded e old (array_line kept s)))
     (place ∙ ap (λ l. slot_of kept l) (sym at_head))
@@ -147,10 +144,12 @@ begun_store_law n m e line slot h bank old new op holds may next many same work 
       served = now.served;
       running = refl;
       steps = omega (arith, few);
+      rounds = λ live. omega arith;
       tied = record {
         lines = now.tied.lines;
         sound = AreSound-completed e kept under new now.tied.sound;
         unused = now.tied.unused;
+        orderly = now.tied.orderly;
         operation = record {
           next = work ∙ sym next ∙ sym (next_work-completed kept under);
           target = target ∙ ap (λ work. target_of (completed_kept under kept) work) (sym work);
@@ -172,8 +171,8 @@ begun_store_law n m e line slot h bank old new op holds may next many same work 
     }
 
 pub begun_copy_law : BegunCopyLaw
-begun_copy_law n m e region step h bank old new op holds may next many same work target bytes under_way few =
-    let now : Holds h bank new = sensed_law n m e h bank old new holds many same in
+begun_copy_law n m e region step h bank old new op holds may next stands work target bytes under_way few =
+    let now : Holds h bank new = sensed_law n m e h bank old new holds stands in
     let kept : KeptState n = bank.kept in
     let agrees = agree_law n m e h bank new now in
     let some = next_work-copy kept (ap is_copy next) in
@@ -187,15 +186,17 @@ begun_copy_law n m e region step h bank old new op holds may next many same work
       served = now.served;
       running = refl;
       steps = omega (arith, few);
+      rounds = λ live. omega arith;
       tied = record {
         lines = now.tied.lines;
         sound = now.tied.sound;
         unused = now.tied.unused;
+        orderly = now.tied.orderly;
         operation = record {
           next = work ∙ sym next;
           target = target;
           of = subst (λ (w : Work). IsOf e kept new bank.waiting op.writer.bytes w) (sym work)
-              (bytes ∙ ap (λ (l : LineState n m). decode e l.held) (sym (same source)));
+              (bytes ∙ ap (λ (l : LineState n m). decode e l.held) (sym (stands.line source)));
           writing = under_way;
         };
         exhausted = λ mark. let no : kept.exhausted ≡ true = mark in let off : kept.exhausted ≡ false = some.0 in absurd cc;

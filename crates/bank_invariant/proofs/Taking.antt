@@ -20,11 +20,11 @@ use Rattle.power_recovery.specs.Kept.{KeptState, next_work, stands_at}
 use Rattle.power_recovery.specs.Events.{is_store, is_copy, accepted_kept}
 use Rattle.power_recovery.proofs.Frames.{head-accepted_busy, next_work-accepted, next_work-due}
 use Rattle.power_recovery.proofs.Bundle.{IsKept-accepted, next_work-store, next_work-copy}
-use Rattle.bank_model.specs.declared.answer.WriteAnswer.TheVariants as wrote
+use Rattle.bank_shape.specs.declared.answer.WriteAnswer.TheVariants as wrote
 use Rattle.bank_model.specs.Events.{Event, Write, newest}
 use Rattle.bank_model.specs.History.{queue, has_exhausted}
 use Rattle.bank_model.specs.Answers.{accept_answer, head_busy_after}
-use Rattle.bank_invariant.specs.declared.Waiting.{Waiting}
+use Rattle.bank_shape.specs.declared.waiting.Waiting.{Waiting}
 use Rattle.bank_invariant.specs.State.{Operation, target_of, is_storing}
 use Rattle.bank_invariant.specs.Tied.{decoded, IsOf, IsRunning, AreTied}
 use Rattle.bank_invariant.specs.Writes.{FullLaw, ExhaustedWriteLaw, AcceptedLaw, MergedLaw}
@@ -209,6 +209,7 @@ module _ {n m : ℕ} where
     lines = tied.lines;
     sound = record { apart = tied.sound.apart; slots = tied.sound.slots; spares = tied.sound.spares; worn = tied.sound.worn };
     unused = tied.unused;
+    orderly = tied.orderly;
     operation = operation-taken kept array waiting busy entry running is tied.operation;
     exhausted = λ mark. let no : kept.exhausted ≡ true = mark in absurd cc;
   }
@@ -240,6 +241,7 @@ accepted_law n m e row line bytes given busy h bank array holds above may storin
       served = holds.served;
       running = holds.running;
       steps = holds.steps;
+      rounds = holds.rounds;
       tied = tied-taken kept array bank.waiting busy entry bank.running storing going holds.tied;
       regions = holds.regions;
       due_last = holds.due_last;
@@ -277,6 +279,7 @@ merged_law n m e row line old bytes given busy h bank array holds above may stor
       served = holds.served;
       running = holds.running;
       steps = holds.steps;
+      rounds = holds.rounds;
       tied = tied-taken kept array bank.waiting busy entry bank.running storing going holds.tied;
       regions = holds.regions;
       due_last = holds.due_last;

@@ -14,7 +14,11 @@ use Rattle.ecp_line.specs.Reading.{bytes_from, decode}
 use Rattle.program_verify.specs.declared.prog.Prog.{Prog}
 use Rattle.program_verify.specs.Programming.{IsRound, IsTear}
 use Rattle.line_writer.specs.Untouched.{AreUntouched, LeavesUnused}
+use Rattle.line_writer.specs.Orderly.{IsOrderly, AreOrderly}
+use Rattle.line_writer.specs.declared.writer.LineWriter.{LineWriter}
+use Rattle.line_writer.proofs.Rounds.{leaves-round}
 use Rattle.line_writer.proofs.Untouched.{untouched-round, untouched-tear, AreUntouched-beside}
+use Rattle.line_writer.proofs.Orderly.{orderly-round, orderly-tear, AreOrderly-beside}
 use Rattle.spare_pool.specs.Table.{line_by, used_by}
 use Rattle.spare_pool.proofs.Lines.{line_by-within}
 use Rattle.bank_shape.specs.declared.Work.{Work}
@@ -26,9 +30,9 @@ use Rattle.power_recovery.specs.Slots.{bank_lines}
 use Rattle.power_recovery.specs.Kept.{KeptState, IsKept, AllBelow, region_at, slot_of, array_line, stands_at, target_slot, due_region, due_work, next_work}
 use Rattle.power_recovery.proofs.Placing.{slot_of-within, slot_of-apart, slot_of-off_gap, slot_at-within}
 use Rattle.power_recovery.proofs.Bundle.{due_region-Some}
-use Rattle.bank_invariant.specs.declared.Waiting.{Waiting}
+use Rattle.bank_shape.specs.declared.waiting.Waiting.{Waiting}
 use Rattle.bank_invariant.specs.State.{target_of}
-use Rattle.bank_invariant.specs.Tied.{decoded, IsSoundLine, IsWornLine, AreSound, IsOf}
+use Rattle.bank_invariant.specs.Tied.{decoded, IsSoundLine, IsWornLine, IsUnderWay, AreSound, IsOf}
 use Rattle.bank_invariant.specs.Holds.{stands_for}
 use Rattle.bank_invariant.specs.Tearing.{DiffersAt}
 
@@ -185,26 +189,38 @@ module _ {n m : ℕ} where
   AreUntouched-differs e target from lines old new differs own =
       AreUntouched-beside e old new target from lines differs.others differs.unused own
 
+  -- and each orderly line is orderly still
+  pub AreOrderly-differs : (e target from lines : ℕ) (old new : ArrayState n m) → DiffersAt e target old new
+      → AreOrderly old from lines → AreOrderly new from lines
+  AreOrderly-differs e target from lines old new differs own =
+      AreOrderly-beside old new target from lines differs.bounds differs.others differs.orderly own
+
   -- Where the premises come from
 
   -- a step of a line write changes no other line
-  pub DiffersAt-round : (e line tick : ℕ) (before after : Prog n m) (old new : ArrayState n m) → IsRound line tick before after old new
-      → IsSoundLine e (new.line line) → LeavesUnused e before → DiffersAt e line old new
-  DiffersAt-round e line tick before after old new round sound leaves = record {
+  pub DiffersAt-round : (e line tick : ℕ) (writer : LineWriter n m e) (after : Prog n m) (old new : ArrayState n m) → IsUnderWay writer (old.line line)
+      → IsRound line tick writer.prog after old new → IsSoundLine e (new.line line) → LeavesUnused e writer.prog → DiffersAt e line old new
+  DiffersAt-round e line tick writer after old new under round sound leaves = record {
     others = λ at off. round.sense.line at ∙ round.others.others at off;
     lines = round.sense.lines ∙ round.others.lines;
+    bounds = round.sense.bounds ∙ round.others.bounds;
     sound = sound;
-    unused = untouched-round e line tick before after old new round leaves;
+    stuck = (leaves-round line tick writer.prog after old new round).stuck;
+    unused = untouched-round e line tick writer.prog after old new round leaves;
+    orderly = orderly-round writer line tick after old new under.more under.writes round;
   }
 
   -- nor does a tear of one
-  pub DiffersAt-tear : (e line : ℕ) (prog : Prog n m) (old new : ArrayState n m) → IsTear line prog old new → IsSoundLine e (new.line line)
-      → LeavesUnused e prog → DiffersAt e line old new
-  DiffersAt-tear e line prog old new tear sound leaves = record {
+  pub DiffersAt-tear : (e line : ℕ) (writer : LineWriter n m e) (old new : ArrayState n m) → IsUnderWay writer (old.line line)
+      → IsTear line writer.prog old new → IsSoundLine e (new.line line) → LeavesUnused e writer.prog → DiffersAt e line old new
+  DiffersAt-tear e line writer old new under tear sound leaves = record {
     others = tear.others.others;
     lines = tear.others.lines;
+    bounds = tear.others.bounds;
     sound = sound;
-    unused = untouched-tear e line prog old new tear leaves;
+    stuck = λ number is. (tear.tear.stuck number is).0;
+    unused = untouched-tear e line writer.prog old new tear leaves;
+    orderly = orderly-tear writer line old new under.more under.writes tear;
   }
 
   -- the line that is written is one of the array
@@ -213,3 +229,12 @@ module _ {n m : ℕ} where
   target-exists kept waiting target slot array range lines is =
       let within : line_by kept.table slot < kept.table.slots + used_by kept.table = line_by-within kept.table slot (omega (arith, is.exists, range.slots)) in
       omega (arith, within, is.place, range.slots, range.spares, range.table.within, lines)
+
+  -- and orderly
+  pub target-orderly : (kept : KeptState n) (waiting : List (Waiting n)) (target slot : ℕ) (array : ArrayState n m)
+      → IsKept kept → AreOrderly array kept.shape.base (slots_of kept.shape + kept.shape.spares) → IsTargetOf kept waiting target slot
+      → IsOrderly array.bounds.misses (array.line target)
+  target-orderly kept waiting target slot array range own is =
+      let within : line_by kept.table slot < kept.table.slots + used_by kept.table = line_by-within kept.table slot (omega (arith, is.exists, range.slots)) in
+      subst (λ (at : ℕ). IsOrderly array.bounds.misses (array.line at)) (sym is.place)
+      (own (line_by kept.table slot) (omega (arith, within, range.slots, range.spares, range.table.within)))

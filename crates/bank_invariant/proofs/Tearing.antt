@@ -9,7 +9,7 @@ use Rattle.bank_invariant.specs.State.{BankState, Operation}
 use Rattle.bank_invariant.specs.Tied.{IsRunning}
 use Rattle.bank_invariant.specs.Holds.{Holds}
 use Rattle.bank_invariant.specs.Tearing.{TornLaw}
-use Rattle.bank_invariant.proofs.Targets.{IsTargetOf, running-target, stands_for-differs, AreSound-differs, AreUntouched-differs}
+use Rattle.bank_invariant.proofs.Targets.{IsTargetOf, running-target, stands_for-differs, AreSound-differs, AreUntouched-differs, AreOrderly-differs}
 
 module _ {n m e : ℕ} where
   -- the line write in progress is that of the next work
@@ -45,10 +45,12 @@ torn_law n m e h bank old new op holds is differs =
       served = λ k d few. let none : ⊥ = omega (arith, few) in absurd none;
       running = refl;
       steps = tt;
+      rounds = tt;
       tied = record {
         lines = omega (arith, holds.tied.lines, differs.lines);
         sound = AreSound-differs e bank.kept bank.waiting op.target (target_slot bank.kept op.work) old new holds.kept holds.tied.sound at differs;
         unused = AreUntouched-differs e op.target _ _ old new differs holds.tied.unused;
+        orderly = AreOrderly-differs e op.target _ _ old new differs holds.tied.orderly;
         operation = tt;
         exhausted = λ mark. absurd (not_exhausted_of h bank old op holds is mark);
       };

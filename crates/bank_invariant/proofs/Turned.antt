@@ -5,13 +5,14 @@ use Rattle.std.proofs.lemmas.Bool.{cases_eq, ne_eqb}
 use Rattle.std.proofs.lemmas.Grind.{get_or-set_at}
 use Rattle.masked_bytes.specs.Masked.{laid}
 use Rattle.masked_bytes.specs.Entries.{layer_of}
-use Rattle.pcm_cells.specs.Device.{ArrayState, LineState}
+use Rattle.pcm_cells.specs.Device.{ArrayState, LineState, CellBounds}
 use Rattle.start_gap.specs.declared.Move.{Move}
 use Rattle.start_gap.specs.Rotation.{StandsFor, place_by, move_by, advanced}
 use Rattle.start_gap.proofs.Turning.{stands-advanced}
 use Rattle.region_regs.specs.Region.{RegionState, after_move}
 use Rattle.line_writer.specs.Writing.{steps_left, most_steps}
 use Rattle.line_writer.specs.Untouched.{HasUntouched}
+use Rattle.line_writer.specs.Orderly.{IsOrderly}
 use Rattle.bank_shape.specs.declared.Work.{Work}
 use Rattle.bank_shape.specs.declared.Work.TheVariants.{Copy}
 use Rattle.bank_shape.specs.Shape.{slots_of, slot_at}
@@ -21,7 +22,7 @@ use Rattle.power_recovery.specs.Events.{is_copy}
 use Rattle.power_recovery.proofs.Placing.{slot_of-within, slot_of-off_gap, slot_at-within}
 use Rattle.power_recovery.proofs.Frames.{moved_at, moved_kept-at, slot_of-moved, slot_of-moved_region, slot_of-moved_other}
 use Rattle.power_recovery.proofs.Bundle.{due_region-Some, next_work-copy, IsKept-moved_at}
-use Rattle.bank_model.specs.declared.answer.Step.TheVariants as did
+use Rattle.bank_shape.specs.declared.answer.Step.TheVariants as did
 use Rattle.bank_model.specs.Events.{Event, Begin, Iterate, newest}
 use Rattle.bank_model.specs.History.{Awaited, queue, begun, waits, in_progress, iterated, stores, stored_in, moved_in, due_after, first_or}
 use Rattle.bank_model.specs.After.{work_after, may_begin_after}
@@ -31,7 +32,7 @@ use Rattle.bank_invariant.specs.Tied.{decoded, IsSoundLine, AreTied}
 use Rattle.bank_invariant.specs.Holds.{Holds, IsRegionAfter, stands_for}
 use Rattle.bank_invariant.specs.Tearing.{DiffersAt}
 use Rattle.bank_invariant.specs.Moving.{MovedLaw, MovedAtOnceLaw, moved}
-use Rattle.bank_invariant.proofs.Targets.{IsTargetOf, next_copy-region, running-target, decoded-other, AreSound-differs, AreUntouched-differs}
+use Rattle.bank_invariant.proofs.Targets.{IsTargetOf, next_copy-region, running-target, decoded-other, AreSound-differs, AreUntouched-differs, AreOrderly-differs}
 use Rattle.bank_invariant.proofs.Tearing.{running_of, in_progress_of}
 use Rattle.bank_invariant.proofs.Iterating.{waits-known, under_way-steps}
 use Rattle.bank_invariant.proofs.Agreeing.{agree_law}
@@ -153,6 +154,7 @@ module _ {n m e : ℕ} (region : ℕ) (step : Move) (h : List (Event n)) (bank :
         lines = omega (arith, holds.tied.lines, differs.lines);
         sound = record { apart = sound.apart; slots = sound.slots; spares = sound.spares; worn = sound.worn };
         unused = AreUntouched-differs e (target_of bank.kept (Copy region step)) _ _ old new differs holds.tied.unused;
+        orderly = AreOrderly-differs e (target_of bank.kept (Copy region step)) _ _ old new differs holds.tied.orderly;
         operation = tt;
         exhausted = λ mark. let none : false ≡ true = sym not_exhausted ∙ mark in cc;
       }
@@ -228,6 +230,7 @@ module _ {n m e : ℕ} (region : ℕ) (step : Move) (h : List (Event n)) (bank :
     served = served-moved;
     running = refl;
     steps = tt;
+    rounds = tt;
     tied = tied-moved;
     regions = regions-moved;
     due_last = due_last-moved;
@@ -256,6 +259,7 @@ module _ {n m e : ℕ} (region : ℕ) (step : Move) (h : List (Event n)) (bank :
     served = served-moved;
     running = refl;
     steps = tt;
+    rounds = tt;
     tied = tied-moved;
     regions = regions-moved;
     due_last = due_last-moved;
@@ -285,12 +289,17 @@ moved_law n m e region step h bank old new op holds is next differs copied =
     (ap (λ t. decoded e new t) (sym place) ∙ copied) (in_progress_of h bank old op holds is) (omega (arith, steps, left))
 
 pub moved_at_once_law : MovedAtOnceLaw
-moved_at_once_law n m e region step h bank old new holds idle next lines same copied =
+moved_at_once_law n m e region step h bank old new holds idle next stands copied =
     let differs : DiffersAt e (target_of bank.kept (Copy region step)) old new = record {
-      others = λ line off. same line;
-      lines = lines;
-      sound = subst (λ (l : LineState n m). IsSoundLine e l) (sym (same (target_of bank.kept (Copy region step))))
+      others = λ line off. stands.line line;
+      lines = stands.lines;
+      bounds = stands.bounds;
+      sound = subst (λ (l : LineState n m). IsSoundLine e l) (sym (stands.line (target_of bank.kept (Copy region step))))
           (holds.tied.sound.slots (slot_at bank.kept.shape region step.to) (gap-within bank.kept region step holds.kept next));
-      unused = λ own. subst (λ (l : LineState n m). HasUntouched e l) (sym (same (target_of bank.kept (Copy region step)))) own;
+      stuck = λ number is. ap (λ (l : LineState n m). l.stuck number) (stands.line (target_of bank.kept (Copy region step))) ∙ is;
+      unused = λ own. subst (λ (l : LineState n m). HasUntouched e l) (sym (stands.line (target_of bank.kept (Copy region step)))) own;
+      orderly = λ own.
+          subst (λ (b : CellBounds). IsOrderly b.misses (new.line (target_of bank.kept (Copy region step)))) (sym stands.bounds)
+          (subst (λ (l : LineState n m). IsOrderly old.bounds.misses l) (sym (stands.line (target_of bank.kept (Copy region step)))) own);
     } in
     moved_by_beginning region step h bank old new holds next differs copied idle

@@ -9,10 +9,10 @@ use Rattle.bank_shape.specs.Shape.{slot_at}
 use Rattle.line_writer.specs.Writing.{steps_left, most_steps}
 use Rattle.power_recovery.specs.Kept.{KeptState, array_line, next_work}
 use Rattle.power_recovery.specs.Events.{completed_kept}
-use Rattle.bank_model.specs.declared.answer.Step.TheVariants as did
+use Rattle.bank_shape.specs.declared.answer.Step.TheVariants as did
 use Rattle.bank_model.specs.Events.{Event, Begin}
 use Rattle.bank_invariant.specs.State.{BankState, Operation, may_begin, target_of}
-use Rattle.bank_invariant.specs.Tied.{decoded, IsUnderWay}
+use Rattle.bank_invariant.specs.Tied.{StandsAs, decoded, IsUnderWay}
 use Rattle.bank_invariant.specs.Holds.{Holds}
 
 module _ {n : ℕ} where
@@ -32,12 +32,12 @@ module _ {n m e : ℕ} where
   begun_with kept op bank = record { kept = kept; running = Some op; waiting = bank.waiting; lost = bank.lost; rows_below = bank.rows_below }
 
 -- a begin of a store that goes on keeps the invariant: the head is completed from what its line is read as, and those bytes are
--- written. Each line is as it was; that a step is left, and not too many, is what the line writer ensures
+-- written. The array stands as it was; that a step is left, and not too many, is what the line writer ensures
 abbrev pub BegunStoreLaw : Type 0
 BegunStoreLaw =
     (n m e line slot : ℕ) (h : List (Event n)) (bank : BankState n m e) (old new : ArrayState n m) (op : Operation n m e)
     → Holds h bank old → IsTrue (may_begin bank) → next_work bank.kept ≡ Store line slot
-    → new.lines ≡ old.lines → ((at : ℕ) → new.line at ≡ old.line at)
+    → StandsAs old new
     → op.work ≡ Store line slot → op.target ≡ array_line bank.kept slot
     → let under = decoded e old (array_line bank.kept slot) in
     IsSomeAnd (slice_get bank.kept.entries 0) (λ head. op.writer.bytes ≡ laid head.bytes head.given under)
@@ -49,7 +49,7 @@ abbrev pub BegunCopyLaw : Type 0
 BegunCopyLaw =
     (n m e region : ℕ) (step : Move) (h : List (Event n)) (bank : BankState n m e) (old new : ArrayState n m) (op : Operation n m e)
     → Holds h bank old → IsTrue (may_begin bank) → next_work bank.kept ≡ Copy region step
-    → new.lines ≡ old.lines → ((at : ℕ) → new.line at ≡ old.line at)
+    → StandsAs old new
     → op.work ≡ Copy region step → op.target ≡ target_of bank.kept op.work
     → op.writer.bytes ≡ decoded e old (array_line bank.kept (slot_at bank.kept.shape region step.from))
     → IsUnderWay op.writer (new.line op.target) → steps_left op.writer ≤ most_steps e

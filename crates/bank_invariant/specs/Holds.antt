@@ -7,11 +7,12 @@ use Rattle.start_gap.specs.Rotation.{StandsFor}
 use Rattle.region_regs.specs.Region.{RegionState}
 use Rattle.bank_shape.specs.Shape.{slots_of}
 use Rattle.line_writer.specs.Writing.{steps_left, most_steps}
+use Rattle.line_writer.specs.Orderly.{IsLive}
 use Rattle.power_recovery.specs.Kept.{KeptState, IsKept, region_at, stands_at}
 use Rattle.bank_model.specs.Events.{Event, newest, RowsBelow}
 use Rattle.bank_model.specs.History.{Awaited, queue, waits, in_progress, iterated, stores, stored_in, moved_in, retired, has_exhausted, first_or}
 use Rattle.bank_model.specs.Answers.{MayAll}
-use Rattle.bank_invariant.specs.declared.Waiting.{Waiting}
+use Rattle.bank_shape.specs.declared.waiting.Waiting.{Waiting}
 use Rattle.bank_invariant.specs.State.{BankState}
 use Rattle.bank_invariant.specs.Tied.{decoded, IsTied}
 
@@ -42,6 +43,8 @@ pub record Holds {n m e : ℕ} (h : List (Event n)) (bank : BankState n m e) (ar
   -- a line write is in progress where the history says so, with enough steps left
   pub running : is_some bank.running ≡ in_progress h
   pub steps : IfSome bank.running (λ op. iterated h + steps_left op.writer ≤ most_steps e)
+  -- and while no cell of its line is stuck, each iteration of it was a round of the programming in progress
+  pub rounds : IfSome bank.running (λ op. IsLive (array.line op.target) → iterated h ≤ op.writer.prog.rounds)
   -- the array is as the bank needs it
   pub tied : IsTied bank array
   -- the registers, the queue, the remap table and the mark are those of the history

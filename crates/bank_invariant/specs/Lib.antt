@@ -12,3 +12,4 @@ pub mod Retiring
 pub mod Storing
 pub mod Moving
 pub mod Beginning
+pub mod Fine

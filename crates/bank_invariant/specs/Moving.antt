@@ -6,10 +6,10 @@ use Rattle.bank_shape.specs.declared.Work.TheVariants.{Copy}
 use Rattle.bank_shape.specs.Shape.{slot_at}
 use Rattle.power_recovery.specs.Kept.{array_line, next_work}
 use Rattle.power_recovery.specs.Events.{moved_kept}
-use Rattle.bank_model.specs.declared.answer.Step.TheVariants as did
+use Rattle.bank_shape.specs.declared.answer.Step.TheVariants as did
 use Rattle.bank_model.specs.Events.{Event, Begin, Iterate}
 use Rattle.bank_invariant.specs.State.{BankState, Operation, target_of}
-use Rattle.bank_invariant.specs.Tied.{decoded}
+use Rattle.bank_invariant.specs.Tied.{StandsAs, decoded}
 use Rattle.bank_invariant.specs.Holds.{Holds}
 use Rattle.bank_invariant.specs.Tearing.{DiffersAt}
 
@@ -31,6 +31,6 @@ abbrev pub MovedAtOnceLaw : Type 0
 MovedAtOnceLaw =
     (n m e region : ℕ) (step : Move) (h : List (Event n)) (bank : BankState n m e) (old new : ArrayState n m)
     → Holds h bank old → bank.running ≡ None → next_work bank.kept ≡ Copy region step
-    → new.lines ≡ old.lines → ((line : ℕ) → new.line line ≡ old.line line)
+    → StandsAs old new
     → decoded e new (target_of bank.kept (Copy region step)) ≡ decoded e old (array_line bank.kept (slot_at bank.kept.shape region step.from))
     → Holds (Begin (did.Moved step) ∷ h) (moved bank) new

@@ -5,14 +5,14 @@ use Rattle.masked_bytes.specs.Entries.{Layer, layer_of}
 use Rattle.pcm_cells.specs.Device.{ArrayState}
 use Rattle.line_writer.specs.Writing.{most_steps}
 use Rattle.power_recovery.specs.Kept.{stands_at}
-use Rattle.bank_model.specs.declared.answer.ReadAnswer.{ReadAnswer}
-use Rattle.bank_model.specs.declared.answer.ReadAnswer.TheVariants as came
-use Rattle.bank_model.specs.declared.answer.Served.{Served}
+use Rattle.bank_shape.specs.declared.answer.ReadAnswer.{ReadAnswer}
+use Rattle.bank_shape.specs.declared.answer.ReadAnswer.TheVariants as came
+use Rattle.bank_shape.specs.declared.answer.Served.{Served}
 use Rattle.bank_model.specs.Events.{Event, Read, Serve}
 use Rattle.bank_model.specs.Answers.{MayHappen}
-use Rattle.bank_invariant.specs.declared.Waiting.{Waiting}
+use Rattle.bank_shape.specs.declared.waiting.Waiting.{Waiting}
 use Rattle.bank_invariant.specs.State.{BankState}
-use Rattle.bank_invariant.specs.Tied.{decoded}
+use Rattle.bank_invariant.specs.Tied.{StandsAs, decoded}
 use Rattle.bank_invariant.specs.Holds.{Holds}
 
 -- a read of a line, with what the queue gives of it
@@ -63,11 +63,11 @@ WaitingLaw =
     → Holds h bank array → bank.rows_below ≤ row → MayHappen bank.kept.shape h (most_steps e) (Read row line came.Waiting)
     → Holds (Read row line came.Waiting ∷ h) (waits_too bank row line) array
 
--- an array of which each line is as it was, as a sense leaves it, keeps the invariant
+-- an array that stands as it was, as a sense leaves it, keeps the invariant
 abbrev pub SensedLaw : Type 0
 SensedLaw =
     (n m e : ℕ) (h : List (Event n)) (bank : BankState n m e) (old new : ArrayState n m)
-    → Holds h bank old → new.lines ≡ old.lines → ((line : ℕ) → new.line line ≡ old.line line) → Holds h bank new
+    → Holds h bank old → StandsAs old new → Holds h bank new
 
 -- a serve may answer the first read that waits with the bytes kept with it, over what is read
 abbrev pub MayServeLaw : Type 0
@@ -75,10 +75,10 @@ MayServeLaw =
     (n m e : ℕ) (h : List (Event n)) (bank : BankState n m e) (array : ArrayState n m) (w : Waiting n) (ws : List (Waiting n))
     → Holds h bank array → bank.waiting ≡ w ∷ ws → MayHappen bank.kept.shape h (most_steps e) (Serve (served_from bank array w))
 
--- and a serve keeps the invariant, over an array of which each line is as it was. That it may answer so is what `MayServeLaw` says
+-- and a serve keeps the invariant, over an array that stands as it was. That it may answer so is what `MayServeLaw` says
 abbrev pub ServedLaw : Type 0
 ServedLaw =
     (n m e : ℕ) (h : List (Event n)) (bank : BankState n m e) (old new : ArrayState n m) (answer : Served n)
     → Holds h bank old → MayHappen bank.kept.shape h (most_steps e) (Serve answer)
-    → new.lines ≡ old.lines → ((line : ℕ) → new.line line ≡ old.line line)
+    → StandsAs old new
     → Holds (Serve answer ∷ h) (served bank) new

@@ -7,10 +7,10 @@ use Rattle.pcm_cells.specs.Device.{ArrayState}
 use Rattle.bank_shape.specs.declared.Work.TheVariants.{Store}
 use Rattle.power_recovery.specs.Kept.{KeptState, array_line, next_work}
 use Rattle.power_recovery.specs.Events.{completed_kept, stored_kept}
-use Rattle.bank_model.specs.declared.answer.Step.TheVariants as did
+use Rattle.bank_shape.specs.declared.answer.Step.TheVariants as did
 use Rattle.bank_model.specs.Events.{Event, Begin, Iterate}
 use Rattle.bank_invariant.specs.State.{BankState, Operation, may_begin}
-use Rattle.bank_invariant.specs.Tied.{decoded}
+use Rattle.bank_invariant.specs.Tied.{StandsAs, decoded}
 use Rattle.bank_invariant.specs.Holds.{Holds}
 use Rattle.bank_invariant.specs.Tearing.{DiffersAt}
 
@@ -29,12 +29,12 @@ StoredLaw =
     → decoded e new op.target ≡ op.writer.bytes
     → Holds (Iterate (did.Stored (head_row bank.kept.entries) op.target) ∷ h) (resting (stored_kept bank.kept) bank) new
 
--- so does a begin of a store whose line reads already as the head does, once that was completed from it. Each line is as it was
+-- so does a begin of a store whose line reads already as the head does, once that was completed from it. The array stands as it was
 abbrev pub BegunStoredLaw : Type 0
 BegunStoredLaw =
     (n m e line slot : ℕ) (h : List (Event n)) (bank : BankState n m e) (old new : ArrayState n m) (head : Entry n)
     → Holds h bank old → IsTrue (may_begin bank) → next_work bank.kept ≡ Store line slot → slice_get bank.kept.entries 0 ≡ Some head
-    → new.lines ≡ old.lines → ((at : ℕ) → new.line at ≡ old.line at)
+    → StandsAs old new
     → let under = decoded e old (array_line bank.kept slot) in
     laid head.bytes head.given under ≡ under
     → Holds (Begin (did.Stored (head_row bank.kept.entries) (array_line bank.kept slot)) ∷ h) (resting (stored_kept (completed_kept under bank.kept)) bank) new

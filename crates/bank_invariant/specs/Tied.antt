@@ -13,9 +13,16 @@ use Rattle.line_writer.specs.declared.writer.LineWriter.{LineWriter}
 use Rattle.line_writer.specs.declared.writer.Progress.TheVariants as progress
 use Rattle.line_writer.specs.Writing.{Writes}
 use Rattle.line_writer.specs.Untouched.{AreUntouched}
+use Rattle.line_writer.specs.Orderly.{AreOrderly}
 use Rattle.power_recovery.specs.Kept.{KeptState, array_line, due_region, due_work, next_work}
-use Rattle.bank_invariant.specs.declared.Waiting.{Waiting}
+use Rattle.bank_shape.specs.declared.waiting.Waiting.{Waiting}
 use Rattle.bank_invariant.specs.State.{BankState, Operation, target_of}
+
+-- an array stands as it was: it has as many lines, each of them is as it was, and its cells keep to the same bounds
+pub record StandsAs {n m : ℕ} (old new : ArrayState n m) : Type 0 where
+  pub lines : new.lines ≡ old.lines
+  pub line : (at : ℕ) → new.line at ≡ old.line at
+  pub bounds : new.bounds ≡ old.bounds
 
 -- what an array line is read as
 abbrev pub decoded : {n m : ℕ} → ℕ → ArrayState n m → ℕ → List ℕ
@@ -66,11 +73,12 @@ pub record IsExhausted {n m e : ℕ} (kept : KeptState n) (running : Option (Ope
   pub idle : running ≡ None
   pub worn : IsWornLine e (array.line (target_of kept (due_work (due_region kept) kept kept.entries)))
 
--- what ties a bank to its array, indexed by the parts that it reads; the unused check cells of its slots and spares are untouched
+-- what ties a bank to its array, indexed by the parts that it reads; its slots and spares are orderly, and their unused check cells untouched
 pub record AreTied {n m e : ℕ} (kept : KeptState n) (running : Option (Operation n m e)) (waiting : List (Waiting n)) (array : ArrayState n m) : Type 0 where
   pub lines : kept.shape.base + lines_in kept.shape ≤ array.lines
   pub sound : AreSound e kept array
   pub unused : AreUntouched e array kept.shape.base (slots_of kept.shape + kept.shape.spares)
+  pub orderly : AreOrderly array kept.shape.base (slots_of kept.shape + kept.shape.spares)
   pub operation : IfSome running (IsRunning kept array waiting)
   pub exhausted : IsTrue kept.exhausted → IsExhausted kept running array
 

@@ -17,3 +17,6 @@ pub mod Counting
 pub mod Waiting
 pub mod Pending
 pub mod Changing
+pub mod Targets
+pub mod Counted
+pub mod Works

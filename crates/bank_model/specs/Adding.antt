@@ -1,5 +1,5 @@
 -- What the events of a call do to an array, besides its cells.
-use Rattle.std.specs.Prelude.{◌≡◌, ◌⊎◌, ℕ, ◌+◌, ◌<◌, ◌≤◌, true, if◌then◌else◌, List, [], ◌∷◌, ◌++◌, Option, Some}
+use Rattle.std.specs.Prelude.{◌≡◌, ◌⊎◌, ℕ, ◌+◌, ◌<◌, ◌≤◌, if◌then◌else◌, List, [], ◌∷◌, ◌++◌, Option, Some}
 use Rattle.pcm_cells.specs.declared.array.Sense.{Sense}
 use Rattle.pcm_cells.specs.Device.{ArrayState, counted}
 use Rattle.bank_shape.specs.declared.BankShape.{BankShape}
@@ -37,3 +37,4 @@ pub record Adds {n m : ℕ} (shape : BankShape) (added : List (Timed n m)) (old 
   pub log : (after : List (Sense n m)) → new.log ≡ Some after
       → (before : List (Sense n m)) × (old.log ≡ Some before) × (after ≡ before ++ senses_of added)
   pub wear : new.wear ≡ old.wear
+  pub bounds : new.bounds ≡ old.bounds

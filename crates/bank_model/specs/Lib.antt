@@ -10,5 +10,7 @@ pub mod Running
 pub mod Sensing
 pub mod Timing
 pub mod Told
+pub mod Works
+pub mod Aging
 pub mod Worked
 pub mod Touching

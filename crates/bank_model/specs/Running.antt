@@ -1,42 +1,20 @@
 -- Which action runs after a timed history, and which is chosen next.
 use Rattle.std.specs.Prelude.{ℕ, ◌+◌, ◌&&◌, ◌||◌, not, nat_lt, Bool, true, false, if◌then◌else◌, List, [], ◌∷◌, Option, Some, None}
-use Rattle.bank_shape.specs.Pausing.{Pausing, Pause, Plain, Cancel}
 use Rattle.bank_shape.specs.declared.BankShape.{BankShape}
-use Rattle.bank_model.specs.declared.answer.Step.TheVariants as did
-use Rattle.bank_model.specs.declared.answer.ReadAnswer.TheVariants as came
-use Rattle.bank_model.specs.declared.clock.Doing.{Doing}
-use Rattle.bank_model.specs.declared.clock.Doing.TheVariants.{Serving, Beginning, Iterating}
-use Rattle.bank_model.specs.declared.clock.Action.{Action}
+use Rattle.bank_shape.specs.Acting.{Choice, choice, chosen_by}
+use Rattle.bank_shape.specs.Pausing.{gives_way}
+use Rattle.bank_shape.specs.declared.answer.Step.TheVariants as did
+use Rattle.bank_shape.specs.declared.answer.ReadAnswer.TheVariants as came
+use Rattle.bank_shape.specs.declared.clock.Doing.{Doing}
+use Rattle.bank_shape.specs.declared.clock.Doing.TheVariants.{Serving, Beginning, Iterating}
+use Rattle.bank_shape.specs.declared.clock.Action.{Action}
 use Rattle.bank_model.specs.Events.{Event, Write, Read, Serve, Begin, Iterate, Cut}
 use Rattle.bank_model.specs.History.{waits, in_progress, iterated, has_exhausted}
 use Rattle.bank_model.specs.After.{work_after, may_begin_after, is_store_of}
-use Rattle.bank_model.specs.Timing.{Pacing, Happens, Core, Regs, KeepBegin, KeepIterate, KeepCut, Timed, is_doing, is_empty, core, last_tick}
-use Rattle.bank_model.specs.declared.answer.Keep.TheVariants as keep
+use Rattle.bank_shape.specs.declared.pace.Pace.{Pace}
+use Rattle.bank_model.specs.Timing.{Happens, Core, Regs, KeepBegin, KeepIterate, KeepCut, Timed, is_doing, is_empty, core, last_tick}
+use Rattle.bank_shape.specs.declared.answer.Keep.TheVariants as keep
 use Rattle.bank_model.specs.Changes.{change_after, keeping_after, rounds_after, halted_after}
-
--- whether a line write gives way to a read between two iterations
-abbrev pub gives_way : Pausing → Bool
-gives_way Pause = true
-gives_way Plain = false
-gives_way Cancel = true
-
--- a line write: whether it is in progress, and how it goes on; else whether one may be begun, and how
-pub record Choice : Type 0 where
-  pub busy : Bool
-  pub going_on : Doing
-  pub ready : Bool
-  pub beginning : Doing
-
--- the line write of a bank's work, or in its place that of the change that stands
-abbrev pub choice : Bool → Bool → Choice
-choice busy ready = record { busy = busy; going_on = Iterating; ready = ready; beginning = Beginning }
-
--- the action that is chosen where none runs: a serve if a read waits and the write gives way; else the next step of a line
--- write in progress; else a serve if a read waits; else the begin of a line write
-abbrev pub chosen_by : Bool → Bool → Choice → Option Doing
-chosen_by gives_way reads c =
-    if gives_way && reads then Some Serving
-    else (if c.busy then Some c.going_on else (if reads then Some Serving else (if c.ready then Some c.beginning else None)))
 
 -- the action that runs at a later tick: that which ran, or else the one that was chosen
 abbrev pub started : Option Action → Option Doing → ℕ → ℕ → Option Action
@@ -102,7 +80,7 @@ module _ {n m : ℕ} (shape : BankShape) where
   abbrev pub is_over : List (Timed n m) → Bool
   is_over xs = over_by (change_after shape xs) (halted_after xs) (has_exhausted (core xs))
 
-module _ {n m : ℕ} (shape : BankShape) (pace : Pacing) where
+module _ {n m : ℕ} (shape : BankShape) (pace : Pace) where
   -- the line write that a list leaves
   abbrev pub choice_after : List (Timed n m) → Choice
   choice_after xs = choice (busy_after shape xs) (ready_after shape xs)

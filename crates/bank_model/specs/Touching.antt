@@ -1,20 +1,29 @@
 -- What one event does to an array, besides what the cells that it pulses then hold.
-use Rattle.std.specs.Prelude.{◌≡◌, ℕ, ◌++◌, Bool, true, false, if◌then◌else◌, List, map, Option, Some}
+use Rattle.std.specs.Prelude.{◌≡◌, ℕ, ◌≤◌, ◌++◌, Bool, true, false, if◌then◌else◌, IsTrue, IsFalse, List, map, Option, Some}
 use Rattle.pcm_cells.specs.declared.array.Sense.{Sense}
-use Rattle.pcm_cells.specs.Device.{ArrayState, counted, sense_of}
+use Rattle.pcm_cells.specs.Device.{CellBounds, LineState, ArrayState, counted, sense_of}
 use Rattle.bank_model.specs.Sensing.{is_at}
 
 -- what senses of these lines, in this order, show at a tick
 abbrev pub shown : {n m : ℕ} → ℕ → List ℕ → ArrayState n m → List (Sense n m)
 shown tick sensed array = map (λ line. sense_of line tick (array.line line)) sensed
 
--- an event pulses or tears one line or none, and then senses these lines, in this order: every other line and the wear stay as they
--- were, a pulse and a tear are counted, and a log that is told has gained the senses, which show the lines as the event leaves them
+-- what a pulse or a tear makes of the stuck cells of a line: one that was stuck is, and one that newly sticks does so only as its line
+-- has had as many pulses as cells endure
+pub record Sticks {n m : ℕ} (bounds : CellBounds) (old new : LineState n m) : Type 0 where
+  pub stays : (c : ℕ) → IsTrue (old.stuck c) → IsTrue (new.stuck c)
+  pub late : (c : ℕ) → IsFalse (old.stuck c) → IsTrue (new.stuck c) → bounds.endures ≤ new.pulses
+
+-- an event pulses or tears one line or none, and then senses these lines, in this order: every other line, the wear and the bounds of
+-- cells stay as they were, a pulse and a tear are counted, cells stick no earlier than they endure, and a log that is told has gained
+-- the senses, which show the lines as the event leaves them
 pub record Touches {n m : ℕ} (tick : ℕ) (sensed : List ℕ) (pulsed : Option ℕ) (tearing : Bool) (old new : ArrayState n m) : Type 0 where
   pub lines : new.lines ≡ old.lines
   pub others : (line : ℕ) → is_at pulsed line ≡ false → new.line line ≡ old.line line
   pub pulses : (line : ℕ) → is_at pulsed line ≡ true → (new.line line).pulses ≡ counted (old.line line).pulses
+  pub sticks : (line : ℕ) → is_at pulsed line ≡ true → Sticks old.bounds (old.line line) (new.line line)
   pub tears : new.tears ≡ (if tearing then counted old.tears else old.tears)
   pub log : (after : List (Sense n m)) → new.log ≡ Some after
       → (before : List (Sense n m)) × (old.log ≡ Some before) × (after ≡ before ++ shown tick sensed new)
   pub wear : new.wear ≡ old.wear
+  pub bounds : new.bounds ≡ old.bounds

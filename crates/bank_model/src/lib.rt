@@ -3,5 +3,3 @@
 //! and the laws of a bank's rows both speak of them.
 #![tactic(auto)]
 
-pub mod answer;
-pub mod clock;

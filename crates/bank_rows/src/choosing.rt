@@ -1,5 +1,5 @@
 // What a bank turns to, and for how long.
-use bank_model::clock::{Action, Doing, choose};
+use bank_shape::clock::{Action, Doing, choose};
 
 #[test]
 fn a_read_goes_first_only_where_the_write_gives_way(rt: HostRuntime) {

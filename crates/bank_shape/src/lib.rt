@@ -7,6 +7,12 @@
 ghost use Rattle.std.specs.Prelude.{◌≡◌, ◌<◌, ◌≤◌, ◌^◌};
 ghost use Rattle.bank_shape.specs.Shape.{IsBankShape, slots_of, controls_of, controls_from, lines_in, slot_at};
 
+pub mod answer;
+pub mod clock;
+mod pace;
+pub mod waiting;
+
+pub use pace::{Pace, Policy};
 use start_gap::Move;
 
 /// Where a bank keeps its registers, its remap table and the mark of a bank that found no spare.

@@ -20,6 +20,7 @@ nothing_added_law n m shape array = record {
   pulses = λ line. refl;
   tears = refl;
   wear = refl;
+  bounds = refl;
   log = λ after is. (after, is, sym (append-nil after));
 }
 
@@ -56,6 +57,7 @@ one_added_law n m shape x sensed tearing old new senses within is touches = reco
   tears =
       touches.tears ∙ ap (λ b. cond b (counted old.tears) old.tears) is ∙ tears-one x.happens x.pulsed old.tears;
   wear = touches.wear;
+  bounds = touches.bounds;
   log = λ after told.
       let before = touches.log after told in
       (before.0, before.1, before.2 ∙ ap (λ (added : List (Sense n m)). before.0 ++ added) (sym senses));
@@ -101,6 +103,7 @@ both_added_law n m shape newer older first between last before after = record {
       after.pulses line ∙ ap (λ count. pulses_on newer line count) (before.pulses line) ∙ sym (pulses-both newer older line (first.line line).pulses);
   tears = after.tears ∙ ap (λ count. tears_on newer count) before.tears ∙ sym (tears-both newer older first.tears);
   wear = after.wear ∙ before.wear;
+  bounds = after.bounds ∙ before.bounds;
   log = λ senses told.
       let late = after.log senses told in
       let early = before.log late.0 late.1 in (

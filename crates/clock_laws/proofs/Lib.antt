@@ -1,6 +1,7 @@
 pub mod Deciding
 pub mod Ties
 pub mod Ranges
+pub mod Aging
 pub mod Controls
 pub mod Elsewhere
 pub mod Stepping

@@ -1,7 +1,7 @@
 -- A bank that was just made, and time that passes.
 use Rattle.std.proofs.Common.{◌+◌, ◌<◌, ◌≤◌, [], Option, None, is_some, sym, ap, subst, ◌∙◌, arith}
 use Rattle.std.specs.Prelude.{IfSome}
-use Rattle.bank_model.specs.declared.clock.Action.{Action}
+use Rattle.bank_shape.specs.declared.clock.Action.{Action}
 use Rattle.bank_model.specs.Timing.{ends}
 use Rattle.bank_model.specs.Running.{chosen_after, running_at}
 use Rattle.line_writer.specs.declared.writer.LineWriter.{LineWriter}
@@ -12,6 +12,7 @@ use Rattle.bank_invariant.specs.State.{Operation}
 use Rattle.clock_laws.specs.Leads.{CopiesWhatItSensed}
 use Rattle.clock_laws.specs.Starting.{StartLaw}
 use Rattle.clock_laws.specs.Passing.{PassingLaw, IdleLaw, EndingLaterLaw}
+use Rattle.clock_laws.proofs.Aging.{aged-first}
 use Rattle.clock_laws.proofs.Ties.{started-same, next-runs, next-none, ends-later}
 
 pub passing_law : PassingLaw
@@ -29,6 +30,7 @@ passing_law n m e to xs clock array leads later above = record {
   regs = leads.regs;
   control = leads.control;
   pulses = leads.pulses;
+  aged = leads.aged;
   copying = leads.copying;
   taken = leads.taken;
 }
@@ -61,7 +63,8 @@ start_law n m e clock array holds idle taken unchanged going unwritten control n
     steps = subst (λ (writer : Option (LineWriter n m e)). IfSome writer (λ writer. 0 + steps_left writer ≤ most_steps e)) (sym unwritten) tt;
   };
   control = control;
-  pulses = fresh;
+  pulses = λ line below. (fresh line below).pulses;
+  aged = aged-first clock.bank.kept.shape array fresh;
   copying = subst (λ (r : Option (Operation n m e)). IfSome r (CopiesWhatItSensed {n = n} {m = m} [])) (sym idle) tt;
   taken = taken;
 }

@@ -4,12 +4,14 @@ use Rattle.std.specs.Prelude.{All, IfSome, IsTrue}
 use Rattle.pcm_cells.specs.Device.{ArrayState}
 use Rattle.bank_shape.specs.declared.BankShape.{BankShape}
 use Rattle.bank_shape.specs.Shape.{controls_of}
-use Rattle.bank_model.specs.declared.clock.Action.{Action}
+use Rattle.bank_shape.specs.declared.clock.Action.{Action}
 use Rattle.bank_model.specs.Events.{Event}
+use Rattle.bank_model.specs.Aging.{AreAged}
 use Rattle.bank_model.specs.History.{queue}
 use Rattle.bank_model.specs.Answers.{MayAll}
 use Rattle.bank_model.specs.Changes.{change_after, line_of_change}
-use Rattle.bank_model.specs.Timing.{Pacing, Timed, Happens, Core, Regs, Keeping, ends, core}
+use Rattle.bank_shape.specs.declared.pace.Pace.{Pace}
+use Rattle.bank_model.specs.Timing.{Timed, Happens, Core, Regs, Keeping, ends, core}
 use Rattle.bank_model.specs.Running.{left_by, running_at, running, chosen_after, cancels_with}
 use Rattle.bank_model.specs.Lawful.{IsAsked, IsOnTime, IsKeptOnTime, IsUncancelled, MayKeep, MayCome, Lawful, FollowsCancel}
 use Rattle.bank_model.specs.Sensing.{most_steps, pulses_of, sensed_by, pulsed_by, read_again, torn_control, kept_sensed, kept_pulsed, IsReadRight}
@@ -23,16 +25,17 @@ use Rattle.bank_invariant.specs.State.{BankState}
 use Rattle.bank_invariant.specs.Holds.{Holds}
 use Rattle.clock_laws.specs.State.{ClockState}
 use Rattle.clock_laws.specs.Leads.{Leads, Reaches, CopiesWhatItSensed}
+use Rattle.clock_laws.proofs.Aging.{aged-next, written-soon}
 use Rattle.clock_laws.proofs.Ties.{started-same}
 use Rattle.clock_laws.proofs.Controls.{change-known}
 use Rattle.clock_laws.proofs.Ranges.{AreIn, ArePulses, controls-in, sensed-in, kept-sensed-in, change-in, pulses-at, pulses-next, shown-all, shown-lines}
 
 -- the last event is no cancel, so nothing has to follow it
-pub follows : {n m : ℕ} (shape : BankShape) (pace : Pacing) (xs : List (Timed n m)) (tick : ℕ) (event : Event n) → IsWhole xs → FollowsCancel shape pace xs tick event
+pub follows : {n m : ℕ} (shape : BankShape) (pace : Pace) (xs : List (Timed n m)) (tick : ℕ) (event : Event n) → IsWhole xs → FollowsCancel shape pace xs tick event
 follows shape pace [] tick event whole = tt
 follows shape pace (x ∷ xs) tick event whole = λ is. absurd (cc)
 
-pub uncancelled : {n m : ℕ} (shape : BankShape) (pace : Pacing) (xs : List (Timed n m)) → IsWhole xs → IsUncancelled shape pace xs
+pub uncancelled : {n m : ℕ} (shape : BankShape) (pace : Pace) (xs : List (Timed n m)) → IsWhole xs → IsUncancelled shape pace xs
 uncancelled shape pace [] whole = tt
 uncancelled shape pace (x ∷ xs) whole = whole
 
@@ -144,8 +147,16 @@ module _ {n m e : ℕ} where
         some None is = absurd (cc)
         some (Some change) is = refl
 
+    -- the lines of the bank age on
+    pub still-aged : (x : Timed n m) (sensed : List ℕ) (tearing : Bool) → MayCome clock.bank.kept.shape clock.pace e xs x x.happens
+        → Touches x.tick sensed x.pulsed tearing old new → AreAged clock.bank.kept.shape (core (x ∷ xs)) new
+    still-aged x sensed tearing comes touches =
+        aged-next clock.bank.kept.shape clock.pace e xs x sensed tearing old new reached.holds.past reached.pulses touches comes
+        (written-soon (core xs) clock.bank old reached.holds) reached.aged
+
   module _ (xs : List (Timed n m)) (clock : ClockState n m e) (bank : BankState n m e) (regs : RegsState n m e) (x : Timed n m) (action : Option Action) (arrivals : List ℕ) (count : ℕ)
       (old new : ArrayState n m) (reached : Reaches xs clock old) (comes : MayCome clock.bank.kept.shape clock.pace e xs x x.happens) (pulses : ArePulses clock.bank.kept.shape (x ∷ xs) new)
+      (aged : AreAged clock.bank.kept.shape (core (x ∷ xs)) new)
       (s : Steps xs clock bank regs x action arrivals count new) where
     -- what depends on the shape
     record After (shape : BankShape) : Type 0 where
@@ -153,6 +164,7 @@ module _ {n m e : ℕ} where
       runs : action ≡ running_at shape clock.pace (x ∷ xs) x.tick
       arrived : arrivals ≡ map (λ entry. tick_of_row entry.row (x ∷ xs)) (queue shape (core (x ∷ xs)))
       counted : ArePulses shape (x ∷ xs) new
+      aging : AreAged shape (core (x ∷ xs)) new
       told : AreTold shape (x ∷ xs) regs
 
     after : After clock.bank.kept.shape
@@ -163,6 +175,7 @@ module _ {n m e : ℕ} where
           ∙ sym (started-same (running clock.bank.kept.shape clock.pace (x ∷ xs)) (chosen_after clock.bank.kept.shape clock.pace (x ∷ xs)) x.tick);
       arrived = s.arrived;
       counted = pulses;
+      aging = aged;
       told = s.told;
     }
 
@@ -181,6 +194,7 @@ module _ {n m e : ℕ} where
           regs = all.told;
           control = s.control;
           pulses = all.counted;
+          aged = all.aging;
           copying = s.copying;
           taken = s.taken;
         }
@@ -198,6 +212,7 @@ module _ {n m e : ℕ} where
     regs = leads.regs;
     control = leads.control;
     pulses = leads.pulses;
+    aged = leads.aged;
     copying = leads.copying;
     taken = leads.taken;
   }
@@ -211,6 +226,7 @@ module _ {n m e : ℕ} where
     regs = r.regs;
     control = r.control;
     pulses = r.pulses;
+    aged = r.aged;
     copying = r.copying;
     taken = r.taken;
   }
@@ -224,7 +240,9 @@ module _ {n m e : ℕ} where
   bank-reaches xs clock bank regs event first tick action arrivals count flag tearing sensed pulsed old new reached b s =
       stepped-reaches xs clock bank regs (stepped_as flag (Core event) first tick sensed pulsed new) action arrivals count old new reached
       (bank-comes xs clock old new reached bank event first tick flag tearing sensed pulsed s.holds s.shape b)
-      (pulses-next clock.bank.kept.shape xs (stepped_as flag (Core event) first tick sensed pulsed new) sensed tearing old new reached.pulses b.touches) s
+      (pulses-next clock.bank.kept.shape xs (stepped_as flag (Core event) first tick sensed pulsed new) sensed tearing old new reached.pulses b.touches)
+      (still-aged xs clock old new reached (stepped_as flag (Core event) first tick sensed pulsed new) sensed tearing
+      (bank-comes xs clock old new reached bank event first tick flag tearing sensed pulsed s.holds s.shape b) b.touches) s
 
   pub bank-leads : (xs : List (Timed n m)) (clock : ClockState n m e) (bank : BankState n m e) (regs : RegsState n m e) (event : Event n) (first tick : ℕ) (action : Option Action)
       (arrivals : List ℕ) (count : ℕ) (tearing : Bool) (sensed : List ℕ) (pulsed : Option ℕ) (old new : ArrayState n m) → Reaches xs clock old
@@ -244,4 +262,6 @@ module _ {n m e : ℕ} where
   kept-reaches xs clock bank regs event first tick action arrivals count flag tearing sensed pulsed old new reached k s =
       stepped-reaches xs clock bank regs (stepped_as flag (Regs event) first tick sensed pulsed new) action arrivals count old new reached
       (kept-comes xs clock old new reached event first tick flag tearing sensed pulsed k)
-      (pulses-next clock.bank.kept.shape xs (stepped_as flag (Regs event) first tick sensed pulsed new) sensed tearing old new reached.pulses k.touches) s
+      (pulses-next clock.bank.kept.shape xs (stepped_as flag (Regs event) first tick sensed pulsed new) sensed tearing old new reached.pulses k.touches)
+      (still-aged xs clock old new reached (stepped_as flag (Regs event) first tick sensed pulsed new) sensed tearing
+      (kept-comes xs clock old new reached event first tick flag tearing sensed pulsed k) k.touches) s

@@ -2,10 +2,10 @@
 use Rattle.std.proofs.Common.{◌≡◌, ◌&&◌, not, is_some, ℕ, ◌+◌, Bool, true, false, cond, Option, Some, None, List, [], ◌∷◌, ◌++◌, refl, sym, ap, subst, ◌∙◌, arith, append-nil}
 use Rattle.std.proofs.lemmas.Bool.{ne_eqb}
 use Rattle.pcm_cells.specs.declared.array.Sense.{Sense}
-use Rattle.pcm_cells.specs.Device.{ArrayState, LineState, counted, sense_of}
+use Rattle.pcm_cells.specs.Device.{CellBounds, ArrayState, LineState, counted, sense_of}
 use Rattle.bank_shape.specs.Shape.{control_line}
 use Rattle.bank_model.specs.Timing.{core}
-use Rattle.bank_model.specs.Touching.{Touches, shown}
+use Rattle.bank_model.specs.Touching.{Sticks, Touches, shown}
 use Rattle.bank_invariant.specs.State.{target_of}
 use Rattle.bank_invariant.proofs.Tearing.{running_of}
 use Rattle.reg_lines.specs.declared.Change.{Change}
@@ -26,8 +26,12 @@ before_law n m tick sensed pulsed tearing old between new first second = record 
   lines = second.lines ∙ first.lines;
   others = λ line off. second.others line off ∙ first.others line refl;
   pulses = λ line is. second.pulses line is ∙ ap (λ (l : LineState n m). counted l.pulses) (first.others line refl);
+  sticks = λ line is.
+      subst (λ (bounds : CellBounds). Sticks bounds (old.line line) (new.line line)) first.bounds
+      (subst (λ (l : LineState n m). Sticks between.bounds l (new.line line)) (first.others line refl) (second.sticks line is));
   tears = second.tears ∙ ap (λ tears. cond tearing (counted tears) tears) first.tears;
   wear = second.wear ∙ first.wear;
+  bounds = second.bounds ∙ first.bounds;
   log = λ after told.
       let late = second.log after told in
       let early = first.log late.0 late.1 in (
@@ -42,8 +46,10 @@ behind_law n m tick sensed pulsed tearing old between new first second = record 
   lines = second.lines ∙ first.lines;
   others = λ line off. second.others line refl ∙ first.others line off;
   pulses = λ line is. ap (λ (l : LineState n m). l.pulses) (second.others line refl) ∙ first.pulses line is;
+  sticks = λ line is. subst (λ (l : LineState n m). Sticks old.bounds (old.line line) l) (sym (second.others line refl)) (first.sticks line is);
   tears = second.tears ∙ first.tears;
   wear = second.wear ∙ first.wear;
+  bounds = second.bounds ∙ first.bounds;
   log = λ after told.
       let late = second.log after told in
       let early = first.log late.0 late.1 in (
@@ -62,7 +68,7 @@ controls_stay_law n m e tick item sensed tearing op xs clock old new leads is be
 
 pub bank_stays_law : BankStaysLaw
 bank_stays_law n m e tick item sensed tearing h bank old new holds touches =
-    holds-same h bank old new holds touches.lines
+    holds-same h bank old new holds touches.lines touches.bounds
     (λ line own. touches.others line (ne_eqb (control_line bank.kept.shape item) line (λ same. omega (arith, own.1, same))))
 
 -- The calls of a power cut

@@ -42,11 +42,12 @@ BothAddedLaw =
     (n m : ℕ) (shape : BankShape) (newer older : List (Timed n m)) (first between last : ArrayState n m)
     → Adds shape older first between → Adds shape newer between last → Adds shape (newer ++ older) first last
 
--- a history leads to a bank over any other array in which each line of the bank is the same, and of as many lines
+-- a history leads to a bank over any other array in which each line of the bank is the same, of as many lines whose cells keep to the
+-- same bounds
 abbrev pub ElsewhereLaw : Type 0
 ElsewhereLaw =
     (n m e : ℕ) (xs : List (Timed n m)) (clock : ClockState n m e) (old new : ArrayState n m)
-    → Leads xs clock old → new.lines ≡ old.lines
+    → Leads xs clock old → new.lines ≡ old.lines → new.bounds ≡ old.bounds
     → ((line : ℕ) → clock.bank.kept.shape.base ≤ line → line < clock.bank.kept.shape.base + lines_in clock.bank.kept.shape → new.line line ≡ old.line line)
     → Leads xs clock new
 

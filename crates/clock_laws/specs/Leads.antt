@@ -4,6 +4,7 @@ use Rattle.pcm_cells.specs.Device.{ArrayState}
 use Rattle.ecp_line.specs.Reading.{decode}
 use Rattle.bank_shape.specs.Shape.{lines_in}
 use Rattle.power_recovery.specs.Events.{is_copy}
+use Rattle.bank_model.specs.Aging.{AreAged}
 use Rattle.bank_model.specs.History.{queue}
 use Rattle.bank_model.specs.Running.{running_at, cancels_after}
 use Rattle.bank_model.specs.Timing.{Timed, ends, core, last_tick}
@@ -21,8 +22,8 @@ abbrev pub CopiesWhatItSensed : {n m e : ℕ} → List (Timed n m) → Operation
 CopiesWhatItSensed {e = e} xs op = IsTrue (is_copy op.work) → IsSomeAnd (copied xs) (λ source. op.writer.bytes ≡ decode e source)
 
 -- the history is one that the bank may have, what the bank, its control lines and its clock keep is what the history leaves, the
--- control lines hold what the bank keeps, each line of the bank has the pulses that the history counts, and no row that a cut took
--- away is left to take
+-- control lines hold what the bank keeps, each line of the bank has the pulses that the history counts and has aged by its line writes,
+-- and no row that a cut took away is left to take
 pub record Leads {n m e : ℕ} (xs : List (Timed n m)) (clock : ClockState n m e) (array : ArrayState n m) : Type 0 where
   pub lawful : Lawful clock.bank.kept.shape clock.pace e xs
   pub holds : Holds (core xs) clock.bank array
@@ -31,6 +32,7 @@ pub record Leads {n m e : ℕ} (xs : List (Timed n m)) (clock : ClockState n m e
   pub control : Control clock.bank.kept clock.regs array
   pub pulses : (line : ℕ) → line < lines_in clock.bank.kept.shape
       → (array.line (clock.bank.kept.shape.base + line)).pulses ≡ pulses_of xs (clock.bank.kept.shape.base + line)
+  pub aged : AreAged clock.bank.kept.shape (core xs) array
   pub copying : IfSome clock.bank.running (CopiesWhatItSensed xs)
   pub taken : clock.bank.lost ≡ []
 
@@ -47,5 +49,6 @@ pub record Reaches {n m e : ℕ} (xs : List (Timed n m)) (clock : ClockState n m
   pub control : Control clock.bank.kept clock.regs array
   pub pulses : (line : ℕ) → line < lines_in clock.bank.kept.shape
       → (array.line (clock.bank.kept.shape.base + line)).pulses ≡ pulses_of xs (clock.bank.kept.shape.base + line)
+  pub aged : AreAged clock.bank.kept.shape (core xs) array
   pub copying : IfSome clock.bank.running (CopiesWhatItSensed xs)
   pub taken : clock.bank.lost ≡ []

@@ -8,11 +8,11 @@ use Rattle.ecp_line.specs.Layout.{number, decoded}
 use Rattle.ecp_line.specs.Reading.{bytes_from, decode}
 use Rattle.ecp_line.proofs.Wanting.{digits-from}
 
-length-bytes_from : (bit : ℕ → Bool) (k n : ℕ) → length (bytes_from bit k n) ≡ n
+pub length-bytes_from : (bit : ℕ → Bool) (k n : ℕ) → length (bytes_from bit k n) ≡ n
 length-bytes_from bit k zero = refl
 length-bytes_from bit k (suc n) = let t = length-bytes_from bit (k + 1) n in omega arith
 
-get_or-bytes_from : (bit : ℕ → Bool) (k n i : ℕ) → i < n → get_or (bytes_from bit k n) i 0 ≡ number bit (8 * (k + i)) 8
+pub get_or-bytes_from : (bit : ℕ → Bool) (k n i : ℕ) → i < n → get_or (bytes_from bit k n) i 0 ≡ number bit (8 * (k + i)) 8
 get_or-bytes_from bit k zero i h = absurd (omega arith)
 get_or-bytes_from bit k (suc n) zero h = let e : 8 * k ≡ 8 * (k + 0) = omega arith in ap (λ (a : ℕ). number bit a 8) e
 get_or-bytes_from bit k (suc n) (suc i) h =

@@ -12,7 +12,7 @@ use Rattle.end_laws.proofs.Queued.{queued_law}
 use Rattle.end_laws.proofs.Following.{still_there_law}
 
 -- an excepted line is the head's, which gives every byte
-excepted-whole : {n : ℕ} (es : List (Entry n)) → IfSome (whole_head es) (λ line. IsSomeAnd (slice_get es 0) (λ head. (head.line ≡ line) × IsTrue (gives_all head.given)))
+pub excepted-whole : {n : ℕ} (es : List (Entry n)) → IfSome (whole_head es) (λ line. IsSomeAnd (slice_get es 0) (λ head. (head.line ≡ line) × IsTrue (gives_all head.given)))
 excepted-whole [] = tt
 excepted-whole (x ∷ es) = by (gives_all x.given) refl
   where

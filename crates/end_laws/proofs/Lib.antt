@@ -3,6 +3,6 @@ mod Leaving
 mod Following
 mod Kept
 mod Queued
-mod Ending
+pub mod Ending
 mod Roles
 pub mod Used

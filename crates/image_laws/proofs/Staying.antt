@@ -9,7 +9,8 @@ use Rattle.row_laws.specs.declared.Row.{Row}
 use Rattle.bank_shape.specs.declared.BankShape.{BankShape}
 use Rattle.bank_shape.specs.Shape.{lines_in}
 use Rattle.bank_model.specs.Adding.{senses_of}
-use Rattle.bank_model.specs.Timing.{Pacing, Timed}
+use Rattle.bank_shape.specs.declared.pace.Pace.{Pace}
+use Rattle.bank_model.specs.Timing.{Timed}
 use Rattle.bank_model.specs.Lawful.{Lawful}
 use Rattle.bank_laws.specs.Laws.{IsSized, KeepsLog, LeavesArray, log_of}
 use Rattle.bank_laws.specs.Outcomes.{table_of}
@@ -22,30 +23,21 @@ use Rattle.module_shape.specs.Addresses.{module_of, bank_shape}
 use Rattle.module_laws.specs.Asking.{row_with}
 use Rattle.module_laws.specs.Serves.{BankTableLaw}
 use Rattle.end_laws.specs.Ends.{BankEnd}
+use Rattle.run_laws.proofs.Finished.{sized}
 use Rattle.run_laws.specs.Runs.{RunsRight, bank_of_line, line_in_bank, pacing_in, rules_in, table_in}
 use Rattle.pcm_image.specs.Saved.{Saved}
 use Rattle.image_laws.specs.SavedRuns.{IsLeft, SensedSince, StaysRightLaw}
 
-sized : (raw : RawShape) (bank : ℕ) → IsShape raw → IsSized (bank_shape (module_of raw) bank) (pacing_in raw)
-sized raw bank is = record {
-  regions = is.some_regions;
-  lines = omega (arith, is.some_lines);
-  writes = is.some_writes;
-  reads = is.some_reads;
-  psi = is.some_psi;
-  read = is.some_read_ticks;
-  iter = is.some_iter_ticks;
-}
-
 -- but for its log the array is as it was
 but-log : {n m : ℕ} (before after : ArrayState n m) → SensedSince before after
-    → after ≡ record { line = before.line; lines = before.lines; tears = before.tears; log = after.log; wear = before.wear }
+    → after ≡ record { line = before.line; lines = before.lines; tears = before.tears; log = after.log; wear = before.wear; bounds = before.bounds }
 but-log before after since =
     let line : after.line ≡ before.line = fun_ext since.line in
-    ap (λ l. record { line = l; lines = after.lines; tears = after.tears; log = after.log; wear = after.wear }) line
-    ∙ ap (λ k. record { line = before.line; lines = k; tears = after.tears; log = after.log; wear = after.wear }) since.lines
-    ∙ ap (λ k. record { line = before.line; lines = before.lines; tears = k; log = after.log; wear = after.wear }) since.tears
-    ∙ ap (λ k. record { line = before.line; lines = before.lines; tears = before.tears; log = after.log; wear = k }) since.wear
+    ap (λ l. record { line = l; lines = after.lines; tears = after.tears; log = after.log; wear = after.wear; bounds = after.bounds }) line
+    ∙ ap (λ k. record { line = before.line; lines = k; tears = after.tears; log = after.log; wear = after.wear; bounds = after.bounds }) since.lines
+    ∙ ap (λ k. record { line = before.line; lines = before.lines; tears = k; log = after.log; wear = after.wear; bounds = after.bounds }) since.tears
+    ∙ ap (λ k. record { line = before.line; lines = before.lines; tears = before.tears; log = after.log; wear = k; bounds = after.bounds }) since.wear
+    ∙ ap (λ k. record { line = before.line; lines = before.lines; tears = before.tears; log = after.log; wear = before.wear; bounds = k }) since.bounds
 
 -- the senses that were added to the log show the pulses
 pulses-shown : {n m : ℕ} (before : ArrayState n m) (extra : List (Sense n m)) → All (λ s. s ≡ sense_of s.line 0 (before.line s.line)) extra
@@ -59,7 +51,7 @@ module _ (logs : WholeLogLaw) (leaving : LeavingLaw) (by_bank : BankTableLaw) {n
     (s : Saved n m) (left : IsLeft e raw seed rows array s) (is : IsShape raw) (was : RunsRight e raw seed rows left.before ends) where
   -- the array as it was, with the log as it is now
   abbrev now : ArrayState n m
-  now = record { line = left.before.line; lines = left.before.lines; tears = left.before.tears; log = array.log; wear = left.before.wear }
+  now = record { line = left.before.line; lines = left.before.lines; tears = left.before.tears; log = array.log; wear = left.before.wear; bounds = left.before.bounds }
 
   module _ (bank : ℕ) (exists : bank < raw.banks) where
     abbrev shape : BankShape
@@ -71,7 +63,7 @@ module _ (logs : WholeLogLaw) (leaving : LeavingLaw) (by_bank : BankTableLaw) {n
     lawful : Lawful shape (pacing_in raw) e xs
     lawful =
         subst (λ (t : BankShape). Lawful t (pacing_in raw) e xs) (left.finished.shapes bank exists)
-        (subst (λ (p : Pacing). Lawful (left.banks bank).bank.kept.shape p e xs) (left.finished.paces bank exists) (left.finished.leads bank exists).lawful)
+        (subst (λ (p : Pace). Lawful (left.banks bank).bank.kept.shape p e xs) (left.finished.paces bank exists) (left.finished.leads bank exists).lawful)
 
     leaves : LeavesArray e shape xs left.before
     leaves =

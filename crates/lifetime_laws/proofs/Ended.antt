@@ -10,8 +10,8 @@ use Rattle.bank_shape.specs.declared.BankShape.{BankShape}
 use Rattle.bank_shape.specs.declared.Work.{Work}
 use Rattle.bank_shape.specs.declared.Work.TheVariants.{Nothing, Store, Copy}
 use Rattle.bank_shape.specs.Shape.{slots_of, slot_at}
-use Rattle.bank_model.specs.declared.answer.Step.{Step}
-use Rattle.bank_model.specs.declared.answer.Step.TheVariants as did
+use Rattle.bank_shape.specs.declared.answer.Step.{Step}
+use Rattle.bank_shape.specs.declared.answer.Step.TheVariants as did
 use Rattle.bank_model.specs.Events.{Event, Write, Read, Serve, Begin, Iterate, Cut}
 use Rattle.bank_model.specs.History.{in_progress, retired, has_exhausted, moved_in, due_after, queue}
 use Rattle.bank_model.specs.After.{work_after, due_work, slot_of_work, array_line_after, target_after}
@@ -19,9 +19,9 @@ use Rattle.bank_model.specs.Answers.{IsDone, MayAll}
 use Rattle.place_laws.proofs.Moves.{last_region, some-due}
 use Rattle.place_laws.proofs.Working.{done-move}
 use Rattle.place_laws.proofs.Slots.{IsAway, away-more, begin-retires_none, begin-exhausts_none}
-use Rattle.log_laws.proofs.Targets.{WorkAfter, working, unexhausted}
+use Rattle.bank_laws.proofs.Targets.{WorkAfter, working, unexhausted}
 use Rattle.lifetime_laws.specs.Spread.{passing}
-use Rattle.lifetime_laws.specs.Works.{tally, works_on}
+use Rattle.bank_model.specs.Works.{tally, works_on}
 use Rattle.lifetime_laws.proofs.Counting.{one, passing-at, passing-within}
 use Rattle.lifetime_laws.proofs.Landing.{any, stored_tally}
 

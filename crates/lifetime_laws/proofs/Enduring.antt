@@ -52,12 +52,12 @@ live-line {B} {M} e row stuck l none =
         omega (arith, last, l.room, l.most, lt)
 
 pub unworn_law : UnwornLaw
-unworn_law B M e array lo line l endures exists few =
+unworn_law B M e array most line l ages few =
     live-line e (array.line line).held (array.line line).stuck l
-    (λ n within. false_from_ne_true ((array.line line).stuck n) (λ is. let le : lo ≤ (array.line line).pulses = endures line n exists within is in absurd (omega (arith, le, few))))
+    (λ n within. false_from_ne_true ((array.line line).stuck n) (λ is. let le : array.bounds.endures ≤ most = ages.stuck n is in absurd (omega (arith, le, few))))
 
 pub controls_law : ControlsLaw
-controls_law n m e lo shape array rules rows layout endures within lines bears item lt =
-    let few = lines.controls item lt in
-    let spared = bears item lt in
-    unworn_law n m e array lo (control_line shape item) layout endures (omega (arith, within, lt)) (omega (arith, few, spared))
+controls_law n m e shape array rules rows layout lines bears item lt =
+    let pulses : ℕ = (array.line (control_line shape item)).pulses in
+    unworn_law n m e array pulses (control_line shape item) layout (record { live = λ none. omega arith; stuck = lines.endure item lt })
+    (omega (arith, lines.controls item lt, bears item lt))

@@ -11,6 +11,5 @@ mod Broken
 mod Keeping
 mod Changed
 mod Living
-mod Going
 mod Owning
 mod Asking

@@ -13,15 +13,19 @@ use Rattle.row_laws.specs.declared.Asks.TheVariants.{Reads, Writes, Cuts}
 use Rattle.row_laws.specs.declared.Row.{Row}
 use Rattle.row_laws.specs.Answers.{is_stored, stored_before}
 use Rattle.row_laws.specs.Rows.{each_row, asks_write, asks_write_of, line_of}
-use Rattle.row_laws.specs.Rules.{Rules}
+use Rattle.row_laws.specs.declared.Rules.{Rules}
 use Rattle.row_laws.specs.Ticking.{is_in_time, tries}
 use Rattle.bank_shape.specs.declared.BankShape.{BankShape}
 use Rattle.bank_shape.specs.Shape.{slots_of, slot_moved}
-use Rattle.bank_model.specs.Timing.{core}
+use Rattle.bank_model.specs.Aging.{Endures}
+use Rattle.bank_shape.specs.declared.pace.Pace.{Pace}
+use Rattle.bank_model.specs.Timing.{Timed, core}
+use Rattle.bank_model.specs.Lawful.{Lawful, IsIdle}
 use Rattle.bank_model.specs.History.{in_progress, iterated, waits}
 use Rattle.bank_model.specs.After.{target_after}
 use Rattle.bank_model.specs.Changes.{change_after, keeping_after}
-use Rattle.bank_model.specs.Running.{busy_by, busy_after, gives_way, choice_after}
+use Rattle.bank_shape.specs.Pausing.{gives_way}
+use Rattle.bank_model.specs.Running.{busy_by, busy_after, choice_after}
 use Rattle.bank_laws.proofs.Changing.{changed-idle}
 use Rattle.bank_model.specs.Timing.{is_empty}
 use Rattle.bank_laws.specs.Places.{region_stores, is_place_after, is_placed}
@@ -31,7 +35,8 @@ use Rattle.bank_laws.specs.Outcomes.{table_of}
 use Rattle.place_laws.proofs.WornOut.{none-ready}
 use Rattle.bank_model.specs.Sensing.{most_steps, pulses_of}
 use Rattle.lifetime_laws.specs.Spread.{is_stored_on, stores_on, most_at, finding_at, stay}
-use Rattle.lifetime_laws.specs.Works.{stores_at, works_on, held_on, most_works, most_each, LinePulsesLaw}
+use Rattle.bank_model.specs.Works.{works_on, held_on}
+use Rattle.lifetime_laws.specs.Works.{stores_at, most_works, fine_each, LinePulsesLaw, LineAgesLaw}
 use Rattle.lifetime_laws.specs.Lifetime.{BearsControls, own_stores, other_stores, most_hot_works, AttackLaw, HotLinesLaw, KeptLinesLaw, LifetimeLaw}
 use Rattle.lifetime_laws.proofs.Counting.{one, passing-none}
 use Rattle.lifetime_laws.proofs.Ranks.{count-cons, count-sum, Each}
@@ -39,6 +44,7 @@ use Rattle.lifetime_laws.proofs.Stays.{stay_law, even_law}
 use Rattle.lifetime_laws.proofs.Spreading.{IsPlacedBy, placed-each, home-placed, found_law, spread_law}
 use Rattle.lifetime_laws.proofs.Enduring.{unworn_law, controls_law}
 use Rattle.lifetime_laws.proofs.Sound.{sound_rows_law}
+use Rattle.bank_laws.proofs.Works.{idle-held}
 use Rattle.lifetime_laws.proofs.Writing.{pulses_on_law}
 use Rattle.lifetime_laws.proofs.Broken.{works_law}
 use Rattle.lifetime_laws.proofs.Changed.{as_often, control_pulses_law}
@@ -48,22 +54,41 @@ core-rests : (change : Option ℕ) (keeping busy : Bool) → (is_some change ≡
 core-rests None keeping busy changed rests = rests
 core-rests (Some item) keeping busy changed rests = changed refl
 
+-- so no line has had an iteration of one
+rests-held : {n m : ℕ} (e : ℕ) (shape : BankShape) (pace : Pace) (xs : List (Timed n m)) (at : ℕ) → Lawful shape pace e xs → IsIdle shape pace xs → held_on shape at (core xs) ≡ 0
+rests-held e shape pace xs at l idle =
+    let resting : busy_after shape xs ≡ false = (none-ready (gives_way pace.policy) (not (is_empty (waits shape (core xs)))) (choice_after shape pace xs) idle.chosen).0 in
+    let stopped : in_progress (core xs) ≡ false = core-rests (change_after shape xs) (keeping_after xs) (in_progress (core xs)) (changed-idle shape pace e xs l) resting in
+    idle-held shape at (core xs) stopped
+
 -- the pulses of a slot's own array line
 pub line_pulses_law : LinePulsesLaw
 line_pulses_law n m e shape pace xs array slot sized l idle leaves exists =
-    let resting : busy_after shape xs ≡ false = (none-ready (gives_way pace.policy) (not (is_empty (waits shape (core xs)))) (choice_after shape pace xs) idle.chosen).0 in
-    let stopped : in_progress (core xs) ≡ false = core-rests (change_after shape xs) (keeping_after xs) (in_progress (core xs)) (changed-idle shape pace e xs l) resting in
-    let none : held_on shape (shape.base + slot) (core xs) ≡ 0 = ap (λ b. cond (b && (target_after shape (core xs) == shape.base + slot)) (iterated (core xs)) 0) stopped in
+    let none : held_on shape (shape.base + slot) (core xs) ≡ 0 = rests-held e shape pace xs (shape.base + slot) l idle in
     let few = pulses_on_law n m e shape pace xs (shape.base + slot) l (omega (arith, exists)) in
     let more : most_steps e * works_on shape (shape.base + slot) (core xs) ≤ tries pace.policy * most_steps e * most_works shape (table_of shape xs) slot =
     as_often (most_steps e) (tries pace.policy) (works_on shape (shape.base + slot) (core xs)) (most_works shape (table_of shape xs) slot) (works_law n m e shape pace xs slot sized l exists) in
     let same : (array.line (shape.base + slot)).pulses ≡ pulses_of xs (shape.base + slot) = leaves.pulses slot (omega (arith, exists)) in
     omega (arith, few, none, more, same)
 
+-- and how it ages
+pub line_ages_law : LineAgesLaw
+line_ages_law n m e shape pace xs array slot sized l idle aged exists =
+    let w : ℕ = array.bounds.misses + 1 in
+    let none : held_on shape (shape.base + slot) (core xs) ≡ 0 = rests-held e shape pace xs (shape.base + slot) l idle in
+    let more : w * works_on shape (shape.base + slot) (core xs) ≤ tries pace.policy * w * most_works shape (table_of shape xs) slot =
+    as_often w (tries pace.policy) (works_on shape (shape.base + slot) (core xs)) (most_works shape (table_of shape xs) slot) (works_law n m e shape pace xs slot sized l exists) in
+    let ages = aged.age slot (omega (arith, exists)) in
+    record { live = λ fine. omega (arith, ages.live fine, none, more); stuck = λ c is. omega (arith, ages.stuck c is, none, more) }
+
 pub kept_lines_law : KeptLinesLaw
-kept_lines_law n m e shape pace xs array sized l idle leaves = record {
+kept_lines_law n m e shape pace xs array sized l idle leaves aged = record {
   pulses = λ slot exists. line_pulses_law n m e shape pace xs array slot sized l idle leaves exists;
+  ages = λ slot exists. line_ages_law n m e shape pace xs array slot sized l idle aged exists;
   controls = λ item exists. control_pulses_law n m e shape pace xs array item sized l idle leaves exists;
+  endure = λ item exists.
+      let turned : shape.base + (slots_of shape + shape.spares + item) ≡ control_line shape item = omega arith in
+      subst (λ line. Endures array.bounds (array.line line)) turned (aged.endure (slots_of shape + shape.spares + item) (omega (arith, exists)));
 }
 
 -- a slot's line is of the slot's region
@@ -227,7 +252,7 @@ attack_law n rules shape worn rows line slot some each read exists in_time place
     omega (arith, times, even, own-split shape line rows)
 
 pub lifetime_law : LifetimeLaw
-lifetime_law n m e lo shape array rules rows hot layout endures within some each read keeps places lines few =
+lifetime_law n m e shape array rules rows hot layout some each read keeps places lines few =
     let tells = sound_rows_law n m e shape array rules rows places unworn in
     record {
       unworn = unworn;
@@ -236,8 +261,8 @@ lifetime_law n m e lo shape array rules rows hot layout endures within some each
       leaves = λ bears. tells.leaves (unworn_controls bears);
     }
   where
-    unworn_controls : BearsControls lo shape rules rows → KeepsControls shape (is_worn_at e array)
-    unworn_controls bears = controls_law n m e lo shape array rules rows layout endures within lines bears
+    unworn_controls : BearsControls array.bounds shape rules rows → KeepsControls shape (is_worn_at e array)
+    unworn_controls bears = controls_law n m e shape array rules rows layout lines bears
 
     unworn : (slot : ℕ) → slot < slots_of shape → is_worn_at e array (shape.base + slot) ≡ false
     unworn slot exists =
@@ -245,6 +270,6 @@ lifetime_law n m e lo shape array rules rows hot layout endures within some each
         let there : r < shape.regions = div_below slot (shape.lines + 1) shape.regions (omega arith) exists in
         let stores = hot_lines_law n rules shape (is_worn_at e array) rows hot slot some each read exists keeps.ticks places.placed in
         let works : most_works shape rows slot ≤ most_hot_works shape r hot rows = omega (arith, stores) in
-        let bound : most_each rules * most_works shape rows slot ≤ most_each rules * most_hot_works shape r hot rows = mul-le-mul_left (most_each rules) works in
-        let pulses = lines.pulses slot exists in
-        unworn_law n m e array lo (shape.base + slot) layout endures (omega (arith, within, exists)) (omega (arith, bound, pulses, few r there))
+        let each : ℕ = fine_each array.bounds rules in
+        let bound : each * most_works shape rows slot ≤ each * most_hot_works shape r hot rows = mul-le-mul_left each works in
+        unworn_law n m e array (each * most_works shape rows slot) (shape.base + slot) layout (lines.ages slot exists) (omega (arith, bound, few r there))

@@ -5,43 +5,26 @@ use Rattle.pcm_cells.specs.Device.{counted}
 use Rattle.std.proofs.lemmas.Bool.{ne_eqb}
 use Rattle.bank_shape.specs.declared.BankShape.{BankShape}
 use Rattle.bank_shape.specs.Shape.{controls_from, control_line}
-use Rattle.bank_model.specs.declared.answer.Step.{Step}
-use Rattle.bank_model.specs.declared.answer.Step.TheVariants as did
+use Rattle.bank_shape.specs.declared.answer.Step.{Step}
+use Rattle.bank_shape.specs.declared.answer.Step.TheVariants as did
 use Rattle.bank_model.specs.Events.{Event, Write, Read, Serve, Begin, Iterate, Cut}
 use Rattle.bank_model.specs.History.{goes_on, in_progress, iterated}
 use Rattle.bank_model.specs.After.{target_after}
 use Rattle.bank_model.specs.Sensing.{is_at, most_steps, pulses_of, pulsed_by, torn_control, kept_pulsed}
 use Rattle.bank_model.specs.Changes.{change_after, line_of_change}
 use Rattle.bank_model.specs.Running.{running_at}
-use Rattle.bank_model.specs.declared.clock.Action.{Action}
-use Rattle.bank_model.specs.declared.clock.Doing.TheVariants.{Iterating}
-use Rattle.bank_model.specs.Timing.{Pacing, Happens, Core, Regs, Keeping, KeepBegin, KeepIterate, KeepCut, Timed, core, core_of, is_doing}
+use Rattle.bank_shape.specs.declared.clock.Action.{Action}
+use Rattle.bank_shape.specs.declared.clock.Doing.TheVariants.{Iterating}
+use Rattle.bank_shape.specs.declared.pace.Pace.{Pace}
+use Rattle.bank_model.specs.Timing.{Happens, Core, Regs, Keeping, KeepBegin, KeepIterate, KeepCut, Timed, core, core_of, is_doing}
 use Rattle.bank_model.specs.Lawful.{Lawful, MayCome}
 use Rattle.bank_laws.proofs.Waiting.{may_all}
 use Rattle.place_laws.proofs.Pulsing.{begins-idle}
-use Rattle.log_laws.proofs.Targets.{WorkAfter, spares_work, working, target-same}
-use Rattle.lifetime_laws.specs.Works.{works_on, held_on, PulsesOnLaw}
+use Rattle.bank_laws.proofs.Targets.{WorkAfter, spares_work, working, target-same}
+use Rattle.bank_laws.proofs.Works.{counted-few, more-goes_on, tearing-going, zeros, kept-elsewhere, torn-elsewhere, idle-held, busy-held, held-same, going-held}
+use Rattle.bank_model.specs.Works.{works_on, held_on}
+use Rattle.lifetime_laws.specs.Works.{PulsesOnLaw}
 use Rattle.lifetime_laws.proofs.Counting.{one}
-
-counted-few : (k : ℕ) → counted k ≤ k + 1
-counted-few k = min-le_left (k + 1) _
-
-more-goes_on : (answer : Step) → goes_on answer ≡ true → answer ≡ did.More
-more-goes_on did.More is = refl
-more-goes_on (did.Stored row place) is = absurd (cc)
-more-goes_on (did.Moved step) is = absurd (cc)
-more-goes_on (did.Retired slot line) is = absurd (cc)
-more-goes_on did.Exhausted is = absurd (cc)
-
-tearing-going : (tearing busy : Bool) → (not tearing || busy) ≡ true → tearing ≡ true → busy ≡ true
-tearing-going true busy may is = may
-tearing-going false busy may is = absurd (cc)
-
-zeros : (a b : Bool) → cond a zero zero ≡ cond b zero zero
-zeros true true = refl
-zeros true false = refl
-zeros false true = refl
-zeros false false = refl
 
 -- one more pulse, where the line is the one that was pulsed
 pub pulse-more : (b : Bool) (k : ℕ) → cond b (counted k) k ≤ k + one b
@@ -80,29 +63,7 @@ module _ (w works pulses new : ℕ) where
   cut-step false false true k few more room tears = let same : w * (0 + works) ≡ w * works = omega arith in omega (arith, few, more, same)
   cut-step false false false k few more room tears = let same : w * (0 + works) ≡ w * works = omega arith in omega (arith, few, more, same)
 
--- a control line is none of the lines before it
-module _ (shape : BankShape) (at : ℕ) (low : at < controls_from shape) where
-  control-elsewhere : (item : ℕ) → (control_line shape item == at) ≡ false
-  control-elsewhere item = ne_eqb (control_line shape item) at (λ is. omega (arith, is, low))
-
-  change-elsewhere : (change : Option ℕ) → is_at (line_of_change shape change) at ≡ false
-  change-elsewhere None = refl
-  change-elsewhere (Some item) = control-elsewhere item
-
-  kept-elsewhere : (change : Option ℕ) (event : Keeping) → is_at (kept_pulsed (line_of_change shape change) event) at ≡ false
-  kept-elsewhere change (KeepBegin answer) = refl
-  kept-elsewhere change (KeepIterate answer) = change-elsewhere change
-  kept-elsewhere change (KeepCut true) = change-elsewhere change
-  kept-elsewhere change (KeepCut false) = refl
-
-  torn-elsewhere : (change : Option ℕ) (action : Option Action) → is_at (torn_control shape change action) at ≡ false
-  torn-elsewhere change action = by (is_doing Iterating action)
-    where
-      by : (b : Bool) → is_at (cond b (line_of_change shape change) None) at ≡ false
-      by true = change-elsewhere change
-      by false = refl
-
-module _ {n m : ℕ} (shape : BankShape) (pace : Pacing) (e at : ℕ) (low : at < controls_from shape) where
+module _ {n m : ℕ} (shape : BankShape) (pace : Pace) (e at : ℕ) (low : at < controls_from shape) where
   abbrev Few : List (Timed n m) → Type 0
   Few xs = pulses_of xs at ≤ most_steps e * works_on shape at (core xs) + held_on shape at (core xs)
 
@@ -118,23 +79,6 @@ module _ {n m : ℕ} (shape : BankShape) (pace : Pacing) (e at : ℕ) (low : at 
       by (Core (Iterate answer)) may r = λ is. omega (arith, may.may.3 (more-goes_on answer is))
       by (Core (Cut tearing)) may r = λ is. absurd (cc (is))
       by (Regs event) may r = r
-
-  -- an event that leaves a line write in progress leaves its target
-  held-same : (xs : List (Timed n m)) (event : Event n) → Lawful shape pace e xs → spares_work event ≡ true
-      → in_progress (event ∷ core xs) ≡ in_progress (core xs) → iterated (event ∷ core xs) ≡ iterated (core xs)
-      → held_on shape at (event ∷ core xs) ≡ held_on shape at (core xs)
-  held-same xs event l spares busy count = by (in_progress (core xs)) refl
-    where
-      by : (b : Bool) → in_progress (core xs) ≡ b → held_on shape at (event ∷ core xs) ≡ held_on shape at (core xs)
-      by true is =
-          let work : WorkAfter shape (core xs) = working shape (most_steps e) (core xs) (may_all shape pace e xs l) is in
-          let same : target_after shape (event ∷ core xs) ≡ target_after shape (core xs) = (target-same shape event (core xs) spares work).1 in
-          ap (λ b. cond (b && (target_after shape (event ∷ core xs) == at)) (iterated (event ∷ core xs)) 0) busy
-          ∙ ap (λ t. cond (in_progress (core xs) && (t == at)) (iterated (event ∷ core xs)) 0) same
-          ∙ ap (λ k. cond (in_progress (core xs) && (target_after shape (core xs) == at)) k 0) count
-      by false is =
-          ap (λ b. cond (b && (target_after shape (event ∷ core xs) == at)) (iterated (event ∷ core xs)) 0) (busy ∙ is)
-          ∙ sym (ap (λ b. cond (b && (target_after shape (core xs) == at)) (iterated (core xs)) 0) is)
 
   pub pulses-few : (xs : List (Timed n m)) → Lawful shape pace e xs → Few xs
   pulses-few [] l = omega arith
@@ -154,23 +98,7 @@ module _ {n m : ℕ} (shape : BankShape) (pace : Pacing) (e at : ℕ) (low : at 
           → works_on shape at (event ∷ core xs) ≡ works → Few xs → pulses_of (x ∷ xs) at ≤ w * works_on shape at (event ∷ core xs) + held_on shape at (event ∷ core xs)
       quiet event spares none busy count same few =
           let form : w * works_on shape at (event ∷ core xs) ≡ w * works = ap (λ k. w * k) same in
-          omega (arith, few, more None none, form, held-same xs event l.1 spares busy count)
-
-      idle-held : in_progress (core xs) ≡ false → held_on shape at (core xs) ≡ 0
-      idle-held is = ap (λ b. cond (b && (target_after shape (core xs) == at)) (iterated (core xs)) 0) is
-
-      busy-held : in_progress (core xs) ≡ true → held_on shape at (core xs) ≡ cond (target_after shape (core xs) == at) (iterated (core xs)) 0
-      busy-held is = ap (λ b. cond (b && (target_after shape (core xs) == at)) (iterated (core xs)) 0) is
-
-      -- the target after a begin or an iteration that goes on
-      going-held : (event : Event n) (answer : Step) (k : ℕ) → (goes_on answer ≡ true → target_after shape (event ∷ core xs) ≡ target_after shape (core xs))
-          → cond (goes_on answer && (target_after shape (event ∷ core xs) == at)) k 0 ≡ cond (goes_on answer && (target_after shape (core xs) == at)) k 0
-      going-held event answer k same = by (goes_on answer) same
-        where
-          by : (b : Bool) → (b ≡ true → target_after shape (event ∷ core xs) ≡ target_after shape (core xs))
-              → cond (b && (target_after shape (event ∷ core xs) == at)) k 0 ≡ cond (b && (target_after shape (core xs) == at)) k 0
-          by true same = ap (λ t. cond (t == at) k 0) (same refl)
-          by false same = refl
+          omega (arith, few, more None none, form, held-same shape at (core xs) (most_steps e) event (may_all shape pace e xs l.1) spares busy count)
 
       by : (h : Happens n) → MayCome shape pace e xs x h → Few xs → pulses_of (x ∷ xs) at ≤ w * works_on shape at (core_of h (core xs)) + held_on shape at (core_of h (core xs))
       by (Core (Write row line bytes given answer)) may few = quiet (Write row line bytes given answer) refl may.pulsed refl refl refl few
@@ -179,17 +107,17 @@ module _ {n m : ℕ} (shape : BankShape) (pace : Pacing) (e at : ℕ) (low : at 
       by (Core (Begin answer)) may few =
           let idle : in_progress (core xs) ≡ false = begins-idle shape (core xs) may.may.0 in
           let step : pulses_of (x ∷ xs) at ≤ w * (one (not (goes_on answer) && (target_after shape (core xs) == at)) + works) + cond (goes_on answer && (target_after shape (core xs) == at)) 0 0 =
-          begin-step w works (pulses_of xs at) (pulses_of (x ∷ xs) at) (goes_on answer) (target_after shape (core xs) == at) (omega (arith, few, idle-held idle)) (more None may.pulsed) in
+          begin-step w works (pulses_of xs at) (pulses_of (x ∷ xs) at) (goes_on answer) (target_after shape (core xs) == at) (omega (arith, few, idle-held shape at (core xs) idle)) (more None may.pulsed) in
           let none : ◌≡◌ {A = ℕ} (cond (goes_on answer && (target_after shape (Begin answer ∷ core xs) == at)) 0 0) (cond (goes_on answer && (target_after shape (core xs) == at)) 0 0) =
           zeros (goes_on answer && (target_after shape (Begin answer ∷ core xs) == at)) (goes_on answer && (target_after shape (core xs) == at)) in
           omega (arith, step, none)
       by (Core (Iterate answer)) may few =
           let busy : in_progress (core xs) ≡ true = may.may.0 in
           let step : pulses_of (x ∷ xs) at ≤ w * (one (not (goes_on answer) && (target_after shape (core xs) == at)) + works) + cond (goes_on answer && (target_after shape (core xs) == at)) (iterated (core xs) + 1) 0 =
-          iterate-step w works (pulses_of xs at) (pulses_of (x ∷ xs) at) (goes_on answer) (target_after shape (core xs) == at) (iterated (core xs)) (omega (arith, few, busy-held busy)) (more _ may.pulsed) may.may.2 in
+          iterate-step w works (pulses_of xs at) (pulses_of (x ∷ xs) at) (goes_on answer) (target_after shape (core xs) == at) (iterated (core xs)) (omega (arith, few, busy-held shape at (core xs) busy)) (more _ may.pulsed) may.may.2 in
           let work : WorkAfter shape (core xs) = working shape (most_steps e) (core xs) (may_all shape pace e xs l.1) busy in
           let held : cond (goes_on answer && (target_after shape (Iterate answer ∷ core xs) == at)) (iterated (core xs) + 1) 0 ≡ cond (goes_on answer && (target_after shape (core xs) == at)) (iterated (core xs) + 1) 0 =
-          going-held (Iterate answer) answer (iterated (core xs) + 1) (λ goes. (target-same shape (Iterate answer) (core xs) goes work).1) in
+          going-held shape at (core xs) (Iterate answer) answer (iterated (core xs) + 1) (λ goes. (target-same shape (Iterate answer) (core xs) goes work).1) in
           omega (arith, step, held)
       by (Core (Cut tearing)) may few =
           cut-step w works (pulses_of xs at) (pulses_of (x ∷ xs) at) (in_progress (core xs)) tearing (target_after shape (core xs) == at) (iterated (core xs)) few (torn tearing may.pulsed) (room xs l.1) (tearing-going tearing (in_progress (core xs)) may.may)

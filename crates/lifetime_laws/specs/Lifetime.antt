@@ -1,24 +1,25 @@
 -- How long a module lives under the rotation: a bank whose hot lines are few keeps every slot's own line.
 use Rattle.std.specs.Prelude.{ℕ, ◌+◌, ◌*◌, ◌/◌, ◌<◌, ◌≤◌, ◌==◌, ◌&&◌, not, nat_lt, Bool, if◌then◌else◌, IsTrue, IsFalse, List, [], ◌∷◌, length, count_by}
 use Rattle.std.specs.List.{list_any}
-use Rattle.pcm_cells.specs.Device.{ArrayState}
-use Rattle.pcm_cells.specs.Endurance.{EnduresAtLeast}
+use Rattle.pcm_cells.specs.Device.{CellBounds, ArrayState}
 use Rattle.ecp_line.specs.Layout.{IsLayout}
 use Rattle.row_laws.specs.declared.Row.{Row}
 use Rattle.row_laws.specs.Answers.{is_stored}
 use Rattle.row_laws.specs.Rows.{each_row, asks_write, asks_write_of, line_of, is_cut}
-use Rattle.row_laws.specs.Rules.{Rules}
+use Rattle.row_laws.specs.declared.Rules.{Rules}
 use Rattle.row_laws.specs.Table.{KeepsRows}
 use Rattle.row_laws.specs.Ticking.{is_in_time}
 use Rattle.bank_shape.specs.declared.BankShape.{BankShape}
-use Rattle.bank_shape.specs.Shape.{slots_of, lines_in, controls_of, control_line}
-use Rattle.bank_model.specs.Timing.{Pacing, Timed}
+use Rattle.bank_shape.specs.Shape.{slots_of, controls_of, control_line}
+use Rattle.bank_model.specs.Aging.{Ages, AreAged, Endures}
+use Rattle.bank_shape.specs.declared.pace.Pace.{Pace}
+use Rattle.bank_model.specs.Timing.{Timed, core}
 use Rattle.bank_model.specs.Lawful.{Lawful, IsIdle}
 use Rattle.bank_laws.specs.Laws.{IsSized, LeavesArray, KeepsPlaces, is_worn_at, rules_of}
 use Rattle.bank_laws.specs.Outcomes.{table_of}
 use Rattle.bank_laws.specs.Places.{region_stores, is_placed, may_leave}
 use Rattle.lifetime_laws.specs.Spread.{most_at, most_moves, stay, stores_on}
-use Rattle.lifetime_laws.specs.Works.{most_works, most_each, most_kept, stores_at}
+use Rattle.lifetime_laws.specs.Works.{most_works, most_each, fine_each, most_kept, stores_at}
 use Rattle.lifetime_laws.specs.Endurance.{KeepsControls, is_unrefused, is_unqueued}
 
 -- the stores of a region that are of none of these lines
@@ -51,18 +52,21 @@ AttackLaw =
     → (shape.lines + 1) * stores_on line (shape.base + slot) rows
     ≤ own_stores line rows + other_stores shape (line / shape.lines) (line ∷ []) rows + shape.lines * stay shape.lines shape.psi
 
--- what the pulses of each slot's own array line, and of each control line, are to the rows of a bank's table
+-- what the pulses of each slot's own array line, and of each control line, are to the rows of a bank's table, and how each has aged
 pub record KeepsLines {n m : ℕ} (shape : BankShape) (array : ArrayState n m) (rules : Rules) (rows : List (Row n)) : Type 0 where
   pub pulses : (slot : ℕ) → slot < slots_of shape
       → (array.line (shape.base + slot)).pulses ≤ most_each rules * most_works shape rows slot
+  pub ages : (slot : ℕ) → slot < slots_of shape
+      → Ages array.bounds (fine_each array.bounds rules * most_works shape rows slot) (array.line (shape.base + slot))
   pub controls : (item : ℕ) → item < controls_of shape
       → (array.line (control_line shape item)).pulses ≤ most_each rules * most_kept shape rows item
+  pub endure : (item : ℕ) → item < controls_of shape → Endures array.bounds (array.line (control_line shape item))
 
--- so it is for every history of a bank
+-- so it is for every history of a bank, and the array that it leaves
 abbrev pub KeptLinesLaw : Type 0
 KeptLinesLaw =
-    (n m e : ℕ) (shape : BankShape) (pace : Pacing) (xs : List (Timed n m)) (array : ArrayState n m)
-    → IsSized shape pace → Lawful shape pace e xs → IsIdle shape pace xs → LeavesArray e shape xs array
+    (n m e : ℕ) (shape : BankShape) (pace : Pace) (xs : List (Timed n m)) (array : ArrayState n m)
+    → IsSized shape pace → Lawful shape pace e xs → IsIdle shape pace xs → LeavesArray e shape xs array → AreAged shape (core xs) array
     → KeepsLines shape array (rules_of e shape pace) (table_of shape xs)
 
 -- the most line writes of any slot's own line of a region, each begun once, by its hot lines
@@ -99,30 +103,29 @@ AskedLaw = (n : ℕ) (shape : BankShape) (rows : List (Row n)) → 1 ≤ shape.l
 
 -- cells endure what the changes of each item may bring its control line. A bank whose registers are guarded has none; where they are
 -- kept in the array, that of a region is written for each of its stores and moves, and no gap moves it: it wears out first
-abbrev pub BearsControls : {n : ℕ} → ℕ → BankShape → Rules → List (Row n) → Type 0
-BearsControls lo shape rules rows = (item : ℕ) → item < controls_of shape → most_each rules * most_kept shape rows item < lo
+abbrev pub BearsControls : {n : ℕ} → CellBounds → BankShape → Rules → List (Row n) → Type 0
+BearsControls bounds shape rules rows = (item : ℕ) → item < controls_of shape → most_each rules * most_kept shape rows item < bounds.endures
 
 -- then no control line is worn
 abbrev pub ControlsLaw : Type 0
 ControlsLaw =
-    (n m e lo : ℕ) (shape : BankShape) (array : ArrayState n m) (rules : Rules) (rows : List (Row n))
-    → IsLayout n m e → EnduresAtLeast lo array → shape.base + lines_in shape ≤ array.lines
-    → KeepsLines shape array rules rows → BearsControls lo shape rules rows → KeepsControls shape (is_worn_at e array)
+    (n m e : ℕ) (shape : BankShape) (array : ArrayState n m) (rules : Rules) (rows : List (Row n))
+    → IsLayout n m e → KeepsLines shape array rules rows → BearsControls array.bounds shape rules rows
+    → KeepsControls shape (is_worn_at e array)
 
 -- what a bank shows in which no slot's own line is worn: no row is refused for want of a spare; and where cells bear its control lines
 -- too, none is left in the queue, nor has the bank a reason to leave one
-pub record LivesOn {n m : ℕ} (e lo : ℕ) (shape : BankShape) (array : ArrayState n m) (rules : Rules) (rows : List (Row n)) : Type 0 where
+pub record LivesOn {n m : ℕ} (e : ℕ) (shape : BankShape) (array : ArrayState n m) (rules : Rules) (rows : List (Row n)) : Type 0 where
   pub unworn : (slot : ℕ) → slot < slots_of shape → IsFalse (is_worn_at e array (shape.base + slot))
   pub taken : IsTrue (each_row is_unrefused rows [])
-  pub finished : BearsControls lo shape rules rows → IsTrue (each_row is_unqueued rows [])
-  pub leaves : BearsControls lo shape rules rows → IsFalse (may_leave shape (is_worn_at e array))
+  pub finished : BearsControls array.bounds shape rules rows → IsTrue (each_row is_unqueued rows [])
+  pub leaves : BearsControls array.bounds shape rules rows → IsFalse (may_leave shape (is_worn_at e array))
 
--- over cells that endure as many pulses as a slot's own line may take, no such line wears out
+-- over cells that endure more pulses than a slot's own line may take while none of its cells is stuck, no such line wears out
 abbrev pub LifetimeLaw : Type 0
 LifetimeLaw =
-    (n m e lo : ℕ) (shape : BankShape) (array : ArrayState n m) (rules : Rules) (rows : List (Row n)) (hot : List ℕ)
-    → IsLayout n m e → EnduresAtLeast lo array → shape.base + lines_in shape ≤ array.lines
-    → 1 ≤ shape.lines → 1 ≤ shape.psi → 1 ≤ rules.read
+    (n m e : ℕ) (shape : BankShape) (array : ArrayState n m) (rules : Rules) (rows : List (Row n)) (hot : List ℕ)
+    → IsLayout n m e → 1 ≤ shape.lines → 1 ≤ shape.psi → 1 ≤ rules.read
     → KeepsRows rules rows → KeepsPlaces e shape array rules rows → KeepsLines shape array rules rows
-    → ((region : ℕ) → region < shape.regions → most_each rules * most_hot_works shape region hot rows < lo)
-    → LivesOn e lo shape array rules rows
+    → ((region : ℕ) → region < shape.regions → fine_each array.bounds rules * most_hot_works shape region hot rows < array.bounds.endures)
+    → LivesOn e shape array rules rows

@@ -5,8 +5,7 @@
 
 ghost use Rattle.lifetime_laws.specs.Spread.{AnyLineLaw, CopiesLaw, EvenLaw, FoundLaw, OneStayLaw, SpreadLaw, StayLaw, TightLaw};
 ghost use Rattle.lifetime_laws.specs.Endurance.{NoneRetiredLaw, SoundRowsLaw, UnwornLaw};
-ghost use Rattle.lifetime_laws.specs.Works.{ControlPulsesLaw, LinePulsesLaw, PulsesOnLaw, WorksLaw};
-ghost use Rattle.lifetime_laws.specs.Going.{FineWriteLaw};
+ghost use Rattle.lifetime_laws.specs.Works.{ControlPulsesLaw, LineAgesLaw, LinePulsesLaw, PulsesOnLaw, WorksLaw};
 ghost use Rattle.lifetime_laws.specs.Lifetime.{AskedLaw, AttackLaw, ControlsLaw, HotLinesLaw, KeptLinesLaw, LifetimeLaw};
 
 /// Whatever the trace: of the first so many stores of a region at most so many find a line at one slot.
@@ -60,7 +59,7 @@ pub fn attacks_are_spread()
     ensures { AttackLaw }
 {}
 
-/// Over cells that endure, a line with fewer pulses isn't worn.
+/// A line that has aged by fewer pulses than its cells endure isn't worn.
 pub fn spared_lines_are_unworn()
     ensures { UnwornLaw }
 {}
@@ -91,9 +90,14 @@ pub fn line_writes_are_few()
     ensures { WorksLaw }
 {}
 
-/// So its pulses are few.
+/// So its pulses are few, whichever of its cells are stuck.
 pub fn line_pulses_are_few()
     ensures { LinePulsesLaw }
+{}
+
+/// And until its first cell stuck each line write brought it at most one pulse more than cells miss.
+pub fn lines_age_slowly()
+    ensures { LineAgesLaw }
 {}
 
 /// And those of a control line: it is written for each store and move of its region, and again after a cut; that of a spare or of
@@ -112,12 +116,8 @@ pub fn asked_writes_bound_stores()
     ensures { AskedLaw }
 {}
 
-/// Over cells that endure as many pulses as a slot's own line may take by its hot lines, no line of a slot wears out.
+/// Over cells that endure more pulses than a slot's own line may take by its hot lines, k + 1 a line write where cells miss at most
+/// k times, no line of a slot wears out.
 pub fn hot_lines_leave_banks_alive()
     ensures { LifetimeLaw }
-{}
-
-/// A line write on a line with no cell stuck, whose cells miss at most so often, takes few iterations.
-pub fn fine_lines_are_written_soon()
-    ensures { FineWriteLaw }
 {}

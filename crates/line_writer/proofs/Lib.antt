@@ -6,3 +6,4 @@ pub mod Going
 pub mod Rounds
 pub mod Fresh
 pub mod Untouched
+pub mod Orderly

@@ -3,7 +3,7 @@ use Rattle.std.proofs.Common.{◌≡◌, ℕ, ◌+◌, ◌-◌, ◌*◌, ◌<◌
 use Rattle.std.proofs.lemmas.Bool.{both_ways, and_parts, and_from, and_left, or_left, or_right, cases_Bool, lt-ltb, eqb-true, false_from_ne_true}
 use Rattle.pcm_cells.specs.declared.row.Cells.{Cells}
 use Rattle.pcm_cells.specs.Rows.{cell, members}
-use Rattle.pcm_cells.specs.Device.{LineState, ArrayState, DeviceStep, TornStep, CellPulsed, CellTorn}
+use Rattle.pcm_cells.specs.Device.{LineState, ArrayState, CellBounds, DeviceStep, TornStep, CellPulsed, CellTorn}
 use Rattle.program_verify.specs.declared.prog.Prog.{Prog}
 use Rattle.program_verify.specs.Programming.{Programs, IsGoing, IsRound, IsTear, is_wrong}
 use Rattle.ecp_line.specs.Layout.{switch_cell, full_cell, activity_cell, Prefix, Sound, IsLayout}
@@ -23,23 +23,24 @@ use Rattle.line_writer.proofs.Keeping.{clearing-within, clearing-apart, clearing
 
 -- ---- pulses and tears
 
-live-torn : {B M : ℕ} (want : Cells B M) (old new : LineState B M) (n : ℕ) → CellPulsed want old new n → CellTorn new n
-live-torn want old new n (inl (alive, value, misses)) = inl (alive, omega arith)
-live-torn want old new n (inr (inl (alive, value, misses, few))) = inl (alive, few)
-live-torn want old new n (inr (inr stuck)) = inr stuck
+live-torn : {B M : ℕ} (bounds : CellBounds) (want : Cells B M) (old new : LineState B M) (n : ℕ) → CellPulsed bounds want old new n → CellTorn bounds new n
+live-torn bounds want old new n (inl (alive, value, misses)) = inl (alive, omega arith)
+live-torn bounds want old new n (inr (inl (alive, value, misses, few))) = inl (alive, few)
+live-torn bounds want old new n (inr (inr stuck)) = inr stuck
 
 -- a pulse does nothing that a tear may not do
-pub device-torn : {B M : ℕ} (mask want : Cells B M) (old new : LineState B M) → DeviceStep mask want old new → TornStep mask old new
-device-torn mask want old new step = record {
+pub device-torn : {B M : ℕ} (bounds : CellBounds) (mask want : Cells B M) (old new : LineState B M) → DeviceStep bounds mask want old new → TornStep bounds mask old new
+device-torn bounds mask want old new step = record {
+  few = step.few;
   unmasked = step.unmasked;
   stuck = step.stuck;
-  live = λ n on alive. live-torn want old new n (step.live n on alive);
+  live = λ n on alive. live-torn bounds want old new n (step.live n on alive);
   pulses = step.pulses;
 }
 
-pub leaves-torn : {B M : ℕ} (which : ℕ → Bool) (mask : Cells B M) (old new : LineState B M) → TornStep mask old new → ((n : ℕ) → cell mask n ≡ true → which n ≡ true)
+pub leaves-torn : {B M : ℕ} (bounds : CellBounds) (which : ℕ → Bool) (mask : Cells B M) (old new : LineState B M) → TornStep bounds mask old new → ((n : ℕ) → cell mask n ≡ true → which n ≡ true)
     → Leaves which (cell old.held) old.stuck (cell new.held) new.stuck
-leaves-torn which mask old new step within = record {
+leaves-torn bounds which mask old new step within = record {
   others = λ n off. (step.unmasked n (false_from_ne_true _ (λ on. both_ways _ off (within n on)))).value;
   held = λ n at. (step.stuck n at).1;
   stuck = λ n at. (step.stuck n at).0;
@@ -52,12 +53,12 @@ pub leaves-round : {B M : ℕ} (line tick : ℕ) (before after : Prog B M) (old 
     → Leaves (cell before.which) (cell (old.line line).held) (old.line line).stuck (cell (new.line line).held) (new.line line).stuck
 leaves-round {B} {M} line tick before after old new round =
     subst (λ (l : LineState B M). Leaves (cell before.which) (cell (old.line line).held) (old.line line).stuck (cell l.held) l.stuck) (sym (round.sense.line line))
-    (leaves-torn (cell before.which) round.mask (old.line line) (round.between.line line) (device-torn round.mask before.want (old.line line) (round.between.line line) round.pulse)
+    (leaves-torn old.bounds (cell before.which) round.mask (old.line line) (round.between.line line) (device-torn old.bounds round.mask before.want (old.line line) (round.between.line line) round.pulse)
     (mask-within before round.mask round.masked))
 
 pub leaves-tear : {B M : ℕ} (line : ℕ) (prog : Prog B M) (old new : ArrayState B M) → IsTear line prog old new
     → Leaves (cell prog.which) (cell (old.line line).held) (old.line line).stuck (cell (new.line line).held) (new.line line).stuck
-leaves-tear line prog old new torn = leaves-torn (cell prog.which) torn.mask (old.line line) (new.line line) torn.tear (mask-within prog torn.mask torn.masked)
+leaves-tear line prog old new torn = leaves-torn old.bounds (cell prog.which) torn.mask (old.line line) (new.line line) torn.tear (mask-within prog torn.mask torn.masked)
 
 -- ---- phases
 

@@ -1,3 +1,4 @@
 pub mod Phases
 pub mod Writing
 pub mod Untouched
+pub mod Orderly

@@ -3,9 +3,10 @@ use Rattle.std.proofs.Common.{◌≡◌, ℕ, ◌<◌, ◌≤◌, ◌==◌, ◌&
 use Rattle.masked_bytes.specs.declared.entry.Entry.{Entry}
 use Rattle.masked_bytes.specs.Masked.{joined, none_given}
 use Rattle.masked_bytes.specs.Entries.{candidate, newest_row, or_this, has_row}
+use Rattle.masked_bytes.proofs.Queueing.{candidate-newest}
 use Rattle.bank_shape.specs.declared.BankShape.{BankShape}
-use Rattle.bank_model.specs.declared.answer.WriteAnswer.TheVariants as wrote
-use Rattle.bank_model.specs.declared.answer.Step.TheVariants as did
+use Rattle.bank_shape.specs.declared.answer.WriteAnswer.TheVariants as wrote
+use Rattle.bank_shape.specs.declared.answer.Step.TheVariants as did
 use Rattle.bank_model.specs.Events.{Event, Write, Read, Serve, Begin, Iterate, Cut, RowsBelow, line_of_row, newest}
 use Rattle.bank_model.specs.History.{queue, due_after}
 use Rattle.bank_model.specs.Answers.{MayAll, head_busy_after}
@@ -36,15 +37,6 @@ module _ {n : ℕ} where
   out_in line (Begin (did.Stored row place) ∷ h) = out_with (line_of_row row h == line) (out_in line h) row
   out_in line (Iterate (did.Stored row place) ∷ h) = out_with (line_of_row row h == line) (out_in line h) row
   out_in line (_ ∷ h) = out_in line h
-
-  candidate-newest : (busy : Bool) (es : List (Entry n)) (line old : ℕ) → candidate busy es line ≡ Some old → newest_row es line ≡ Some old
-  candidate-newest busy [] line old is = is
-  candidate-newest busy (e ∷ es) line old is = by (newest_row es line) busy (eqb e.line line) is
-    where
-      by : (r : Option ℕ) (busy b : Bool) → or_this r (cond (not busy && b) (Some e.row) None) ≡ Some old → or_this r (cond b (Some e.row) None) ≡ Some old
-      by (Some row) busy b is = is
-      by None true b is = absurd (cc)
-      by None false b is = is
 
   grows : (own : Bool) (row : ℕ) (given : List Bool) (old : (ℕ → Bool) → List Bool) → own ≡ true → Grows n (λ out. uncovered_by n own (out row) given (old out)) old row given
   grows true row given old is = record {

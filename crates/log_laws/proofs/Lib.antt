@@ -1,10 +1,8 @@
 mod Chains
-pub mod Targets
 mod Unworn
 mod Firsts
 mod Breaking
 mod Owning
-mod Counted
 mod Pulsing
 mod Stepping
 mod Fair

@@ -1,5 +1,7 @@
 -- Laying bytes over others: lengths, single bytes, and what is laid over what is laid.
-use Rattle.std.proofs.Common.{◌≡◌, ℕ, ◌<◌, List, [], ◌∷◌, Bool, true, false, ◌||◌, ◌&&◌, ◌==◌, if◌then◌else◌, zero, suc, length, get_or, take, replicate, refl, ap, ◌∙◌, arith, slice_set, eqb-true, bit_and, bit_xor, ◌+◌, ◌-◌, ◌%◌, ◌^◌, sym}
+use Rattle.std.proofs.Common.{◌≡◌, ℕ, ◌<◌, List, [], ◌∷◌, Bool, true, false, ◌||◌, ◌&&◌, ◌==◌, if◌then◌else◌, cond, zero, suc, length, get_or, take, replicate, refl, ap, ◌∙◌, arith, slice_set, eqb-true, bit_and, bit_xor, ◌+◌, ◌-◌, ◌%◌, ◌^◌, sym}
+use Rattle.std.proofs.lemmas.Bool.{and_from}
+use Rattle.masked_bytes.proofs.Truth.{and_first, and_second}
 use Rattle.std.specs.Int.Bits.{xor_self, xor_assoc, xor_zero_l, xor_zero_r, and_zero_r}
 use Rattle.std.proofs.lemmas.Nat.{and_mask, xor_lt}
 use Rattle.std.proofs.lemmas.List.{length-replicate}
@@ -103,18 +105,6 @@ joined-joined (false ∷ given) (x ∷ also) (o ∷ other) a b = ap (λ xs. (x |
 
 -- Bytes that are not given stay 0
 
-and_left : (a b : Bool) → (a && b) ≡ true → a ≡ true
-and_left true b h = refl
-and_left false b h = h
-
-and_right : (a b : Bool) → (a && b) ≡ true → b ≡ true
-and_right true b h = h
-and_right false b h = cc
-
-both_true : (a b : Bool) → a ≡ true → b ≡ true → (a && b) ≡ true
-both_true true b h k = k
-both_true false b h k = h
-
 pub gives_some-joined : (given other : List Bool) → length other ≡ length given → gives_some given ≡ true → gives_some (joined given other) ≡ true
 gives_some-joined [] other e h = cc
 gives_some-joined (g ∷ given) [] e h = grind arith
@@ -133,12 +123,12 @@ zero_elsewhere-laid (x ∷ bytes) (g ∷ given) (u ∷ under) [] a b c h = grind
 zero_elsewhere-laid (x ∷ bytes) (true ∷ given) (u ∷ under) (true ∷ also) a b c h =
     zero_elsewhere-laid bytes given under also (omega arith) (omega arith) (omega arith) h
 zero_elsewhere-laid (x ∷ bytes) (true ∷ given) (u ∷ under) (false ∷ also) a b c h =
-    zero_elsewhere-laid bytes given under also (omega arith) (omega arith) (omega arith) (and_right (u == 0) _ h)
+    zero_elsewhere-laid bytes given under also (omega arith) (omega arith) (omega arith) (and_second (u == 0) _ h)
 zero_elsewhere-laid (x ∷ bytes) (false ∷ given) (u ∷ under) (true ∷ also) a b c h =
     zero_elsewhere-laid bytes given under also (omega arith) (omega arith) (omega arith) h
 zero_elsewhere-laid (x ∷ bytes) (false ∷ given) (u ∷ under) (false ∷ also) a b c h =
-    both_true (u == 0) _ (and_left (u == 0) _ h)
-    (zero_elsewhere-laid bytes given under also (omega arith) (omega arith) (omega arith) (and_right (u == 0) _ h))
+    and_from (u == 0) _ (and_first (u == 0) _ h)
+    (zero_elsewhere-laid bytes given under also (omega arith) (omega arith) (omega arith) (and_second (u == 0) _ h))
 
 pub zero_elsewhere-all_given : (n : ℕ) (bytes : List ℕ) → length bytes ≡ n → zero_elsewhere bytes (all_given n) ≡ true
 zero_elsewhere-all_given n [] e = refl
@@ -154,7 +144,7 @@ laid-zeros zero (b ∷ bytes) given e f h = grind arith
 laid-zeros (suc n) (b ∷ bytes) [] e f h = grind arith
 laid-zeros (suc n) (b ∷ bytes) (true ∷ given) e f h = ap (λ xs. b ∷ xs) (laid-zeros n bytes given (omega arith) (omega arith) h)
 laid-zeros (suc n) (b ∷ bytes) (false ∷ given) e f h =
-    two_parts b (eqb-true b 0 (and_left (b == 0) _ h)) (laid-zeros n bytes given (omega arith) (omega arith) (and_right (b == 0) _ h))
+    two_parts b (eqb-true b 0 (and_first (b == 0) _ h)) (laid-zeros n bytes given (omega arith) (omega arith) (and_second (b == 0) _ h))
   where
     two_parts : {xs ys : List ℕ} (b : ℕ) → b ≡ 0 → xs ≡ ys → 0 ∷ xs ≡ b ∷ ys
     two_parts b e f = rw (e, f)
@@ -216,3 +206,42 @@ picked true above below bit one none h k =
     let small : bit_xor below above < 2 ^ 8 = xor_lt 8 below above k h in
     let all : bit_and (bit_xor below above) (2 ^ 8 - 1) ≡ bit_xor below above = and_mask (bit_xor below above) 8 ∙ omega arith in
     rw (one refl) (ap (bit_xor below) all ∙ sym (xor_assoc below below above) ∙ rw (xor_self below) (xor_zero_l above))
+
+-- bytes laid over themselves are those
+pub laid-self : (bytes : List ℕ) (given : List Bool) → laid bytes given bytes ≡ bytes
+laid-self [] given = refl
+laid-self (b ∷ bytes) [] = refl
+laid-self (b ∷ bytes) (true ∷ given) = ap (λ rest. b ∷ rest) (laid-self bytes given)
+laid-self (b ∷ bytes) (false ∷ given) = ap (λ rest. b ∷ rest) (laid-self bytes given)
+
+-- what was made by laying bytes over others, laid over those, is the same
+pub laid-over : (bytes : List ℕ) (given : List Bool) (under : List ℕ) → laid (laid bytes given under) given under ≡ laid bytes given under
+laid-over [] given under = laid-self under given
+laid-over (b ∷ bytes) [] under = laid-self under []
+laid-over (b ∷ bytes) (g ∷ given) [] = refl
+laid-over (b ∷ bytes) (true ∷ given) (u ∷ under) = ap (λ rest. b ∷ rest) (laid-over bytes given under)
+laid-over (b ∷ bytes) (false ∷ given) (u ∷ under) = ap (λ rest. u ∷ rest) (laid-over bytes given under)
+
+-- bytes that are laid over others change nothing of them when they are laid over them again
+pub laid-again : (bytes : List ℕ) (given : List Bool) (under : List ℕ) → laid bytes given (laid bytes given under) ≡ laid bytes given under
+laid-again [] given under = refl
+laid-again (b ∷ bytes) [] under = refl
+laid-again (b ∷ bytes) (g ∷ given) [] = refl
+laid-again (b ∷ bytes) (true ∷ given) (u ∷ under) = ap (λ xs. b ∷ xs) (laid-again bytes given under)
+laid-again (b ∷ bytes) (false ∷ given) (u ∷ under) = ap (λ xs. u ∷ xs) (laid-again bytes given under)
+
+-- bytes that change nothing of others change nothing of those that are laid over these, once they are laid over again
+pub laid-between : (bytes : List ℕ) (given : List Bool) (own : List ℕ) (also : List Bool) (under : List ℕ) → laid own also under ≡ under
+    → laid bytes given (laid own also (laid bytes given under)) ≡ laid bytes given under
+laid-between [] given own also under still = still
+laid-between (b ∷ bytes) [] own also under still = still
+laid-between (b ∷ bytes) (g ∷ given) [] also under still = laid-again (b ∷ bytes) (g ∷ given) under
+laid-between (b ∷ bytes) (g ∷ given) (o ∷ own) [] under still = laid-again (b ∷ bytes) (g ∷ given) under
+laid-between (b ∷ bytes) (g ∷ given) (o ∷ own) (a ∷ also) [] still = refl
+laid-between (b ∷ bytes) (true ∷ given) (o ∷ own) (a ∷ also) (u ∷ under) still =
+    let rest : laid own also under ≡ under = cc in
+    ap (λ xs. b ∷ xs) (laid-between bytes given own also under rest)
+laid-between (b ∷ bytes) (false ∷ given) (o ∷ own) (a ∷ also) (u ∷ under) still =
+    let first : cond a o u ≡ u = cc in
+    let rest : laid own also under ≡ under = cc in
+    ap (λ x. x ∷ laid bytes given (laid own also (laid bytes given under))) first ∙ ap (λ xs. u ∷ xs) (laid-between bytes given own also under rest)

@@ -148,6 +148,17 @@ module _ {n : ℕ} where
   candidate-place busy (e ∷ es) line i h =
       newest_row-step e es (newest_place es line) (newest_row es line) (not busy && e.line == line) i (newest_row-place es line) (newest_row-none es line) h
 
+  -- the entry that a write is merged into is the newest of its line
+  pub candidate-newest : (busy : Bool) (es : List (Entry n)) (line old : ℕ) → candidate busy es line ≡ Some old → newest_row es line ≡ Some old
+  candidate-newest busy [] line old is = cc
+  candidate-newest busy (e ∷ es) line old is = by (newest_row es line) busy (e.line == line) is
+    where
+      by : (rest : Option ℕ) (busy at : Bool) → or_this rest (if not busy && at then Some e.row else None) ≡ Some old
+          → or_this rest (if at then Some e.row else None) ≡ Some old
+      by (Some row) busy at is = is
+      by None true at is = cc
+      by None false at is = is
+
   pub candidate-none : (busy : Bool) (es : List (Entry n)) (line : ℕ) → candidate_place busy es line ≡ None → candidate busy es line ≡ None
   candidate-none busy [] line h = refl
   candidate-none busy (e ∷ es) line h = by (newest_place es line) (newest_row es line) (not busy && e.line == line) (newest_row-none es line) h

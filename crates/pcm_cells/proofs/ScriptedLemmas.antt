@@ -1,6 +1,5 @@
 -- A scripted array keeps what every array keeps.
 use Rattle.std.proofs.Common.{◌≡◌, ℕ, ◌+◌, ◌≤◌, Bool, true, false, cond, List, slice_index, refl, ◌∙◌, ap, inl, inr, arith, Option, Some, None}
-use Rattle.std.proofs.lemmas.Bool.{ltb-true}
 use Rattle.std.specs.Prelude.{nat_lt}
 use Rattle.pcm_cells.specs.declared.row.Cells.{Cells}
 use Rattle.pcm_cells.specs.declared.line.CellState.{CellState}
@@ -11,19 +10,18 @@ use Rattle.pcm_cells.specs.Rows.{cell}
 use Rattle.pcm_cells.specs.Device.{DeviceStep, TornStep, counted}
 use Rattle.pcm_cells.specs.Cell.{line_state, cell_state}
 use Rattle.pcm_cells.specs.Follows.{Follows}
-use Rattle.pcm_cells.specs.Scripted.{act_at, acted, next_turn, ScriptedCell, ScriptedLine, scripted, scripted_cell}
+use Rattle.pcm_cells.specs.Scripted.{scripted_bounds, act_at, acted, next_turn, ScriptedCell, ScriptedLine, scripted, scripted_cell}
 use Rattle.pcm_cells.proofs.LineLemmas.{IsPulsed, device_step, torn_step}
 
-missed_pulsed : (few want : Bool) (old new : CellState) → nat_lt old.misses 7 ≡ few → old.stuck ≡ false
+missed_pulsed : (few want : Bool) (old new : CellState) → old.stuck ≡ false
     → new ≡ cond few (record old { misses = old.misses + 1 }) (record { value = want; stuck = false; misses = 0 }) → IsPulsed want old new
-missed_pulsed true want old new below live is =
-    inr (inl (ap (λ c. c.stuck) is ∙ live, ap (λ c. c.value) is, ap (λ c. c.misses) is, rw (ap (λ c. c.misses) is) (omega (arith, ltb-true _ _ below))))
-missed_pulsed false want old new below live is = inl (ap (λ c. c.stuck) is, ap (λ c. c.value) is, ap (λ c. c.misses) is)
+missed_pulsed true want old new live is = inr (inl (ap (λ c. c.stuck) is ∙ live, ap (λ c. c.value) is, ap (λ c. c.misses) is))
+missed_pulsed false want old new live is = inl (ap (λ c. c.stuck) is, ap (λ c. c.value) is, ap (λ c. c.misses) is)
 
 -- a live cell in a pulse
 acted_pulsed : (act : Option Act) (want : Bool) (old new : CellState) → old.stuck ≡ false → new ≡ acted false act want old → IsPulsed want old new
 acted_pulsed None want old new live is = inl (ap (λ c. c.stuck) is, ap (λ c. c.value) is, ap (λ c. c.misses) is)
-acted_pulsed (Some Miss) want old new live is = missed_pulsed (nat_lt old.misses 7) want old new refl live is
+acted_pulsed (Some Miss) want old new live is = missed_pulsed (nat_lt old.misses 7) want old new live is
 acted_pulsed (Some (Stick value)) want old new live is = inr (inr (ap (λ c. c.stuck) is))
 
 -- an unmasked cell stays
@@ -49,20 +47,23 @@ stuck_stays mask want script line tearing old new follows n h =
 
 pub scripted_device_step : {B M : ℕ} (mask want : Cells B M) (script : List Script) (line : ℕ) (old new : ScriptedLine B M)
     → Follows (cell mask) (scripted script line false (cell want)) (scripted_cell old) (scripted_cell new)
-    → new.line.pulses ≡ counted old.line.pulses → DeviceStep mask want (line_state old.line) (line_state new.line)
-scripted_device_step mask want script line old new follows pulses =
-    device_step mask want (line_state old.line) (line_state new.line)
+    → ((n : ℕ) → slice_index new.line.misses n ≤ 7)
+    → new.line.pulses ≡ counted old.line.pulses → DeviceStep scripted_bounds mask want (line_state old.line) (line_state new.line)
+scripted_device_step mask want script line old new follows few pulses =
+    device_step scripted_bounds mask want (line_state old.line) (line_state new.line) (omega arith)
     (unmasked_stays mask want script line false old new follows) (stuck_stays mask want script line false old new follows)
     (λ n masked live.
     acted_pulsed (act_at script line n (next_turn (slice_index old.turns n))) (cell want n) (cell_state (line_state old.line) n) _ live
     (ap (λ c. c.state) (follows n ∙ ap (λ b. cond b (scripted script line false (cell want) n (scripted_cell old n)) (scripted_cell old n)) masked)
     ∙ ap (λ b. cond b (cell_state (line_state old.line) n) (acted false (act_at script line n (next_turn (slice_index old.turns n))) (cell want n) (cell_state (line_state old.line) n))) live))
+    (λ n masked. record { misses = few n; endures = λ is. omega arith })
     pulses
 
 pub scripted_torn_step : {B M : ℕ} (mask want : Cells B M) (script : List Script) (line : ℕ) (old new : ScriptedLine B M)
     → Follows (cell mask) (scripted script line true (cell want)) (scripted_cell old) (scripted_cell new)
     → ((n : ℕ) → slice_index new.line.misses n ≤ 7)
-    → new.line.pulses ≡ counted old.line.pulses → TornStep mask (line_state old.line) (line_state new.line)
+    → new.line.pulses ≡ counted old.line.pulses → TornStep scripted_bounds mask (line_state old.line) (line_state new.line)
 scripted_torn_step mask want script line old new follows few pulses =
-    torn_step mask (line_state old.line) (line_state new.line)
-    (unmasked_stays mask want script line true old new follows) (stuck_stays mask want script line true old new follows) few pulses
+    torn_step scripted_bounds mask (line_state old.line) (line_state new.line) (omega arith)
+    (unmasked_stays mask want script line true old new follows) (stuck_stays mask want script line true old new follows)
+    (λ n masked. record { misses = few n; endures = λ is. omega arith }) pulses

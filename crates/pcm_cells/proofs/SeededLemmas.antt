@@ -12,14 +12,14 @@ use Rattle.pcm_cells.specs.declared.digits.Digits.{Digits}
 use Rattle.pcm_cells.specs.declared.counts.Counts.{Counts}
 use Rattle.pcm_cells.specs.Counts.{count}
 use Rattle.pcm_cells.specs.Rows.{cell}
-use Rattle.pcm_cells.specs.Device.{DeviceStep, TornStep, IsBlank, counted}
+use Rattle.pcm_cells.specs.Device.{CellBounds, DeviceStep, TornStep, IsBlank, counted}
 use Rattle.pcm_cells.specs.Cell.{cell_state}
 use Rattle.pcm_cells.specs.Planes.{PlaneLine, plane_state, digit}
 use Rattle.pcm_cells.specs.Follows.{Follows}
 use Rattle.pcm_cells.specs.Seeded.{LifeLine, left_of, IsDrawn, changed, pulsed, seeded, seeded_cell}
 use Rattle.pcm_cells.proofs.RowLemmas.{cell-zeros}
 use Rattle.pcm_cells.proofs.PlaneLemmas.{digit_few, digit-zeros}
-use Rattle.pcm_cells.proofs.LineLemmas.{IsPulsed, device_step, torn_step}
+use Rattle.pcm_cells.proofs.LineLemmas.{IsPulsed, KeepsTo, device_step, torn_step}
 
 -- a change takes the wanted value or sticks
 changed_pulsed : (last want : Bool) (old : SeededCell) (new : CellState)
@@ -29,17 +29,16 @@ changed_pulsed true want old new is = inr (inr (ap (λ c. c.stuck) is))
 changed_pulsed false want old new is = inl (ap (λ c. c.stuck) is, ap (λ c. c.value) is, ap (λ c. c.misses) is)
 
 -- a live cell misses or changes
-missed_pulsed : (few want : Bool) (old : SeededCell) (new : CellState) → nat_lt old.state.misses old.limit ≡ few → old.limit ≤ 7 → old.state.stuck ≡ false
+missed_pulsed : (few want : Bool) (old : SeededCell) (new : CellState) → old.state.stuck ≡ false
     → new ≡ (cond few (record old { state = record old.state { misses = old.state.misses + 1 } }) (changed want old)).state
     → IsPulsed want old.state new
-missed_pulsed true want old new below limit live is =
-    inr (inl (ap (λ c. c.stuck) is ∙ live, ap (λ c. c.value) is, ap (λ c. c.misses) is, rw (ap (λ c. c.misses) is) (omega (arith, ltb-true _ _ below))))
-missed_pulsed false want old new below limit live is = changed_pulsed (nat_le old.left 1) want old new is
+missed_pulsed true want old new live is = inr (inl (ap (λ c. c.stuck) is ∙ live, ap (λ c. c.value) is, ap (λ c. c.misses) is))
+missed_pulsed false want old new live is = changed_pulsed (nat_le old.left 1) want old new is
 
-live_pulsed : (stuck want : Bool) (old : SeededCell) (new : CellState) → old.state.stuck ≡ stuck → stuck ≡ false → old.limit ≤ 7
+live_pulsed : (stuck want : Bool) (old : SeededCell) (new : CellState) → old.state.stuck ≡ stuck → stuck ≡ false
     → new ≡ (pulsed want old).state → IsPulsed want old.state new
-live_pulsed stuck want old new e live limit is =
-    missed_pulsed (nat_lt old.state.misses old.limit) want old new refl limit (e ∙ live)
+live_pulsed stuck want old new e live is =
+    missed_pulsed (nat_lt old.state.misses old.limit) want old new (e ∙ live)
     (is ∙ ap (λ b. (cond b old (cond (nat_lt old.state.misses old.limit) (record old { state = record old.state { misses = old.state.misses + 1 } }) (changed want old))).state) (e ∙ live))
 
 either_way : (b : Bool) (x y : SeededCell) → x.state ≡ y.state → (cond b x y).state ≡ y.state
@@ -70,23 +69,25 @@ stuck_stays mask want tearing old new follows n h =
     ∙ either_way (cell mask n) (seeded tearing (cell want) n (seeded_cell old n)) (seeded_cell old n)
     (ap (λ c. c.state) (stuck_seeded tearing (cell want) n (seeded_cell old n) h))
 
-pub seeded_device_step : {B M : ℕ} (mask want : Cells B M) (old new : LifeLine B M)
+pub seeded_device_step : {B M : ℕ} (bounds : CellBounds) (mask want : Cells B M) (old new : LifeLine B M) → bounds.misses ≤ 7
     → Follows (cell mask) (seeded false (cell want)) (seeded_cell old) (seeded_cell new)
-    → new.line.pulses ≡ counted old.line.pulses → DeviceStep mask want (plane_state old.line) (plane_state new.line)
-seeded_device_step mask want old new follows pulses =
-    device_step mask want (plane_state old.line) (plane_state new.line)
+    → ((n : ℕ) → cell mask n ≡ true → KeepsTo bounds (plane_state new.line) n)
+    → new.line.pulses ≡ counted old.line.pulses → DeviceStep bounds mask want (plane_state old.line) (plane_state new.line)
+seeded_device_step bounds mask want old new few follows keeps pulses =
+    device_step bounds mask want (plane_state old.line) (plane_state new.line) few
     (unmasked_stays mask want false old new follows) (stuck_stays mask want false old new follows)
     (λ n masked live.
-    live_pulsed false (cell want n) (seeded_cell old n) _ live refl (digit_few old.limits n)
+    live_pulsed false (cell want n) (seeded_cell old n) _ live refl
     (ap (λ c. c.state) (follows n ∙ ap (λ b. cond b (seeded false (cell want) n (seeded_cell old n)) (seeded_cell old n)) masked)))
-    pulses
+    keeps pulses
 
-pub seeded_torn_step : {B M : ℕ} (mask want : Cells B M) (old new : LifeLine B M)
+pub seeded_torn_step : {B M : ℕ} (bounds : CellBounds) (mask want : Cells B M) (old new : LifeLine B M) → bounds.misses ≤ 7
     → Follows (cell mask) (seeded true (cell want)) (seeded_cell old) (seeded_cell new)
-    → new.line.pulses ≡ counted old.line.pulses → TornStep mask (plane_state old.line) (plane_state new.line)
-seeded_torn_step mask want old new follows pulses =
-    torn_step mask (plane_state old.line) (plane_state new.line)
-    (unmasked_stays mask want true old new follows) (stuck_stays mask want true old new follows) (digit_few new.line.misses) pulses
+    → ((n : ℕ) → cell mask n ≡ true → KeepsTo bounds (plane_state new.line) n)
+    → new.line.pulses ≡ counted old.line.pulses → TornStep bounds mask (plane_state old.line) (plane_state new.line)
+seeded_torn_step bounds mask want old new few follows keeps pulses =
+    torn_step bounds mask (plane_state old.line) (plane_state new.line) few
+    (unmasked_stays mask want true old new follows) (stuck_stays mask want true old new follows) keeps pulses
 
 pub drawn_is_blank : {B M : ℕ} (wear : Wear) (number : ℕ) (row : LifeLine B M) → IsDrawn wear number row → IsBlank (plane_state row.line)
 drawn_is_blank {B} {M} wear number row drawn =

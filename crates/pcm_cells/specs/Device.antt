@@ -18,14 +18,20 @@ pub record LineState (B M : ℕ) : Type 0 where
   pub misses : ℕ → ℕ
   pub pulses : ℕ
 
--- a whole array: its lines, how many there are, how often it was torn, the log of its senses, where it is told, and the wear that it was
--- last powered up with, of which there is none before
+-- what the cells of an array keep to: none sticks before its line was pulsed or torn so often, and none misses more often before a change
+pub record CellBounds : Type 0 where
+  pub endures : ℕ
+  pub misses : ℕ
+
+-- a whole array: its lines, how many there are, how often it was torn, the log of its senses, where it is told, the wear that it was
+-- last powered up with, of which there is none before, and what its cells keep to
 pub record ArrayState (B M : ℕ) : Type 0 where
   pub line : ℕ → LineState B M
   pub lines : ℕ
   pub tears : ℕ
   pub log : Option (List (Sense B M))
   pub wear : Option Wear
+  pub bounds : CellBounds
 
 -- what a sense of a line shows, as a log keeps it
 abbrev pub sense_of : {B M : ℕ} → ℕ → ℕ → LineState B M → Sense B M
@@ -41,37 +47,44 @@ pub record IsCellKept {B M : ℕ} (old new : LineState B M) (n : ℕ) : Type 0 w
   pub stuck : new.stuck n ≡ old.stuck n
   pub misses : new.misses n ≡ old.misses n
 
--- what a pulse may make of a live masked cell: it takes the wanted value, it misses, or it sticks
-abbrev pub CellPulsed : {B M : ℕ} → Cells B M → LineState B M → LineState B M → ℕ → Type 0
-CellPulsed want old new n =
+-- a live cell sticks only when its line was pulsed or torn so often as the cells of the array endure
+abbrev pub CellStuck : {B M : ℕ} → CellBounds → LineState B M → ℕ → Type 0
+CellStuck bounds new n = (new.stuck n ≡ true) × (bounds.endures ≤ new.pulses)
+
+-- what a pulse may make of a live masked cell: it takes the wanted value, it misses, no more often than cells do, or it sticks
+abbrev pub CellPulsed : {B M : ℕ} → CellBounds → Cells B M → LineState B M → LineState B M → ℕ → Type 0
+CellPulsed bounds want old new n =
     ((new.stuck n ≡ false) × (cell new.held n ≡ cell want n) × (new.misses n ≡ 0))
-    ⊎ (((new.stuck n ≡ false) × (cell new.held n ≡ cell old.held n) × (new.misses n ≡ old.misses n + 1) × (new.misses n ≤ 7))
-    ⊎ (new.stuck n ≡ true))
+    ⊎ (((new.stuck n ≡ false) × (cell new.held n ≡ cell old.held n) × (new.misses n ≡ old.misses n + 1) × (new.misses n ≤ bounds.misses))
+    ⊎ CellStuck bounds new n)
 
--- what a tear may make of a live masked cell: any value, live with at most seven misses, or stuck
-abbrev pub CellTorn : {B M : ℕ} → LineState B M → ℕ → Type 0
-CellTorn new n = ((new.stuck n ≡ false) × (new.misses n ≤ 7)) ⊎ (new.stuck n ≡ true)
+-- what a tear may make of a live masked cell: any value, live with at most as many misses as cells have, or stuck
+abbrev pub CellTorn : {B M : ℕ} → CellBounds → LineState B M → ℕ → Type 0
+CellTorn bounds new n = ((new.stuck n ≡ false) × (new.misses n ≤ bounds.misses)) ⊎ CellStuck bounds new n
 
--- a line after a pulse
-pub record DeviceStep {B M : ℕ} (mask want : Cells B M) (old new : LineState B M) : Type 0 where
+-- a line after a pulse; no array's cells miss more than seven times before a change
+pub record DeviceStep {B M : ℕ} (bounds : CellBounds) (mask want : Cells B M) (old new : LineState B M) : Type 0 where
+  pub few : bounds.misses ≤ 7
   pub unmasked : (n : ℕ) → cell mask n ≡ false → IsCellKept old new n
   pub stuck : (n : ℕ) → old.stuck n ≡ true → (new.stuck n ≡ true) × (cell new.held n ≡ cell old.held n)
-  pub live : (n : ℕ) → cell mask n ≡ true → old.stuck n ≡ false → CellPulsed want old new n
+  pub live : (n : ℕ) → cell mask n ≡ true → old.stuck n ≡ false → CellPulsed bounds want old new n
   pub pulses : new.pulses ≡ counted old.pulses
 
--- a line after a tear
-pub record TornStep {B M : ℕ} (mask : Cells B M) (old new : LineState B M) : Type 0 where
+-- a line after a tear; no array's cells miss more than seven times before a change
+pub record TornStep {B M : ℕ} (bounds : CellBounds) (mask : Cells B M) (old new : LineState B M) : Type 0 where
+  pub few : bounds.misses ≤ 7
   pub unmasked : (n : ℕ) → cell mask n ≡ false → IsCellKept old new n
   pub stuck : (n : ℕ) → old.stuck n ≡ true → (new.stuck n ≡ true) × (cell new.held n ≡ cell old.held n)
-  pub live : (n : ℕ) → cell mask n ≡ true → old.stuck n ≡ false → CellTorn new n
+  pub live : (n : ℕ) → cell mask n ≡ true → old.stuck n ≡ false → CellTorn bounds new n
   pub pulses : new.pulses ≡ counted old.pulses
 
--- only the line with this number may have changed; the array has as many lines, and its log and its wear stand
+-- only the line with this number may have changed; the array has as many lines, and its log, its wear and what its cells keep to stand
 pub record ChangesOnly {B M : ℕ} (number : ℕ) (old new : ArrayState B M) : Type 0 where
   pub others : (n : ℕ) → n ≢ number → new.line n ≡ old.line n
   pub lines : new.lines ≡ old.lines
   pub log : new.log ≡ old.log
   pub wear : new.wear ≡ old.wear
+  pub bounds : new.bounds ≡ old.bounds
 
 -- a sense changes no line, and a log that is told was told before and has gained this sense
 pub record Senses {B M : ℕ} (sensed : Sense B M) (old new : ArrayState B M) : Type 0 where
@@ -80,6 +93,7 @@ pub record Senses {B M : ℕ} (sensed : Sense B M) (old new : ArrayState B M) : 
   pub tears : new.tears ≡ old.tears
   pub log : (after : List (Sense B M)) → new.log ≡ Some after → (before : List (Sense B M)) × (old.log ≡ Some before) × (after ≡ before ++ sensed ∷ [])
   pub wear : new.wear ≡ old.wear
+  pub bounds : new.bounds ≡ old.bounds
 
 -- a line with every cell 0, none stuck, and no miss and no pulse
 pub record IsBlank {B M : ℕ} (line : LineState B M) : Type 0 where
@@ -88,10 +102,11 @@ pub record IsBlank {B M : ℕ} (line : LineState B M) : Type 0 where
   pub misses : (n : ℕ) → line.misses n ≡ 0
   pub pulses : line.pulses ≡ 0
 
--- an array that was just powered up with this wear
+-- an array that was just powered up with this wear; its cells miss at most seven times before a change
 pub record IsFresh {B M : ℕ} (lines : ℕ) (given : Wear) (array : ArrayState B M) : Type 0 where
   pub count : array.lines ≡ lines
   pub blank : (l : ℕ) → l < lines → IsBlank (array.line l)
   pub tears : array.tears ≡ 0
   pub log : (senses : List (Sense B M)) → array.log ≡ Some senses → senses ≡ []
   pub wear : array.wear ≡ Some given
+  pub few : array.bounds.misses ≤ 7

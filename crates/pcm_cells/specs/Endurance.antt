@@ -1,9 +1,9 @@
--- Cells that stick only after many pulses of their line.
-use Rattle.std.specs.Prelude.{ℕ, ◌+◌, ◌*◌, ◌<◌, ◌≤◌, List, length, slice_index_or, IsTrue, IsFalse, Option, None, Some}
+-- Cells that stick only after many pulses of their line, and miss only so often.
+use Rattle.std.specs.Prelude.{ℕ, ◌+◌, ◌*◌, ◌^◌, ◌<◌, ◌≤◌, List, length, slice_index_or, IsTrue, IsFalse, Option}
 use Rattle.pcm_cells.specs.declared.array.Wear.{Wear}
 use Rattle.pcm_cells.specs.declared.seeded.SeededCell.{SeededCell}
-use Rattle.pcm_cells.specs.Device.{ArrayState}
-use Rattle.pcm_cells.specs.Seeded.{LifeLine, seeded_cell, lifeless}
+use Rattle.pcm_cells.specs.Device.{ArrayState, CellBounds}
+use Rattle.pcm_cells.specs.Seeded.{LifeLine, bounds_of, seeded_cell, lifeless}
 
 -- a cell is stuck only if its line was pulsed or torn at least so often
 abbrev pub EnduresAtLeast : {B M : ℕ} → ℕ → ArrayState B M → Type 0
@@ -12,16 +12,23 @@ EnduresAtLeast {B} {M} lo array =
 
 -- the least number of changes after which a cell sticks; before the array is powered up it is 0
 abbrev pub least_endurance : Option Wear → ℕ
-least_endurance None = 0
-least_endurance (Some wear) = wear.lo
+least_endurance wear = (bounds_of wear).endures
 
--- a cell whose line had so many pulses: a live one has enough changes left, and a stuck one's line had enough
-pub record IsSpared (lo pulses : ℕ) (cell : SeededCell) : Type 0 where
-  pub live : IsFalse cell.state.stuck → lo ≤ cell.left + pulses
-  pub stuck : IsTrue cell.state.stuck → lo ≤ pulses
+-- a cell whose line had so many pulses: a live one has enough changes left, and a stuck one's line had enough; it has missed no more often
+-- than its limit, which is none above the bound
+pub record IsBounded (bounds : CellBounds) (pulses : ℕ) (cell : SeededCell) : Type 0 where
+  pub live : IsFalse cell.state.stuck → bounds.endures ≤ cell.left + pulses
+  pub stuck : IsTrue cell.state.stuck → bounds.endures ≤ pulses
+  pub missed : cell.state.misses ≤ cell.limit
+  pub limit : cell.limit ≤ bounds.misses
 
 -- each cell of each line is
-unfoldable pub Spares : {B M : ℕ} → ℕ → List (LifeLine B M) → Type 0
-Spares {B} {M} lo lines =
+unfoldable pub AreBounded : {B M : ℕ} → CellBounds → List (LifeLine B M) → Type 0
+AreBounded {B} {M} bounds lines =
     (line n : ℕ) → line < length lines → n < 8 * (B + M)
-    → IsSpared lo (slice_index_or lines line (lifeless B M)).line.pulses (seeded_cell (slice_index_or lines line (lifeless B M)) n)
+    → IsBounded bounds (slice_index_or lines line (lifeless B M)).line.pulses (seeded_cell (slice_index_or lines line (lifeless B M)) n)
+
+-- bounds that an array may have: its greatest count reaches the one, and the other is at most seven
+pub record IsInRange (bounds : CellBounds) : Type 0 where
+  pub endures : bounds.endures < 2 ^ 64
+  pub misses : bounds.misses ≤ 7

@@ -8,7 +8,7 @@ use Rattle.pcm_cells.specs.declared.script.Script.{Script}
 use Rattle.pcm_cells.specs.declared.script.Act.{Act}
 use Rattle.pcm_cells.specs.declared.script.Act.TheVariants.{Miss, Stick}
 use Rattle.pcm_cells.specs.Rows.{cell}
-use Rattle.pcm_cells.specs.Device.{ArrayState, counted}
+use Rattle.pcm_cells.specs.Device.{ArrayState, CellBounds, counted}
 use Rattle.pcm_cells.specs.Follows.{Follows}
 use Rattle.pcm_cells.specs.Cell.{CellLine, line_state, cell_state, blank_line}
 
@@ -70,6 +70,10 @@ pub record ScriptedArray (B M : ℕ) : Type 0 where
 abbrev pub scripted_line : {B M : ℕ} → ScriptedArray B M → ℕ → ScriptedLine B M
 scripted_line {B} {M} array number = slice_index_or array.lines number (blank_scripted B M)
 
+-- what its cells keep to: they may stick at once
+abbrev pub scripted_bounds : CellBounds
+scripted_bounds = record { endures = 0; misses = 7 }
+
 -- what a controller may know of the array; it tells no log
 abbrev pub scripted_state : {B M : ℕ} → ScriptedArray B M → ArrayState B M
 scripted_state array = record {
@@ -78,6 +82,7 @@ scripted_state array = record {
   tears = array.tears;
   log = None;
   wear = array.wear;
+  bounds = scripted_bounds;
 }
 
 -- a pulse or a tear of the line: each masked cell takes its next turn, the pulse is counted, and all else stays

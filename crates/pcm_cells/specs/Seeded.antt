@@ -1,12 +1,12 @@
 -- The array whose cells wear out as a seed says.
-use Rattle.std.specs.Prelude.{ℕ, ◌≡◌, ◌≢◌, ◌+◌, ◌≤◌, ◌-◌, ◌*◌, ◌/◌, ◌%◌, ◌^◌, ◌<◌, min, Bool, true, false, ◌&&◌, nat_eq, nat_lt, nat_le, bit_xor, if◌then◌else◌, List, [], length, map, slice_index, slice_index_or, Option, None}
+use Rattle.std.specs.Prelude.{ℕ, ◌≡◌, ◌≢◌, ◌+◌, ◌≤◌, ◌-◌, ◌*◌, ◌/◌, ◌%◌, ◌^◌, ◌<◌, min, Bool, true, false, ◌&&◌, nat_eq, nat_lt, nat_le, bit_xor, if◌then◌else◌, List, [], length, map, slice_index, slice_index_or, Option, None, Some}
 use Rattle.std.specs.Int.{bit_at}
 use Rattle.std.specs.List.{range_with_len}
 use Rattle.pcm_cells.specs.declared.row.Cells.{Cells}
 use Rattle.pcm_cells.specs.declared.array.Wear.{Wear}
 use Rattle.pcm_cells.specs.declared.seeded.SeededCell.{SeededCell}
 use Rattle.pcm_cells.specs.Rows.{cell, zero_row}
-use Rattle.pcm_cells.specs.Device.{ArrayState, counted}
+use Rattle.pcm_cells.specs.Device.{ArrayState, CellBounds, counted}
 use Rattle.pcm_cells.specs.declared.digits.Digits.{Digits}
 use Rattle.pcm_cells.specs.declared.counts.Counts.{Counts}
 use Rattle.pcm_cells.specs.Counts.{count}
@@ -96,6 +96,11 @@ pub record SeededArray (B M : ℕ) : Type 0 where
 abbrev pub seeded_line : {B M : ℕ} → SeededArray B M → ℕ → LifeLine B M
 seeded_line {B} {M} array number = slice_index_or array.lines number (lifeless B M)
 
+-- what the cells of an array with this wear keep to; before it is powered up it has no cell
+abbrev pub bounds_of : Option Wear → CellBounds
+bounds_of None = record { endures = 0; misses = 7 }
+bounds_of (Some wear) = record { endures = wear.lo; misses = wear.misses }
+
 -- what a controller may know of the array; it tells no log
 abbrev pub seeded_state : {B M : ℕ} → SeededArray B M → ArrayState B M
 seeded_state array = record {
@@ -104,6 +109,7 @@ seeded_state array = record {
   tears = array.tears;
   log = None;
   wear = array.wear;
+  bounds = bounds_of array.wear;
 }
 
 -- a pulse or a tear of the line: each masked cell wears as its life says, the pulse is counted, and all else stays

@@ -124,7 +124,7 @@ impl<A: CellArray<B, M> + Drop, const B: usize, const M: usize> CellArray<B, M>
         requires exists { line < (A.state self.old.inner).lines }
         requires lawful { IsPulse mask.now want.now ((A.state self.old.inner).line line).held }
         requires shape { IsShape B M }
-        ensures step { DeviceStep mask.now want.now ((A.state self.old.inner).line line) ((A.state self.new.inner).line line) }
+        ensures step { DeviceStep (A.state self.old.inner).bounds mask.now want.now ((A.state self.old.inner).line line) ((A.state self.new.inner).line line) }
         ensures others { ChangesOnly line (logged_state (A.state self.old.inner) self.old) (logged_state (A.state self.new.inner) self.new) }
         ensures tears { (A.state self.new.inner).tears ≡ (A.state self.old.inner).tears }
         ensures passed { ChangesOnly line (A.state self.old.inner) (A.state self.new.inner) }
@@ -137,7 +137,7 @@ impl<A: CellArray<B, M> + Drop, const B: usize, const M: usize> CellArray<B, M>
         requires exists { line < (A.state self.old.inner).lines }
         requires lawful { IsPulse mask.now want.now ((A.state self.old.inner).line line).held }
         requires shape { IsShape B M }
-        ensures step { TornStep mask.now ((A.state self.old.inner).line line) ((A.state self.new.inner).line line) }
+        ensures step { TornStep (A.state self.old.inner).bounds mask.now ((A.state self.old.inner).line line) ((A.state self.new.inner).line line) }
         ensures others { ChangesOnly line (logged_state (A.state self.old.inner) self.old) (logged_state (A.state self.new.inner) self.new) }
         ensures tears { (A.state self.new.inner).tears ≡ counted (A.state self.old.inner).tears }
         ensures passed { ChangesOnly line (A.state self.old.inner) (A.state self.new.inner) }

@@ -292,7 +292,7 @@ impl<const B: usize, const M: usize> CellArray<B, M> for ScriptArray<B, M> {
         requires exists { line < length self.old.lines }
         requires lawful { IsPulse mask.now want.now (scripted_line self.old line).line.held }
         requires shape { IsShape B M }
-        ensures step { DeviceStep mask.now want.now ((scripted_state self.old).line line) ((scripted_state self.new).line line) }
+        ensures step { DeviceStep (scripted_state self.old).bounds mask.now want.now ((scripted_state self.old).line line) ((scripted_state self.new).line line) }
         ensures others { ChangesOnly line (scripted_state self.old) (scripted_state self.new) }
         ensures tears { self.new.tears ≡ self.old.tears }
         ensures turn { Turns line false mask.now want.now self.old self.new }
@@ -304,7 +304,7 @@ impl<const B: usize, const M: usize> CellArray<B, M> for ScriptArray<B, M> {
         requires exists { line < length self.old.lines }
         requires lawful { IsPulse mask.now want.now (scripted_line self.old line).line.held }
         requires shape { IsShape B M }
-        ensures step { TornStep mask.now ((scripted_state self.old).line line) ((scripted_state self.new).line line) }
+        ensures step { TornStep (scripted_state self.old).bounds mask.now ((scripted_state self.old).line line) ((scripted_state self.new).line line) }
         ensures others { ChangesOnly line (scripted_state self.old) (scripted_state self.new) }
         ensures tears { self.new.tears ≡ counted self.old.tears }
         ensures turn { Turns line true mask.now want.now self.old self.new }

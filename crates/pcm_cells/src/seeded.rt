@@ -207,7 +207,7 @@ impl<const B: usize, const M: usize> SeededLine<B, M> {
 }
 
 ghost use Rattle.std.specs.Prelude.{[]};
-ghost use Rattle.pcm_cells.specs.Seeded.{seeded_line, seeded_state, Wears};
+ghost use Rattle.pcm_cells.specs.Seeded.{bounds_of, seeded_line, seeded_state, Wears};
 
 /// An array whose cells miss and wear out as the words of the generator xoshiro256++ say, which `Wear::seed` and the line's number seed.
 /// A tear reaches the masked cells of even number alone. It tells no log. Contracts see it as a `SeededArray`.
@@ -221,21 +221,20 @@ pub struct MemArray<const B: usize, const M: usize> {
 }
 
 impl<const B: usize, const M: usize> Model for MemArray<B, M> {
-    ghost use Rattle.std.specs.Prelude.{◌^◌, ◌<◌};
-    ghost use Rattle.pcm_cells.specs.Endurance.{Spares, least_endurance};
+    ghost use Rattle.pcm_cells.specs.Endurance.{AreBounded, IsInRange};
     ghost use Rattle.pcm_cells.specs.Paging.{seeded_lines};
-    ghost use Rattle.pcm_cells.specs.Seeded.{SeededArray};
+    ghost use Rattle.pcm_cells.specs.Seeded.{SeededArray, bounds_of};
     ghost use Rattle.pcm_cells.specs.Shape.{IsShape, IsWhole};
 
     ghost Value = { SeededArray B M };
 
     ghost view = { λ a. record { lines = seeded_lines a.lines; tears = a.tears; wear = a.wear } };
 
-    ghost invariant = { λ a. IsShape B M × IsWhole B M × (least_endurance a.wear < 2 ^ 64) × Spares (least_endurance a.wear) (seeded_lines a.lines) };
+    ghost invariant = { λ a. IsShape B M × IsWhole B M × IsInRange (bounds_of a.wear) × AreBounded (bounds_of a.wear) (seeded_lines a.lines) };
 }
 
 impl<const B: usize, const M: usize> MemArray<B, M> {
-    ghost use Rattle.pcm_cells.specs.Endurance.{EnduresAtLeast, least_endurance};
+    ghost use Rattle.pcm_cells.specs.Endurance.{AreBounded, EnduresAtLeast, IsInRange, least_endurance};
 
     /// An array without lines, whose rows are to be whole blocks of 64 cells.
     pub fn new() -> MemArray<B, M>
@@ -269,6 +268,8 @@ impl<const B: usize, const M: usize> MemArray<B, M> {
         ensures wears { Wears line tearing mask.now want.now self.old self.new }
         ensures tears { self.new.tears ≡ self.old.tears }
         ensures wear { self.new.wear ≡ self.old.wear }
+        ensures range { IsInRange (bounds_of self.old.wear) }
+        ensures bounded { AreBounded (bounds_of self.old.wear) self.new.lines }
     {
         let Some(lines) = &mut self.lines else {
             unreachable!()
@@ -321,7 +322,7 @@ impl<const B: usize, const M: usize> CellArray<B, M> for MemArray<B, M> {
         requires exists { line < length self.old.lines }
         requires lawful { IsPulse mask.now want.now (seeded_line self.old line).line.held }
         requires shape { IsShape B M }
-        ensures step { DeviceStep mask.now want.now ((seeded_state self.old).line line) ((seeded_state self.new).line line) }
+        ensures step { DeviceStep (seeded_state self.old).bounds mask.now want.now ((seeded_state self.old).line line) ((seeded_state self.new).line line) }
         ensures others { ChangesOnly line (seeded_state self.old) (seeded_state self.new) }
         ensures tears { self.new.tears ≡ self.old.tears }
         ensures wears { Wears line false mask.now want.now self.old self.new }
@@ -333,7 +334,7 @@ impl<const B: usize, const M: usize> CellArray<B, M> for MemArray<B, M> {
         requires exists { line < length self.old.lines }
         requires lawful { IsPulse mask.now want.now (seeded_line self.old line).line.held }
         requires shape { IsShape B M }
-        ensures step { TornStep mask.now ((seeded_state self.old).line line) ((seeded_state self.new).line line) }
+        ensures step { TornStep (seeded_state self.old).bounds mask.now ((seeded_state self.old).line line) ((seeded_state self.new).line line) }
         ensures others { ChangesOnly line (seeded_state self.old) (seeded_state self.new) }
         ensures tears { self.new.tears ≡ counted self.old.tears }
         ensures wears { Wears line true mask.now want.now self.old self.new }

@@ -5,20 +5,9 @@ use Rattle.std.specs.Prelude.{slice_index_or}
 use Rattle.pcm_cells.specs.Rows.{bit_of}
 use Rattle.ecp_line.specs.Layout.{number}
 use Rattle.ecp_line.specs.Reading.{bytes_from}
-use Rattle.ecp_line.proofs.Bytes.{bytes-from}
+use Rattle.ecp_line.proofs.Bytes.{bytes-from, length-bytes_from, get_or-bytes_from}
 use Rattle.pcm_image.specs.Spelling.{packed}
 use Rattle.pcm_image.specs.Reading.{given_from}
-
-pub length-bytes_from : (bit : ℕ → Bool) (k n : ℕ) → length (bytes_from bit k n) ≡ n
-length-bytes_from bit k zero = refl
-length-bytes_from bit k (suc n) = let t = length-bytes_from bit (k + 1) n in omega arith
-
-get_or-bytes_from : (bit : ℕ → Bool) (k n i : ℕ) → i < n → get_or (bytes_from bit k n) i 0 ≡ number bit (8 * (k + i)) 8
-get_or-bytes_from bit k zero i h = absurd (omega arith)
-get_or-bytes_from bit k (suc n) zero h = let e : 8 * k ≡ 8 * (k + 0) = omega arith in ap (λ (a : ℕ). number bit a 8) e
-get_or-bytes_from bit k (suc n) (suc i) h =
-    let e : 8 * (k + 1 + i) ≡ 8 * (k + suc i) = omega arith in
-    get_or-bytes_from bit (k + 1) n i (omega arith) ∙ ap (λ (a : ℕ). number bit a 8) e
 
 digit : (v : ℕ) (b : Bool) → v ≡ cond b 1 0 → eqb v 1 ≡ b
 digit v true e = rw e refl

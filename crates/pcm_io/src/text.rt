@@ -1,5 +1,6 @@
 // A text in memory that was reserved before.
-ghost use Rattle.std.specs.Prelude.{◌≡◌, ◌+◌, ◌≤◌, length, decimal, IfOk};
+ghost use Rattle.std.specs.Prelude.{◌≡◌, ◌+◌, ◌*◌, ◌≤◌, length, decimal, IfOk};
+ghost use Rattle.hex.specs.Hex.{encode_lower};
 ghost use Rattle.pcm_io.specs.Reserved.{reserved, room_in, appended};
 
 use itoa::Buffer;
@@ -15,6 +16,7 @@ pub struct Text {
 
 impl Model for Text {
     ghost use Rattle.std.specs.Prelude.{◌≤◌, length, vec_capacity};
+    ghost use Rattle.hex.specs.Hex.{encode_lower};
     ghost use Rattle.pcm_io.specs.Reserved.{Reserved};
 
     ghost Value = { Reserved };
@@ -60,6 +62,20 @@ impl Text {
         ensures room { room_in self.new + length (decimal number) ≡ room_in self.old }
     {
         self.push(Buffer::new().format(number).as_bytes());
+    }
+
+    /// Puts two lower-case hexadecimal digits for each byte at the end.
+    pub fn push_hex<const B: usize>(&mut self, bytes: &[u8; B])
+        requires size { B ≤ 128 }
+        requires room { 2 * B ≤ room_in self.old }
+        ensures after { self.new ≡ appended self.old (encode_lower bytes.now) }
+        ensures room { room_in self.new + 2 * B ≡ room_in self.old }
+    {
+        let mut digits = [0; 256];
+        let Ok(()) = hex::encode_to_slice(bytes.as_slice(), &mut digits[..2 * B]) else {
+            unreachable!()
+        };
+        self.push(&digits[..2 * B]);
     }
 
     /// The bytes so far, in order.

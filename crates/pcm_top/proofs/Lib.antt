@@ -10,6 +10,5 @@ mod Wearing
 mod Saving
 mod Shown
 mod DrawnRuns
-mod Sizes
 mod Making
 mod Completing

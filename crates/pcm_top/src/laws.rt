@@ -1,13 +1,8 @@
-//! The laws of the program. A law is what a function here ensures; the functions do nothing when they run, but for the one that
-//! tells a number.
-ghost use Rattle.std.specs.Prelude.{◌≡◌};
-ghost use Rattle.pcm_cells.specs.Endurance.{least_endurance};
-ghost use Rattle.pcm_cells.specs.Seeded.{seeded_state};
-ghost use Rattle.pcm_top.specs.Lasting.{LastingLaw, LastingTraceLaw, TracesLastLaw};
+//! The laws of the program. A law is what a function here ensures; the functions do nothing when they run.
+ghost use Rattle.pcm_top.specs.Lasting.{LastingLaw, LastingTraceLaw, SeededLastingLaw, SeededTraceLaw};
 ghost use Rattle.pcm_top.specs.Laws.{CompletenessLaw, DrawnLaw, PrintableLaw};
 ghost use Rattle.pcm_top.specs.ShownRuns.{ShownLaw};
 
-use pcm_cells::MemArray;
 use run_laws::{
     array_lines_are_few, array_lines_have_one_role, lasting_traces_live_on, no_row_falls_short,
     places_are_array_lines, reads_are_not_lost_without_cuts, room_is_taken,
@@ -45,31 +40,30 @@ pub fn drawn_runs_are_runs_of_their_text()
     gen_text_is_short();
 }
 
-/// Of whichever trace: over cells that endure more pulses than the hot lines of a bank may bring any slot's own line, the bank
-/// wears out nowhere: no write is refused for want of a spare or left in the queue, each slot has its own line, and no spare is
-/// used. Start-Gap divides what one hot line brings by the lines of its region.
+/// Of whichever trace: over cells that endure more pulses than the hot lines of a bank may bring any slot's own line, k + 1 a line
+/// write where cells miss at most k times, the bank wears out nowhere: no write is refused for want of a spare or left in the queue,
+/// each slot has its own line, and no spare is used. Start-Gap divides what one hot line brings by the lines of its region.
 pub fn runs_last()
     ensures { LastingLaw }
 {
     runs_live_on();
 }
 
-/// So it is by the options and the trace alone: over an array that sticks no earlier than the wear of the options says, where the
-/// writes that the trace asks for bring no slot's own line of a bank as many pulses, whatever becomes of them.
+/// So it is where the writes that the trace asks for bring no slot's own line of a bank as many pulses, whatever becomes of them.
 pub fn traces_last()
-    ensures { TracesLastLaw }
+    ensures { LastingTraceLaw }
 {
     lasting_traces_live_on();
 }
 
-/// The least number of pulses of an array line with a stuck cell, by which every run lasts that is made over the seeded array,
-/// whatever was done to it.
-pub fn seeded_runs_last<const B: usize, const M: usize>(array: &MemArray<B, M>) -> u32
-    ensures least { result ≡ least_endurance (seeded_state array.now).wear }
-    ensures last { LastingTraceLaw (seeded_state array.now) }
+/// And of every run over the seeded array, as the program makes it, by its options alone: its cells endure as many changes as
+/// `--lo` says, and miss no more often than `--misses`; by the run's stores, or by what its trace asks for.
+pub fn seeded_runs_last()
+    ensures stored { SeededLastingLaw }
+    ensures asked { SeededTraceLaw }
 {
+    runs_last();
     traces_last();
-    array.endurance()
 }
 
 /// What `show` writes of the bytes that a run wrote as its image is each line's newest bytes.

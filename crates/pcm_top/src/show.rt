@@ -19,20 +19,6 @@ use pcm_io::{ReadAllFault, Sink, Source, Text, WriteFault, read_all, write_all};
 use run_text::{TEXT_ROOM, make_room};
 use std::alloc::Global;
 
-// Appends the bytes of a line, two lower-case digits each.
-fn push_hex<const B: usize>(bytes: &[u8; B], text: &mut Text)
-    requires size { B ≤ 128 }
-    requires room { 2 * B ≤ room_in text.old }
-    ensures after { text.new ≡ appended text.old (encode_lower bytes.now) }
-    ensures room { room_in text.new + 2 * B ≡ room_in text.old }
-{
-    let mut digits = [0; 256];
-    let Ok(()) = hex::encode_to_slice(bytes.as_slice(), &mut digits[..2 * B]) else {
-        unreachable!()
-    };
-    text.push(&digits[..2 * B]);
-}
-
 // Appends the row of a line.
 #[tactic(auto, using(pcm_io::proofs::DigitLemmas::five_digits))]
 fn print_row<const B: usize>(line: u32, bytes: &[u8; B], text: &mut Text)
@@ -43,7 +29,7 @@ fn print_row<const B: usize>(line: u32, bytes: &[u8; B], text: &mut Text)
 {
     text.push_number(line as u64);
     text.push(b",");
-    push_hex(bytes, text);
+    text.push_hex(bytes);
     text.push(b"\n");
 }
 

@@ -37,7 +37,7 @@ pub record IsRound {B M : ℕ} (line tick : ℕ) (before after : Prog B M) (old 
   pub mask : Cells B M
   pub between : ArrayState B M
   pub masked : (n : ℕ) → cell mask n ≡ is_wrong before n
-  pub pulse : DeviceStep mask before.want (old.line line) (between.line line)
+  pub pulse : DeviceStep old.bounds mask before.want (old.line line) (between.line line)
   pub others : ChangesOnly line old between
   pub tears : between.tears ≡ old.tears
   pub sense : Senses (record { line = line; tick = tick; cells = after.seen; pulses = (between.line line).pulses }) between new
@@ -49,6 +49,6 @@ pub record IsRound {B M : ℕ} (line tick : ℕ) (before after : Prog B M) (old 
 pub record IsTear {B M : ℕ} (line : ℕ) (prog : Prog B M) (old new : ArrayState B M) : Type 0 where
   pub mask : Cells B M
   pub masked : (n : ℕ) → cell mask n ≡ is_wrong prog n
-  pub tear : TornStep mask (old.line line) (new.line line)
+  pub tear : TornStep old.bounds mask (old.line line) (new.line line)
   pub others : ChangesOnly line old new
   pub tears : new.tears ≡ counted old.tears

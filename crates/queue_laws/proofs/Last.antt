@@ -4,9 +4,10 @@ use Rattle.std.proofs.lemmas.Bool.{eq-eqb}
 use Rattle.masked_bytes.specs.declared.entry.Entry.{Entry}
 use Rattle.masked_bytes.specs.Entries.{or_this, newest_row, candidate, laid_on, merged, has_row, RowsApart}
 use Rattle.bank_shape.specs.declared.BankShape.{BankShape}
-use Rattle.bank_model.specs.declared.answer.WriteAnswer.TheVariants as wrote
-use Rattle.bank_model.specs.declared.answer.Step.TheVariants as did
+use Rattle.bank_shape.specs.declared.answer.WriteAnswer.TheVariants as wrote
+use Rattle.bank_shape.specs.declared.answer.Step.TheVariants as did
 use Rattle.bank_model.specs.Events.{Event, Write, Read, Serve, Begin, Iterate, Cut, newest, RowsBelow}
+use Rattle.masked_bytes.proofs.Queueing.{candidate-newest}
 use Rattle.bank_model.specs.History.{begun, queue, due_after}
 use Rattle.bank_model.specs.Answers.{MayAll, head_busy_after}
 use Rattle.bank_laws.proofs.Answering.{newest_row-there}
@@ -15,17 +16,6 @@ use Rattle.bank_laws.proofs.Standing.{stand_apart}
 use Rattle.queue_laws.specs.EntryLaws.{last_write, LastWriteLaw}
 
 module _ {n : ℕ} where
-  -- the entry that a write is merged into is the newest of its line
-  candidate-newest : (busy : Bool) (es : List (Entry n)) (line old : ℕ) → candidate busy es line ≡ Some old → newest_row es line ≡ Some old
-  candidate-newest busy [] line old is = cc
-  candidate-newest busy (e ∷ es) line old is = by (newest_row es line) busy (e.line == line) is
-    where
-      by : (rest : Option ℕ) (busy at : Bool) → or_this rest (cond (not busy && at) (Some e.row) None) ≡ Some old
-          → or_this rest (cond at (Some e.row) None) ≡ Some old
-      by (Some row) busy at is = is
-      by None true at is = cc
-      by None false at is = is
-
   -- a new entry is the newest of its line
   newest-push : (es : List (Entry n)) (x : Entry n) (line : ℕ)
       → newest_row (es ++ x ∷ []) line ≡ cond (x.line == line) (Some x.row) (newest_row es line)

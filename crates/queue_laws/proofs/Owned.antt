@@ -1,68 +1,27 @@
 -- Each entry of a history's queue has the line of its own write, and the bytes of its own writes.
 use Rattle.std.proofs.Common.{◌≡◌, ℕ, zero, suc, ◌==◌, ◌||◌, ◌&&◌, inl, inr, not, Bool, true, false, List, [], ◌∷◌, ◌++◌, length, drop, slice_get, Option, Some, None, refl, sym, ap, subst, ◌∙◌, arith, cond, eqb, eqb-true}
+use Rattle.masked_bytes.proofs.Truth.{neither_first, neither_second, and_second}
 use Rattle.std.specs.Prelude.{is_none}
 use Rattle.std.proofs.lemmas.Bool.{eq-eqb, ne_eqb}
 use Rattle.std.proofs.lemmas.List.{length-replicate}
 use Rattle.masked_bytes.specs.declared.entry.Entry.{Entry}
 use Rattle.masked_bytes.specs.Masked.{laid, IsMasked}
 use Rattle.masked_bytes.specs.Entries.{Layer, stacked, laid_on, merged, completed_by, has_row, RowsApart}
-use Rattle.masked_bytes.proofs.Layering.{length-laid, length-joined, laid-all_given, laid-laid, gives_all-all_given, all_given-gives_all}
+use Rattle.masked_bytes.proofs.Layering.{length-laid, laid-again, laid-between, length-joined, laid-all_given, laid-laid, gives_all-all_given, all_given-gives_all}
 use Rattle.bank_shape.specs.declared.BankShape.{BankShape}
 use Rattle.bank_shape.specs.declared.Work.TheVariants.{Nothing}
-use Rattle.bank_model.specs.declared.answer.WriteAnswer.TheVariants as wrote
-use Rattle.bank_model.specs.declared.answer.Step.TheVariants as did
+use Rattle.bank_shape.specs.declared.answer.WriteAnswer.TheVariants as wrote
+use Rattle.bank_shape.specs.declared.answer.Step.TheVariants as did
 use Rattle.bank_model.specs.Events.{Event, Write, Read, Serve, Begin, Iterate, Cut, newest, RowsBelow}
+use Rattle.bank_model.proofs.Newest.{length-newest}
 use Rattle.bank_model.specs.History.{Awaited, begun, queue, waits, due_after, has_exhausted, in_progress}
 use Rattle.bank_model.specs.After.{is_ready, due_work}
 use Rattle.bank_model.specs.Answers.{MayAll}
-use Rattle.bank_laws.proofs.Entries.{or_left, or_right, differ_sym}
+use Rattle.bank_laws.proofs.Entries.{differ_sym}
 use Rattle.bank_laws.proofs.Lines.{Stands, stands-row, merges-stands}
-use Rattle.bank_laws.proofs.Pairs.{and_right, gives_all-joined}
+use Rattle.bank_laws.proofs.Pairs.{gives_all-joined}
 use Rattle.bank_laws.proofs.Standing.{stand_apart}
 use Rattle.queue_laws.specs.EntryLaws.{line_written, given_by, is_head_begun, Gives, EntryLineLaw, EntryBytesLaw}
-
--- Bytes
-
--- bytes that are laid over others change nothing of them when they are laid over them again
-laid-again : (bytes : List ℕ) (given : List Bool) (under : List ℕ) → laid bytes given (laid bytes given under) ≡ laid bytes given under
-laid-again [] given under = refl
-laid-again (b ∷ bytes) [] under = refl
-laid-again (b ∷ bytes) (g ∷ given) [] = refl
-laid-again (b ∷ bytes) (true ∷ given) (u ∷ under) = ap (λ xs. b ∷ xs) (laid-again bytes given under)
-laid-again (b ∷ bytes) (false ∷ given) (u ∷ under) = ap (λ xs. u ∷ xs) (laid-again bytes given under)
-
--- nor do those that changed nothing of them before
-laid-between : (bytes : List ℕ) (given : List Bool) (own : List ℕ) (also : List Bool) (under : List ℕ) → laid own also under ≡ under
-    → laid bytes given (laid own also (laid bytes given under)) ≡ laid bytes given under
-laid-between [] given own also under still = still
-laid-between (b ∷ bytes) [] own also under still = still
-laid-between (b ∷ bytes) (g ∷ given) [] also under still = laid-again (b ∷ bytes) (g ∷ given) under
-laid-between (b ∷ bytes) (g ∷ given) (o ∷ own) [] under still = laid-again (b ∷ bytes) (g ∷ given) under
-laid-between (b ∷ bytes) (g ∷ given) (o ∷ own) (a ∷ also) [] still = refl
-laid-between (b ∷ bytes) (true ∷ given) (o ∷ own) (a ∷ also) (u ∷ under) still =
-    let rest : laid own also under ≡ under = cc in
-    ap (λ xs. b ∷ xs) (laid-between bytes given own also under rest)
-laid-between (b ∷ bytes) (false ∷ given) (o ∷ own) (a ∷ also) (u ∷ under) still =
-    let first : cond a o u ≡ u = cc in
-    let rest : laid own also under ≡ under = cc in
-    ap (λ x. x ∷ laid bytes given (laid own also (laid bytes given under))) first ∙ ap (λ xs. u ∷ xs) (laid-between bytes given own also under rest)
-
-length-laid_if : (b : Bool) (bytes : List ℕ) (given : List Bool) (under : List ℕ) (n : ℕ) → length under ≡ n
-    → length (cond b (laid bytes given under) under) ≡ n
-length-laid_if true bytes given under n len = length-laid bytes given under ∙ len
-length-laid_if false bytes given under n len = len
-
-length-newest : {n : ℕ} (h : List (Event n)) (line : ℕ) → length (newest h line) ≡ n
-length-newest {n = n} [] line = length-replicate n 0
-length-newest {n = n} (Write row at bytes given wrote.Accepted ∷ h) line = length-laid_if (at == line) bytes given (newest h line) n (length-newest h line)
-length-newest {n = n} (Write row at bytes given (wrote.Merged old) ∷ h) line = length-laid_if (at == line) bytes given (newest h line) n (length-newest h line)
-length-newest (Write row at bytes given wrote.Full ∷ h) line = length-newest h line
-length-newest (Write row at bytes given wrote.Exhausted ∷ h) line = length-newest h line
-length-newest (Read row at answer ∷ h) line = length-newest h line
-length-newest (Serve answer ∷ h) line = length-newest h line
-length-newest (Begin answer ∷ h) line = length-newest h line
-length-newest (Iterate answer ∷ h) line = length-newest h line
-length-newest (Cut tearing ∷ h) line = length-newest h line
 
 -- Entries
 
@@ -168,20 +127,20 @@ module _ {n : ℕ} where
 
     each-aside : (es : List (Entry n)) → has_row es row ≡ false → EachOwn lines own es → EachOwn after next es
     each-aside [] none are = tt
-    each-aside (e ∷ es) none are = (own-aside false e (or_left (e.row == row) _ none) are.0, each-aside es (or_right (e.row == row) _ none) are.1)
+    each-aside (e ∷ es) none are = (own-aside false e (neither_first (e.row == row) _ none) are.0, each-aside es (neither_second (e.row == row) _ none) are.1)
 
     -- it is accepted
     each-pushed : (es : List (Entry n)) (x : Entry n) → has_row es row ≡ false → IsOwn (after x.row) (next x.row) false x
         → EachOwn lines own es → EachOwn after next (es ++ x ∷ [])
     each-pushed [] x none new are = (new, tt)
     each-pushed (e ∷ es) x none new are =
-        (own-aside false e (or_left (e.row == row) _ none) are.0, each-pushed es x (or_right (e.row == row) _ none) new are.1)
+        (own-aside false e (neither_first (e.row == row) _ none) are.0, each-pushed es x (neither_second (e.row == row) _ none) new are.1)
 
     own-pushed : (whole : Bool) (es : List (Entry n)) (x : Entry n) → has_row es row ≡ false → IsOwn (after x.row) (next x.row) false x
         → AreOwn lines own whole es → AreOwn after next whole (es ++ x ∷ [])
     own-pushed whole [] x none new are = (subst (λ (b : Bool). IsOwn (after x.row) (next x.row) b x) (sym are) new, tt)
     own-pushed whole (e ∷ es) x none new are =
-        (own-aside whole e (or_left (e.row == row) _ none) are.0, each-pushed es x (or_right (e.row == row) _ none) new are.1)
+        (own-aside whole e (neither_first (e.row == row) _ none) are.0, each-pushed es x (neither_second (e.row == row) _ none) new are.1)
 
     -- it is merged into an entry of its line
     module _ (old line : ℕ) (bytes : List ℕ) (given : List Bool) (m : IsMasked n bytes given)
@@ -206,14 +165,14 @@ module _ {n : ℕ} where
           → EachOwn after next (merged old row bytes given es)
       each-merged [] none apart s are = absurd s
       each-merged (e ∷ es) none apart s are =
-          by (eqb e.row old) refl (λ t. each-merged es (or_right (e.row == row) _ none) apart.1 t are.1)
+          by (eqb e.row old) refl (λ t. each-merged es (neither_second (e.row == row) _ none) apart.1 t are.1)
         where
           by : (b : Bool) → eqb e.row old ≡ b → (Stands es old line → EachOwn after next (merged old row bytes given es))
               → EachOwn after next (cond b (laid_on row bytes given e ∷ es) (e ∷ merged old row bytes given es))
           by true is go =
               let same : e.row ≡ old = eqb-true e.row old is in
-              (own-into false e same (its-line e es apart.0 same s) are.0, each-aside es (or_right (e.row == row) _ none) are.1)
-          by false is go = (own-aside false e (or_left (e.row == row) _ none) are.0, go (behind e es is s))
+              (own-into false e same (its-line e es apart.0 same s) are.0, each-aside es (neither_second (e.row == row) _ none) are.1)
+          by false is go = (own-aside false e (neither_first (e.row == row) _ none) are.0, go (behind e es is s))
 
       own-merged : (whole : Bool) (es : List (Entry n)) → has_row es row ≡ false → RowsApart es → Stands es old line
           → AreOwn lines own whole es → AreOwn after next whole (merged old row bytes given es)
@@ -225,9 +184,9 @@ module _ {n : ℕ} where
               → AreOwn after next whole (cond b (laid_on row bytes given e ∷ es) (e ∷ merged old row bytes given es))
           by true is =
               let same : e.row ≡ old = eqb-true e.row old is in
-              (own-into whole e same (its-line e es apart.0 same s) are.0, each-aside es (or_right (e.row == row) _ none) are.1)
+              (own-into whole e same (its-line e es apart.0 same s) are.0, each-aside es (neither_second (e.row == row) _ none) are.1)
           by false is =
-              (own-aside whole e (or_left (e.row == row) _ none) are.0, each-merged es (or_right (e.row == row) _ none) apart.1 (behind e es is s) are.1)
+              (own-aside whole e (neither_first (e.row == row) _ none) are.0, each-merged es (neither_second (e.row == row) _ none) apart.1 (behind e es is s) are.1)
 
 -- Histories
 
@@ -252,7 +211,7 @@ module _ {n : ℕ} (shape : BankShape) where
       → AreOwn (λ row. line_written row h) (λ row. given_by row h) (is_none (due_after shape h) || is_head_begun shape h) (begun (due_after shape h) (newest h) (queue shape h))
   begun-own h may are =
       own-begun (λ row. line_written row h) (λ row. given_by row h) (is_head_begun shape h) (due_after shape h) (newest h) (queue shape h) (length-newest h)
-      (ready-head h (has_exhausted h) (due_after shape h) (queue shape h) (waits shape h) (and_right (not (in_progress h)) _ may)) are
+      (ready-head h (has_exhausted h) (due_after shape h) (queue shape h) (waits shape h) (and_second (not (in_progress h)) _ may)) are
 
   pub queue-own : (most : ℕ) (h : List (Event n)) (bound : ℕ) → MayAll shape most h → RowsBelow h bound → QueueOwn h
   queue-own most [] bound may below = refl

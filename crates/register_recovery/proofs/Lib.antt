@@ -1,4 +1,4 @@
-mod Sizes
+pub mod Sizes
 pub mod Merging
 pub mod Sensing
 pub mod Restoring

@@ -43,7 +43,7 @@ module _ {n m : ℕ} where
 
   -- no line was sensed yet
   pub touches-none : (tick : ℕ) (array : ArrayState n m) → Touches tick [] None false array array
-  touches-none tick array = record { lines = refl; others = λ at off. refl; pulses = λ at on. cc; tears = refl; log = λ after is. (after, is, sym (append-nil after)); wear = refl }
+  touches-none tick array = record { lines = refl; others = λ at off. refl; pulses = λ at on. cc; sticks = λ at on. cc; tears = refl; log = λ after is. (after, is, sym (append-nil after)); wear = refl; bounds = refl }
 
   -- senses after senses
   pub touches-both : (tick : ℕ) (xs ys : List ℕ) (old mid new : ArrayState n m) → Touches tick xs None false old mid → Touches tick ys None false mid new
@@ -52,8 +52,10 @@ module _ {n m : ℕ} where
     lines = second.lines ∙ first.lines;
     others = λ at off. second.others at refl ∙ first.others at refl;
     pulses = λ at on. cc;
+    sticks = λ at on. cc;
     tears = second.tears ∙ first.tears;
     wear = second.wear ∙ first.wear;
+    bounds = second.bounds ∙ first.bounds;
     log = λ after is.
         let late = second.log after is in
         let early = first.log late.0 late.1 in (

@@ -34,14 +34,14 @@ same_le a = omega arith
 below : (a : ℕ) → a ≤ 4000 → a < 9223372036854775808
 below a h = omega arith
 
-cells_le : (b m : ℕ) → b ≤ 128 → m ≤ 16 → up 1 (up 1 (0 + (b * 1)) + (m * 1)) ≤ 146
+pub cells_le : (b m : ℕ) → b ≤ 128 → m ≤ 16 → up 1 (up 1 (0 + (b * 1)) + (m * 1)) ≤ 146
 cells_le b m hb hm = up1_le (up 1 (0 + (b * 1)) + (m * 1)) 145 (add_le (up 1 (0 + (b * 1))) 129 (m * 1) 16 (up1_le (0 + (b * 1)) 128 (base_le b 128 hb)) (array_le m 16 hm))
 
 -- the size of the program of a line, by that of its cells
-prog_le : (c : ℕ) → c ≤ 146 → up 1 (up 1 (up 1 (up 1 (0 + c) + c) + c) + 1) ≤ 500
+pub prog_le : (c : ℕ) → c ≤ 146 → up 1 (up 1 (up 1 (up 1 (0 + c) + c) + c) + 1) ≤ 500
 prog_le c h = omega arith
 
-writer_le : (p b : ℕ) → p ≤ 500 → b ≤ 128 → up 2 (up 2 (up 1 (up 1 (up 1 (0 + p) + (b * 1)) + 1) + 1) + 6) ≤ 700
+pub writer_le : (p b : ℕ) → p ≤ 500 → b ≤ 128 → up 2 (up 2 (up 1 (up 1 (up 1 (0 + p) + (b * 1)) + 1) + 1) + 6) ≤ 700
 writer_le p b h k = omega arith
 
 running_le : (w : ℕ) → w ≤ 700 → up 4 (max 1 (max (4 + up 4 (24 + w)) 1)) ≤ 800

@@ -136,20 +136,7 @@ fn push_bytes<const B: usize>(outcome: &Outcome<B>, text: &mut Text)
     ensures room { room_in text.old ≤ room_in text.new + 2 * B }
 {
     match outcome {
-        Outcome::Read { bytes, .. } | Outcome::Forwarded { bytes, .. } => push_hex(bytes, text),
+        Outcome::Read { bytes, .. } | Outcome::Forwarded { bytes, .. } => text.push_hex(bytes),
         _ => {}
     }
-}
-
-fn push_hex<const B: usize>(bytes: &[u8; B], text: &mut Text)
-    requires size { B ≤ 128 }
-    requires room { 2 * B ≤ room_in text.old }
-    ensures after { text.new ≡ appended text.old (encode_lower bytes.now) }
-    ensures room { room_in text.new + 2 * B ≡ room_in text.old }
-{
-    let mut digits = [0; 256];
-    let Ok(()) = hex::encode_to_slice(bytes.as_slice(), &mut digits[..2 * B]) else {
-        unreachable!()
-    };
-    text.push(&digits[..2 * B]);
 }

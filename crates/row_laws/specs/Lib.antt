@@ -3,7 +3,6 @@ pub mod Answers
 pub mod Queueing
 pub mod Room
 pub mod Rows
-pub mod Rules
 pub mod Serving
 pub mod Table
 pub mod Ticking

@@ -1,14 +1,9 @@
-//! The laws of a finished table of rows: what each row asked for, what it was answered, and when. They are definitions
-//! that know no queue and no array, each a test of one row between those before it and those after it, so that any table
-//! can be judged by them; `newest` and `is_served` compute what the module's main promise speaks of, plainly and slowly.
+//! What a row of a finished table is, and the rules that its rows keep: what each asked for, what it was answered, and when.
+//! The rules are definitions (in specs/) that know no queue and no array, each a test of one row between those before it and
+//! those after it, so that any table can be judged by them.
 #![tactic(auto)]
 
-ghost use Rattle.std.specs.Prelude.{◌≡◌, ◌++◌, [], ◌∷◌, reverse};
-ghost use Rattle.row_laws.specs.Answers as answers;
-ghost use Rattle.row_laws.specs.Rows as rows;
-ghost use Rattle.row_laws.specs.Serving as serving;
-
-use masked_bytes::layers::lay_over;
+use bank_shape::Policy;
 use result_rows::Outcome;
 
 /// What a row of a trace asks for.
@@ -39,69 +34,23 @@ pub struct Row<const B: usize> {
     pub outcome: Outcome<B>,
 }
 
-/// Whether an outcome is that of an accepted write: it was stored, merged into a later one, or still stands in the queue.
-pub fn accepts<const B: usize>(outcome: &Outcome<B>) -> bool
-    ensures { result ≡ answers.accepts outcome.now }
-{
-    match outcome {
-        Outcome::Stored { .. } | Outcome::Merged { .. } | Outcome::Queued { .. } => true,
-        _ => false,
-    }
-}
-
-/// Lays a row's bytes over those of a line, where the row is an accepted write of that line.
-fn lay_row<const B: usize>(row: &Row<B>, line: u32, bytes: &mut [u8; B])
-    ensures { bytes.new ≡ rows.lay_row line row.now bytes.old }
-{
-    if let Asks::Writes {
-        line: at,
-        bytes: newer,
-        given,
-    } = &row.asks
-        && *at == line
-        && accepts(&row.outcome)
-    {
-        lay_over(newer, given, bytes);
-    }
-}
-
-/// The newest bytes of a line before a row, these being the rows before it: each byte is that of the last accepted write of
-/// the line that gives it, or 0.
-pub fn newest<const B: usize>(before: &[Row<B>], line: u32) -> [u8; B]
-    ensures { result ≡ rows.newest (reverse before.now) line }
-{
-    let mut bytes = [0; B];
-    for row in before {
-        lay_row(row, line, &mut bytes);
-    }
-    bytes
-}
-
-/// Whether two lists of bytes are the same.
-fn same_bytes<const B: usize>(bytes: &[u8; B], other: &[u8; B]) -> bool
-    ensures { result ≡ serving.same_bytes bytes.now other.now }
-{
-    *bytes == *other
-}
-
-/// Whether a row behind these has an outcome of its own operation, with its own tick where the outcome is decided at its
-/// arrival, and with the newest bytes of its line where it is a read that is answered.
-pub fn is_served<const B: usize>(before: &[Row<B>], row: &Row<B>) -> bool
-    ensures { result ≡ serving.is_served (reverse before.now) row.now [] }
-{
-    match (&row.asks, &row.outcome) {
-        (Asks::Writes { .. }, Outcome::Stored { .. } | Outcome::Merged { .. }) => true,
-        (Asks::Writes { .. }, Outcome::Queued { tick }) => *tick == row.tick,
-        (Asks::Writes { .. }, Outcome::Full { tick } | Outcome::Worn { tick }) => *tick == row.tick,
-        (Asks::Reads { line }, Outcome::Read { bytes, .. }) => {
-            same_bytes(bytes, &newest(before, *line))
-        }
-        (Asks::Reads { line }, Outcome::Forwarded { tick, bytes }) => {
-            *tick == row.tick && same_bytes(bytes, &newest(before, *line))
-        }
-        (Asks::Reads { .. }, Outcome::Busy { tick }) => *tick == row.tick,
-        (Asks::Reads { .. }, Outcome::Lost { .. }) => true,
-        (Asks::Cuts, Outcome::Cut { tick }) => *tick == row.tick,
-        _ => false,
-    }
+/// How much a bank holds, and its times.
+#[derive(Clone, Copy, Debug)]
+pub struct Rules {
+    /// How many writes the queue holds.
+    pub writes: u32,
+    /// How many reads may wait.
+    pub reads: u32,
+    /// How many spare lines there are.
+    pub spares: u32,
+    /// How many ticks a serve or a begin lasts.
+    pub read: u32,
+    /// How many ticks an iteration of a line write lasts.
+    pub iter: u32,
+    /// How many iterations a line write takes at most.
+    pub steps: u32,
+    /// When a line write gives way to a read.
+    pub policy: Policy,
+    /// Whether each event of a bank brings a second line write, that of its registers.
+    pub twice: bool,
 }

@@ -39,35 +39,6 @@ pub enum Verdict {
     No { row: u32, rule: Rule },
 }
 
-/// When a line write gives way to a read.
-#[derive(Clone, Copy, Debug, PartialEq)]
-pub enum RulePolicy {
-    Pause,
-    Plain,
-    Cancel,
-}
-
-/// How much a bank holds, and its times.
-#[derive(Clone, Copy, Debug)]
-pub struct Rules {
-    /// How many writes the queue holds.
-    pub writes: u32,
-    /// How many reads may wait.
-    pub reads: u32,
-    /// How many spare lines there are.
-    pub spares: u32,
-    /// How many ticks a serve or a begin lasts.
-    pub read_ticks: u32,
-    /// How many ticks an iteration of a line write lasts.
-    pub iter_ticks: u32,
-    /// How many iterations a line write takes at most.
-    pub steps: u32,
-    /// When a line write gives way to a read.
-    pub policy: RulePolicy,
-    /// Whether each event of a bank brings a second line write, that of its registers.
-    pub twice: bool,
-}
-
 /// Yes comes exactly where each row keeps each rule, and No names the lowest row that doesn't and the first rule that it breaks.
 pub fn verdicts_are_exact()
     ensures { VerdictLaw }

@@ -14,7 +14,8 @@ use Rattle.row_laws.specs.Table.{KeepsRows}
 use Rattle.bank_shape.specs.declared.BankShape.{BankShape}
 use Rattle.bank_shape.specs.Shape.{lines_in}
 use Rattle.bank_model.specs.Adding.{senses_of}
-use Rattle.bank_model.specs.Timing.{Timed}
+use Rattle.bank_model.specs.Aging.{AreAged}
+use Rattle.bank_model.specs.Timing.{Timed, core}
 use Rattle.bank_model.specs.Lawful.{Lawful}
 use Rattle.bank_laws.specs.Laws.{IsSized, LeavesArray, KeepsPlaces, KeepsLog, is_worn_at}
 use Rattle.bank_laws.specs.Outcomes.{table_of}
@@ -55,7 +56,7 @@ pub record BankLaws : Type 0 where
   pub still : StillThereLaw
 
 -- each bank of a module has its sizes
-sized : (raw : RawShape) (bank : ℕ) → IsShape raw → IsSized (bank_shape (module_of raw) bank) (pacing_in raw)
+pub sized : (raw : RawShape) (bank : ℕ) → IsShape raw → IsSized (bank_shape (module_of raw) bank) (pacing_in raw)
 sized raw bank is = record {
   regions = is.some_regions;
   lines = omega (arith, is.some_lines);
@@ -88,6 +89,9 @@ module _ {n m e : ℕ} (laws : BankLaws) (raw : RawShape) (seed : ℕ) (h : ℕ 
     left : LeavesArray e (shape_of bank) (h bank) array
     left = leaves (h bank) (banks bank) array (done.leads bank exists) (shape_of bank) (pacing_in raw) (done.shapes bank exists) (done.paces bank exists) laws.leaving
 
+    aged : AreAged (shape_of bank) (core (h bank)) array
+    aged = subst (λ (s : BankShape). AreAged s (core (h bank)) array) (done.shapes bank exists) (done.leads bank exists).aged
+
     -- its rows are the table of its history
     table : table_in raw seed bank rows ≡ table_of (shape_of bank) (h bank)
     table =
@@ -107,7 +111,7 @@ module _ {n m e : ℕ} (laws : BankLaws) (raw : RawShape) (seed : ℕ) (h : ℕ 
     keeps_lines : KeepsLines (shape_of bank) array (rules_in e raw bank) (table_in raw seed bank rows)
     keeps_lines =
         subst (λ (rs : List (Row n)). KeepsLines (shape_of bank) array (rules_in e raw bank) rs) (sym table)
-        (laws.lines n m e (shape_of bank) (pacing_in raw) (h bank) array (sized raw bank is) lawful (done.idle bank exists) left)
+        (laws.lines n m e (shape_of bank) (pacing_in raw) (h bank) array (sized raw bank is) lawful (done.idle bank exists) left aged)
 
     keeps_log : (log : List (Sense n m)) → array.log ≡ Some log → KeepsLog e (shape_of bank) array (rules_in e raw bank) (table_in raw seed bank rows) log
     keeps_log log told =

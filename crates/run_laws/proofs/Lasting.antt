@@ -1,35 +1,31 @@
 -- The banks of a run live on.
-use Rattle.std.proofs.Common.{ℕ, ◌+◌, ◌*◌, ◌<◌, ◌≤◌, arith}
+use Rattle.std.proofs.Common.{ℕ, ◌*◌, ◌≤◌, arith}
 use Rattle.std.proofs.Math.Nat.{mul-le-mul_left}
-use Rattle.module_shape.specs.Addresses.{module_of, bank_shape, array_lines_of}
+use Rattle.module_shape.specs.Addresses.{module_of, bank_shape}
 use Rattle.bank_laws.specs.Laws.{is_worn_at}
 use Rattle.bank_invariant.specs.Tied.{decoded}
 use Rattle.lifetime_laws.specs.Endurance.{NoneRetiredLaw}
 use Rattle.lifetime_laws.specs.Lifetime.{AskedLaw, LifetimeLaw, LivesOn, most_hot_works, most_asked_works}
-use Rattle.lifetime_laws.specs.Works.{most_each}
+use Rattle.lifetime_laws.specs.Works.{fine_each}
 use Rattle.run_laws.specs.Runs.{table_in, rules_in}
 use Rattle.run_laws.specs.Lasting.{AliveLaw, AskedAliveLaw}
 
-bank-within : (bank banks size : ℕ) → bank < banks → bank * size + size ≤ banks * size
-bank-within bank banks size lt = grind (arith, mul-le-mul_left size lt)
-
 pub alive_law : LifetimeLaw → NoneRetiredLaw → AliveLaw
-alive_law lifetime retired n m e lo raw seed rows array ends hot bank shape layout endures right exists few =
-    let within : bank * array_lines_of (module_of raw) + array_lines_of (module_of raw) ≤ raw.banks * array_lines_of (module_of raw) =
-    bank-within bank raw.banks (array_lines_of (module_of raw)) exists in
-    let lives : LivesOn e lo (bank_shape (module_of raw) bank) array (rules_in e raw bank) (table_in raw seed bank rows) =
-    lifetime n m e lo (bank_shape (module_of raw) bank) array (rules_in e raw bank) (table_in raw seed bank rows) hot layout endures
-    (omega (arith, within, right.size)) (omega (arith, shape.some_lines)) (omega (arith, shape.some_psi)) (omega (arith, shape.some_read_ticks))
+alive_law lifetime retired n m e raw seed rows array ends hot bank shape layout right exists few =
+    let lives : LivesOn e (bank_shape (module_of raw) bank) array (rules_in e raw bank) (table_in raw seed bank rows) =
+    lifetime n m e (bank_shape (module_of raw) bank) array (rules_in e raw bank) (table_in raw seed bank rows) hot layout
+    (omega (arith, shape.some_lines)) (omega (arith, shape.some_psi)) (omega (arith, shape.some_read_ticks))
     (right.serves.banks bank exists) (right.serves.places bank exists) (right.serves.lines bank exists) few in
     let own = retired n (bank_shape (module_of raw) bank) (is_worn_at e array) (decoded e array) (table_in raw seed bank rows) (ends bank) (right.end bank exists) lives.unworn in
     record { lives = lives; own = own.0; unused = own.1 }
 
 pub asked_alive_law : AskedLaw → LifetimeLaw → NoneRetiredLaw → AskedAliveLaw
-asked_alive_law asked lifetime retired n m e lo raw seed rows array ends hot bank shape layout endures right exists few =
-    alive_law lifetime retired n m e lo raw seed rows array ends hot bank shape layout endures right exists
+asked_alive_law asked lifetime retired n m e raw seed rows array ends hot bank shape layout right exists few =
+    alive_law lifetime retired n m e raw seed rows array ends hot bank shape layout right exists
     (λ region lt.
-    let fewer : most_each (rules_in e raw bank) * most_hot_works (bank_shape (module_of raw) bank) region hot (table_in raw seed bank rows)
-    ≤ most_each (rules_in e raw bank) * most_asked_works (bank_shape (module_of raw) bank) region hot (table_in raw seed bank rows) =
-    mul-le-mul_left (most_each (rules_in e raw bank))
+    let each : ℕ = fine_each array.bounds (rules_in e raw bank) in
+    let fewer : each * most_hot_works (bank_shape (module_of raw) bank) region hot (table_in raw seed bank rows)
+    ≤ each * most_asked_works (bank_shape (module_of raw) bank) region hot (table_in raw seed bank rows) =
+    mul-le-mul_left each
     ((asked n (bank_shape (module_of raw) bank) (table_in raw seed bank rows) (omega (arith, shape.some_lines)) (omega (arith, shape.some_psi))).works region hot) in
     omega (arith, fewer, few region lt))

@@ -1,6 +1,6 @@
 pub mod Mixing
-mod Banks
-mod Finished
+pub mod Banks
+pub mod Finished
 pub mod Lifting
 mod Facts
 mod Rows

@@ -1,28 +1,15 @@
 //! The rules that a module's rows keep.
 ghost use Rattle.std.specs.Prelude.{◌≡◌, ◌≤◌};
-ghost use Rattle.row_verdict.specs.Verdicts.{rules_by, pausing_by};
 ghost use Rattle.row_verdict.specs.Within.{AreWithin};
-ghost use Rattle.pace.specs.Policies.{pausing_of};
 ghost use Rattle.run_laws.specs.Runs.{rules_in};
 
-use module_shape::{Home, Policy, Shape};
-use result_check::{RulePolicy, Rules};
-
-// The policy, as the rules have it.
-fn policy_of(policy: Policy) -> RulePolicy
-    ensures { pausing_by result ≡ pausing_of policy }
-{
-    match policy {
-        Policy::Pause => RulePolicy::Pause,
-        Policy::Plain => RulePolicy::Plain,
-        Policy::Cancel => RulePolicy::Cancel,
-    }
-}
+use module_shape::{Home, Shape};
+use result_check::Rules;
 
 /// The rules of the banks of a module of this shape, whose lines have E error-correcting pointers.
 pub fn rules<const E: usize>(shape: &Shape) -> Rules
     requires few { E ≤ 8 }
-    ensures exact { rules_by result ≡ rules_in E shape.now 0 }
+    ensures exact { result ≡ rules_in E shape.now 0 }
     ensures within { AreWithin result }
 {
     let raw = shape.raw();
@@ -30,10 +17,10 @@ pub fn rules<const E: usize>(shape: &Shape) -> Rules
         writes: raw.writes,
         reads: raw.reads,
         spares: raw.spares,
-        read_ticks: raw.read_ticks,
-        iter_ticks: raw.iter_ticks,
+        read: raw.read_ticks,
+        iter: raw.iter_ticks,
         steps: 8 * (3 * E as u32 + 2),
-        policy: policy_of(raw.policy),
+        policy: raw.policy,
         twice: match raw.home {
             Home::Guarded => false,
             Home::Array => true,

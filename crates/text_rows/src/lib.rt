@@ -15,8 +15,6 @@ mod read_back;
 #[cfg(test)]
 mod rows;
 #[cfg(test)]
-mod served;
-#[cfg(test)]
 mod sources;
 #[cfg(test)]
 mod summaries;

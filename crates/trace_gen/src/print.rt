@@ -64,23 +64,10 @@ fn push_data<const B: usize>(op: &EventOp<B>, text: &mut Text)
     ensures room { room_in text.old ≤ room_in text.new + 2 * B }
 {
     match op {
-        EventOp::Write(_, bytes) => push_digits(bytes, text),
+        EventOp::Write(_, bytes) => text.push_hex(bytes),
         EventOp::Mask(_, bytes, given) => push_masked(bytes, given, text),
         EventOp::Read(_) | EventOp::Cut => {}
     }
-}
-
-fn push_digits<const B: usize>(bytes: &[u8; B], text: &mut Text)
-    requires size { B ≤ 128 }
-    requires room { 2 * B ≤ room_in text.old }
-    ensures after { text.new ≡ appended text.old (encode_lower bytes.now) }
-    ensures room { room_in text.new + 2 * B ≡ room_in text.old }
-{
-    let mut digits = [0; 256];
-    let Ok(()) = hex::encode_to_slice(bytes.as_slice(), &mut digits[..2 * B]) else {
-        unreachable!()
-    };
-    text.push(&digits[..2 * B]);
 }
 
 fn push_pair(byte: u8, given: bool, text: &mut Text)
@@ -89,7 +76,7 @@ fn push_pair(byte: u8, given: bool, text: &mut Text)
     ensures room { room_in text.new + 2 ≡ room_in text.old }
 {
     if given {
-        push_digits(&[byte], text);
+        text.push_hex(&[byte]);
     } else {
         text.push(b"..");
     }

@@ -4,3 +4,4 @@ mod Table
 pub mod Reading
 pub mod Traces
 pub mod Lawful
+pub mod Sizes

@@ -1,5 +1,6 @@
 -- The worked run is right, and altered ones are not.
 use Rattle.std.proofs.Common.{◌≡◌, ℕ, zero, suc, ◌+◌, ◌*◌, ◌/◌, ◌%◌, ◌<◌, ◌≤◌, ◌==◌, ◌&&◌, if◌then◌else◌, Bool, true, false, List, [], ◌∷◌, ◌++◌, inl, inr, lit<, lit≤, refl, sym, ap, ◌∙◌, subst, arith, cond}
+use Rattle.masked_bytes.proofs.Truth.{and_first, and_second}
 use Rattle.std.specs.Prelude.{nat_lt, nat_eq, slice_index}
 use Rattle.std.specs.Int.{bit_at}
 use Rattle.std.proofs.lemmas.Nat.Bits.{bit_at-zero}
@@ -25,7 +26,7 @@ use Rattle.bank_invariant.specs.Tied.{decoded}
 use Rattle.end_laws.specs.Ends.{BankEnd, EndsWith, IsRemapped, is_kept_line, place_by_table}
 use Rattle.lifetime_laws.specs.Lifetime.{KeepsLines}
 use Rattle.run_laws.specs.Runs.{bank_of_line, line_in_bank, line_named, rules_in, table_in, RunsRight}
-use Rattle.worked_tables.specs.Runs.{small, reading, misplaced, first_bank, second_bank, senses, holding, ended, touched, forgotten, NeverRight, unmoved, hammered}
+use Rattle.worked_tables.specs.Runs.{small, reading, misplaced, first_bank, second_bank, senses, holding, ended, touched, forgotten, NeverRight, unmoved, hammered, strained}
 
 pub where_8_is : (bank_of_line small 0 8 ≡ 1) × (line_in_bank small 0 8 ≡ 5) × (line_named small 0 1 5 ≡ 8)
 unfolding next_u64 stream_of
@@ -39,14 +40,6 @@ pub second_table : (written other : ℕ) → table_in small 0 1 (reading written
 unfolding next_u64 stream_of
 second_table written other = refl
 
-first_of_both : (a b : Bool) → (a && b) ≡ true → a ≡ true
-first_of_both true b h = refl
-first_of_both false b h = h
-
-second_of_both : (a b : Bool) → (a && b) ≡ true → b ≡ true
-second_of_both true b h = h
-second_of_both false b h = absurd (cc)
-
 -- each of so many numbers from one on passes a test
 abbrev each_from : (ℕ → Bool) → ℕ → ℕ → Bool
 each_from test from zero = true
@@ -56,8 +49,8 @@ each-from : (test : ℕ → Bool) (n from at : ℕ) → each_from test from n �
 each-from test zero from at all low high = absurd (omega (arith, low, high))
 each-from test (suc n) from at all low high =
     elim (cases_eq at from) [
-      | inl is ↦ ap test is ∙ first_of_both (test from) _ all
-      | inr other ↦ each-from test n (from + 1) at (second_of_both (test from) _ all) (omega (arith, low, other)) (omega (arith, high))
+      | inl is ↦ ap test is ∙ and_first (test from) _ all
+      | inr other ↦ each-from test n (from + 1) at (and_second (test from) _ all) (omega (arith, low, other)) (omega (arith, high))
     ]
 
 -- the worked rows
@@ -86,11 +79,28 @@ few_pulses at = by (at == 17)
     by true = lit≤ tt
     by false = lit≤ tt
 
+none_stuck : (at c : ℕ) → (ended.line at).stuck c ≡ false
+none_stuck at c = by (at == 17)
+  where
+    by : (b : Bool) → (cond b (holding 0x11 1) (holding 0 0)).stuck c ≡ false
+    by true = refl
+    by false = refl
+
 first_lines : KeepsLines (bank_shape (module_of small) 0) ended (rules_in 1 small 0) (first_bank 0)
-first_lines = record { pulses = λ slot exists. omega (arith, few_pulses ((bank_shape (module_of small) 0).base + slot)); controls = λ item exists. absurd (omega (arith, exists)) }
+first_lines = record {
+  pulses = λ slot exists. omega (arith, few_pulses ((bank_shape (module_of small) 0).base + slot));
+  ages = λ slot exists. record { live = λ none. omega (arith, few_pulses ((bank_shape (module_of small) 0).base + slot)); stuck = λ c is. absurd (cc (is, none_stuck ((bank_shape (module_of small) 0).base + slot) c)) };
+  controls = λ item exists. absurd (omega (arith, exists));
+  endure = λ item exists. absurd (omega (arith, exists));
+}
 
 second_lines : KeepsLines (bank_shape (module_of small) 1) ended (rules_in 1 small 1) (second_bank 0x11)
-second_lines = record { pulses = λ slot exists. omega (arith, few_pulses ((bank_shape (module_of small) 1).base + slot)); controls = λ item exists. absurd (omega (arith, exists)) }
+second_lines = record {
+  pulses = λ slot exists. omega (arith, few_pulses ((bank_shape (module_of small) 1).base + slot));
+  ages = λ slot exists. record { live = λ none. omega (arith, few_pulses ((bank_shape (module_of small) 1).base + slot)); stuck = λ c is. absurd (cc (is, none_stuck ((bank_shape (module_of small) 1).base + slot) c)) };
+  controls = λ item exists. absurd (omega (arith, exists));
+  endure = λ item exists. absurd (omega (arith, exists));
+}
 
 -- a line of a bank is shown by the log
 abbrev shows : ℕ → List (Row 2) → ℕ → Bool
@@ -231,3 +241,8 @@ forgotten_is_wrong right = absurd (cc ((right.end 1 (lit< tt)).kept 5 (lit< tt))
 pub hammered_is_wrong : RunsRight 1 small 0 rows hammered unmoved → ⊥
 unfolding next_u64 stream_of
 hammered_is_wrong right = let many : 100 ≤ 80 = (right.serves.lines 1 (lit< tt)).pulses 6 (lit< tt) in absurd (omega (arith, many))
+
+-- one with no cell stuck that was pulsed more often than its stores account for where cells never miss, though not more than they might
+pub strained_is_wrong : RunsRight 1 small 0 rows strained unmoved → ⊥
+unfolding next_u64 stream_of
+strained_is_wrong right = let many : 10 ≤ 2 = ((right.serves.lines 1 (lit< tt)).ages 6 (lit< tt)).live (λ c. refl) in absurd (omega (arith, many))

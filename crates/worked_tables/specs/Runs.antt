@@ -2,12 +2,12 @@
 -- Seed 0 puts line 8 into bank 1 and line 0 into bank 0, each as number 5 there, which stands in its bank's seventh array line.
 use Rattle.std.specs.Prelude.{ℕ, ◌+◌, ◌*◌, ◌==◌, false, if◌then◌else◌, List, [], ◌∷◌, Some, None}
 use Rattle.pcm_cells.specs.declared.array.Sense.{Sense}
-use Rattle.pcm_cells.specs.Device.{ArrayState, LineState}
+use Rattle.pcm_cells.specs.Device.{CellBounds, ArrayState, LineState}
 use Rattle.result_rows.specs.declared.Outcome.TheVariants as out
 use Rattle.row_laws.specs.declared.Row.{Row}
 use Rattle.row_laws.specs.Worked.{W, R, whole}
 use Rattle.bank_model.specs.Worked.{holds}
-use Rattle.pace.specs.declared.Policy.TheVariants.{Pause}
+use Rattle.bank_shape.specs.declared.pace.Policy.TheVariants.{Pause}
 use Rattle.bank_shape.specs.declared.Home.TheVariants.{Guarded}
 use Rattle.module_shape.specs.declared.raw.RawShape.{RawShape}
 use Rattle.end_laws.specs.Ends.{BankEnd}
@@ -51,9 +51,13 @@ holding b pulses = record { held = record { bits = whole b; meta = 0 ∷ [] }; s
 abbrev pub senses : List (Sense 2 1)
 senses = holds 5 17 (whole 0) 0 ∷ holds 15 17 (whole 0x11) 1 ∷ holds 105 17 (whole 0x11) 1 ∷ holds 105 6 (whole 0) 0 ∷ []
 
+-- its cells never miss
+abbrev pub never_missing : CellBounds
+never_missing = record { endures = 0; misses = 0 }
+
 -- the array in the end
 abbrev pub ended : ArrayState 2 1
-ended = record { line = λ line. if line == 17 then holding 0x11 1 else holding 0 0; lines = 22; tears = 0; log = Some senses; wear = None }
+ended = record { line = λ line. if line == 17 then holding 0x11 1 else holding 0 0; lines = 22; tears = 0; log = Some senses; wear = None; bounds = never_missing }
 
 -- the same, but that the second last check cell of line 3, an unused one, holds 1
 abbrev pub touched_line : LineState 2 1
@@ -64,11 +68,15 @@ touched = record ended { line = λ line. if line == 3 then touched_line else end
 
 -- the same, but that what was written is gone
 abbrev pub forgotten : ArrayState 2 1
-forgotten = record { line = λ line. if line == 17 then holding 0 1 else holding 0 0; lines = 22; tears = 0; log = Some senses; wear = None }
+forgotten = record { line = λ line. if line == 17 then holding 0 1 else holding 0 0; lines = 22; tears = 0; log = Some senses; wear = None; bounds = never_missing }
 
 -- the same rows over an array that tells no log, one of whose lines was pulsed 100 times
 abbrev pub hammered : ArrayState 2 1
-hammered = record { line = λ line. if line == 17 then holding 0x11 100 else holding 0 0; lines = 22; tears = 0; log = None; wear = None }
+hammered = record { line = λ line. if line == 17 then holding 0x11 100 else holding 0 0; lines = 22; tears = 0; log = None; wear = None; bounds = never_missing }
+
+-- and 10 times, as a line may be with cells that stick, but not with none of them stuck
+abbrev pub strained : ArrayState 2 1
+strained = record hammered { line = λ line. if line == 17 then holding 0x11 10 else holding 0 0 }
 
 -- over no array and by no ends are these rows right
 abbrev pub NeverRight : List (Row 2) → Type 0

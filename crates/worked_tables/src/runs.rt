@@ -4,7 +4,7 @@
 ghost use Rattle.std.specs.Prelude.{◌≡◌, ℕ};
 ghost use Rattle.end_laws.specs.Ends.{BankEnd};
 ghost use Rattle.run_laws.specs.Runs.{RunsRight, bank_of_line, line_in_bank, line_named, table_in};
-ghost use Rattle.worked_tables.specs.Runs.{small, reading, misplaced, first_bank, second_bank, ended, touched, forgotten, hammered, unmoved, NeverRight};
+ghost use Rattle.worked_tables.specs.Runs.{small, reading, misplaced, first_bank, second_bank, ended, touched, forgotten, hammered, strained, unmoved, NeverRight};
 
 /// Which bank has line 8, under which number, and which rows each bank gets.
 pub fn worked_lines_are_mixed()
@@ -23,4 +23,5 @@ pub fn worked_runs_are_judged()
     ensures touched { RunsRight 1 small 0 (reading 0x11 0) touched unmoved → ⊥ }
     ensures forgotten { RunsRight 1 small 0 (reading 0x11 0) forgotten unmoved → ⊥ }
     ensures hammered { RunsRight 1 small 0 (reading 0x11 0) hammered unmoved → ⊥ }
+    ensures strained { RunsRight 1 small 0 (reading 0x11 0) strained unmoved → ⊥ }
 {}

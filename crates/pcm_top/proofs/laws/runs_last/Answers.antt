@@ -1,5 +1,5 @@
 use Rattle.pcm_top.proofs.laws.runs_last.Goals as goal
 
 pub returns : goal.returns
-returns c n m e lo job s array run hot bank is layout endures exists few =
-    c.runs_live_on.ensures n m e lo job.shape job.seed _ array run.ends hot bank is.shape layout endures run.right exists few
+returns c n m e job s array run hot bank is layout exists few =
+    c.runs_live_on.ensures n m e job.shape job.seed _ array run.ends hot bank is.shape layout run.right exists few

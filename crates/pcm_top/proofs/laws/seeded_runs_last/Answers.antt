@@ -1,9 +1,16 @@
-use Rattle.std.proofs.Common.{subst}
-use Rattle.pcm_cells.specs.Endurance.{EnduresAtLeast}
-use Rattle.pcm_cells.specs.Seeded.{seeded_state}
+use Rattle.std.proofs.Common.{sym, ap, subst}
+use Rattle.pcm_cells.specs.Device.{CellBounds}
+use Rattle.pcm_cells.specs.Seeded.{seeded_state, bounds_of}
+use Rattle.run_laws.specs.Lasting.{Outlasts, OutlastsAsked}
+use Rattle.pcm_top.specs.Rows.{rows_of}
 use Rattle.pcm_top.proofs.laws.seeded_runs_last.Goals as goal
 
-pub returns-clause-last : goal.returns-clause-last
-returns-clause-last g c =
-    c.traces_last.ensures g.row.B g.row.M (seeded_state c.args.array.now)
-    (subst (λ lo. EnduresAtLeast lo (seeded_state c.args.array.now)) c.endurance.ensures.is c.endurance.ensures.endures)
+pub returns-clause-stored : goal.returns-clause-stored
+returns-clause-stored c n m e job s array run hot bank is layout exists few =
+    c.runs_last.ensures n m e job s (seeded_state array) run hot bank is layout exists
+    (subst (λ (bounds : CellBounds). Outlasts bounds e job.shape job.seed (rows_of run.events run.outcomes) bank hot) (sym (ap bounds_of run.wear)) few)
+
+pub returns-clause-asked : goal.returns-clause-asked
+returns-clause-asked c n m e job s array run hot bank is layout exists few =
+    c.traces_last.ensures n m e job s (seeded_state array) run hot bank is layout exists
+    (subst (λ (bounds : CellBounds). OutlastsAsked bounds e job.shape job.seed (rows_of run.events run.outcomes) bank hot) (sym (ap bounds_of run.wear)) few)

@@ -2,7 +2,7 @@ use Rattle.std.proofs.Common.{◌≡◌, ◌∙◌, ◌++◌, Some, length, refl
 use Rattle.std.specs.Prelude.{slice_get}
 use Rattle.std.proofs.lemmas.Option.{slice_get_read}
 use Rattle.pcm_top.proofs.Replaying.{next-event, next-open, replayed-all, replayed-more, replayed-none}
-use Rattle.pcm_top.proofs.Sizes.{event_fits}
+use Rattle.trace_reader.proofs.Sizes.{event_fits}
 use Rattle.pcm_top.proofs.replay.replay.Goals as goal
 
 pub loop-i-init : goal.loop-i-init

@@ -4,7 +4,7 @@ use Rattle.module_shape.specs.Limits.{IsShape}
 use Rattle.pcm_top.specs.Played.{IsPlayed}
 use Rattle.pcm_top.proofs.Making.{can-print, run-part, run-written}
 use Rattle.pcm_top.proofs.Saving.{right-now}
-use Rattle.pcm_top.proofs.Sizes.{event_fits}
+use Rattle.trace_reader.proofs.Sizes.{event_fits}
 use Rattle.pcm_top.proofs.Deciding.{memory-after}
 use Rattle.pcm_top.proofs.Making.{ready-itself}
 use Rattle.pcm_top.proofs.run.run.Goals as goal

@@ -7,7 +7,8 @@ use Rattle.result_check.specs.Tables.{IsRowOf}
 use Rattle.result_check.proofs.Coming.{looks_none, looks_more}
 use Rattle.result_check.proofs.Finding.{rows_next, rows_length}
 use Rattle.result_check.proofs.Rows.{one_of_every}
-use Rattle.result_check.proofs.Sizes.{event_fits, outcome_fits, op_fits}
+use Rattle.trace_reader.proofs.Sizes.{event_fits, op_fits}
+use Rattle.result_rows.proofs.Sizes.{outcome_fits}
 use Rattle.result_check.proofs.ahead.look_ahead.Goals as goal
 
 pub loop-row-init : goal.loop-row-init

@@ -1,4 +1,4 @@
-use Rattle.worked_tables.proofs.SmallRun.{is_right, stale_is_wrong, misplaced_is_wrong, touched_is_wrong, forgotten_is_wrong, hammered_is_wrong}
+use Rattle.worked_tables.proofs.SmallRun.{is_right, stale_is_wrong, misplaced_is_wrong, touched_is_wrong, forgotten_is_wrong, hammered_is_wrong, strained_is_wrong}
 use Rattle.worked_tables.proofs.runs.worked_runs_are_judged.Goals as goal
 
 pub returns : goal.returns
@@ -9,4 +9,5 @@ returns c = record {
   touched = touched_is_wrong;
   forgotten = forgotten_is_wrong;
   hammered = hammered_is_wrong;
+  strained = strained_is_wrong;
 }

@@ -8,7 +8,7 @@ use Rattle.bank_invariant.specs.State.{BankState}
 use Rattle.bank_invariant.specs.Tied.{IsSoundLine}
 use Rattle.bank_core.specs.Running.{operation_of}
 use Rattle.bank_core.specs.Beginning.{IsOfSoundLine}
-use Rattle.bank_core.proofs.Begun.{place-so, slot-sound}
+use Rattle.bank_core.proofs.Begun.{copy-within, place-so, slot-sound}
 use Rattle.bank_core.proofs.Touched.{touches-senses}
 use Rattle.bank_core.proofs.bank.Bank.begin_copy.Goals as goal
 
@@ -105,10 +105,14 @@ pub slot-requires-clause-shape : goal.slot-requires-clause-shape
 slot-requires-clause-shape g c = grind arith
 
 pub slot-requires-clause-region_exists : goal.slot-requires-clause-region_exists
-slot-requires-clause-region_exists g c = grind arith
+slot-requires-clause-region_exists g c =
+    let within = copy-within c.self.inside.kept c.args.region c.args.step c.self.invariant.in_range (rw (← c.self.view_is) at c.requires.next) in
+    subst (λ (s : BankShape). c.args.region < s.regions) (sym c.shape.ensures.shape) within.exists
 
 pub slot-requires-clause-place_exists : goal.slot-requires-clause-place_exists
-slot-requires-clause-place_exists g c = grind arith
+slot-requires-clause-place_exists g c =
+    let within = copy-within c.self.inside.kept c.args.region c.args.step c.self.invariant.in_range (rw (← c.self.view_is) at c.requires.next) in
+    subst (λ (s : BankShape). c.args.step.from ≤ s.lines) (sym c.shape.ensures.shape) within.from
 
 pub array_line-source-requires : goal.array_line-source-requires
 array_line-source-requires g c = grind arith
@@ -120,10 +124,14 @@ pub slot-requires-2-clause-shape : goal.slot-requires-2-clause-shape
 slot-requires-2-clause-shape g c = grind arith
 
 pub slot-requires-2-clause-region_exists : goal.slot-requires-2-clause-region_exists
-slot-requires-2-clause-region_exists g c = grind arith
+slot-requires-2-clause-region_exists g c =
+    let within = copy-within c.self.inside.kept c.args.region c.args.step c.self.invariant.in_range (rw (← c.self.view_is) at c.requires.next) in
+    subst (λ (s : BankShape). c.args.region < s.regions) (sym c.shape-2.ensures.shape) within.exists
 
 pub slot-requires-2-clause-place_exists : goal.slot-requires-2-clause-place_exists
-slot-requires-2-clause-place_exists g c = grind arith
+slot-requires-2-clause-place_exists g c =
+    let within = copy-within c.self.inside.kept c.args.region c.args.step c.self.invariant.in_range (rw (← c.self.view_is) at c.requires.next) in
+    subst (λ (s : BankShape). c.args.step.to ≤ s.lines) (sym c.shape-2.ensures.shape) within.to
 
 pub array_line-target-requires : goal.array_line-target-requires
 array_line-target-requires g c = grind arith

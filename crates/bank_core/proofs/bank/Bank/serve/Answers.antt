@@ -5,6 +5,7 @@ use Rattle.pcm_cells.specs.Device.{ArrayState}
 use Rattle.ecp_line.specs.Reading.{decode}
 use Rattle.power_recovery.specs.Kept.{array_line, stands_at}
 use Rattle.bank_invariant.specs.State.{BankState}
+use Rattle.bank_invariant.proofs.Awaiting.{StandsAs-sensed}
 use Rattle.bank_core.specs.Running.{operation_of}
 use Rattle.bank_core.proofs.Answering.{IsBank-drop, serve_tied, serve_law, first_of, answers}
 use Rattle.bank_core.proofs.Touched.{touches-sense}
@@ -26,8 +27,9 @@ returns-clause-tied g c =
       lost = c.self.inside.lost.items;
       rows_below = c.self.inside.rows_below;
     } in
+    let stands = StandsAs-sensed _ (g.A.CellArray.state c.args.array.now) (g.A.CellArray.state c.sense.new.self) c.sense.ensures.step in
     rw c.pop_front.ensures.items
-    (serve_tied bank (g.A.CellArray.state c.args.array.now) (g.A.CellArray.state c.sense.new.self) c.sense.ensures.step.lines c.sense.ensures.step.line tied)
+    (serve_tied bank (g.A.CellArray.state c.args.array.now) (g.A.CellArray.state c.sense.new.self) stands tied)
 
 pub returns-clause-holds : goal.returns-clause-holds
 returns-clause-holds g c =
@@ -46,11 +48,12 @@ returns-clause-holds g c =
     c.lay_over.ensures ∙ ap (λ (under : List ℕ). laid c.in-Some.read.kept c.in-Some.read.given under)
     (c.read_as-bytes.ensures ∙ ap (λ (cells : Cells g.row.B g.row.M). decode g.row.E cells) c.sense.ensures.cells) in
     let first : Some c.in-Some.read ≡ slice_get bank.waiting 0 = cc in
+    let stands = StandsAs-sensed _ old new c.sense.ensures.step in
     rw (← c.self.view_is, c.pop_front.ensures.items)
     (λ h holds. serve_law h bank old new c.in-Some.read (drop 1 bank.waiting)
     (record { row = c.in-Some.read.row; place = c.array_line-place.result; bytes = c.lay_over.new.under })
     (first_of bank.waiting c.in-Some.read first) (answers bank old c.in-Some.read c.array_line-place.result c.lay_over.new.under place bytes)
-    c.sense.ensures.step.lines c.sense.ensures.step.line holds)
+    stands holds)
 
 pub read_as-bytes-requires : goal.read_as-bytes-requires
 read_as-bytes-requires g c =

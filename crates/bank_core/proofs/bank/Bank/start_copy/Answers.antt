@@ -1,4 +1,4 @@
-use Rattle.std.proofs.Common.{arith, rules, ◌≤◌, refl, sym}
+use Rattle.std.proofs.Common.{rules, ◌≤◌, refl, sym}
 use Rattle.bank_core.proofs.Begun.{begins-copy}
 use Rattle.bank_core.proofs.bank.Bank.start_copy.Goals as goal
 

@@ -1,4 +1,4 @@
-use Rattle.std.proofs.Common.{refl}
+use Rattle.std.proofs.Common.{refl, arith}
 use Rattle.std.proofs.lemmas.List.{length-replicate}
 use Rattle.std.proofs.lemmas.Result.{on_ok_weaker}
 use Rattle.pcm_cells.specs.Cell.{line_state}
@@ -16,5 +16,6 @@ returns-clause-ok g c =
       tears = refl;
       log = λ senses told. cc;
       wear = refl;
+      few = omega arith;
     }))
     c.renew.ensures.ok

@@ -1,6 +1,11 @@
-use Rattle.std.proofs.Common.{rules}
-use Rattle.pcm_cells.proofs.EnduranceLemmas.{spares_none}
+use Rattle.std.proofs.Common.{arith}
+use Rattle.pcm_cells.proofs.EnduranceLemmas.{bounded_none}
 use Rattle.pcm_cells.proofs.seeded.MemArray.new.Goals as goal
 
 pub invariant_of-result : goal.invariant_of-result
-invariant_of-result g c = (c.requires.shape, c.requires.whole, search rules, spares_none g.row.B g.row.M 0)
+invariant_of-result g c = (
+  c.requires.shape,
+  c.requires.whole,
+  record { endures = omega arith; misses = omega arith },
+  bounded_none g.row.B g.row.M (record { endures = 0; misses = 7 }),
+)

@@ -1,8 +1,8 @@
 use Rattle.std.proofs.Common.{◌≡◌, ◌≤◌, ◌∙◌, rules, sym, subst, ap, arith, length, refl}
-use Rattle.pcm_cells.specs.Seeded.{SeededArray}
+use Rattle.pcm_cells.specs.Seeded.{SeededArray, bounds_of}
 use Rattle.pcm_cells.specs.Paging.{seeded_lines, lines_seen}
-use Rattle.pcm_cells.specs.Endurance.{Spares, least_endurance}
-use Rattle.pcm_cells.proofs.EnduranceLemmas.{spares_kept}
+use Rattle.pcm_cells.specs.Endurance.{AreBounded, IsInRange}
+use Rattle.pcm_cells.proofs.EnduranceLemmas.{bounded_kept}
 use Rattle.pcm_cells.proofs.PagingLemmas.{lines_size, wears_lines}
 use Rattle.pcm_cells.proofs.seeded.MemArray.wear.Goals as goal
 
@@ -27,18 +27,37 @@ returns-clause-wears g c =
     (omega (arith, c.requires.exists, ap length before, lines_size old))
     c.wear.ensures.cells c.wear.ensures.pulses c.wear.ensures.others c.wear.ensures.lines
 
+-- what the cells keep to, as the array is seen
+pub returns-clause-range : goal.returns-clause-range
+returns-clause-range g c = subst (λ (a : SeededArray g.row.B g.row.M). IsInRange (bounds_of a.wear)) c.self.view_is c.self.invariant.2
+
+pub returns-clause-bounded : goal.returns-clause-bounded
+returns-clause-bounded g c =
+    let old = c.in-Some.lines in
+    let bounds = bounds_of c.args.self.now.wear in
+    let range : IsInRange bounds = subst (λ (a : SeededArray g.row.B g.row.M). IsInRange (bounds_of a.wear)) c.self.view_is c.self.invariant.2 in
+    let here : AreBounded bounds c.args.self.now.lines = subst (λ (a : SeededArray g.row.B g.row.M). AreBounded (bounds_of a.wear) a.lines) c.self.view_is c.self.invariant.3 in
+    let before : c.args.self.now.lines ≡ lines_seen old = ap (λ a. a.lines) (sym c.self.view_is) ∙ ap seeded_lines c.in-Some.is in
+    let new : SeededArray g.row.B g.row.M = record { lines = lines_seen c.wear.new.self; tears = c.self.inside.tears; wear = c.self.inside.wear } in
+    bounded_kept bounds c.args.line c.args.tearing c.args.mask.now c.args.want.now c.args.self.now new range.endures
+    (wears_lines c.args.line c.args.tearing c.args.mask.now c.args.want.now old c.wear.new.self c.args.self.now new before refl
+    (omega (arith, c.requires.exists, ap length before, lines_size old))
+    c.wear.ensures.cells c.wear.ensures.pulses c.wear.ensures.others c.wear.ensures.lines)
+    here
+
 pub invariant_of-self : goal.invariant_of-self
 invariant_of-self g c =
     let old = c.in-Some.lines in
+    let bounds = bounds_of c.self.inside.wear in
     let lines : seeded_lines c.self.inside.lines ≡ c.args.self.now.lines = ap (λ a. a.lines) c.self.view_is in
     let before : c.args.self.now.lines ≡ lines_seen old = sym lines ∙ ap seeded_lines c.in-Some.is in
     let new : SeededArray g.row.B g.row.M = record { lines = lines_seen c.wear.new.self; tears = c.self.inside.tears; wear = c.self.inside.wear } in (
       c.self.invariant.0,
       c.self.invariant.1,
       c.self.invariant.2,
-      spares_kept (least_endurance c.self.inside.wear) c.args.line c.args.tearing c.args.mask.now c.args.want.now c.args.self.now new c.self.invariant.2
+      bounded_kept bounds c.args.line c.args.tearing c.args.mask.now c.args.want.now c.args.self.now new c.self.invariant.2.endures
           (wears_lines c.args.line c.args.tearing c.args.mask.now c.args.want.now old c.wear.new.self c.args.self.now new before refl
           (omega (arith, c.requires.exists, ap length before, lines_size old))
           c.wear.ensures.cells c.wear.ensures.pulses c.wear.ensures.others c.wear.ensures.lines)
-          (subst (Spares (least_endurance c.self.inside.wear)) lines c.self.invariant.3),
+          (subst (AreBounded bounds) lines c.self.invariant.3),
     )

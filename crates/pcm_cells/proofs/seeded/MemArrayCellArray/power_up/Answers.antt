@@ -1,7 +1,8 @@
-use Rattle.std.proofs.Common.{arith, ℕ, ◌∙◌, refl, ap, length}
+use Rattle.std.proofs.Common.{arith, ℕ, ◌∙◌, refl, ap, length, Some}
 use Rattle.std.proofs.lemmas.List.{length-replicate}
 use Rattle.pcm_cells.specs.Paging.{lines_seen}
-use Rattle.pcm_cells.proofs.EnduranceLemmas.{spares_none, spares_new}
+use Rattle.pcm_cells.specs.Seeded.{bounds_of}
+use Rattle.pcm_cells.proofs.EnduranceLemmas.{bounded_none, bounded_new}
 use Rattle.pcm_cells.proofs.SeededLemmas.{drawn_is_blank}
 use Rattle.pcm_cells.proofs.PagingLemmas.{lines_size, blank_drawn}
 use Rattle.pcm_cells.proofs.seeded.MemArrayCellArray.power_up.Goals as goal
@@ -15,21 +16,27 @@ returns-clause-ok g c =
       tears = refl;
       log = λ senses told. cc;
       wear = refl;
+      few = c.requires.wear.3;
     }
 
 pub returns-clause-drawn : goal.returns-clause-drawn
 returns-clause-drawn g c = blank_drawn c.in_ok-blank.field-0 c.args.lines c.args.wear c.in_ok-blank.ensures.table c.in_ok-blank.ensures.wear
 
 pub invariant_of-self : goal.invariant_of-self
-invariant_of-self g c = (c.self.invariant.0, c.self.invariant.1, omega arith, spares_none g.row.B g.row.M c.args.wear.lo)
+invariant_of-self g c = (
+  c.self.invariant.0,
+  c.self.invariant.1,
+  record { endures = omega arith; misses = c.requires.wear.3 },
+  bounded_none g.row.B g.row.M (bounds_of (Some c.args.wear)),
+)
 
 pub invariant_of-self-2 : goal.invariant_of-self-2
 invariant_of-self-2 g c =
     let new = c.in_ok-blank.field-0 in (
       c.self.invariant.0,
       c.self.invariant.1,
-      omega arith,
-      spares_new c.args.wear (lines_seen new)
+      record { endures = omega arith; misses = c.requires.wear.3 },
+      bounded_new c.args.wear (lines_seen new)
           (λ l h.
           blank_drawn new c.args.lines c.args.wear c.in_ok-blank.ensures.table c.in_ok-blank.ensures.wear l
           (omega (arith, h, lines_size new, ap length c.in_ok-blank.ensures.table, length-replicate {A = ℕ} c.args.lines 0))),

@@ -1,7 +1,9 @@
-use Rattle.std.proofs.Common.{arith, ◌≡◌, ◌≢◌, ℕ, ◌+◌, Some, sym, subst, ◌∙◌}
+use Rattle.std.proofs.Common.{arith, ◌≡◌, ◌≢◌, ℕ, ◌+◌, false, [], ◌∷◌, Some, sym, subst, ◌∙◌}
 use Rattle.line_writer.specs.Writing.{IsWorn}
 use Rattle.line_writer.proofs.Untouched.{untouched-round, AreUntouched-beside}
 use Rattle.reg_lines.specs.Regs.{RegsState}
+use Rattle.bank_model.specs.Touching.{Touches}
+use Rattle.reg_lines.proofs.Touched.{touches-round}
 use Rattle.reg_lines.proofs.Held.{HasStepped, held-stepped, sound-beside, writing-of, running-going}
 use Rattle.reg_lines.proofs.regs.RegLines.iterate.Given.{Over}
 use Rattle.reg_lines.proofs.regs.RegLines.iterate.Goals.{After-keep}
@@ -72,7 +74,13 @@ pub returns-clause-keeps : goal.returns-clause-keeps
 returns-clause-keeps g c = grind arith
 
 pub returns-clause-touches : goal.returns-clause-touches
-returns-clause-touches g c = grind arith
+returns-clause-touches g c =
+    let round = c.step.ensures.round in
+    let own : Touches c.args.tick ((c.self.inside.base + c.in-Some.change.item) ∷ []) (Some (c.self.inside.base + c.in-Some.change.item)) false
+    (g.A.CellArray.state c.args.array.now) (g.A.CellArray.state c.step.new.array) =
+    touches-round c.args.tick (c.self.inside.base + c.in-Some.change.item) c.in-Some-take.writer.prog round.0
+    (g.A.CellArray.state c.args.array.now) (g.A.CellArray.state c.step.new.array) round.1 round.2 in
+    rw (← c.self.view_is) (rw (c.in-Some.is) (rw (← c.self.view_is) own))
 
 pub returns-clause-done : goal.returns-clause-done
 returns-clause-done g c = grind arith

@@ -7,7 +7,8 @@ use Rattle.result_check.specs.Finding.{row_of}
 use Rattle.result_check.specs.Tables.{IsRowOf}
 use Rattle.result_check.proofs.Finding.{IsFoundTo, outcome_there, rows_next, rows_length, found_more, found_all}
 use Rattle.result_check.proofs.Rows.{one_of_all, one_of_every, short_of_brief}
-use Rattle.result_check.proofs.Sizes.{event_fits, outcome_fits}
+use Rattle.trace_reader.proofs.Sizes.{event_fits}
+use Rattle.result_rows.proofs.Sizes.{outcome_fits}
 use Rattle.result_check.proofs.found.Found.of.Goals as goal
 
 pub add-requires : goal.add-requires

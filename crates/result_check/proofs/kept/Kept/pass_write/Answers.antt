@@ -5,7 +5,8 @@ use Rattle.row_verdict.specs.declared.lines.Line.{Line}
 use Rattle.result_check.specs.Lines.{IsLineBehind}
 use Rattle.result_check.proofs.Lists.{get_is, some_same}
 use Rattle.result_check.proofs.Keeping.{facts_got}
-use Rattle.result_check.proofs.Sizes.{line_fits, bytes_fit, outcome_fits}
+use Rattle.result_rows.proofs.Sizes.{outcome_fits}
+use Rattle.result_check.proofs.Sizes.{line_fits, bytes_fit}
 use Rattle.result_check.proofs.kept.Kept.pass_write.Goals as goal
 
 pub pass_line-requires : goal.pass_line-requires

@@ -1,0 +1,150 @@
+-- The array line that a line write has as its target stays so until the write ends.
+use Rattle.std.proofs.Common.{◌≡◌, ℕ, ◌&&◌, not, Bool, true, false, List, [], ◌∷◌, ◌++◌, Option, Some, None, refl, ap, ◌∙◌, cond, eqb}
+use Rattle.masked_bytes.proofs.Truth.{and_second}
+use Rattle.masked_bytes.specs.declared.entry.Entry.{Entry}
+use Rattle.masked_bytes.specs.Entries.{merged, laid_on}
+use Rattle.bank_shape.specs.declared.BankShape.{BankShape}
+use Rattle.bank_shape.specs.declared.Work.TheVariants.{Nothing}
+use Rattle.bank_shape.specs.declared.answer.WriteAnswer.TheVariants as wrote
+use Rattle.bank_shape.specs.declared.answer.Step.TheVariants as did
+use Rattle.bank_model.specs.Events.{Event, Write, Read, Serve, Begin, Iterate, Cut, newest}
+use Rattle.bank_model.specs.History.{Awaited, begun, goes_on, queue, waits, due_after, has_exhausted, in_progress}
+use Rattle.bank_model.specs.After.{is_ready, due_work, work_after, slot_of_work, array_line_after, target_after, may_begin_after}
+use Rattle.bank_model.specs.Answers.{MayAll}
+use Rattle.bank_laws.proofs.Pairs.{HasWork, keeps_pairs}
+
+-- a bank that isn't exhausted has a work to do
+abbrev pub WorkOf : {n : ℕ} → Bool → Option ℕ → List (Entry n) → Type 0
+WorkOf true due es = ⊥
+WorkOf false (Some region) es = Unit {0}
+WorkOf false None [] = ⊥
+WorkOf false None (e ∷ es) = Unit {0}
+
+work-push : {n : ℕ} (b : Bool) (due : Option ℕ) (es : List (Entry n)) (x : Entry n) → WorkOf b due es → WorkOf b due (es ++ x ∷ [])
+work-push true due es x w = w
+work-push false (Some region) es x w = tt
+work-push false None [] x w = tt
+work-push false None (e ∷ es) x w = tt
+
+work-merged : {n : ℕ} (b : Bool) (due : Option ℕ) (old row : ℕ) (bytes : List ℕ) (given : List Bool) (es : List (Entry n)) → WorkOf b due es → WorkOf b due (merged old row bytes given es)
+work-merged true due old row bytes given es w = w
+work-merged false (Some region) old row bytes given es w = tt
+work-merged false None old row bytes given [] w = w
+work-merged false None old row bytes given (e ∷ es) w =
+    elim (eqb e.row old) as (λ b. WorkOf false None (cond b (laid_on row bytes given e ∷ es) (e ∷ merged old row bytes given es))) [ true ↦ tt | false ↦ tt ]
+
+work-begun : {n : ℕ} (b : Bool) (due by : Option ℕ) (f : ℕ → List ℕ) (es : List (Entry n)) → WorkOf b due es → WorkOf b due (begun by f es)
+work-begun true due by f es w = w
+work-begun false (Some region) by f es w = tt
+work-begun false None (Some region) f es w = w
+work-begun false None None f [] w = w
+work-begun false None None f (e ∷ es) w = tt
+
+work-full : {n : ℕ} (b : Bool) (due : Option ℕ) (es : List (Entry n)) → HasWork b due es → WorkOf b due es
+work-full true due es w = w
+work-full false (Some region) es w = tt
+work-full false None [] w = absurd w
+work-full false None (e ∷ es) w = tt
+
+pub unexhausted : {n : ℕ} (b : Bool) (due : Option ℕ) (es : List (Entry n)) → WorkOf b due es → b ≡ false
+unexhausted true due es w = absurd w
+unexhausted false due es w = refl
+
+module _ {n : ℕ} (shape : BankShape) (h : List (Event n)) where
+  due-push : (due : Option ℕ) (es : List (Entry n)) (x : Entry n) → WorkOf false due es → due_work shape h due (es ++ x ∷ []) ≡ due_work shape h due es
+  due-push (Some region) es x w = refl
+  due-push None [] x w = absurd w
+  due-push None (e ∷ es) x w = refl
+
+  due-merged : (due : Option ℕ) (old row : ℕ) (bytes : List ℕ) (given : List Bool) (es : List (Entry n)) → due_work shape h due (merged old row bytes given es) ≡ due_work shape h due es
+  due-merged (Some region) old row bytes given es = refl
+  due-merged None old row bytes given [] = refl
+  due-merged None old row bytes given (e ∷ es) =
+      elim (eqb e.row old) as (λ b. due_work shape h None (cond b (laid_on row bytes given e ∷ es) (e ∷ merged old row bytes given es)) ≡ due_work shape h None (e ∷ es)) [ true ↦ refl | false ↦ refl ]
+
+  due-begun : (due by : Option ℕ) (f : ℕ → List ℕ) (es : List (Entry n)) → due_work shape h due (begun by f es) ≡ due_work shape h due es
+  due-begun (Some region) by f es = refl
+  due-begun None (Some region) f es = refl
+  due-begun None None f [] = refl
+  due-begun None None f (e ∷ es) = refl
+
+  target-by : (b : Bool) (due : Option ℕ) (new es : List (Entry n)) → (b ≡ false → due_work shape h due new ≡ due_work shape h due es)
+      → array_line_after shape h (slot_of_work shape h (cond b Nothing (due_work shape h due new))) ≡ array_line_after shape h (slot_of_work shape h (cond b Nothing (due_work shape h due es)))
+  target-by true due new es same = refl
+  target-by false due new es same = ap (λ work. array_line_after shape h (slot_of_work shape h work)) (same refl)
+
+  due-more : (b : Bool) (due : Option ℕ) (es : List (Entry n)) (x : Entry n) → WorkOf b due es → b ≡ false → due_work shape h due (es ++ x ∷ []) ≡ due_work shape h due es
+  due-more true due es x w is = absurd w
+  due-more false due es x w is = due-push due es x w
+
+  -- a work that is there is ready where no read waits
+  pub ready : (b : Bool) (due : Option ℕ) (es : List (Entry n)) → WorkOf b due es → is_ready [] (cond b Nothing (due_work shape h due es)) ≡ true
+  ready true due es w = absurd w
+  ready false (Some region) es w = refl
+  ready false None [] w = absurd w
+  ready false None (e ∷ es) w = refl
+
+  -- and one that may be begun is there
+  pub ready-work : (ws : List Awaited) (b : Bool) (due : Option ℕ) (es : List (Entry n)) → is_ready ws (cond b Nothing (due_work shape h due es)) ≡ true → WorkOf b due es
+  ready-work ws true due es r = absurd (cc)
+  ready-work ws false (Some region) es r = tt
+  ready-work ws false None [] r = absurd (cc)
+  ready-work ws false None (e ∷ es) r = tt
+
+-- an event that doesn't end a line write
+abbrev pub spares_work : {n : ℕ} → Event n → Bool
+spares_work (Write row line bytes given answer) = true
+spares_work (Read row line answer) = true
+spares_work (Serve answer) = true
+spares_work (Begin answer) = goes_on answer
+spares_work (Iterate answer) = goes_on answer
+spares_work (Cut tearing) = true
+
+module _ {n : ℕ} (shape : BankShape) where
+  -- a bank has a work to do after these events
+  abbrev pub WorkAfter : List (Event n) → Type 0
+  WorkAfter h = WorkOf (has_exhausted h) (due_after shape h) (queue shape h)
+
+  pub working : (most : ℕ) (h : List (Event n)) → MayAll shape most h → in_progress h ≡ true → WorkAfter h
+  working most h m p = work-full (has_exhausted h) (due_after shape h) (queue shape h) ((keeps_pairs shape most h m).working p)
+
+  -- then it has the same one, with the same target
+  abbrev pub Same : Event n → List (Event n) → Type 0
+  Same event h = WorkAfter (event ∷ h) × (target_after shape (event ∷ h) ≡ target_after shape h)
+
+  pub target-same : (event : Event n) (h : List (Event n)) → spares_work event ≡ true → WorkAfter h → Same event h
+  target-same (Write row line bytes given wrote.Accepted) h s w = (
+    work-push (has_exhausted h) (due_after shape h) (queue shape h) _ w,
+    target-by shape h (has_exhausted h) (due_after shape h) _ (queue shape h) (due-more shape h (has_exhausted h) (due_after shape h) (queue shape h) _ w),
+  )
+  target-same (Write row line bytes given (wrote.Merged old)) h s w = (
+    work-merged (has_exhausted h) (due_after shape h) old row bytes given (queue shape h) w,
+    target-by shape h (has_exhausted h) (due_after shape h) _ (queue shape h) (λ b. due-merged shape h (due_after shape h) old row bytes given (queue shape h)),
+  )
+  target-same (Write row line bytes given wrote.Full) h s w = (w, refl)
+  target-same (Write row line bytes given wrote.Exhausted) h s w = (w, refl)
+  target-same (Read row line answer) h s w = (w, refl)
+  target-same (Serve answer) h s w = (w, refl)
+  target-same (Begin did.More) h s w = (
+    work-begun (has_exhausted h) (due_after shape h) (due_after shape h) (newest h) (queue shape h) w,
+    target-by shape h (has_exhausted h) (due_after shape h) _ (queue shape h) (λ b. due-begun shape h (due_after shape h) (due_after shape h) (newest h) (queue shape h)),
+  )
+  target-same (Begin (did.Stored row place)) h s w = absurd (cc)
+  target-same (Begin (did.Moved step)) h s w = absurd (cc)
+  target-same (Begin (did.Retired slot line)) h s w = absurd (cc)
+  target-same (Begin did.Exhausted) h s w = absurd (cc)
+  target-same (Iterate did.More) h s w = (w, refl)
+  target-same (Iterate (did.Stored row place)) h s w = absurd (cc)
+  target-same (Iterate (did.Moved step)) h s w = absurd (cc)
+  target-same (Iterate (did.Retired slot line)) h s w = absurd (cc)
+  target-same (Iterate did.Exhausted) h s w = absurd (cc)
+  target-same (Cut tearing) h s w = (w, refl)
+
+  -- a bank without waiting reads and without a line write in progress may begin a work that is there
+  pub work-begins : (h : List (Event n)) (ws : List Awaited) → waits shape h ≡ ws → ws ≡ [] → in_progress h ≡ false → WorkAfter h → may_begin_after shape h ≡ true
+  work-begins h ws is none p w =
+      let empty : waits shape h ≡ [] = is ∙ none in
+      ap (λ b. not b && is_ready (waits shape h) (work_after shape h)) p ∙ ap (λ ws. is_ready ws (work_after shape h)) empty ∙ ready shape h (has_exhausted h) (due_after shape h) (queue shape h) w
+
+  pub begin-works : (h : List (Event n)) → may_begin_after shape h ≡ true → WorkAfter h
+  begin-works h m = ready-work shape h (waits shape h) (has_exhausted h) (due_after shape h) (queue shape h) (and_second (not (in_progress h)) _ m)
