@@ -1,0 +1,6 @@
+mod Renaming
+mod Timing
+mod InBanks
+mod Judged
+mod Soon
+mod SmallVerdicts

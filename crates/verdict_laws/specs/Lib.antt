@@ -1,0 +1,4 @@
+-- What the verdict on a right run is.
+pub mod Verdicts
+pub mod Ticks
+pub mod Worked
