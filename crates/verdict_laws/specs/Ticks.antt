@@ -3,7 +3,7 @@ use Rattle.std.specs.Prelude.{◌≡◌, ℕ, ◌+◌, ◌*◌, ◌≤◌, List,
 use Rattle.std.specs.Option.{ForSome}
 use Rattle.result_rows.specs.Outcomes.{tick_of}
 use Rattle.row_laws.specs.declared.Row.{Row}
-use Rattle.row_laws.specs.Rules.{Rules}
+use Rattle.row_laws.specs.declared.Rules.{Rules}
 use Rattle.row_laws.specs.Ticking.{attempt, longest}
 use Rattle.row_verdict.specs.Verdicts.{RowsOk}
 
