@@ -1,1 +1,2 @@
 mod SmallRun
+mod SmallVerdicts

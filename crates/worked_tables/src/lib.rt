@@ -8,4 +8,5 @@ pub mod left_tables;
 pub mod lifetimes;
 pub mod runs;
 pub mod tables;
+pub mod verdicts;
 pub mod whole_tables;

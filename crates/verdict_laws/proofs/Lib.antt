@@ -1,0 +1,5 @@
+mod Renaming
+mod Timing
+mod InBanks
+mod Judged
+mod Soon

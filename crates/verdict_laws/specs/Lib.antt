@@ -1,0 +1,3 @@
+-- What the verdict on a right run is.
+pub mod Verdicts
+pub mod Ticks
