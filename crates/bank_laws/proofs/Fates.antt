@@ -1,20 +1,21 @@
 -- What becomes of a row: an accepted write leaves the queue or stays there, and a read that waits is answered or lost.
 use Rattle.std.proofs.Common.{◌≡◌, ◌≢◌, ℕ, ◌==◌, ◌||◌, ◌⊎◌, inl, inr, Bool, true, false, List, [], ◌∷◌, ◌++◌, Some, None, drop, refl, sym, ◌∙◌, subst, cond, eqb, eqb-true}
 use Rattle.std.specs.Prelude.{unwrap_or}
-use Rattle.std.proofs.lemmas.Bool.{eq-eqb}
+use Rattle.std.proofs.lemmas.Bool.{eq-eqb, or_left, or_right}
 use Rattle.result_rows.specs.declared.Outcome.{Outcome}
 use Rattle.result_rows.specs.declared.Outcome.TheVariants as out
 use Rattle.masked_bytes.specs.declared.entry.Entry.{Entry}
 use Rattle.masked_bytes.specs.Entries.{has_row, merged, laid_on}
 use Rattle.bank_shape.specs.declared.BankShape.{BankShape}
-use Rattle.bank_model.specs.declared.answer.WriteAnswer.TheVariants as wrote
-use Rattle.bank_model.specs.declared.answer.ReadAnswer.TheVariants as came
-use Rattle.bank_model.specs.declared.answer.Served.{Served}
-use Rattle.bank_model.specs.declared.answer.Step.TheVariants as did
+use Rattle.bank_shape.specs.declared.answer.WriteAnswer.TheVariants as wrote
+use Rattle.bank_shape.specs.declared.answer.ReadAnswer.TheVariants as came
+use Rattle.bank_shape.specs.declared.answer.Served.{Served}
+use Rattle.bank_shape.specs.declared.answer.Step.TheVariants as did
 use Rattle.bank_model.specs.Events.{Write, Read, Serve, Begin, Iterate, Cut, newest}
 use Rattle.bank_model.specs.History.{Awaited, queue, waits, due_after}
 use Rattle.bank_model.specs.Answers.{IsServed}
-use Rattle.bank_model.specs.Timing.{Pacing, Happens, Core, Regs, Timed, core, core_of}
+use Rattle.bank_shape.specs.declared.pace.Pace.{Pace}
+use Rattle.bank_model.specs.Timing.{Happens, Core, Regs, Timed, core, core_of}
 use Rattle.bank_model.specs.Lawful.{Lawful, MayCome}
 use Rattle.bank_laws.specs.Outcomes.{on_row, outcome_with, outcome_of}
 use Rattle.bank_laws.specs.Standing.{has_wait}
@@ -24,14 +25,6 @@ use Rattle.bank_laws.proofs.Settling.{opens, step_stays}
 
 pub eqb-same : (a : ℕ) → (a == a) ≡ true
 eqb-same a = eq-eqb a a refl
-
-pub or_first : (a b : Bool) → a ≡ true → (a || b) ≡ true
-or_first true b h = refl
-or_first false b h = absurd (cc)
-
-pub or_second : (a b : Bool) → b ≡ true → (a || b) ≡ true
-or_second true b h = refl
-or_second false b h = h
 
 module _ {n : ℕ} where
   -- the outcome of a write that has left the queue
@@ -81,8 +74,8 @@ module _ {n : ℕ} where
       by false rest h = rest h
 
   pub new-push : (es : List (Entry n)) (x : Entry n) → has_row (es ++ x ∷ []) x.row ≡ true
-  new-push [] x = or_first (x.row == x.row) false (eqb-same x.row)
-  new-push (e ∷ es) x = or_second (e.row == x.row) _ (new-push es x)
+  new-push [] x = or_left (x.row == x.row) false (eqb-same x.row)
+  new-push (e ∷ es) x = or_right (e.row == x.row) _ (new-push es x)
 
   -- after a merge another row is still there, and so is the new one
   there-merged : (old row : ℕ) (bytes : List ℕ) (given : List Bool) (es : List (Entry n)) (r : ℕ)
@@ -90,7 +83,7 @@ module _ {n : ℕ} where
   there-merged old row bytes given [] r h ne = absurd (cc)
   there-merged old row bytes given (e ∷ es) r h ne =
       elim (eqb e.row old) as (λ b. eqb e.row old ≡ b → has_row (cond b (laid_on row bytes given e ∷ es) (e ∷ merged old row bytes given es)) r ≡ true) [
-        | true ↦ λ is. or_second (row == r) _ (rest (e.row == r) (subst (λ a. (a == r) ≡ false) (sym (eqb-true e.row old is)) ne) h)
+        | true ↦ λ is. or_right (row == r) _ (rest (e.row == r) (subst (λ a. (a == r) ≡ false) (sym (eqb-true e.row old is)) ne) h)
         | false ↦ λ is. more (e.row == r) (λ k. there-merged old row bytes given es r k ne) h
       ] refl
     where
@@ -108,8 +101,8 @@ module _ {n : ℕ} where
     where
       by : (b : Bool) → (has_row es old ≡ true → has_row (merged old row bytes given es) row ≡ true) → (b || has_row es old) ≡ true
           → has_row (cond b (laid_on row bytes given e ∷ es) (e ∷ merged old row bytes given es)) row ≡ true
-      by true go h = or_first (row == row) _ (eqb-same row)
-      by false go h = or_second (e.row == row) _ (go h)
+      by true go h = or_left (row == row) _ (eqb-same row)
+      by false go h = or_right (e.row == row) _ (go h)
 
 -- a read of this row waits, and is owed these bytes
 abbrev pub Awaits : List Awaited → ℕ → List ℕ → Type 0
@@ -127,8 +120,8 @@ awaits-new (v ∷ ws) w = inr (awaits-new ws w)
 
 pub awaits-has : (ws : List Awaited) (row : ℕ) (owed : List ℕ) → Awaits ws row owed → has_wait ws row ≡ true
 awaits-has [] row owed a = absurd a
-awaits-has (w ∷ ws) row owed (inl a) = or_first (w.row == row) _ (eq-eqb w.row row a.0)
-awaits-has (w ∷ ws) row owed (inr a) = or_second (w.row == row) _ (awaits-has ws row owed a)
+awaits-has (w ∷ ws) row owed (inl a) = or_left (w.row == row) _ (eq-eqb w.row row a.0)
+awaits-has (w ∷ ws) row owed (inr a) = or_right (w.row == row) _ (awaits-has ws row owed a)
 
 module _ {n m : ℕ} (shape : BankShape) where
   -- an accepted write stands in the queue, or has left it
@@ -146,7 +139,7 @@ module _ {n m : ℕ} (shape : BankShape) where
   abbrev pub ReadFateBy : List (Timed n m) → ℕ → Happens n → ℕ → List ℕ → Type 0
   ReadFateBy zs tick h row owed = Awaits (waits shape (core_of h (core zs))) row owed ⊎ IsSettled owed (unwrap_or (outcome_with shape zs h tick row) (outcome_of shape zs row))
 
-module _ {n m : ℕ} (shape : BankShape) (pace : Pacing) (e : ℕ) where
+module _ {n m : ℕ} (shape : BankShape) (pace : Pace) (e : ℕ) where
   merged_fate : (zs : List (Timed n m)) (tick at line old row : ℕ) (bytes : List ℕ) (given : List Bool)
       → has_row (queue shape (core zs)) row ≡ true → WriteFateBy shape zs tick (Core (Write at line bytes given (wrote.Merged old))) row
   merged_fate zs tick at line old row bytes given h =

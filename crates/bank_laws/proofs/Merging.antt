@@ -1,8 +1,9 @@
 -- What becomes of an accepted write, and what the rows behind it show of that.
 use Rattle.std.proofs.Common.{◌≡◌, ℕ, ◌==◌, ◌&&◌, ◌||◌, ◌⊎◌, inl, inr, Bool, true, false, List, [], ◌∷◌, ◌++◌, Option, Some, None, drop, refl, sym, ap, ◌∙◌, subst, cond, eqb, eqb-true, append_assoc}
+use Rattle.masked_bytes.proofs.Truth.{neither_first, neither_second}
 use Rattle.std.specs.Prelude.{unwrap_or}
 use Rattle.std.specs.List.{list_any}
-use Rattle.std.proofs.lemmas.Bool.{eq-eqb}
+use Rattle.std.proofs.lemmas.Bool.{eq-eqb, and_from, and_left, and_right, or_left, or_right, or_from}
 use Rattle.std.proofs.lemmas.List.Folds.{list_any-append}
 use Rattle.result_rows.specs.declared.Outcome.{Outcome}
 use Rattle.result_rows.specs.declared.Outcome.TheVariants as out
@@ -14,17 +15,17 @@ use Rattle.row_laws.specs.Answers.{accepts}
 use Rattle.row_laws.specs.Rows.{accepted_of}
 use Rattle.row_laws.specs.Queueing.{merges_at, merge_fits}
 use Rattle.bank_shape.specs.declared.BankShape.{BankShape}
-use Rattle.bank_model.specs.declared.answer.WriteAnswer.{WriteAnswer}
-use Rattle.bank_model.specs.declared.answer.WriteAnswer.TheVariants as wrote
-use Rattle.bank_model.specs.declared.answer.Step.TheVariants as did
+use Rattle.bank_shape.specs.declared.answer.WriteAnswer.{WriteAnswer}
+use Rattle.bank_shape.specs.declared.answer.WriteAnswer.TheVariants as wrote
+use Rattle.bank_shape.specs.declared.answer.Step.TheVariants as did
 use Rattle.bank_model.specs.Events.{Write, Read, Serve, Begin, Iterate, Cut, newest}
 use Rattle.bank_model.specs.History.{begun, queue, due_after}
-use Rattle.bank_model.specs.Timing.{Pacing, Happens, Core, Regs, Timed, core, core_of}
+use Rattle.bank_shape.specs.declared.pace.Pace.{Pace}
+use Rattle.bank_model.specs.Timing.{Happens, Core, Regs, Timed, core, core_of}
 use Rattle.bank_model.specs.Lawful.{Lawful, MayCome}
 use Rattle.bank_laws.specs.Outcomes.{on_row, outcome_with, outcome_of, ended, row_with, rows_from}
 use Rattle.bank_laws.specs.Settling.{AreOpen}
 use Rattle.bank_laws.specs.RowLaws.{is_merge_fair, MergeLaw}
-use Rattle.bank_laws.proofs.Entries.{or_none, or_left, or_right}
 use Rattle.bank_laws.proofs.Standing.{stand_apart}
 use Rattle.bank_laws.proofs.Answering.{IsHead, stored-head}
 use Rattle.bank_laws.proofs.Settling.{opens, above_all, lawful_before, step_stays}
@@ -34,35 +35,15 @@ use Rattle.bank_laws.proofs.Ending.{Onwards, IsOutcome, accepting, write_outcome
 use Rattle.bank_laws.proofs.Serves.{may_at, onwards_at}
 use Rattle.bank_laws.proofs.Lines.{Stands, Covered, covered-stands, stands-row, stands-one, stands-push, stands-new, covered-push, covered-new, stands-begun, covered-begun, stands-rest, covered-rest, stands-merged, covered-merged, merged-new, merges-stands, merges-covers, merges-uncovered}
 
-or_true_left : (a b : Bool) → a ≡ true → (a || b) ≡ true
-or_true_left true b h = refl
-or_true_left false b h = absurd (cc)
-
-or_true_right : (a b : Bool) → b ≡ true → (a || b) ≡ true
-or_true_right true b h = refl
-or_true_right false b h = h
-
-and_of : (a b : Bool) → a ≡ true → b ≡ true → (a && b) ≡ true
-and_of true b h k = k
-and_of false b h k = h
-
-and_not : (a b : Bool) → b ≡ false → (a && b) ≡ false
-and_not true b h = h
-and_not false b h = refl
-
-and_not_first : (a b : Bool) → a ≡ false → (a && b) ≡ false
-and_not_first true b h = absurd (cc)
-and_not_first false b h = refl
-
 module _ {n : ℕ} where
   any-more : (p : Row n → Bool) (xs ys : List (Row n)) → list_any p xs ≡ true → list_any p (xs ++ ys) ≡ true
-  any-more p xs ys h = list_any-append p xs ys ∙ or_true_left (list_any p xs) _ h
+  any-more p xs ys h = list_any-append p xs ys ∙ or_left (list_any p xs) _ h
 
   any-new : (p : Row n → Bool) (xs : List (Row n)) (r : Row n) → p r ≡ true → list_any p (xs ++ r ∷ []) ≡ true
-  any-new p xs r h = list_any-append p xs (r ∷ []) ∙ or_true_right (list_any p xs) _ (or_true_left (p r) false h)
+  any-new p xs r h = list_any-append p xs (r ∷ []) ∙ or_right (list_any p xs) _ (or_left (p r) false h)
 
   any-none : (p : Row n → Bool) (xs ys : List (Row n)) → list_any p xs ≡ false → list_any p ys ≡ false → list_any p (xs ++ ys) ≡ false
-  any-none p xs ys h k = list_any-append p xs ys ∙ or_none (list_any p xs) _ h k
+  any-none p xs ys h k = list_any-append p xs ys ∙ or_from (list_any p xs) _ h k
 
   -- the first accepted write of a line stays the first
   merges_at-more : (line tick : ℕ) (xs ys : List (Row n)) → merges_at line tick xs ≡ true → merges_at line tick (xs ++ ys) ≡ true
@@ -76,8 +57,8 @@ module _ {n : ℕ} where
   merges_at-new : (line : ℕ) (xs : List (Row n)) (r : Row n) → list_any (accepted_of line) xs ≡ false → accepted_of line r ≡ true → merges_at line r.tick (xs ++ r ∷ []) ≡ true
   merges_at-new line [] r none is = subst (λ b. cond b (r.tick == r.tick) false ≡ true) (sym is) (eqb-same r.tick)
   merges_at-new line (x ∷ xs) r none is =
-      subst (λ b. cond b (x.tick == r.tick) (merges_at line r.tick (xs ++ r ∷ [])) ≡ true) (sym (or_left (accepted_of line x) _ none))
-      (merges_at-new line xs r (or_right (accepted_of line x) _ none) is)
+      subst (λ b. cond b (x.tick == r.tick) (merges_at line r.tick (xs ++ r ∷ [])) ≡ true) (sym (neither_first (accepted_of line x) _ none))
+      (merges_at-new line xs r (neither_second (accepted_of line x) _ none) is)
 
   -- what stays true of a row's entry while entries come, merge, are begun and go
   pub record IsKept (P : List (Entry n) → Type 0) (row : ℕ) : Type 0 where
@@ -138,7 +119,7 @@ module _ {n m : ℕ} (shape : BankShape) where
       ⊎ (StoredBy zs tick h row
       ⊎ ((u : ℕ) × (unwrap_or (outcome_with shape zs h tick row) (outcome_of shape zs row) ≡ out.Merged u) × (merges_at line u between ≡ true))))
 
-module _ {n m : ℕ} (shape : BankShape) (pace : Pacing) (e : ℕ) where
+module _ {n m : ℕ} (shape : BankShape) (pace : Pace) (e : ℕ) where
   pub stays_there : (P : List (Entry n) → Type 0) (row : ℕ) → IsKept P row → (zs : List (Timed n m)) (x : Timed n m) (h : Happens n) → MayCome shape pace e zs x h → SparesRow h row
       → P (queue shape (core zs)) → P (queue shape (core_of h (core zs))) ⊎ StoredBy shape zs x.tick h row
   stays_there P row k zs x (Core (Write at line bytes given wrote.Accepted)) may spares p = inl (k.push (queue shape (core zs)) _ p)
@@ -214,9 +195,9 @@ module _ {n m : ℕ} (shape : BankShape) (pace : Pacing) (e : ℕ) where
         → Stands (queue shape (core zs)) row line → list_any (accepted_of line) between ≡ false
         → FateBy shape zs x.tick h (between ++ row_with shape all h x.tick cancels) row line
     alone_step zs x (Core (Write at l bytes given wrote.Full)) cancels between row line apart may acc s none =
-        alone_on zs x (Core (Write at l bytes given wrote.Full)) between _ row line may tt s none (or_none (l == line && accepts (ended x.tick (outcome_of shape all at))) false (and_not (l == line) _ acc) refl)
+        alone_on zs x (Core (Write at l bytes given wrote.Full)) between _ row line may tt s none (or_from (l == line && accepts (ended x.tick (outcome_of shape all at))) false (and_right (l == line) _ acc) refl)
     alone_step zs x (Core (Write at l bytes given wrote.Exhausted)) cancels between row line apart may acc s none =
-        alone_on zs x (Core (Write at l bytes given wrote.Exhausted)) between _ row line may tt s none (or_none (l == line && accepts (ended x.tick (outcome_of shape all at))) false (and_not (l == line) _ acc) refl)
+        alone_on zs x (Core (Write at l bytes given wrote.Exhausted)) between _ row line may tt s none (or_from (l == line && accepts (ended x.tick (outcome_of shape all at))) false (and_right (l == line) _ acc) refl)
     alone_step zs x (Core (Write at l bytes given wrote.Accepted)) cancels between row line apart may acc s none = by (eqb l line) refl
       where
         own : Row n
@@ -226,9 +207,9 @@ module _ {n m : ℕ} (shape : BankShape) (pace : Pacing) (e : ℕ) where
         by true is =
             inr (inl (
               covered-new (queue shape (core zs)) (record { row = at; line = l; bytes = bytes; given = given }) row line (eqb-true l line is) s,
-              any-new (accepted_of line) between own (and_of (l == line) _ is acc),
+              any-new (accepted_of line) between own (and_from (l == line) _ is acc),
             ))
-        by false is = alone_on zs x (Core (Write at l bytes given wrote.Accepted)) between (own ∷ []) row line may tt s none (or_none (l == line && accepts own.outcome) false (and_not_first (l == line) _ is) refl)
+        by false is = alone_on zs x (Core (Write at l bytes given wrote.Accepted)) between (own ∷ []) row line may tt s none (or_from (l == line && accepts own.outcome) false (and_left (l == line) _ is) refl)
     alone_step zs x (Core (Write at l bytes given (wrote.Merged old))) cancels between row line apart may acc s none = by (eqb l line) refl
       where
         own : Row n
@@ -239,20 +220,20 @@ module _ {n m : ℕ} (shape : BankShape) (pace : Pacing) (e : ℕ) where
             ⊎ ((Covered (merged old at bytes given (queue shape (core zs))) row line × (list_any (accepted_of line) (between ++ own ∷ []) ≡ true))
             ⊎ (((u : ℕ) × (p : ℕ) × (unwrap_or (cond b (Some (out.Merged x.tick)) None) (outcome_of shape zs row) ≡ out.Stored u p))
             ⊎ ((u : ℕ) × (unwrap_or (cond b (Some (out.Merged x.tick)) None) (outcome_of shape zs row) ≡ out.Merged u) × (merges_at line u (between ++ own ∷ []) ≡ true))))
-        into is true old_is = inr (inr (inr (x.tick, refl, merges_at-new line between own none (and_of (l == line) _ is acc))))
+        into is true old_is = inr (inr (inr (x.tick, refl, merges_at-new line between own none (and_from (l == line) _ is acc))))
         into is false old_is =
             inr (inl (
               covered-merged old at bytes given (queue shape (core zs)) row line old_is
                   (subst (λ k. Covered (queue shape (core zs)) row k) (eqb-true l line is)
                   (merges-covers shape (core zs) l old may.may.2 row old_is (subst (λ k. Stands (queue shape (core zs)) row k) (sym (eqb-true l line is)) s))),
-              any-new (accepted_of line) between own (and_of (l == line) _ is acc),
+              any-new (accepted_of line) between own (and_from (l == line) _ is acc),
             ))
 
         by : (b : Bool) → eqb l line ≡ b → FateBy shape zs x.tick (Core (Write at l bytes given (wrote.Merged old))) (between ++ own ∷ []) row line
         by true is = into is (eqb old row) refl
         by false is =
             alone_on zs x (Core (Write at l bytes given (wrote.Merged old))) between (own ∷ []) row line may (spares_other zs x at l row line old bytes given may apart s is) s none
-            (or_none (l == line && accepts own.outcome) false (and_not_first (l == line) _ is) refl)
+            (or_from (l == line && accepts own.outcome) false (and_left (l == line) _ is) refl)
     alone_step zs x (Core (Read at l answer)) cancels between row line apart may acc s none = alone_on zs x (Core (Read at l answer)) between _ row line may tt s none refl
     alone_step zs x (Regs event) cancels between row line apart may acc s none = alone_on zs x (Regs event) between _ row line may tt s none refl
     alone_step zs x (Core (Serve answer)) cancels between row line apart may acc s none = alone_on zs x (Core (Serve answer)) between _ row line may tt s none refl

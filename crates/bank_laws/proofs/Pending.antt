@@ -2,7 +2,7 @@
 use Rattle.std.proofs.Common.{◌≡◌, ◌≢◌, ℕ, ◌<◌, ◌≤◌, ◌==◌, ◌&&◌, ◌||◌, ◌⊎◌, inl, inr, not, Bool, true, false, List, [], ◌∷◌, ◌++◌, Option, Some, None, drop, length, refl, sym, ap, ◌∙◌, subst, arith, cond, eqb, append_assoc}
 use Rattle.std.specs.Prelude.{unwrap_or, nat_lt, nat_le}
 use Rattle.std.specs.List.{list_any}
-use Rattle.std.proofs.lemmas.Bool.{lt-ltb, le-ltb, le-leb}
+use Rattle.std.proofs.lemmas.Bool.{lt-ltb, le-ltb, le-leb, or_left, or_right, and_from}
 use Rattle.result_rows.specs.declared.Outcome.{Outcome}
 use Rattle.result_rows.specs.declared.Outcome.TheVariants as out
 use Rattle.masked_bytes.specs.Entries.{has_row, candidate}
@@ -11,14 +11,15 @@ use Rattle.row_laws.specs.Answers.{accepts, is_full, is_merged, is_queued, store
 use Rattle.row_laws.specs.Rows.{accepted_of}
 use Rattle.row_laws.specs.Queueing.{merges_at, pending}
 use Rattle.bank_shape.specs.declared.BankShape.{BankShape}
-use Rattle.bank_model.specs.declared.answer.WriteAnswer.{WriteAnswer}
-use Rattle.bank_model.specs.declared.answer.WriteAnswer.TheVariants as wrote
-use Rattle.bank_model.specs.declared.answer.Step.TheVariants as did
+use Rattle.bank_shape.specs.declared.answer.WriteAnswer.{WriteAnswer}
+use Rattle.bank_shape.specs.declared.answer.WriteAnswer.TheVariants as wrote
+use Rattle.bank_shape.specs.declared.answer.Step.TheVariants as did
 use Rattle.bank_model.specs.Events.{Event, Write, Read, Serve, Begin, Iterate, Cut, RowsBelow, newest}
 use Rattle.bank_model.specs.History.{queue, due_after, has_exhausted}
 use Rattle.bank_model.specs.Answers.{head_busy_after, accept_answer, write_answer}
 use Rattle.bank_model.specs.Sensing.{most_steps}
-use Rattle.bank_model.specs.Timing.{Pacing, Happens, Core, Regs, Timed, core, core_of, last_tick}
+use Rattle.bank_shape.specs.declared.pace.Pace.{Pace}
+use Rattle.bank_model.specs.Timing.{Happens, Core, Regs, Timed, core, core_of, last_tick}
 use Rattle.bank_model.specs.Lawful.{Lawful, MayCome}
 use Rattle.bank_laws.specs.Outcomes.{outcome_with, outcome_of, ended, row_with, rows_from}
 use Rattle.bank_laws.specs.Ticks.{ends_action}
@@ -28,7 +29,7 @@ use Rattle.bank_laws.proofs.Standing.{stand_apart}
 use Rattle.bank_laws.proofs.Ticks.{last_tick-rises, last-below}
 use Rattle.bank_laws.proofs.Settling.{opens, above_all, lawful_before, step_stays, stays}
 use Rattle.bank_laws.proofs.Fates.{IsLeft, WriteFate, write_fate}
-use Rattle.bank_laws.proofs.Walking.{Passes, walk, rows_after, rows_after-more, and_both}
+use Rattle.bank_laws.proofs.Walking.{Passes, walk, rows_after, rows_after-more}
 use Rattle.bank_laws.proofs.Ending.{Onwards, IsOutcome, accepting, own_row, write_outcome, outcome-accepts}
 use Rattle.bank_laws.proofs.Serves.{may_at, onwards_at}
 use Rattle.bank_laws.proofs.Wears.{stored_by, stored_up_to}
@@ -37,14 +38,6 @@ use Rattle.bank_laws.proofs.Lines.{Covered, covered-stands, stands-row}
 use Rattle.bank_laws.proofs.Merging.{Fate, covered-kept, stays_there, spares_covered, FateBy, fate, fate_new}
 use Rattle.bank_laws.proofs.Counting.{among, Falling, falling-more, hits, entries-counted}
 use Rattle.bank_laws.proofs.Waiting.{may_all, cond_length}
-
-pub or_on_right : (a b : Bool) → b ≡ true → (a || b) ≡ true
-or_on_right true b h = refl
-or_on_right false b h = h
-
-pub or_on_left : (a b : Bool) → a ≡ true → (a || b) ≡ true
-or_on_left true b h = refl
-or_on_left false b h = absurd (cc)
 
 module _ {n : ℕ} where
   -- whether a write with this outcome stands at tick t, where an accepted write of its line came since, or none
@@ -93,7 +86,7 @@ module _ {n : ℕ} where
       by false None a = room (eqb (length (queue shape h)) shape.writes) a
 
 pub by_stored_later : (n t tick : ℕ) (any : Bool) (u p : ℕ) → t < u → stands_by {n = n} t tick any (out.Stored u p) ≡ true
-by_stored_later n t tick any u p lt = or_on_left (nat_lt t u) false (lt-ltb t u lt)
+by_stored_later n t tick any u p lt = or_left (nat_lt t u) false (lt-ltb t u lt)
 
 pub by_stored_before : (n t tick : ℕ) (any : Bool) (u p : ℕ) → u ≤ t → stands_by {n = n} t tick any (out.Stored u p) ≡ false
 by_stored_before n t tick any u p le = subst (λ b. (b || false) ≡ false) (sym (le-ltb t u le)) refl
@@ -132,14 +125,14 @@ queue-asked {n} {m} shape (z ∷ zs) r there = by z.happens (λ t. queue-asked s
 
     by : (h : Happens n) → (has_row (queue shape (core zs)) r ≡ true → among (writes_in zs) r ≡ true) → has_row (queue shape (core_of h (core zs))) r ≡ true → among (write_rows h ++ writes_in zs) r ≡ true
     by (Core (Write at line bytes given wrote.Accepted)) go there =
-        either (has_row (queue shape (core zs)) r) (λ t. or_on_right (at == r) _ (go t))
-        (λ f. either (eqb at r) (λ is. or_on_left (at == r) _ is)
+        either (has_row (queue shape (core zs)) r) (λ t. or_right (at == r) _ (go t))
+        (λ f. either (eqb at r) (λ is. or_left (at == r) _ is)
         (λ ne. absurd (cc (lacks-push (queue shape (core zs)) (record { row = at; line = line; bytes = bytes; given = given }) r f ne, there))))
     by (Core (Write at line bytes given (wrote.Merged old))) go there =
-        either (has_row (queue shape (core zs)) r) (λ t. or_on_right (at == r) _ (go t))
-        (λ f. either (eqb at r) (λ is. or_on_left (at == r) _ is) (λ ne. absurd (cc (lacks-merged old at bytes given (queue shape (core zs)) r f ne, there))))
-    by (Core (Write at line bytes given wrote.Full)) go there = or_on_right (at == r) _ (go there)
-    by (Core (Write at line bytes given wrote.Exhausted)) go there = or_on_right (at == r) _ (go there)
+        either (has_row (queue shape (core zs)) r) (λ t. or_right (at == r) _ (go t))
+        (λ f. either (eqb at r) (λ is. or_left (at == r) _ is) (λ ne. absurd (cc (lacks-merged old at bytes given (queue shape (core zs)) r f ne, there))))
+    by (Core (Write at line bytes given wrote.Full)) go there = or_right (at == r) _ (go there)
+    by (Core (Write at line bytes given wrote.Exhausted)) go there = or_right (at == r) _ (go there)
     by (Core (Read at line answer)) go there = go there
     by (Core (Serve answer)) go there = go there
     by (Regs event) go there = go there
@@ -163,7 +156,7 @@ refused_set shape ys tick at line bytes given (wrote.Merged old) ref un = absurd
 refused_set {n} shape ys tick at line bytes given wrote.Full ref un = let both : ◌≡◌ {A = Outcome n} (out.Full tick) out.Unset = sym (own_row at (out.Full tick) (outcome_of shape ys at)) ∙ un in absurd (cc)
 refused_set {n} shape ys tick at line bytes given wrote.Exhausted ref un = let both : ◌≡◌ {A = Outcome n} (out.Worn tick) out.Unset = sym (own_row at (out.Worn tick) (outcome_of shape ys at)) ∙ un in absurd (cc)
 
-module _ {n m : ℕ} (shape : BankShape) (pace : Pacing) (e : ℕ) where
+module _ {n m : ℕ} (shape : BankShape) (pace : Pace) (e : ℕ) where
   pub last-later : (later zs : List (Timed n m)) → 1 ≤ pace.read → 1 ≤ pace.iter → Lawful shape pace e (later ++ zs) → last_tick zs ≤ last_tick (later ++ zs)
   last-later [] zs r i l = omega arith
   last-later (y ∷ later) zs r i l =
@@ -201,7 +194,7 @@ module _ {n m : ℕ} (shape : BankShape) (pace : Pacing) (e : ℕ) where
       by (inr stored) =
           inr (stored.0, stored.1, step_stays shape pace e (later ++ zs) y y.happens row l.1 (opens shape pace e (later ++ zs) l.1) l.0 (λ un. let k : ◌≡◌ {A = Outcome n} (out.Stored stored.0 stored.1) out.Unset = sym stored.2 ∙ un in absurd (cc)) ∙ stored.2)
 
-module _ {n m : ℕ} (shape : BankShape) (pace : Pacing) (e : ℕ) (all : List (Timed n m)) where
+module _ {n m : ℕ} (shape : BankShape) (pace : Pace) (e : ℕ) (all : List (Timed n m)) where
   pub left_by : (t tick : ℕ) (o : Outcome n) → IsLeft o → ((u p : ℕ) → o ≡ out.Stored u p → t < u) → stands_by t tick false o ≡ true
   left_by t tick out.Unset left above = absurd left
   left_by t tick (out.Stored at place) left above = by_stored_later n t tick false at place (above at place refl)
@@ -357,18 +350,18 @@ module _ {n m : ℕ} (shape : BankShape) (pace : Pacing) (e : ℕ) (all : List (
           → (ends_action h ≡ false → length (pending x.tick [] (rows_from shape all ys)) ≡ length (queue shape (core ys)))
           → Passes (is_room_fair shape.writes) (rows_from shape all ys) (row_with shape all h x.tick cancels) (rows_after shape all later)
       by (Core (Write row line bytes given answer)) cancels may on count =
-          and_both _ _ (few (count refl))
+          and_from _ _ (few (count refl))
           (or_full (is_full (ended x.tick (outcome_of shape all row))) _ (λ full.
           let was : answer ≡ wrote.Full =
           full_outcome x.tick answer (ended x.tick (outcome_of shape all row)) (write_outcome shape pace e all ys x row line bytes given answer (opens shape pace e all l) may on) full in
           ap (λ k. k == shape.writes) (count refl) ∙ full-room shape (core ys) line (sym was ∙ may.may.2)))
-      by (Core (Read row line answer)) cancels may on count = and_both _ _ (few (count refl)) refl
+      by (Core (Read row line answer)) cancels may on count = and_from _ _ (few (count refl)) refl
       by (Core (Serve answer)) cancels may on count = tt
       by (Regs event) cancels may on count = tt
       by (Core (Begin answer)) cancels may on count = tt
       by (Core (Iterate answer)) cancels may on count = tt
       by (Core (Cut tearing)) true may on count = tt
-      by (Core (Cut tearing)) false may on count = and_both _ _ (few (count refl)) refl
+      by (Core (Cut tearing)) false may on count = and_from _ _ (few (count refl)) refl
 
 pub queue_law : QueueLaw
 queue_law n m e shape pace xs sized l = walk shape xs (is_room_fair shape.writes) [] xs refl (room_at shape pace e xs sized.read sized.iter l)

@@ -3,13 +3,15 @@ use Rattle.std.proofs.Common.{◌≡◌, ℕ, ◌<◌, ◌≤◌, ◌&&◌, Bool
 use Rattle.std.specs.Prelude.{IsTrue, IfSome, All, nat_lt}
 use Rattle.std.proofs.lemmas.List.Elements.{All-nil, All-cons, All-weaker}
 use Rattle.bank_shape.specs.declared.BankShape.{BankShape}
-use Rattle.bank_model.specs.declared.answer.ReadAnswer.TheVariants as came
-use Rattle.bank_model.specs.declared.clock.Doing.{Doing}
-use Rattle.bank_model.specs.declared.clock.Doing.TheVariants.{Serving, Beginning, Iterating}
-use Rattle.bank_model.specs.declared.clock.Action.{Action}
+use Rattle.bank_shape.specs.declared.answer.ReadAnswer.TheVariants as came
+use Rattle.bank_shape.specs.declared.clock.Doing.{Doing}
+use Rattle.bank_shape.specs.declared.clock.Doing.TheVariants.{Serving, Beginning, Iterating}
+use Rattle.bank_shape.specs.declared.clock.Action.{Action}
 use Rattle.bank_model.specs.Events.{Write, Read, Serve, Begin, Iterate, Cut}
 use Rattle.bank_model.specs.After.{work_after, is_store_of}
-use Rattle.bank_model.specs.Timing.{Pacing, Happens, Core, Regs, KeepBegin, KeepIterate, KeepCut, Timed, lasts, ends, is_doing, core, last_tick}
+use Rattle.bank_shape.specs.declared.pace.Pace.{Pace}
+use Rattle.bank_shape.specs.Acting.{lasts}
+use Rattle.bank_model.specs.Timing.{Happens, Core, Regs, KeepBegin, KeepIterate, KeepCut, Timed, ends, is_doing, core, last_tick}
 use Rattle.bank_model.specs.Running.{drops_begin, started, left_by, running, running_at, chosen_after}
 use Rattle.bank_model.specs.Changes.{change_after}
 use Rattle.bank_model.specs.Lawful.{Lawful, MayCome}
@@ -21,7 +23,7 @@ lasts_some read iter Beginning r i = r
 lasts_some read iter Iterating r i = i
 
 -- an action that is chosen at a tick ends above it
-started-above : (pace : Pacing) (r : Option Action) (d : Option Doing) (last tick : ℕ) (a : Action) → 1 ≤ pace.read → 1 ≤ pace.iter
+started-above : (pace : Pace) (r : Option Action) (d : Option Doing) (last tick : ℕ) (a : Action) → 1 ≤ pace.read → 1 ≤ pace.iter
     → IfSome r (λ a. last < ends pace a) → started r d last tick ≡ Some a → last < ends pace a
 started-above pace (Some action) d last tick a r i above e = let same : action ≡ a = cc in subst (λ a. last < ends pace a) same above
 started-above pace None None last tick a r i above e = absurd (cc)
@@ -35,7 +37,7 @@ started-above pace None (Some doing) last tick a r i above e = by (nat_lt last t
         subst P same (omega (arith, some))
     by false e = absurd (cc)
 
-module _ {n m : ℕ} (shape : BankShape) (pace : Pacing) (e : ℕ) where
+module _ {n m : ℕ} (shape : BankShape) (pace : Pace) (e : ℕ) where
   -- what runs after an event ends above it
   running-above : (xs : List (Timed n m)) → Lawful shape pace e xs → IfSome (running shape pace xs) (λ a. last_tick xs < ends pace a)
   running-above [] l = tt

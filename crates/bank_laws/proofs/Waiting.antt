@@ -2,7 +2,7 @@
 use Rattle.std.proofs.Common.{◌≡◌, ◌≢◌, ℕ, ◌<◌, ◌≤◌, ◌==◌, ◌&&◌, ◌||◌, ◌⊎◌, inl, inr, not, suc, Bool, true, false, List, [], ◌∷◌, ◌++◌, Some, None, drop, length, refl, sym, ap, ◌∙◌, subst, arith, cond, eqb, append_assoc}
 use Rattle.std.specs.Prelude.{unwrap_or, nat_lt, nat_le}
 use Rattle.std.specs.List.{list_any}
-use Rattle.std.proofs.lemmas.Bool.{eq-eqb, lt-ltb, le-ltb, le-leb}
+use Rattle.std.proofs.lemmas.Bool.{eq-eqb, lt-ltb, le-ltb, le-leb, or_left, or_right, and_from, or_from}
 use Rattle.std.proofs.lemmas.List.Folds.{list_any-append}
 use Rattle.result_rows.specs.declared.Outcome.{Outcome}
 use Rattle.result_rows.specs.declared.Outcome.TheVariants as out
@@ -12,11 +12,12 @@ use Rattle.row_laws.specs.Rows.{is_cut}
 use Rattle.row_laws.specs.Queueing.{waiting}
 use Rattle.bank_shape.specs.declared.BankShape.{BankShape}
 use Rattle.bank_shape.specs.Pausing.{is_cancelling, most_cancels}
-use Rattle.bank_model.specs.declared.answer.ReadAnswer.{ReadAnswer}
-use Rattle.bank_model.specs.declared.answer.ReadAnswer.TheVariants as came
+use Rattle.bank_shape.specs.declared.answer.ReadAnswer.{ReadAnswer}
+use Rattle.bank_shape.specs.declared.answer.ReadAnswer.TheVariants as came
 use Rattle.bank_model.specs.Events.{Event, Write, Read, Serve, Begin, Iterate, Cut, RowsBelow, newest}
 use Rattle.bank_model.specs.History.{Awaited, awaited, queue, waits}
-use Rattle.bank_model.specs.Timing.{Pacing, Happens, Core, Regs, Timed, core, core_of, last_tick, is_empty, is_writing}
+use Rattle.bank_shape.specs.declared.pace.Pace.{Pace}
+use Rattle.bank_model.specs.Timing.{Happens, Core, Regs, Timed, core, core_of, last_tick, is_empty, is_writing}
 use Rattle.bank_model.specs.Running.{running_at, cancels_after}
 use Rattle.bank_model.specs.Lawful.{Lawful, MayCome, would_cancel}
 use Rattle.bank_laws.specs.Outcomes.{on_row, outcome_with, outcome_of, row_with, rows_from}
@@ -29,23 +30,15 @@ use Rattle.bank_laws.proofs.Holding.{bound_law}
 use Rattle.bank_laws.proofs.Fates.{Awaits, IsSettled, ReadFate, awaits-new}
 use Rattle.bank_laws.specs.Standing.{has_wait}
 use Rattle.bank_laws.specs.Ticks.{ends_action}
-use Rattle.bank_laws.proofs.Entries.{or_none, either, no_wait-push, no_wait-drop}
+use Rattle.bank_laws.proofs.Entries.{either, no_wait-push, no_wait-drop}
 use Rattle.bank_laws.proofs.Standing.{stand_apart}
 use Rattle.bank_laws.proofs.Ticks.{last_tick-rises, last-below}
 use Rattle.bank_laws.proofs.Answering.{IsFirst, served-first}
 use Rattle.bank_laws.proofs.Settling.{opens, above_all, lawful_before, step_stays, stays}
-use Rattle.bank_laws.proofs.Walking.{Passes, walk, rows_after, rows_after-more, and_both}
+use Rattle.bank_laws.proofs.Walking.{Passes, walk, rows_after, rows_after-more}
 use Rattle.bank_laws.proofs.Ending.{Onwards, own_row, own_answer}
 use Rattle.bank_laws.proofs.Serves.{may_at, onwards_at, idle-waits}
 use Rattle.bank_laws.proofs.Counting.{among, Falling, falling-more, hits, waits-counted}
-
-or_right_of : (a b : Bool) → b ≡ true → (a || b) ≡ true
-or_right_of true b h = refl
-or_right_of false b h = h
-
-or_left_of : (a b : Bool) → a ≡ true → (a || b) ≡ true
-or_left_of true b h = refl
-or_left_of false b h = absurd (cc)
 
 not_and : (a b : Bool) → b ≡ true → (a && not b) ≡ false
 not_and true true h = refl
@@ -72,10 +65,10 @@ wait-push (v ∷ ws) w row h = by (v.row == row) (λ k. wait-push ws w row k) h
     by false go h = go h
 
 pub wait-new : (ws : List Awaited) (w : Awaited) → has_wait (ws ++ w ∷ []) w.row ≡ true
-wait-new [] w = or_left_of (w.row == w.row) false (eq-eqb w.row w.row refl)
-wait-new (v ∷ ws) w = or_right_of (v.row == w.row) _ (wait-new ws w)
+wait-new [] w = or_left (w.row == w.row) false (eq-eqb w.row w.row refl)
+wait-new (v ∷ ws) w = or_right (v.row == w.row) _ (wait-new ws w)
 
-module _ {n m : ℕ} (shape : BankShape) (pace : Pacing) (e : ℕ) (all : List (Timed n m)) where
+module _ {n m : ℕ} (shape : BankShape) (pace : Pace) (e : ℕ) (all : List (Timed n m)) where
   -- a read that waits waits on, is read, or is lost at a cut that has a row
   abbrev Waits : List (Timed n m) → Timed n m → Happens n → ℕ → Type 0
   Waits zs x h row =
@@ -155,13 +148,13 @@ module _ {n m : ℕ} (shape : BankShape) (pace : Pacing) (e : ℕ) (all : List (
     where
       by : Waits zs x h row → ((has_wait (waits shape (core_of h (core zs))) row ≡ true) × (list_any is_cut (between ++ row_with shape all h x.tick x.cancels) ≡ false))
           ⊎ IsPast (unwrap_or (outcome_with shape zs h x.tick row) (outcome_of shape zs row)) x.tick (between ++ row_with shape all h x.tick x.cancels)
-      by (inl on) = inl (on.0, list_any-append is_cut between _ ∙ or_none (list_any is_cut between) _ w.1 on.1)
+      by (inl on) = inl (on.0, list_any-append is_cut between _ ∙ or_from (list_any is_cut between) _ w.1 on.1)
       by (inr (inl read)) =
           inr (subst (λ (o : Outcome n). IsPast o x.tick (between ++ row_with shape all h x.tick x.cancels)) (sym read.3)
           (record { set = λ is. absurd (cc); ticks = λ t le. le-ltb t x.tick le; lost = refl }))
       by (inr (inr lost)) =
           inr (subst (λ (o : Outcome n). IsPast o x.tick (between ++ row_with shape all h x.tick x.cancels)) (sym lost.0)
-          (record { set = λ is. absurd (cc); ticks = λ t le. refl; lost = not_and true _ (list_any-append is_cut between _ ∙ or_right_of (list_any is_cut between) _ lost.1) }))
+          (record { set = λ is. absurd (cc); ticks = λ t le. refl; lost = not_and true _ (list_any-append is_cut between _ ∙ or_right (list_any is_cut between) _ lost.1) }))
   state_step zs x h between row l may rises (inr past) =
       inr (subst (λ (o : Outcome n). IsPast o x.tick (between ++ row_with shape all h x.tick x.cancels)) (sym (step_stays shape pace e zs x h row l (opens shape pace e zs l) may past.set))
       (past_more (outcome_of shape zs row) (last_tick zs) x.tick between _ rises past))
@@ -185,7 +178,7 @@ module _ {n m : ℕ} (shape : BankShape) (pace : Pacing) (e : ℕ) (all : List (
 
       by : Waits zs x h row → (has_wait (waits shape (core_of h (core zs))) row ≡ true) ⊎ Goal (unwrap_or (outcome_with shape zs h x.tick row) (outcome_of shape zs row))
       by (inl on) = inl on.0
-      by (inr (inl read)) = inr (subst (λ (o : Outcome n). Goal o) (sym read.3) ((λ is. absurd (cc)), or_left_of (nat_lt t x.tick) false (lt-ltb t x.tick (above read.0))))
+      by (inr (inl read)) = inr (subst (λ (o : Outcome n). Goal o) (sym read.3) ((λ is. absurd (cc)), or_left (nat_lt t x.tick) false (lt-ltb t x.tick (above read.0))))
       by (inr (inr lost)) = inr (subst (λ (o : Outcome n). Goal o) (sym lost.0) ((λ is. absurd (cc)), refl))
   onward_step t zs x h row l may above (inr past) =
       let same = step_stays shape pace e zs x h row l (opens shape pace e zs l) may past.0 in
@@ -236,7 +229,7 @@ module _ {n m : ℕ} (shape : BankShape) (pace : Pacing) (e : ℕ) (all : List (
           sym (ap (λ xs. outcome_of shape xs row) split) ∙ stays shape pace e (later ++ x ∷ []) now row (subst (λ (xs : List (Timed n m)). Lawful shape pace e xs) (sym split) l) past.set in
           let gone : has_wait (waits shape (core now)) row ≡ false = either (has_wait (waits shape (core now)) row) (λ there. absurd (past.set ((opens shape pace e now here.1).waiting row there))) (λ is. is) in
           subst (λ (o : Outcome n). (read_after x.tick o || (is_lost o && not (list_any is_cut between))) ≡ false) (sym kept)
-          (or_none (read_after x.tick (outcome_of shape now row)) _ (past.ticks x.tick (last_tick-rises shape pace e now x r i here)) past.lost)
+          (or_from (read_after x.tick (outcome_of shape now row)) _ (past.ticks x.tick (last_tick-rises shape pace e now x r i here)) past.lost)
           ∙ sym gone
 
 -- the rows of the reads, the newest first
@@ -268,18 +261,18 @@ waits-asked {n} {m} shape (z ∷ zs) r there = by z.happens (λ t. waits-asked s
     by : (h : Happens n) → (has_wait (waits shape (core zs)) r ≡ true → among (reads_in zs) r ≡ true) → has_wait (waits shape (core_of h (core zs))) r ≡ true → among (read_rows h ++ reads_in zs) r ≡ true
     by (Core (Write at line bytes given answer)) go there = go there
     by (Core (Read at line came.Waiting)) go there =
-        either (has_wait (waits shape (core zs)) r) (λ t. or_right_of (at == r) _ (go t))
-        (λ f. either (eqb at r) (λ is. or_left_of (at == r) _ is)
+        either (has_wait (waits shape (core zs)) r) (λ t. or_right (at == r) _ (go t))
+        (λ f. either (eqb at r) (λ is. or_left (at == r) _ is)
         (λ ne. absurd (cc (no_wait-push (waits shape (core zs)) (awaited at line (newest (core zs) line) (layer_of (queue shape (core zs)) line)) r f ne, there))))
-    by (Core (Read at line came.Busy)) go there = or_right_of (at == r) _ (go there)
-    by (Core (Read at line (came.Forwarded bytes))) go there = or_right_of (at == r) _ (go there)
+    by (Core (Read at line came.Busy)) go there = or_right (at == r) _ (go there)
+    by (Core (Read at line (came.Forwarded bytes))) go there = or_right (at == r) _ (go there)
     by (Core (Serve answer)) go there = either (has_wait (waits shape (core zs)) r) go (λ f. absurd (cc (no_wait-drop (waits shape (core zs)) r f, there)))
     by (Regs event) go there = go there
     by (Core (Begin answer)) go there = go there
     by (Core (Iterate answer)) go there = go there
     by (Core (Cut tearing)) go there = absurd (cc)
 
-pub may_all : {n m : ℕ} (shape : BankShape) (pace : Pacing) (e : ℕ) (zs : List (Timed n m)) → Lawful shape pace e zs → MayAll shape (most_steps e) (core zs)
+pub may_all : {n m : ℕ} (shape : BankShape) (pace : Pace) (e : ℕ) (zs : List (Timed n m)) → Lawful shape pace e zs → MayAll shape (most_steps e) (core zs)
 may_all shape pace e [] l = tt
 may_all {n} {m} shape pace e (z ∷ zs) l = by z.happens l.0 (may_all shape pace e zs l.1)
   where
@@ -293,7 +286,7 @@ cond_length true false q xs k is same = absurd (cc)
 cond_length false true q xs k is same = absurd (cc)
 cond_length false false q xs k is same = same
 
-module _ {n m : ℕ} (shape : BankShape) (pace : Pacing) (e : ℕ) (all : List (Timed n m)) where
+module _ {n m : ℕ} (shape : BankShape) (pace : Pace) (e : ℕ) (all : List (Timed n m)) where
   -- how the read of an event begins
   abbrev pub StateBy : List (Timed n m) → ℕ → Happens n → ℕ → Type 0
   StateBy ys tick h row = ((has_wait (waits shape (core_of h (core ys))) row ≡ true) × (false ≡ false)) ⊎ IsPast shape pace e all (unwrap_or (outcome_with shape ys h tick row) (outcome_of shape ys row)) tick []
@@ -388,16 +381,16 @@ module _ {n m : ℕ} (shape : BankShape) (pace : Pacing) (e : ℕ) (all : List (
       by : (h : Happens n) (cancels : Bool) → MayCome shape pace e ys x h → Onwards shape all ys x.tick h
           → (ends_action h ≡ false → length (waiting x.tick [] (rows_from shape all ys)) ≡ length (waits shape (core ys)))
           → Passes (is_wait_fair shape.reads) (rows_from shape all ys) (row_with shape all h x.tick cancels) (rows_after shape all later)
-      by (Core (Write row line bytes given answer)) cancels may on count = and_both _ _ (few (count refl)) refl
+      by (Core (Write row line bytes given answer)) cancels may on count = and_from _ _ (few (count refl)) refl
       by (Core (Read row line (came.Forwarded bytes))) cancels may on count =
-          and_both _ _ (few (count refl))
+          and_from _ _ (few (count refl))
           (ap (waits_fit shape.reads (length (waiting x.tick [] (rows_from shape all ys)))) (own_answer shape pace e all ys x (Core (Read row line (came.Forwarded bytes))) row (out.Forwarded x.tick bytes) on refl (λ is. absurd (cc))))
       by (Core (Read row line came.Busy)) cancels may on count =
-          and_both _ _ (few (count refl))
+          and_from _ _ (few (count refl))
           (fits_busy (length (waiting x.tick [] (rows_from shape all ys))) x.tick (outcome_of shape all row) (own_answer shape pace e all ys x (Core (Read row line came.Busy)) row (out.Busy x.tick) on refl (λ is. absurd (cc)))
           (ap (λ k. k == shape.reads) (count refl) ∙ (read_room (core ys) line came.Busy may.may.1).0 refl))
       by (Core (Read row line came.Waiting)) cancels may on count =
-          and_both _ _ (few (count refl))
+          and_from _ _ (few (count refl))
           (fits_waiting (length (waiting x.tick [] (rows_from shape all ys))) (newest (core ys) line) (outcome_of shape all row)
           (settled_all row (newest (core ys) line) none
           (on.reads row (newest (core ys) line) (inl (awaits-new (waits shape (core ys)) (awaited row line (newest (core ys) line) (layer_of (queue shape (core ys)) line))))))
@@ -407,7 +400,7 @@ module _ {n m : ℕ} (shape : BankShape) (pace : Pacing) (e : ℕ) (all : List (
       by (Core (Begin answer)) cancels may on count = tt
       by (Core (Iterate answer)) cancels may on count = tt
       by (Core (Cut tearing)) true may on count = tt
-      by (Core (Cut tearing)) false may on count = and_both _ _ (few (count refl)) refl
+      by (Core (Cut tearing)) false may on count = and_from _ _ (few (count refl)) refl
 
 pub wait_law : WaitLaw
 wait_law n m e shape pace xs sized l idle =

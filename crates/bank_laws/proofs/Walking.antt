@@ -1,5 +1,6 @@
 -- A law of rows, proved event by event.
 use Rattle.std.proofs.Common.{◌≡◌, ℕ, ◌&&◌, Bool, true, false, List, [], ◌∷◌, ◌++◌, refl, sym, ap, ◌∙◌, subst, append_assoc}
+use Rattle.std.proofs.lemmas.Bool.{and_from}
 use Rattle.std.proofs.lemmas.List.{append-nil}
 use Rattle.row_laws.specs.declared.Row.{Row}
 use Rattle.row_laws.specs.Rows.{RowTest, each_row}
@@ -7,10 +8,6 @@ use Rattle.bank_shape.specs.declared.BankShape.{BankShape}
 use Rattle.bank_model.specs.Events.{Write, Read, Serve, Begin, Iterate, Cut}
 use Rattle.bank_model.specs.Timing.{Happens, Core, Regs, Timed}
 use Rattle.bank_laws.specs.Outcomes.{row_with, rows_from}
-
-pub and_both : (a b : Bool) → a ≡ true → b ≡ true → (a && b) ≡ true
-and_both true b h k = k
-and_both false b h k = h
 
 -- the row of an event, if it has one, passes a test
 abbrev pub Passes : {n : ℕ} → RowTest n → List (Row n) → List (Row n) → List (Row n) → Type 0
@@ -31,14 +28,14 @@ module _ {n m : ℕ} (shape : BankShape) (all : List (Timed n m)) where
 
   one_row : (test : RowTest n) (h : Happens n) (tick : ℕ) (cancels : Bool) (before after : List (Row n)) → Passes test before (row_with shape all h tick cancels) after
       → each_row test before (row_with shape all h tick cancels ++ after) ≡ true → each_row test (row_with shape all h tick cancels ++ before) after ≡ true
-  one_row test (Core (Write row line bytes given answer)) tick cancels before after p rest = and_both _ _ p rest
-  one_row test (Core (Read row line answer)) tick cancels before after p rest = and_both _ _ p rest
+  one_row test (Core (Write row line bytes given answer)) tick cancels before after p rest = and_from _ _ p rest
+  one_row test (Core (Read row line answer)) tick cancels before after p rest = and_from _ _ p rest
   one_row test (Core (Serve answer)) tick cancels before after p rest = rest
   one_row test (Regs event) tick cancels before after p rest = rest
   one_row test (Core (Begin answer)) tick cancels before after p rest = rest
   one_row test (Core (Iterate answer)) tick cancels before after p rest = rest
   one_row test (Core (Cut tearing)) tick true before after p rest = rest
-  one_row test (Core (Cut tearing)) tick false before after p rest = and_both _ _ p rest
+  one_row test (Core (Cut tearing)) tick false before after p rest = and_from _ _ p rest
 
   -- where the row of each event passes between those before it and those after it, every row passes
   pub walk : (test : RowTest n) (later xs : List (Timed n m)) → all ≡ later ++ xs

@@ -2,7 +2,7 @@
 use Rattle.std.proofs.Common.{◌≡◌, ◌≢◌, ℕ, ◌<◌, ◌≤◌, ◌&&◌, ◌||◌, ◌⊎◌, inl, inr, Bool, true, false, List, [], ◌∷◌, ◌++◌, Option, Some, None, length, refl, sym, ap, ◌∙◌, subst, arith, cond, eqb, append_assoc}
 use Rattle.std.specs.Prelude.{unwrap_or, nat_le}
 use Rattle.std.specs.List.{list_any}
-use Rattle.std.proofs.lemmas.Bool.{lt-leb}
+use Rattle.std.proofs.lemmas.Bool.{lt-leb, and_left, and_right, or_from}
 use Rattle.std.proofs.lemmas.List.Folds.{list_any-append}
 use Rattle.result_rows.specs.declared.Outcome.{Outcome}
 use Rattle.result_rows.specs.declared.Outcome.TheVariants as out
@@ -12,34 +12,27 @@ use Rattle.row_laws.specs.Answers.{is_worn, accepts}
 use Rattle.row_laws.specs.Wearing.{worn_row, worn_by}
 use Rattle.bank_shape.specs.declared.BankShape.{BankShape}
 use Rattle.bank_shape.specs.declared.Work.TheVariants.{Nothing}
-use Rattle.bank_model.specs.declared.answer.WriteAnswer.{WriteAnswer}
-use Rattle.bank_model.specs.declared.answer.WriteAnswer.TheVariants as wrote
-use Rattle.bank_model.specs.declared.answer.ReadAnswer.TheVariants as came
-use Rattle.bank_model.specs.declared.answer.Step.TheVariants as did
+use Rattle.bank_shape.specs.declared.answer.WriteAnswer.{WriteAnswer}
+use Rattle.bank_shape.specs.declared.answer.WriteAnswer.TheVariants as wrote
+use Rattle.bank_shape.specs.declared.answer.ReadAnswer.TheVariants as came
+use Rattle.bank_shape.specs.declared.answer.Step.TheVariants as did
 use Rattle.bank_model.specs.Events.{Event, Write, Read, Serve, Begin, Iterate, Cut}
 use Rattle.bank_model.specs.History.{queue, waits, has_exhausted, due_after}
 use Rattle.bank_model.specs.After.{due_work, work_after}
 use Rattle.bank_model.specs.Answers.{head_busy_after, accept_answer, write_answer, IsDone}
-use Rattle.bank_model.specs.Timing.{Pacing, Happens, Core, Regs, Timed, core, core_of, last_tick}
+use Rattle.bank_shape.specs.declared.pace.Pace.{Pace}
+use Rattle.bank_model.specs.Timing.{Happens, Core, Regs, Timed, core, core_of, last_tick}
 use Rattle.bank_model.specs.Lawful.{Lawful, MayCome}
 use Rattle.bank_laws.specs.Outcomes.{on_row, outcome_with, outcome_of, ended, row_with, rows_from}
 use Rattle.bank_laws.specs.Standing.{has_wait}
 use Rattle.bank_laws.specs.Settling.{AreOpen}
 use Rattle.bank_laws.specs.Ticks.{ends_action}
-use Rattle.bank_laws.proofs.Entries.{either, or_none}
+use Rattle.bank_laws.proofs.Entries.{either}
 use Rattle.bank_laws.proofs.Settling.{lawful_before}
 use Rattle.bank_laws.proofs.Ticks.{last_tick-rises, last-below}
 use Rattle.bank_laws.proofs.Walking.{rows_after}
 use Rattle.bank_laws.proofs.Ending.{Onwards, IsOutcome, write_outcome, outcome-accepts}
 use Rattle.bank_laws.proofs.Serves.{may_at, onwards_at}
-
-and_first : (a b : Bool) → a ≡ false → (a && b) ≡ false
-and_first true b h = absurd (cc)
-and_first false b h = refl
-
-pub and_second : (a b : Bool) → b ≡ false → (a && b) ≡ false
-and_second true b h = h
-and_second false b h = refl
 
 or_rest : (a b : Bool) → a ≡ false → (a || b) ≡ true → b ≡ true
 or_rest true b h k = absurd (cc)
@@ -127,7 +120,7 @@ module _ {n : ℕ} where
   exhausted-refused shape h line answer a ex =
       a ∙ ap (λ b. cond b wrote.Exhausted (accept_answer shape h (candidate (head_busy_after shape h) (queue shape h) line))) ex
 
-module _ {n m : ℕ} (shape : BankShape) (pace : Pacing) (e : ℕ) where
+module _ {n m : ℕ} (shape : BankShape) (pace : Pace) (e : ℕ) where
   -- what an event leaves stored was stored before, or is stored at its tick
   pub stored_by : (zs : List (Timed n m)) (x : Timed n m) (h : Happens n) (row u p : ℕ) → unwrap_or (outcome_with shape zs h x.tick row) (outcome_of shape zs row) ≡ out.Stored u p
       → ((ends_action h ≡ true) × (u ≡ x.tick)) ⊎ (outcome_of shape zs row ≡ out.Stored u p)
@@ -237,7 +230,7 @@ module _ {n m : ℕ} (shape : BankShape) (pace : Pacing) (e : ℕ) where
           let lt : u < last_tick zs = before ex (kept_by zs x x.happens row u p l.0 ex s) in
           omega arith
 
-module _ {n m : ℕ} (shape : BankShape) (pace : Pacing) (e : ℕ) (all : List (Timed n m)) where
+module _ {n m : ℕ} (shape : BankShape) (pace : Pace) (e : ℕ) (all : List (Timed n m)) where
   -- the row of a worn write is above every store
   worn_above : (later : List (Timed n m)) (x : Timed n m) (ys : List (Timed n m)) (row u p : ℕ) → 1 ≤ pace.read → 1 ≤ pace.iter → Lawful shape pace e all → all ≡ later ++ x ∷ ys
       → has_exhausted (core ys) ≡ true → outcome_of shape all row ≡ out.Stored u p → u < x.tick
@@ -266,8 +259,8 @@ module _ {n m : ℕ} (shape : BankShape) (pace : Pacing) (e : ℕ) (all : List (
           let ex : has_exhausted (core ys) ≡ true =
           refused-exhausted shape (core ys) line
           (sym (worn_outcome x.tick answer (ended x.tick (outcome_of shape all at)) (write_outcome shape pace e all ys x at line bytes given answer o may on) worn) ∙ may.may.2) in
-          or_none (is_worn (ended x.tick (outcome_of shape all at)) && nat_le x.tick u) false (and_second (is_worn (ended x.tick (outcome_of shape all at))) _ (lt-leb x.tick u (above ex))) refl)
-          (λ fine. or_none (is_worn (ended x.tick (outcome_of shape all at)) && nat_le x.tick u) false (and_first (is_worn (ended x.tick (outcome_of shape all at))) _ fine) refl)
+          or_from (is_worn (ended x.tick (outcome_of shape all at)) && nat_le x.tick u) false (and_right (is_worn (ended x.tick (outcome_of shape all at))) _ (lt-leb x.tick u (above ex))) refl)
+          (λ fine. or_from (is_worn (ended x.tick (outcome_of shape all at)) && nat_le x.tick u) false (and_left (is_worn (ended x.tick (outcome_of shape all at))) _ fine) refl)
       by (Core (Read at line answer)) cancels may on above = refl
       by (Core (Serve answer)) cancels may on above = refl
       by (Regs event) cancels may on above = refl
@@ -281,7 +274,7 @@ module _ {n m : ℕ} (shape : BankShape) (pace : Pacing) (e : ℕ) (all : List (
   none_worn_before later [] row u p r i l o same s = refl
   none_worn_before later (x ∷ ys) row u p r i l o same s =
       list_any-append (λ (q : Row n). worn_row q && nat_le q.tick u) (row_with shape all x.happens x.tick x.cancels) (rows_from shape all ys)
-      ∙ or_none _ _ (not_worn_here later x ys row u p r i l o same s)
+      ∙ or_from _ _ (not_worn_here later x ys row u p r i l o same s)
       (none_worn_before (later ++ x ∷ []) ys row u p r i l o (same ∙ sym (append_assoc later (x ∷ []) ys)) s)
 
   pub none_worn_after : (pre later zs : List (Timed n m)) (row u p : ℕ) → 1 ≤ pace.read → 1 ≤ pace.iter → Lawful shape pace e all → AreOpen shape all → all ≡ pre ++ (later ++ zs)
@@ -289,7 +282,7 @@ module _ {n m : ℕ} (shape : BankShape) (pace : Pacing) (e : ℕ) (all : List (
   none_worn_after pre [] zs row u p r i l o same s = refl
   none_worn_after pre (x ∷ later) zs row u p r i l o same s =
       list_any-append (λ (q : Row n). worn_row q && nat_le q.tick u) (rows_after shape all later) (row_with shape all x.happens x.tick x.cancels)
-      ∙ or_none _ _ (none_worn_after (pre ++ x ∷ []) later zs row u p r i l o (same ∙ sym (append_assoc pre (x ∷ []) (later ++ zs))) s)
+      ∙ or_from _ _ (none_worn_after (pre ++ x ∷ []) later zs row u p r i l o (same ∙ sym (append_assoc pre (x ∷ []) (later ++ zs))) s)
       (not_worn_here pre x (later ++ zs) row u p r i l o same s)
 
   -- a worn row among earlier ones comes of a bank that is exhausted

@@ -12,7 +12,7 @@ use Rattle.result_rows.specs.declared.Outcome.TheVariants as out
 use Rattle.row_laws.specs.declared.Row.{Row}
 use Rattle.row_laws.specs.Rows.{RowTest, line_of, asks_read, is_cut, newest}
 use Rattle.row_laws.specs.Serving.{same_bytes}
-use Rattle.row_laws.specs.Rules.{Rules}
+use Rattle.row_laws.specs.declared.Rules.{Rules}
 use Rattle.row_laws.specs.Queueing.{cover}
 use Rattle.row_laws.specs.Wearing.{worn_row}
 

@@ -5,7 +5,7 @@ use Rattle.result_rows.specs.declared.Outcome.TheVariants as out
 use Rattle.row_laws.specs.declared.Row.{Row}
 use Rattle.row_laws.specs.Answers.{accepts, is_stored, is_queued, stored_before}
 use Rattle.row_laws.specs.Rows.{RowTest, line_of, asks_write, is_cut}
-use Rattle.row_laws.specs.Rules.{Rules}
+use Rattle.row_laws.specs.declared.Rules.{Rules}
 use Rattle.row_laws.specs.Queueing.{pending}
 use Rattle.row_laws.specs.Ticking.{tries, writings}
 use Rattle.row_laws.specs.Wearing.{worn_row}

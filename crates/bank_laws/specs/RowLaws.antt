@@ -7,7 +7,8 @@ use Rattle.row_laws.specs.Queueing.{merge_fits, pending, waiting}
 use Rattle.row_laws.specs.Serving.{is_served}
 use Rattle.row_laws.specs.Wearing.{is_wear_final, is_wear_earned}
 use Rattle.bank_shape.specs.declared.BankShape.{BankShape}
-use Rattle.bank_model.specs.Timing.{Pacing, Timed}
+use Rattle.bank_shape.specs.declared.pace.Pace.{Pace}
+use Rattle.bank_model.specs.Timing.{Timed}
 use Rattle.bank_model.specs.Lawful.{Lawful, IsIdle}
 use Rattle.bank_laws.specs.Laws.{IsSized}
 use Rattle.bank_laws.specs.Outcomes.{table_of}
@@ -15,7 +16,7 @@ use Rattle.bank_laws.specs.Outcomes.{table_of}
 -- each row has an outcome of its own operation, and each read that is answered has the newest bytes of its line
 abbrev pub ServedLaw : Type 0
 ServedLaw =
-    (n m e : ℕ) (shape : BankShape) (pace : Pacing) (xs : List (Timed n m)) → Lawful shape pace e xs → IsIdle shape pace xs
+    (n m e : ℕ) (shape : BankShape) (pace : Pace) (xs : List (Timed n m)) → Lawful shape pace e xs → IsIdle shape pace xs
     → IsTrue (each_row is_served (table_of shape xs) [])
 
 -- behind a write that was refused since a worn line found no spare every write is, and none is stored at its tick or later;
@@ -26,7 +27,7 @@ pub record KeepsWear {n m : ℕ} (shape : BankShape) (xs : List (Timed n m)) : T
 
 abbrev pub WearLaw : Type 0
 WearLaw =
-    (n m e : ℕ) (shape : BankShape) (pace : Pacing) (xs : List (Timed n m)) → IsSized shape pace → Lawful shape pace e xs
+    (n m e : ℕ) (shape : BankShape) (pace : Pace) (xs : List (Timed n m)) → IsSized shape pace → Lawful shape pace e xs
     → KeepsWear shape xs
 
 -- a write that is merged has an accepted write of its line behind it, and carries the tick of the next such one
@@ -35,7 +36,7 @@ is_merge_fair before r after = not (asks_write r.asks) || merge_fits (line_of r.
 
 abbrev pub MergeLaw : Type 0
 MergeLaw =
-    (n m e : ℕ) (shape : BankShape) (pace : Pacing) (xs : List (Timed n m)) → Lawful shape pace e xs
+    (n m e : ℕ) (shape : BankShape) (pace : Pace) (xs : List (Timed n m)) → Lawful shape pace e xs
     → IsTrue (each_row is_merge_fair (table_of shape xs) [])
 
 -- a read that isn't forwarded is busy exactly where as many reads wait as may, and else it is read or lost
@@ -51,7 +52,7 @@ is_wait_fair reads before r after =
 
 abbrev pub WaitLaw : Type 0
 WaitLaw =
-    (n m e : ℕ) (shape : BankShape) (pace : Pacing) (xs : List (Timed n m)) → IsSized shape pace → Lawful shape pace e xs
+    (n m e : ℕ) (shape : BankShape) (pace : Pace) (xs : List (Timed n m)) → IsSized shape pace → Lawful shape pace e xs
     → IsIdle shape pace xs → IsTrue (each_row (is_wait_fair shape.reads) (table_of shape xs) [])
 
 -- at each row the queue holds no more writes than it may, and a write that is refused as full finds exactly as many
@@ -62,5 +63,5 @@ is_room_fair writes before r after =
 
 abbrev pub QueueLaw : Type 0
 QueueLaw =
-    (n m e : ℕ) (shape : BankShape) (pace : Pacing) (xs : List (Timed n m)) → IsSized shape pace → Lawful shape pace e xs
+    (n m e : ℕ) (shape : BankShape) (pace : Pace) (xs : List (Timed n m)) → IsSized shape pace → Lawful shape pace e xs
     → IsTrue (each_row (is_room_fair shape.writes) (table_of shape xs) [])

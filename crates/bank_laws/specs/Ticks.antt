@@ -2,7 +2,8 @@
 use Rattle.std.specs.Prelude.{ℕ, ◌<◌, ◌≤◌, Bool, true, false, IsTrue, List, ◌∷◌, All}
 use Rattle.bank_shape.specs.declared.BankShape.{BankShape}
 use Rattle.bank_model.specs.Events.{Write, Read, Serve, Begin, Iterate, Cut}
-use Rattle.bank_model.specs.Timing.{Pacing, Happens, Core, Regs, KeepBegin, KeepIterate, KeepCut, Timed}
+use Rattle.bank_shape.specs.declared.pace.Pace.{Pace}
+use Rattle.bank_model.specs.Timing.{Happens, Core, Regs, KeepBegin, KeepIterate, KeepCut, Timed}
 use Rattle.bank_model.specs.Lawful.{Lawful}
 
 -- the end of an action: a serve, a begin or an iteration
@@ -25,5 +26,5 @@ pub record ComesAfter {n m : ℕ} (x : Timed n m) (xs : List (Timed n m)) : Type
 -- so it is in a lawful history, where each action takes at least one tick
 abbrev pub TickLaw : Type 0
 TickLaw =
-    (n m e : ℕ) (shape : BankShape) (pace : Pacing) (x : Timed n m) (xs : List (Timed n m))
+    (n m e : ℕ) (shape : BankShape) (pace : Pace) (x : Timed n m) (xs : List (Timed n m))
     → 1 ≤ pace.read → 1 ≤ pace.iter → Lawful shape pace e (x ∷ xs) → ComesAfter x xs

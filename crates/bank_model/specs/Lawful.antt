@@ -1,17 +1,19 @@
 -- Which timed histories a bank may have.
 use Rattle.std.specs.Prelude.{◌≡◌, ◌≢◌, ℕ, ◌+◌, ◌<◌, ◌≤◌, ◌&&◌, nat_lt, Bool, IsTrue, IsFalse, List, [], ◌∷◌, map, Option, Some, None, IfSome, is_some, All}
-use Rattle.bank_shape.specs.Pausing.{Pausing, is_cancelling, most_cancels}
+use Rattle.bank_shape.specs.declared.pace.Policy.{Policy}
+use Rattle.bank_shape.specs.Pausing.{is_cancelling, most_cancels}
 use Rattle.bank_shape.specs.declared.BankShape.{BankShape}
-use Rattle.bank_model.specs.declared.answer.ReadAnswer.{ReadAnswer}
-use Rattle.bank_model.specs.declared.answer.ReadAnswer.TheVariants as came
-use Rattle.bank_model.specs.declared.clock.Doing.{Doing}
-use Rattle.bank_model.specs.declared.clock.Doing.TheVariants.{Serving, Beginning, Iterating}
-use Rattle.bank_model.specs.declared.clock.Action.{Action}
+use Rattle.bank_shape.specs.declared.answer.ReadAnswer.{ReadAnswer}
+use Rattle.bank_shape.specs.declared.answer.ReadAnswer.TheVariants as came
+use Rattle.bank_shape.specs.declared.clock.Doing.{Doing}
+use Rattle.bank_shape.specs.declared.clock.Doing.TheVariants.{Serving, Beginning, Iterating}
+use Rattle.bank_shape.specs.declared.clock.Action.{Action}
 use Rattle.bank_model.specs.Events.{Event, Write, Read, Serve, Begin, Iterate, Cut, RowsBelow}
 use Rattle.bank_model.specs.History.{waits}
 use Rattle.bank_model.specs.Answers.{MayHappen}
-use Rattle.bank_model.specs.declared.answer.Keep.TheVariants as keep
-use Rattle.bank_model.specs.Timing.{Pacing, Happens, Core, Regs, Keeping, KeepBegin, KeepIterate, KeepCut, Timed, ends, is_doing, is_writing, is_empty, core, last_tick}
+use Rattle.bank_shape.specs.declared.answer.Keep.TheVariants as keep
+use Rattle.bank_shape.specs.declared.pace.Pace.{Pace}
+use Rattle.bank_model.specs.Timing.{Happens, Core, Regs, Keeping, KeepBegin, KeepIterate, KeepCut, Timed, ends, is_doing, is_writing, is_empty, core, last_tick}
 use Rattle.bank_model.specs.Changes.{change_after, keeping_after, rounds_after, halted_after, line_of_change}
 use Rattle.bank_model.specs.Running.{tears_bank, chosen_after, running, running_at, cancels_after}
 use Rattle.bank_model.specs.Sensing.{most_steps, pulses_of, sensed_by, pulsed_by, read_again, torn_control, kept_sensed, kept_pulsed, IsReadRight}
@@ -24,17 +26,17 @@ IsForwarded came.Busy = ⊥
 
 module _ {n : ℕ} (shape : BankShape) (h : List (Event n)) where
   -- a read would cancel: an action of a write runs, no read waits, and there were few cancels
-  abbrev pub would_cancel : Pausing → Option Action → ℕ → Bool
+  abbrev pub would_cancel : Policy → Option Action → ℕ → Bool
   would_cancel policy action count =
       is_cancelling policy && (is_writing action && (is_empty (waits shape h) && nat_lt count most_cancels))
 
 -- an event ends the action that runs as it comes: it has the action's first tick, and its end as its tick
-abbrev pub IsEnd : {n m : ℕ} → Pacing → Doing → Option Action → Timed n m → Type 0
+abbrev pub IsEnd : {n m : ℕ} → Pace → Doing → Option Action → Timed n m → Type 0
 IsEnd pace doing action x =
     (action ≡ Some (record { doing = doing; first = x.first })) × (x.tick ≡ ends pace (record { doing = doing; first = x.first }))
 
 -- an event arrives: not before the last one, and before the action that runs has ended
-abbrev pub IsArrival : {n m : ℕ} → Pacing → Option Action → ℕ → Timed n m → Type 0
+abbrev pub IsArrival : {n m : ℕ} → Pace → Option Action → ℕ → Timed n m → Type 0
 IsArrival pace action last x = (x.first ≡ x.tick) × (last ≤ x.tick) × IfSome action (λ a. x.tick < ends pace a)
 
 -- an event is a read that begins to wait, at this tick
@@ -48,7 +50,7 @@ IsAsked h (Write row line bytes given answer) = RowsBelow h row
 IsAsked h (Read row line answer) = RowsBelow h row
 IsAsked h event = Unit {0}
 
-module _ {n m : ℕ} (shape : BankShape) (pace : Pacing) where
+module _ {n m : ℕ} (shape : BankShape) (pace : Pace) where
   -- an event comes when it may, while this action runs. A cut tears exactly where an iteration runs; a read that would cancel comes behind its cancel
   abbrev pub IsOnTime : Option Action → List (Timed n m) → Timed n m → Event n → Type 0
   IsOnTime action xs x (Write row line bytes given answer) = IsArrival pace action (last_tick xs) x × IsFalse x.cancels

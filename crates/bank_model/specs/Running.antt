@@ -1,21 +1,23 @@
 -- Which action runs after a timed history, and which is chosen next.
 use Rattle.std.specs.Prelude.{ℕ, ◌+◌, ◌&&◌, ◌||◌, not, nat_lt, Bool, true, false, if◌then◌else◌, List, [], ◌∷◌, Option, Some, None}
-use Rattle.bank_shape.specs.Pausing.{Pausing, Pause, Plain, Cancel}
+use Rattle.bank_shape.specs.declared.pace.Policy.{Policy}
+use Rattle.bank_shape.specs.declared.pace.Policy.TheVariants.{Pause, Plain, Cancel}
 use Rattle.bank_shape.specs.declared.BankShape.{BankShape}
-use Rattle.bank_model.specs.declared.answer.Step.TheVariants as did
-use Rattle.bank_model.specs.declared.answer.ReadAnswer.TheVariants as came
-use Rattle.bank_model.specs.declared.clock.Doing.{Doing}
-use Rattle.bank_model.specs.declared.clock.Doing.TheVariants.{Serving, Beginning, Iterating}
-use Rattle.bank_model.specs.declared.clock.Action.{Action}
+use Rattle.bank_shape.specs.declared.answer.Step.TheVariants as did
+use Rattle.bank_shape.specs.declared.answer.ReadAnswer.TheVariants as came
+use Rattle.bank_shape.specs.declared.clock.Doing.{Doing}
+use Rattle.bank_shape.specs.declared.clock.Doing.TheVariants.{Serving, Beginning, Iterating}
+use Rattle.bank_shape.specs.declared.clock.Action.{Action}
 use Rattle.bank_model.specs.Events.{Event, Write, Read, Serve, Begin, Iterate, Cut}
 use Rattle.bank_model.specs.History.{waits, in_progress, iterated, has_exhausted}
 use Rattle.bank_model.specs.After.{work_after, may_begin_after, is_store_of}
-use Rattle.bank_model.specs.Timing.{Pacing, Happens, Core, Regs, KeepBegin, KeepIterate, KeepCut, Timed, is_doing, is_empty, core, last_tick}
-use Rattle.bank_model.specs.declared.answer.Keep.TheVariants as keep
+use Rattle.bank_shape.specs.declared.pace.Pace.{Pace}
+use Rattle.bank_model.specs.Timing.{Happens, Core, Regs, KeepBegin, KeepIterate, KeepCut, Timed, is_doing, is_empty, core, last_tick}
+use Rattle.bank_shape.specs.declared.answer.Keep.TheVariants as keep
 use Rattle.bank_model.specs.Changes.{change_after, keeping_after, rounds_after, halted_after}
 
 -- whether a line write gives way to a read between two iterations
-abbrev pub gives_way : Pausing → Bool
+abbrev pub gives_way : Policy → Bool
 gives_way Pause = true
 gives_way Plain = false
 gives_way Cancel = true
@@ -102,7 +104,7 @@ module _ {n m : ℕ} (shape : BankShape) where
   abbrev pub is_over : List (Timed n m) → Bool
   is_over xs = over_by (change_after shape xs) (halted_after xs) (has_exhausted (core xs))
 
-module _ {n m : ℕ} (shape : BankShape) (pace : Pacing) where
+module _ {n m : ℕ} (shape : BankShape) (pace : Pace) where
   -- the line write that a list leaves
   abbrev pub choice_after : List (Timed n m) → Choice
   choice_after xs = choice (busy_after shape xs) (ready_after shape xs)

@@ -7,13 +7,13 @@ use Rattle.ecp_line.specs.Reading.{decode}
 pub use Rattle.ecp_line.specs.Steps.{most_steps}
 use Rattle.masked_bytes.specs.Masked.{laid}
 use Rattle.bank_shape.specs.declared.BankShape.{BankShape}
-use Rattle.bank_model.specs.declared.answer.Step.TheVariants as did
+use Rattle.bank_shape.specs.declared.answer.Step.TheVariants as did
 use Rattle.bank_model.specs.Events.{Event, Serve, Begin, Iterate, Cut, newest, up_to, line_of_row}
 use Rattle.bank_model.specs.History.{Awaited, waits}
 use Rattle.bank_model.specs.After.{work_after, target_after, sources_of, stands_at_after}
 use Rattle.bank_model.specs.Timing.{Happens, Core, Keeping, KeepBegin, KeepIterate, KeepCut, Timed, core, is_doing}
-use Rattle.bank_model.specs.declared.clock.Doing.TheVariants.{Iterating}
-use Rattle.bank_model.specs.declared.clock.Action.{Action}
+use Rattle.bank_shape.specs.declared.clock.Doing.TheVariants.{Iterating}
+use Rattle.bank_shape.specs.declared.clock.Action.{Action}
 use Rattle.bank_model.specs.Changes.{line_of_change, all_controls}
 
 -- a line, if there is one, is this one

@@ -5,13 +5,14 @@ use Rattle.pcm_cells.specs.declared.array.Sense.{Sense}
 use Rattle.bank_shape.specs.declared.BankShape.{BankShape}
 use Rattle.bank_shape.specs.declared.Home.{Home}
 use Rattle.bank_shape.specs.declared.Home.TheVariants as home
-use Rattle.bank_shape.specs.Pausing.{Pausing}
-use Rattle.bank_model.specs.declared.answer.WriteAnswer.TheVariants.{Accepted, Merged}
-use Rattle.bank_model.specs.declared.answer.ReadAnswer.TheVariants.{Waiting, Forwarded}
-use Rattle.bank_model.specs.declared.answer.Step.TheVariants.{More, Stored, Moved}
+use Rattle.bank_shape.specs.declared.pace.Policy.{Policy}
+use Rattle.bank_shape.specs.declared.answer.WriteAnswer.TheVariants.{Accepted, Merged}
+use Rattle.bank_shape.specs.declared.answer.ReadAnswer.TheVariants.{Waiting, Forwarded}
+use Rattle.bank_shape.specs.declared.answer.Step.TheVariants.{More, Stored, Moved}
 use Rattle.bank_model.specs.Events.{Event, Write, Read, Serve, Begin, Iterate, Cut}
-use Rattle.bank_model.specs.declared.answer.Keep.TheVariants as keep
-use Rattle.bank_model.specs.Timing.{Pacing, Timed, Core, Regs, Keeping, KeepBegin, KeepIterate, KeepCut}
+use Rattle.bank_shape.specs.declared.answer.Keep.TheVariants as keep
+use Rattle.bank_shape.specs.declared.pace.Pace.{Pace}
+use Rattle.bank_model.specs.Timing.{Timed, Core, Regs, Keeping, KeepBegin, KeepIterate, KeepCut}
 
 -- four lines, two spares, registers kept so, and a gap move after so many stores
 abbrev pub keeping : Home → ℕ → BankShape
@@ -23,7 +24,7 @@ moving psi = keeping home.Guarded psi
 abbrev pub small : BankShape
 small = moving 100
 
-abbrev pub pace : Pausing → Pacing
+abbrev pub pace : Policy → Pace
 pace policy = record { read = 5; iter = 10; policy = policy }
 
 abbrev pub whole : ℕ → List ℕ

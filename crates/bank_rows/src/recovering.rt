@@ -11,7 +11,7 @@ use bank_core::bank::Bank;
 use bank_shape::{BankShape, Home};
 use bank_timing::recover;
 use bank_timing::timed::Timed;
-use pace::Policy;
+use bank_shape::Policy;
 use pcm_cells::{CellArray, ScriptArray};
 use reg_lines::regs::RegLines;
 use result_rows::Results;

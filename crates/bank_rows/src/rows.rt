@@ -12,7 +12,7 @@ ghost use Rattle.bank_timing.specs.Extending.{AreOpen, IsOpen};
 
 use bank_shape::{BankShape, Home};
 use bank_timing::timed::Timed;
-use pace::{Pace, Policy};
+use bank_shape::{Pace, Policy};
 use pcm_cells::{Act, CellArray, Script, ScriptArray, Wear};
 use result_rows::{Outcome, Results};
 use std::alloc::{AllocError, Global};

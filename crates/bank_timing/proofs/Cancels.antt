@@ -1,5 +1,6 @@
 -- A read cancels what runs of a line write, and then waits: what becomes of the clock and of the array.
 use Rattle.std.proofs.Common.{◌≡◌, ℕ, ◌+◌, ◌<◌, ◌≤◌, ◌&&◌, ◌==◌, not, nat_lt, Bool, true, false, List, [], ◌∷◌, length, map, Option, Some, None, is_some, refl, sym, ap, subst, ◌∙◌, arith, ltb-true}
+use Rattle.masked_bytes.proofs.Truth.{and_first, and_second}
 use Rattle.std.proofs.lemmas.Bool.{false≢true, ne_eqb, lt-ltb}
 use Rattle.std.specs.Prelude.{unwrap_or, IsTrue, if◌then◌else◌}
 use Rattle.pcm_cells.specs.Device.{ArrayState}
@@ -7,12 +8,12 @@ use Rattle.masked_bytes.specs.Masked.{gives_all}
 use Rattle.masked_bytes.specs.Entries.{layer_of, has_row}
 use Rattle.result_rows.specs.declared.Outcome.{Outcome}
 use Rattle.bank_shape.specs.Pausing.{is_cancelling, most_cancels}
-use Rattle.bank_model.specs.declared.answer.ReadAnswer.{ReadAnswer}
-use Rattle.bank_model.specs.declared.answer.ReadAnswer.TheVariants as came
-use Rattle.bank_model.specs.declared.clock.Doing.TheVariants.{Iterating}
+use Rattle.bank_shape.specs.declared.answer.ReadAnswer.{ReadAnswer}
+use Rattle.bank_shape.specs.declared.answer.ReadAnswer.TheVariants as came
+use Rattle.bank_shape.specs.declared.clock.Doing.TheVariants.{Iterating}
 use Rattle.bank_model.specs.Events.{Event, Read, Cut}
 use Rattle.bank_model.specs.History.{Awaited, waits}
-use Rattle.bank_model.specs.declared.clock.Action.{Action}
+use Rattle.bank_shape.specs.declared.clock.Action.{Action}
 use Rattle.bank_model.specs.Timing.{Timed, core, is_doing, is_writing}
 use Rattle.bank_laws.specs.Outcomes.{outcome_with}
 use Rattle.bank_model.specs.Touching.{Touches}
@@ -22,7 +23,7 @@ use Rattle.reg_lines.specs.Keeping.{broken_off, torn_line as regs_torn}
 use Rattle.register_laws.proofs.Staying.{stays_law}
 use Rattle.register_laws.proofs.Writing.{broken_law}
 use Rattle.power_recovery.specs.Kept.{KeptState}
-use Rattle.bank_invariant.specs.declared.Waiting.{Waiting}
+use Rattle.bank_shape.specs.declared.waiting.Waiting.{Waiting}
 use Rattle.bank_invariant.specs.State.{BankState}
 use Rattle.bank_invariant.specs.Holds.{Holds, waiting_of}
 use Rattle.bank_invariant.specs.Steps.{cut_off}
@@ -43,32 +44,32 @@ use Rattle.clock_laws.proofs.Extending.{arrival_added_law, both_added_law}
 use Rattle.clock_laws.proofs.Fitting.{needs_law}
 use Rattle.bank_timing.specs.Extending.{Extends, AreOpen, IsOpen, outcome_in}
 use Rattle.bank_timing.specs.Cancelling.{cancel_by, cancelled_by, cancel_first}
-use Rattle.bank_timing.proofs.Losses.{both-left, both-right, iterating-fits, work-leaves, same_torn}
+use Rattle.bank_timing.proofs.Losses.{iterating-fits, work-leaves, same_torn}
 use Rattle.bank_timing.proofs.ReadArrivals.{read-keeps, waits-unset}
 
 module _ {n m e : ℕ} (clock : ClockState n m e) (line : ℕ) (would : IsTrue (cancels_for clock line)) where
   -- what a read that cancels finds: a begin or an iteration runs, no read waits, the count is below the most, and the queue lacks a byte
   rest-one : (is_writing clock.action && (not (nat_lt 0 (length clock.bank.waiting)) && (nat_lt clock.cancels most_cancels && not (gives_all (layer_of clock.bank.kept.entries line).given)))) ≡ true
-  rest-one = both-right (is_cancelling clock.pace.policy) _ would
+  rest-one = and_second (is_cancelling clock.pace.policy) _ would
 
   rest-two : (not (nat_lt 0 (length clock.bank.waiting)) && (nat_lt clock.cancels most_cancels && not (gives_all (layer_of clock.bank.kept.entries line).given))) ≡ true
-  rest-two = both-right (is_writing clock.action) _ rest-one
+  rest-two = and_second (is_writing clock.action) _ rest-one
 
   rest-three : (nat_lt clock.cancels most_cancels && not (gives_all (layer_of clock.bank.kept.entries line).given)) ≡ true
-  rest-three = both-right (not (nat_lt 0 (length clock.bank.waiting))) _ rest-two
+  rest-three = and_second (not (nat_lt 0 (length clock.bank.waiting))) _ rest-two
 
   pub none-waits : clock.bank.waiting ≡ []
-  none-waits = by clock.bank.waiting (both-left (not (nat_lt 0 (length clock.bank.waiting))) _ rest-two)
+  none-waits = by clock.bank.waiting (and_first (not (nat_lt 0 (length clock.bank.waiting))) _ rest-two)
     where
       by : (ws : List (Waiting n)) → not (nat_lt 0 (length ws)) ≡ true → ws ≡ []
       by [] is = refl
       by (w ∷ ws) is = absurd (false≢true (ap not (sym (lt-ltb 0 (length (w ∷ ws)) (omega arith))) ∙ is))
 
   pub few-cancels : clock.cancels < 4
-  few-cancels = ltb-true clock.cancels 4 (both-left (nat_lt clock.cancels most_cancels) _ rest-three)
+  few-cancels = ltb-true clock.cancels 4 (and_first (nat_lt clock.cancels most_cancels) _ rest-three)
 
   pub lacks-byte : gives_all (layer_of clock.bank.kept.entries line).given ≡ false
-  lacks-byte = by (gives_all (layer_of clock.bank.kept.entries line).given) (both-right (nat_lt clock.cancels most_cancels) _ rest-three)
+  lacks-byte = by (gives_all (layer_of clock.bank.kept.entries line).given) (and_second (nat_lt clock.cancels most_cancels) _ rest-three)
     where
       by : (b : Bool) → not b ≡ true → b ≡ false
       by true is = absurd (cc)

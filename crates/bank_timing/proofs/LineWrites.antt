@@ -21,9 +21,9 @@ use Rattle.line_writer.specs.Writing.{HasBegun, steps_left, most_steps}
 use Rattle.power_recovery.specs.Kept.{KeptState, IsKept, target_slot, next_work}
 use Rattle.power_recovery.specs.Events.{is_store, is_copy, stored_kept, moved_kept, retired_kept, exhausted_kept}
 use Rattle.power_recovery.proofs.Bundle.{next_work-store}
-use Rattle.bank_model.specs.declared.answer.Step.{Step}
-use Rattle.bank_model.specs.declared.answer.Step.TheVariants as did
-use Rattle.bank_model.specs.declared.clock.Action.{Action}
+use Rattle.bank_shape.specs.declared.answer.Step.{Step}
+use Rattle.bank_shape.specs.declared.answer.Step.TheVariants as did
+use Rattle.bank_shape.specs.declared.clock.Action.{Action}
 use Rattle.bank_model.specs.Events.{Event}
 use Rattle.bank_model.specs.History.{Awaited}
 use Rattle.bank_model.specs.Timing.{Timed, Core, ends}

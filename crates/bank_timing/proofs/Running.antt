@@ -1,14 +1,16 @@
 -- A bank runs on: action after action, and time between them.
 use Rattle.std.proofs.Common.{◌≡◌, ℕ, ◌+◌, ◌^◌, ◌<◌, ◌≤◌, false, List, [], ◌∷◌, ◌++◌, Some, refl, sym, ap, subst, ◌∙◌, arith}
+use Rattle.std.proofs.lemmas.Bool.{or_from}
 use Rattle.std.specs.Prelude.{IsTrue, unwrap_or}
 use Rattle.std.proofs.lemmas.List.Elements.{All-nil, All-cons, All-head, All-tail}
 use Rattle.pcm_cells.specs.Device.{ArrayState}
 use Rattle.result_rows.specs.declared.Outcome.{Outcome}
 use Rattle.result_rows.specs.Table.{HasRow}
 use Rattle.bank_shape.specs.declared.BankShape.{BankShape}
-use Rattle.bank_model.specs.declared.clock.Action.{Action}
+use Rattle.bank_shape.specs.declared.clock.Action.{Action}
 use Rattle.bank_model.specs.Events.{Write, Read, Serve, Begin, Iterate, Cut}
-use Rattle.bank_model.specs.Timing.{Happens, Core, Regs, Timed, Pacing}
+use Rattle.bank_shape.specs.declared.pace.Pace.{Pace}
+use Rattle.bank_model.specs.Timing.{Happens, Core, Regs, Timed}
 use Rattle.bank_model.specs.Lawful.{Lawful}
 use Rattle.bank_model.specs.Adding.{Adds}
 use Rattle.bank_laws.specs.Outcomes.{outcome_with}
@@ -17,7 +19,6 @@ use Rattle.clock_laws.specs.State.{ClockState, next_action}
 use Rattle.clock_laws.specs.Leads.{Leads}
 use Rattle.clock_laws.specs.Passing.{at_tick}
 use Rattle.clock_laws.specs.Standing.{is_arrival_of, arrives_with}
-use Rattle.clock_laws.proofs.Deciding.{or_none}
 use Rattle.clock_laws.proofs.Draining.{ends-at}
 use Rattle.clock_laws.proofs.Extending.{nothing_added_law, both_added_law}
 use Rattle.clock_laws.proofs.Others.{other_rows_law}
@@ -51,7 +52,7 @@ module _ {n m : ℕ} where
   none-arrives : (added : List (Timed n m)) (row : ℕ) → IsQuiet added → arrives_with added row ≡ false
   none-arrives [] row quiet = refl
   none-arrives (x ∷ added) row quiet =
-      or_none (is_arrival_of x.happens row) _ (end-brings_none x.happens row (All-head Ends x added quiet)) (none-arrives added row (All-tail Ends x added quiet))
+      or_from (is_arrival_of x.happens row) _ (end-brings_none x.happens row (All-head Ends x added quiet)) (none-arrives added row (All-tail Ends x added quiet))
 
 module _ {n m e : ℕ} where
   pub no-events : (xs : List (Timed n m)) (clock : ClockState n m e) (array : ArrayState n m) (results : List (Outcome n)) → Leads xs clock array
@@ -115,7 +116,7 @@ module _ {n m e : ℕ} where
         let second = step.extends (first.0 ++ xs) first.1.leads in
         let ends = All-head Ends second.0 [] second.2 in
         let lawful : Lawful now.bank.kept.shape now.pace e (second.0 ∷ (first.0 ++ xs)) =
-        subst (λ (shape : BankShape). Lawful shape now.pace e (second.0 ∷ (first.0 ++ xs))) second.1.shape (subst (λ (pace : Pacing). Lawful new.bank.kept.shape pace e (second.0 ∷ (first.0 ++ xs))) second.1.pace second.1.leads.lawful) in (
+        subst (λ (shape : BankShape). Lawful shape now.pace e (second.0 ∷ (first.0 ++ xs))) second.1.shape (subst (λ (pace : Pace). Lawful new.bank.kept.shape pace e (second.0 ∷ (first.0 ++ xs))) second.1.pace second.1.leads.lawful) in (
           second.0 ∷ first.0,
           one-more xs first.0 second.0 old now new before mid after results between recorded first.1 second.1,
           All-cons Ends second.0 first.0 ends first.2,
@@ -146,5 +147,5 @@ module _ {n m e : ℕ} where
   ran-others old new before after results recorded led ran row there unqueued unawaited =
       let by = ran.extends led.0 led.1 in
       let lawful : Lawful old.bank.kept.shape old.pace e (by.0 ++ led.0) =
-      subst (λ (shape : BankShape). Lawful shape old.pace e (by.0 ++ led.0)) by.1.shape (subst (λ (pace : Pacing). Lawful new.bank.kept.shape pace e (by.0 ++ led.0)) by.1.pace by.1.leads.lawful) in
+      subst (λ (shape : BankShape). Lawful shape old.pace e (by.0 ++ led.0)) by.1.shape (subst (λ (pace : Pace). Lawful new.bank.kept.shape pace e (by.0 ++ led.0)) by.1.pace by.1.leads.lawful) in
       by.1.outcomes row there ∙ other_rows_law n m e row by.0 led.0 old before (outcome_in results) led.1 lawful unqueued unawaited (none-arrives by.0 row by.2)

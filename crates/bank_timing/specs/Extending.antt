@@ -8,11 +8,12 @@ use Rattle.masked_bytes.specs.declared.entry.Entry.{Entry}
 use Rattle.masked_bytes.specs.Entries.{has_row}
 use Rattle.bank_shape.specs.declared.BankShape.{BankShape}
 use Rattle.bank_shape.specs.Shape.{controls_of, controls_from}
-use Rattle.bank_model.specs.Timing.{Pacing, Timed}
+use Rattle.bank_shape.specs.declared.pace.Pace.{Pace}
+use Rattle.bank_model.specs.Timing.{Timed}
 use Rattle.reg_lines.specs.Regs.{RegsState}
 use Rattle.bank_model.specs.Adding.{Adds}
 use Rattle.bank_laws.specs.Ticks.{ends_action}
-use Rattle.bank_invariant.specs.declared.Waiting.{Waiting}
+use Rattle.bank_shape.specs.declared.waiting.Waiting.{Waiting}
 use Rattle.bank_invariant.specs.State.{BankState, first_bank}
 use Rattle.clock_laws.specs.State.{ClockState}
 use Rattle.clock_laws.specs.Leads.{Leads}
@@ -24,7 +25,7 @@ abbrev pub first_regs : {n m e : ℕ} → BankShape → RegsState n m e
 first_regs shape = record { base = controls_from shape; items = controls_of shape; change = None; halted = false; writer = None }
 
 -- a bank that was just made, at tick 0
-abbrev pub first_clock : {n m e : ℕ} → BankShape → Pacing → ClockState n m e
+abbrev pub first_clock : {n m e : ℕ} → BankShape → Pace → ClockState n m e
 first_clock shape pace = record { bank = first_bank shape; regs = first_regs shape; pace = pace; tick = 0; action = None; arrivals = []; cancels = 0; drained = false }
 
 -- the greatest tick at which anything arrives, and one that no bank reaches before it has nothing left to do

@@ -1,6 +1,6 @@
 // The end of an action.
 ghost use Rattle.std.specs.Prelude.{◌≡◌, ◌<◌, ◌≤◌, List, [], ◌∷◌, None, Some, IfSome, IsTrue, is_some, slice_get};
-ghost use Rattle.bank_model.specs.declared.clock.Doing.TheVariants.{Serving, Beginning, Iterating};
+ghost use Rattle.bank_shape.specs.declared.clock.Doing.TheVariants.{Serving, Beginning, Iterating};
 ghost use Rattle.bank_model.specs.Timing.{Timed as TimedEvent, ends};
 ghost use Rattle.clock_laws.specs.State.{next_action};
 ghost use Rattle.clock_laws.specs.Leads.{Leads};
@@ -14,8 +14,8 @@ ghost use Rattle.bank_timing.specs.Extending.{AreOpen, last_tick_with_drain};
 ghost use Rattle.bank_timing.specs.Completing.{Completes, IsRecordable, step_recorded, recorded_clock, with_regs, region_of, item_from, cancels_by_step, cancels_by_keep};
 
 use crate::timed::Timed;
-use bank_model::answer::{Keep, Served, Step};
-use bank_model::clock::{Action, Doing};
+use bank_shape::answer::{Keep, Served, Step};
+use bank_shape::clock::{Action, Doing};
 use bank_shape::{BankShape, Home, Work};
 use pcm_cells::CellArray;
 use power_recovery::kept::Kept;

@@ -1,7 +1,7 @@
 // A power cut.
 ghost use Rattle.std.specs.Prelude.{◌≡◌, ◌&&◌, not, List, [], ◌∷◌, false, None, IsTrue};
 ghost use Rattle.pcm_cells.specs.Device.{ArrayState};
-ghost use Rattle.bank_model.specs.declared.clock.Doing.TheVariants.{Iterating};
+ghost use Rattle.bank_shape.specs.declared.clock.Doing.TheVariants.{Iterating};
 ghost use Rattle.bank_model.specs.Events.{Event};
 ghost use Rattle.bank_model.specs.Timing.{Timed as TimedEvent, is_doing};
 ghost use Rattle.bank_invariant.specs.Holds.{Holds};
@@ -19,7 +19,7 @@ ghost use Rattle.bank_timing.specs.Extending.{Extends, AreOpen, LeavesOthers};
 ghost use Rattle.bank_timing.specs.Losing.{LosesOpen, lost_recorded, with_lost};
 
 use crate::timed::Timed;
-use bank_model::clock::{Action, Doing};
+use bank_shape::clock::{Action, Doing};
 use bank_shape::Home;
 use pcm_cells::CellArray;
 use register_recovery::recover;

@@ -5,7 +5,7 @@ ghost use Rattle.ecp_line.specs.Layout.{IsLayout};
 ghost use Rattle.bank_shape.specs.Shape.{IsBankShape};
 ghost use Rattle.bank_model.specs.Timing.{Timed as TimedEvent, ends};
 ghost use Rattle.bank_core.specs.Steps.{IsFreshFor};
-ghost use Rattle.pace.specs.Policies.{IsPace, pacing_of};
+ghost use Rattle.bank_shape.specs.Pausing.{IsPace};
 ghost use Rattle.bank_shape.specs.declared.Home.TheVariants.{Array};
 ghost use Rattle.clock_laws.specs.State.{next_action, is_busy, may_start};
 ghost use Rattle.clock_laws.specs.Leads.{Leads};
@@ -13,10 +13,10 @@ ghost use Rattle.clock_laws.specs.Passing.{at_tick};
 ghost use Rattle.bank_timing.specs.Extending.{Extends, AreOpen, IsQuiet, LeavesOthers, first_clock, last_tick};
 
 use bank_core::bank::Bank;
-use bank_model::clock::{Action, Doing, choose};
+use bank_shape::clock::{Action, Doing, choose};
 use bank_shape::BankShape;
 use circular_buffer::HeapCircularBuffer;
-use pace::Pace;
+use bank_shape::Pace;
 use pcm_cells::CellArray;
 use reg_lines::regs::RegLines;
 use result_rows::Results;
@@ -46,9 +46,8 @@ impl<const B: usize, const M: usize, const E: usize> Model for Timed<B, M, E> {
     ghost Value = { ClockState B M E };
 
     ghost use Rattle.bank_timing.specs.Clock.{IsClock};
-    ghost use Rattle.pace.specs.Policies.{pacing_of};
 
-    ghost view = { λ t. record { bank = t.bank; regs = t.regs; pace = pacing_of t.pace; tick = t.tick; action = t.action; arrivals = t.arrivals.items; cancels = t.cancels; drained = t.drained } };
+    ghost view = { λ t. record { bank = t.bank; regs = t.regs; pace = t.pace; tick = t.tick; action = t.action; arrivals = t.arrivals.items; cancels = t.cancels; drained = t.drained } };
 
     ghost invariant = { λ t. IsClock t.bank t.regs t.pace t.tick t.action t.arrivals.capacity };
 }
@@ -60,7 +59,7 @@ impl<const B: usize, const M: usize, const E: usize> Timed<B, M, E> {
         requires limits { IsBankShape shape }
         requires paced { IsPace pace }
         requires wide { shape.home ≡ Array → 16 ≤ B }
-        ensures first { IfOk result (λ timed. timed ≡ first_clock shape (pacing_of pace)) }
+        ensures first { IfOk result (λ timed. timed ≡ first_clock shape pace) }
         ensures leads { IfOk result (λ timed. (array : ArrayState B M) → IsFreshFor shape array → Leads [] timed array) }
     {
         let bank = Bank::new(alloc, shape)?;

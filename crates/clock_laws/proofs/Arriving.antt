@@ -1,5 +1,6 @@
 -- A write or a read that arrives.
 use Rattle.std.proofs.Common.{◌≡◌, ℕ, ◌<◌, ◌==◌, ◌&&◌, nat_lt, Bool, true, false, cond, if◌then◌else◌, List, [], ◌∷◌, ◌++◌, zero, suc, map, slice_get, slice_set, Option, Some, None, refl, sym, ap, subst, ◌∙◌, arith, eq-eqb, append-nil}
+use Rattle.masked_bytes.proofs.Truth.{neither_first, neither_second}
 use Rattle.std.specs.Prelude.{IfSome, IsSomeAnd, not, length}
 use Rattle.std.proofs.lemmas.List.{map_push}
 use Rattle.masked_bytes.specs.declared.entry.Entry.{Entry}
@@ -9,12 +10,12 @@ use Rattle.pcm_cells.specs.Device.{ArrayState}
 use Rattle.bank_shape.specs.declared.BankShape.{BankShape}
 use Rattle.bank_shape.specs.Pausing.{is_cancelling, most_cancels}
 use Rattle.power_recovery.specs.Kept.{KeptState}
-use Rattle.bank_model.specs.declared.answer.WriteAnswer.{WriteAnswer}
-use Rattle.bank_model.specs.declared.answer.WriteAnswer.TheVariants as wrote
-use Rattle.bank_model.specs.declared.answer.ReadAnswer.{ReadAnswer}
-use Rattle.bank_model.specs.declared.answer.ReadAnswer.TheVariants as came
-use Rattle.bank_model.specs.declared.clock.Doing.TheVariants.{Beginning}
-use Rattle.bank_model.specs.declared.clock.Action.{Action}
+use Rattle.bank_shape.specs.declared.answer.WriteAnswer.{WriteAnswer}
+use Rattle.bank_shape.specs.declared.answer.WriteAnswer.TheVariants as wrote
+use Rattle.bank_shape.specs.declared.answer.ReadAnswer.{ReadAnswer}
+use Rattle.bank_shape.specs.declared.answer.ReadAnswer.TheVariants as came
+use Rattle.bank_shape.specs.declared.clock.Doing.TheVariants.{Beginning}
+use Rattle.bank_shape.specs.declared.clock.Action.{Action}
 use Rattle.bank_model.specs.Events.{Event, Write, Read, RowsBelow}
 use Rattle.bank_model.specs.Changes.{change_after}
 use Rattle.bank_model.specs.History.{queue, waits}
@@ -37,7 +38,7 @@ use Rattle.clock_laws.proofs.Ties.{agrees, same_reads}
 use Rattle.clock_laws.proofs.Controls.{control-kept}
 use Rattle.clock_laws.proofs.Stepping.{follows, stepped, leads-reaches, bank-leads}
 use Rattle.clock_laws.proofs.Putting.{told-on}
-use Rattle.clock_laws.proofs.Deciding.{or_left, or_right, turned}
+use Rattle.clock_laws.proofs.Deciding.{turned}
 
 -- Arrival ticks
 
@@ -50,9 +51,9 @@ module _ {n : ℕ} (row tick : ℕ) (ticks : ℕ → ℕ) where
   ticks-others : (es : List (Entry n)) → has_row es row ≡ false → map (λ entry. ticks entry.row) es ≡ map (λ entry. with_row row tick ticks entry.row) es
   ticks-others [] none = refl
   ticks-others (entry ∷ es) none =
-      let off : (row == entry.row) ≡ false = turned entry.row row (or_left (entry.row == row) (has_row es row) none) in
+      let off : (row == entry.row) ≡ false = turned entry.row row (neither_first (entry.row == row) (has_row es row) none) in
       ap (λ b. cond b tick (ticks entry.row) ∷ map (λ entry. ticks entry.row) es) (sym off)
-      ∙ ap (λ rest. with_row row tick ticks entry.row ∷ rest) (ticks-others es (or_right (entry.row == row) (has_row es row) none))
+      ∙ ap (λ rest. with_row row tick ticks entry.row ∷ rest) (ticks-others es (neither_second (entry.row == row) (has_row es row) none))
 
   -- an entry that comes last
   ticks-accepted : (es : List (Entry n)) (entry : Entry n) → entry.row ≡ row → has_row es row ≡ false
@@ -70,9 +71,9 @@ module _ {n : ℕ} (row tick : ℕ) (ticks : ℕ → ℕ) where
   not-at [] place none has = has
   not-at (entry ∷ es) zero none has =
       let is : (entry.row == row) ≡ true = eq-eqb entry.row row has in
-      let off : (entry.row == row) ≡ false = or_left (entry.row == row) (has_row es row) none in
+      let off : (entry.row == row) ≡ false = neither_first (entry.row == row) (has_row es row) none in
       cc
-  not-at (entry ∷ es) (suc place) none has = not-at es place (or_right (entry.row == row) (has_row es row) none) has
+  not-at (entry ∷ es) (suc place) none has = not-at es place (neither_second (entry.row == row) (has_row es row) none) has
 
   -- one that another is merged into
   ticks-merged : (old : ℕ) (bytes : List ℕ) (given : List Bool) (es : List (Entry n)) (place : ℕ) → has_row es row ≡ false → HasAt (merged old row bytes given es) place row
@@ -82,10 +83,10 @@ module _ {n : ℕ} (row tick : ℕ) (ticks : ℕ → ℕ) where
       by (entry.row == old) place (λ at. ticks-merged old bytes given es at rest) has
     where
       rest : has_row es row ≡ false
-      rest = or_right (entry.row == row) (has_row es row) none
+      rest = neither_second (entry.row == row) (has_row es row) none
 
       off : (entry.row == row) ≡ false
-      off = or_left (entry.row == row) (has_row es row) none
+      off = neither_first (entry.row == row) (has_row es row) none
 
       by : (b : Bool) (place : ℕ)
           → ((at : ℕ) → HasAt (merged old row bytes given es) at row → slice_set (map (λ entry. ticks entry.row) es) at tick ≡ map (λ entry. with_row row tick ticks entry.row) (merged old row bytes given es))

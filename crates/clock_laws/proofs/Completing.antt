@@ -9,14 +9,15 @@ use Rattle.pcm_cells.specs.Device.{ArrayState}
 use Rattle.ecp_line.specs.Reading.{decode}
 use Rattle.bank_shape.specs.declared.BankShape.{BankShape}
 use Rattle.bank_shape.specs.Shape.{controls_of, control_line}
-use Rattle.bank_model.specs.declared.answer.Step.TheVariants as did
-use Rattle.bank_model.specs.declared.clock.Doing.{Doing}
-use Rattle.bank_model.specs.declared.clock.Doing.TheVariants.{Serving, Beginning, Iterating}
-use Rattle.bank_model.specs.declared.clock.Action.{Action}
+use Rattle.bank_shape.specs.declared.answer.Step.TheVariants as did
+use Rattle.bank_shape.specs.declared.clock.Doing.{Doing}
+use Rattle.bank_shape.specs.declared.clock.Doing.TheVariants.{Serving, Beginning, Iterating}
+use Rattle.bank_shape.specs.declared.clock.Action.{Action}
 use Rattle.bank_model.specs.Events.{Event, Write, Read, Serve, Begin, Iterate, Cut, newest}
 use Rattle.bank_model.specs.History.{queue, begun, due_after}
 use Rattle.bank_model.specs.Changes.{change_after, line_of_change}
-use Rattle.bank_model.specs.Timing.{Pacing, Timed, Happens, Core, Regs, Keeping, KeepBegin, KeepIterate, KeepCut, ends, core}
+use Rattle.bank_shape.specs.declared.pace.Pace.{Pace}
+use Rattle.bank_model.specs.Timing.{Timed, Happens, Core, Regs, Keeping, KeepBegin, KeepIterate, KeepCut, ends, core}
 use Rattle.bank_model.specs.Running.{left, cancels_by, cancels_with, running_at}
 use Rattle.bank_model.specs.Lawful.{IsAsked, IsOnTime, IsKeptOnTime}
 use Rattle.bank_model.specs.Sensing.{is_at, sensed_by, pulsed_by, read_again, kept_sensed, kept_pulsed, copied, begun_with}
@@ -45,13 +46,13 @@ ends-asked h (Iterate answer) doing is = tt
 ends-asked h (Cut tearing) doing is = absurd is
 
 -- it comes as the action ends
-doing_is : (pace : Pacing) (action : Action) (doing : Doing) (runs : Option Action) → action.doing ≡ doing → runs ≡ Some action
+doing_is : (pace : Pace) (action : Action) (doing : Doing) (runs : Option Action) → action.doing ≡ doing → runs ≡ Some action
     → (runs ≡ Some (record { doing = doing; first = action.first })) × (ends pace action ≡ ends pace (record { doing = doing; first = action.first }))
 doing_is pace action doing runs is run =
     let same : action ≡ record { doing = doing; first = action.first } = ap (λ (doing : Doing). record action { doing = doing }) is in
     (run ∙ ap (λ a. Some a) same, ap (λ a. ends pace a) same)
 
-ends-on_time : {n m : ℕ} (shape : BankShape) (pace : Pacing) (xs : List (Timed n m)) (event : Event n) (action : Action) (runs : Option Action) (senses : List (Sense n m)) (pulsed : Option ℕ)
+ends-on_time : {n m : ℕ} (shape : BankShape) (pace : Pace) (xs : List (Timed n m)) (event : Event n) (action : Action) (runs : Option Action) (senses : List (Sense n m)) (pulsed : Option ℕ)
     → EndsDoing event action.doing → (change : Option Change) → IsAlone event change → item_of change ≡ change_after shape xs → runs ≡ Some action
     → IsOnTime shape pace runs xs (completion action.first (ends pace action) (Core event) senses pulsed) event
 ends-on_time shape pace xs (Write row line bytes given answer) action runs senses pulsed is change alone told run = absurd is
@@ -149,7 +150,7 @@ completion_law n m e event action xs clock bank regs old new leads next is later
 -- Steps of the writing of a change
 
 -- it comes as the action ends
-keeps-on_time : {n m : ℕ} (shape : BankShape) (pace : Pacing) (xs : List (Timed n m)) (event : Keeping) (action : Action) (runs : Option Action) (senses : List (Sense n m)) (pulsed : Option ℕ)
+keeps-on_time : {n m : ℕ} (shape : BankShape) (pace : Pace) (xs : List (Timed n m)) (event : Keeping) (action : Action) (runs : Option Action) (senses : List (Sense n m)) (pulsed : Option ℕ)
     → EndsKeeping event action.doing → runs ≡ Some action → IsKeptOnTime shape pace runs xs (completion action.first (ends pace action) (Regs event) senses pulsed) event
 keeps-on_time shape pace xs (KeepBegin answer) action runs senses pulsed is run = (doing_is pace action Beginning runs is run, refl)
 keeps-on_time shape pace xs (KeepIterate answer) action runs senses pulsed is run = (doing_is pace action Iterating runs is run, refl)

@@ -4,15 +4,16 @@ use Rattle.std.specs.Prelude.{IsTrue, IfSome, IsSomeAnd, All}
 use Rattle.std.proofs.lemmas.List.Elements.{All-head, All-tail}
 use Rattle.pcm_cells.specs.Device.{ArrayState}
 use Rattle.bank_shape.specs.declared.BankShape.{BankShape}
-use Rattle.bank_model.specs.declared.clock.Doing.{Doing}
-use Rattle.bank_model.specs.declared.clock.Doing.TheVariants.{Serving, Beginning, Iterating}
-use Rattle.bank_model.specs.declared.clock.Action.{Action}
+use Rattle.bank_shape.specs.declared.clock.Doing.{Doing}
+use Rattle.bank_shape.specs.declared.clock.Doing.TheVariants.{Serving, Beginning, Iterating}
+use Rattle.bank_shape.specs.declared.clock.Action.{Action}
 use Rattle.bank_model.specs.Changes.{change_after}
 use Rattle.bank_model.specs.Events.{Write, Read, Serve, Begin, Iterate, Cut}
 use Rattle.bank_model.specs.History.{moved_in}
 use Rattle.bank_model.specs.Lawful.{Lawful, MayCome}
 use Rattle.bank_model.specs.Running.{started, left_by, running, running_at, chosen_after}
-use Rattle.bank_model.specs.Timing.{Pacing, Happens, Core, Regs, KeepBegin, KeepIterate, KeepCut, Timed, ends, core, last_tick}
+use Rattle.bank_shape.specs.declared.pace.Pace.{Pace}
+use Rattle.bank_model.specs.Timing.{Happens, Core, Regs, KeepBegin, KeepIterate, KeepCut, Timed, ends, core, last_tick}
 use Rattle.bank_laws.specs.Laws.{IsSized}
 use Rattle.bank_laws.specs.Ticks.{ends_action}
 use Rattle.bank_laws.proofs.Ticks.{last-below}
@@ -38,7 +39,7 @@ begun-last None (Some doing) last tick a none is = by (nat_lt last tick) is
     by false is = absurd (cc)
 
 -- an action that runs at a later tick, and ends there, ends behind now
-ends-behind : (pace : Pacing) (r : Option Action) (d : Option Doing) (last now tick : ℕ) (a : Action) → last ≤ now → last < tick
+ends-behind : (pace : Pace) (r : Option Action) (d : Option Doing) (last now tick : ℕ) (a : Action) → last ≤ now → last < tick
     → IfSome (started r d last now) (λ a. now < ends pace a) → started r d last tick ≡ Some a → tick ≡ ends pace a → now < tick
 ends-behind pace (Some action) d last now tick a before later to_come is at =
     let same : action ≡ a = cc in
@@ -59,7 +60,7 @@ ends-behind pace None (Some doing) last now tick a before later to_come is at = 
     by true none to_come false is = absurd (cc)
     by false none to_come c is = let le : now ≤ last = none refl in omega (arith, le, later)
 
-module _ {n m : ℕ} (shape : BankShape) (pace : Pacing) (e : ℕ) where
+module _ {n m : ℕ} (shape : BankShape) (pace : Pace) (e : ℕ) where
   -- an event that ends an action: that action ran until its tick, and lasted so long
   record IsAnEnd (xs : List (Timed n m)) (x : Timed n m) (ticks : ℕ) : Type 0 where
     doing : Doing

@@ -21,8 +21,8 @@ use Rattle.power_recovery.proofs.Bundle.{due_region-Some}
 use Rattle.bank_model.specs.Events.{Event, Write, Read, Serve, Begin, Iterate, Cut}
 use Rattle.bank_model.specs.History.{Awaited, waits}
 use Rattle.bank_model.specs.After.{work_after, target_after, sources_of}
-use Rattle.bank_model.specs.declared.clock.Doing.TheVariants.{Iterating}
-use Rattle.bank_model.specs.declared.clock.Action.{Action}
+use Rattle.bank_shape.specs.declared.clock.Doing.TheVariants.{Iterating}
+use Rattle.bank_shape.specs.declared.clock.Action.{Action}
 use Rattle.bank_model.specs.Changes.{line_of_change, numbers_from}
 use Rattle.bank_model.specs.Timing.{Timed, Keeping, KeepBegin, KeepIterate, KeepCut, is_doing}
 use Rattle.bank_model.specs.Sensing.{is_at, pulses_of, stand_of, sensed_by, pulsed_by, read_again, torn_control, kept_sensed, kept_pulsed}

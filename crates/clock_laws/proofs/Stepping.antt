@@ -4,12 +4,13 @@ use Rattle.std.specs.Prelude.{All, IfSome, IsTrue}
 use Rattle.pcm_cells.specs.Device.{ArrayState}
 use Rattle.bank_shape.specs.declared.BankShape.{BankShape}
 use Rattle.bank_shape.specs.Shape.{controls_of}
-use Rattle.bank_model.specs.declared.clock.Action.{Action}
+use Rattle.bank_shape.specs.declared.clock.Action.{Action}
 use Rattle.bank_model.specs.Events.{Event}
 use Rattle.bank_model.specs.History.{queue}
 use Rattle.bank_model.specs.Answers.{MayAll}
 use Rattle.bank_model.specs.Changes.{change_after, line_of_change}
-use Rattle.bank_model.specs.Timing.{Pacing, Timed, Happens, Core, Regs, Keeping, ends, core}
+use Rattle.bank_shape.specs.declared.pace.Pace.{Pace}
+use Rattle.bank_model.specs.Timing.{Timed, Happens, Core, Regs, Keeping, ends, core}
 use Rattle.bank_model.specs.Running.{left_by, running_at, running, chosen_after, cancels_with}
 use Rattle.bank_model.specs.Lawful.{IsAsked, IsOnTime, IsKeptOnTime, IsUncancelled, MayKeep, MayCome, Lawful, FollowsCancel}
 use Rattle.bank_model.specs.Sensing.{most_steps, pulses_of, sensed_by, pulsed_by, read_again, torn_control, kept_sensed, kept_pulsed, IsReadRight}
@@ -28,11 +29,11 @@ use Rattle.clock_laws.proofs.Controls.{change-known}
 use Rattle.clock_laws.proofs.Ranges.{AreIn, ArePulses, controls-in, sensed-in, kept-sensed-in, change-in, pulses-at, pulses-next, shown-all, shown-lines}
 
 -- the last event is no cancel, so nothing has to follow it
-pub follows : {n m : ℕ} (shape : BankShape) (pace : Pacing) (xs : List (Timed n m)) (tick : ℕ) (event : Event n) → IsWhole xs → FollowsCancel shape pace xs tick event
+pub follows : {n m : ℕ} (shape : BankShape) (pace : Pace) (xs : List (Timed n m)) (tick : ℕ) (event : Event n) → IsWhole xs → FollowsCancel shape pace xs tick event
 follows shape pace [] tick event whole = tt
 follows shape pace (x ∷ xs) tick event whole = λ is. absurd (cc)
 
-pub uncancelled : {n m : ℕ} (shape : BankShape) (pace : Pacing) (xs : List (Timed n m)) → IsWhole xs → IsUncancelled shape pace xs
+pub uncancelled : {n m : ℕ} (shape : BankShape) (pace : Pace) (xs : List (Timed n m)) → IsWhole xs → IsUncancelled shape pace xs
 uncancelled shape pace [] whole = tt
 uncancelled shape pace (x ∷ xs) whole = whole
 

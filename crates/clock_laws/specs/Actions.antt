@@ -7,14 +7,14 @@ use Rattle.bank_shape.specs.declared.Work.{Work}
 use Rattle.bank_shape.specs.declared.Work.TheVariants.{Nothing, Store, Copy}
 use Rattle.bank_shape.specs.Shape.{slot_at}
 use Rattle.power_recovery.specs.Kept.{KeptState, array_line, stands_at, next_work}
-use Rattle.bank_model.specs.declared.answer.Served.{Served}
-use Rattle.bank_model.specs.declared.answer.Step.{Step}
-use Rattle.bank_model.specs.declared.answer.Step.TheVariants as did
-use Rattle.bank_model.specs.declared.answer.Keep.{Keep}
-use Rattle.bank_model.specs.declared.answer.Keep.TheVariants as keep
-use Rattle.bank_model.specs.declared.clock.Doing.{Doing}
-use Rattle.bank_model.specs.declared.clock.Doing.TheVariants.{Beginning, Iterating}
-use Rattle.bank_model.specs.declared.clock.Action.{Action}
+use Rattle.bank_shape.specs.declared.answer.Served.{Served}
+use Rattle.bank_shape.specs.declared.answer.Step.{Step}
+use Rattle.bank_shape.specs.declared.answer.Step.TheVariants as did
+use Rattle.bank_shape.specs.declared.answer.Keep.{Keep}
+use Rattle.bank_shape.specs.declared.answer.Keep.TheVariants as keep
+use Rattle.bank_shape.specs.declared.clock.Doing.{Doing}
+use Rattle.bank_shape.specs.declared.clock.Doing.TheVariants.{Beginning, Iterating}
+use Rattle.bank_shape.specs.declared.clock.Action.{Action}
 use Rattle.bank_model.specs.Events.{Event, Serve, Begin, Iterate, Cut}
 use Rattle.bank_model.specs.Changes.{all_controls}
 use Rattle.bank_model.specs.Timing.{Timed, KeepBegin, KeepIterate, core, ends, is_doing}
@@ -27,7 +27,7 @@ use Rattle.reg_lines.specs.Regs.{RegsState}
 use Rattle.reg_lines.specs.Keeping.{kept_on, broken_off}
 use Rattle.reg_lines.specs.Keeping as writing
 use Rattle.register_laws.specs.Control.{Control}
-use Rattle.bank_invariant.specs.declared.Waiting.{Waiting}
+use Rattle.bank_shape.specs.declared.waiting.Waiting.{Waiting}
 use Rattle.bank_invariant.specs.State.{BankState, Operation, target_of}
 use Rattle.bank_invariant.specs.Tied.{decoded}
 use Rattle.bank_invariant.specs.Holds.{Holds}

@@ -6,12 +6,12 @@ use Rattle.masked_bytes.specs.Entries.{layer_of}
 use Rattle.bank_shape.specs.Pausing.{is_cancelling, most_cancels}
 use Rattle.bank_invariant.specs.Serving.{read_from}
 use Rattle.power_recovery.specs.Kept.{KeptState, next_work}
-use Rattle.bank_model.specs.declared.answer.WriteAnswer.{WriteAnswer}
-use Rattle.bank_model.specs.declared.answer.WriteAnswer.TheVariants as wrote
-use Rattle.bank_model.specs.declared.answer.ReadAnswer.{ReadAnswer}
-use Rattle.bank_model.specs.declared.answer.ReadAnswer.TheVariants as came
-use Rattle.bank_model.specs.declared.clock.Doing.TheVariants.{Beginning}
-use Rattle.bank_model.specs.declared.clock.Action.{Action}
+use Rattle.bank_shape.specs.declared.answer.WriteAnswer.{WriteAnswer}
+use Rattle.bank_shape.specs.declared.answer.WriteAnswer.TheVariants as wrote
+use Rattle.bank_shape.specs.declared.answer.ReadAnswer.{ReadAnswer}
+use Rattle.bank_shape.specs.declared.answer.ReadAnswer.TheVariants as came
+use Rattle.bank_shape.specs.declared.clock.Doing.TheVariants.{Beginning}
+use Rattle.bank_shape.specs.declared.clock.Action.{Action}
 use Rattle.bank_model.specs.Events.{Event, Write, Read, RowsBelow}
 use Rattle.bank_model.specs.After.{is_store_of}
 use Rattle.bank_model.specs.Timing.{Timed, Core, core, is_doing, is_writing}

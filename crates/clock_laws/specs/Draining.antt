@@ -4,7 +4,8 @@ use Rattle.pcm_cells.specs.Device.{ArrayState}
 use Rattle.start_gap.specs.Rotation.{StandsFor}
 use Rattle.power_recovery.specs.Kept.{region_at}
 use Rattle.bank_model.specs.Events.{Serve, Begin, Iterate}
-use Rattle.bank_model.specs.Timing.{Pacing, Happens, Core, Regs, KeepBegin, KeepIterate, Timed}
+use Rattle.bank_shape.specs.declared.pace.Pace.{Pace}
+use Rattle.bank_model.specs.Timing.{Happens, Core, Regs, KeepBegin, KeepIterate, Timed}
 use Rattle.bank_model.specs.Lawful.{Lawful}
 use Rattle.bank_laws.specs.Laws.{is_worn_at}
 use Rattle.bank_laws.specs.Outcomes.{table_of}
@@ -14,7 +15,7 @@ use Rattle.clock_laws.specs.State.{ClockState, next_action}
 use Rattle.clock_laws.specs.Leads.{Leads}
 
 -- how many ticks the action lasted that this ended; an arrival or a cut ends none
-abbrev pub ticks_of : {n : ℕ} → Pacing → Happens n → ℕ
+abbrev pub ticks_of : {n : ℕ} → Pace → Happens n → ℕ
 ticks_of pace (Core (Serve answer)) = pace.read
 ticks_of pace (Core (Begin answer)) = pace.read
 ticks_of pace (Core (Iterate answer)) = pace.iter
@@ -23,7 +24,7 @@ ticks_of pace (Regs (KeepIterate answer)) = pace.iter
 ticks_of pace _ = 0
 
 -- how many ticks the actions lasted together that these events ended
-abbrev pub ticks_in : {n m : ℕ} → Pacing → List (Timed n m) → ℕ
+abbrev pub ticks_in : {n m : ℕ} → Pace → List (Timed n m) → ℕ
 ticks_in pace [] = 0
 ticks_in pace (x ∷ xs) = ticks_of pace x.happens + ticks_in pace xs
 

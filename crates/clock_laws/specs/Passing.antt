@@ -1,7 +1,7 @@
 -- The laws of time that passes in which no event comes, and of a bank that has nothing left to do.
 use Rattle.std.specs.Prelude.{◌≡◌, ℕ, ◌<◌, ◌≤◌, List, Option, None, IfSome}
 use Rattle.pcm_cells.specs.Device.{ArrayState}
-use Rattle.bank_model.specs.declared.clock.Action.{Action}
+use Rattle.bank_shape.specs.declared.clock.Action.{Action}
 use Rattle.bank_model.specs.Timing.{Timed, ends}
 use Rattle.bank_model.specs.Lawful.{IsIdle}
 use Rattle.clock_laws.specs.State.{ClockState, next_action}

@@ -4,8 +4,8 @@ use Rattle.masked_bytes.specs.Entries.{head_line}
 use Rattle.pcm_cells.specs.Device.{ArrayState}
 use Rattle.spare_pool.specs.Table.{used_by}
 use Rattle.power_recovery.specs.Kept.{KeptState, due_region}
-use Rattle.bank_model.specs.declared.answer.Step.{Step}
-use Rattle.bank_model.specs.declared.answer.Step.TheVariants as did
+use Rattle.bank_shape.specs.declared.answer.Step.{Step}
+use Rattle.bank_shape.specs.declared.answer.Step.TheVariants as did
 use Rattle.bank_model.specs.Answers.{MayHappen}
 use Rattle.bank_model.specs.Changes.{item_if}
 use Rattle.bank_model.specs.Events.{Event, Begin, Iterate}
@@ -18,7 +18,7 @@ use Rattle.register_laws.specs.Telling.{AreTold}
 use Rattle.clock_laws.specs.State.{ClockState}
 use Rattle.clock_laws.specs.Leads.{Leads}
 use Rattle.clock_laws.specs.Completing.{EndsDoing, IsAlone}
-use Rattle.bank_model.specs.declared.clock.Doing.{Doing}
+use Rattle.bank_shape.specs.declared.clock.Doing.{Doing}
 
 -- the region that is due to move
 abbrev pub region_due : Option ℕ → ℕ

@@ -14,7 +14,7 @@ use Rattle.bank_invariant.specs.Storing.{resting}
 use Rattle.bank_invariant.specs.Moving.{moved}
 use Rattle.bank_invariant.specs.Retiring.{ended}
 use Rattle.bank_model.specs.Timing.{Timed}
-use Rattle.bank_model.specs.declared.answer.Keep.TheVariants as keep
+use Rattle.bank_shape.specs.declared.answer.Keep.TheVariants as keep
 use Rattle.reg_lines.specs.Regs.{RegsState}
 use Rattle.reg_lines.specs.Keeping.{kept_on}
 use Rattle.register_laws.specs.Telling.{item_of}

@@ -9,7 +9,8 @@ use Rattle.row_laws.specs.declared.Row.{Row}
 use Rattle.bank_shape.specs.declared.BankShape.{BankShape}
 use Rattle.bank_shape.specs.Shape.{lines_in}
 use Rattle.bank_model.specs.Adding.{senses_of}
-use Rattle.bank_model.specs.Timing.{Pacing, Timed}
+use Rattle.bank_shape.specs.declared.pace.Pace.{Pace}
+use Rattle.bank_model.specs.Timing.{Timed}
 use Rattle.bank_model.specs.Lawful.{Lawful}
 use Rattle.bank_laws.specs.Laws.{IsSized, KeepsLog, LeavesArray, log_of}
 use Rattle.bank_laws.specs.Outcomes.{table_of}
@@ -71,7 +72,7 @@ module _ (logs : WholeLogLaw) (leaving : LeavingLaw) (by_bank : BankTableLaw) {n
     lawful : Lawful shape (pacing_in raw) e xs
     lawful =
         subst (λ (t : BankShape). Lawful t (pacing_in raw) e xs) (left.finished.shapes bank exists)
-        (subst (λ (p : Pacing). Lawful (left.banks bank).bank.kept.shape p e xs) (left.finished.paces bank exists) (left.finished.leads bank exists).lawful)
+        (subst (λ (p : Pace). Lawful (left.banks bank).bank.kept.shape p e xs) (left.finished.paces bank exists) (left.finished.leads bank exists).lawful)
 
     leaves : LeavesArray e shape xs left.before
     leaves =

@@ -1,24 +1,25 @@
 -- A write of a line is out of the queue exactly where its row was stored.
 use Rattle.std.proofs.Common.{◌≡◌, ℕ, ◌==◌, ◌⊎◌, inl, inr, Bool, true, false, List, [], ◌∷◌, ◌++◌, Some, None, refl, sym, ap, ◌∙◌, subst, arith, cond, eqb, eq-eqb, eqb-true}
+use Rattle.std.proofs.lemmas.Bool.{or_right}
 use Rattle.std.specs.Prelude.{unwrap_or}
 use Rattle.result_rows.specs.declared.Outcome.{Outcome}
 use Rattle.result_rows.specs.declared.Outcome.TheVariants as out
 use Rattle.row_laws.specs.Answers.{is_stored}
 use Rattle.bank_shape.specs.declared.BankShape.{BankShape}
-use Rattle.bank_model.specs.declared.answer.WriteAnswer.{WriteAnswer}
-use Rattle.bank_model.specs.declared.answer.WriteAnswer.TheVariants as wrote
-use Rattle.bank_model.specs.declared.answer.ReadAnswer.TheVariants as came
-use Rattle.bank_model.specs.declared.answer.Step.TheVariants as did
+use Rattle.bank_shape.specs.declared.answer.WriteAnswer.{WriteAnswer}
+use Rattle.bank_shape.specs.declared.answer.WriteAnswer.TheVariants as wrote
+use Rattle.bank_shape.specs.declared.answer.ReadAnswer.TheVariants as came
+use Rattle.bank_shape.specs.declared.answer.Step.TheVariants as did
 use Rattle.bank_model.specs.Events.{Event, Write, Read, Serve, Begin, Iterate, Cut, RowsBelow, line_of_row, up_to}
 use Rattle.bank_model.specs.History.{waits}
 use Rattle.bank_model.specs.Sensing.{most_steps}
-use Rattle.bank_model.specs.Timing.{Pacing, Happens, Core, Regs, Timed, core, core_of}
+use Rattle.bank_shape.specs.declared.pace.Pace.{Pace}
+use Rattle.bank_model.specs.Timing.{Happens, Core, Regs, Timed, core, core_of}
 use Rattle.bank_model.specs.Lawful.{Lawful, MayCome}
 use Rattle.bank_laws.specs.Outcomes.{on_row, outcome_with, outcome_of}
 use Rattle.bank_laws.specs.Standing.{has_wait}
 use Rattle.bank_laws.specs.Ticks.{ends_action}
 use Rattle.bank_laws.proofs.Entries.{either}
-use Rattle.bank_laws.proofs.Fates.{or_second}
 use Rattle.bank_laws.proofs.Settling.{opens, above_all, step_stays}
 use Rattle.bank_laws.proofs.Waiting.{may_all}
 use Rattle.bank_laws.proofs.Wears.{stored_by}
@@ -70,7 +71,7 @@ module _ {n : ℕ} where
   on_row-out line h at row tick place o is was none = by (eqb at row) refl
     where
       own : (b : Bool) → b ≡ true → eqb at row ≡ true → true ≡ out_with b (out_in line h) at row
-      own true k same = sym (or_second (out_in line h row) _ same)
+      own true k same = sym (or_right (out_in line h row) _ same)
       own false k same = absurd (cc)
 
       by : (b : Bool) → eqb at row ≡ b → is_stored (unwrap_or (cond b (Some (out.Stored tick place)) None) o) ≡ out_with (line_of_row at h == line) (out_in line h) at row
@@ -90,7 +91,7 @@ module _ {n : ℕ} where
   not_stored (out.Lost tick) isnt = refl
   not_stored (out.Cut tick) isnt = refl
 
-module _ {n m : ℕ} (shape : BankShape) (pace : Pacing) (e : ℕ) where
+module _ {n m : ℕ} (shape : BankShape) (pace : Pace) (e : ℕ) where
   -- over one more event
   step_out : (zs : List (Timed n m)) (y : Timed n m) (h : Happens n) (row line : ℕ) → Lawful shape pace e zs → MayCome shape pace e zs y h → line_of_row row (core zs) ≡ line
       → is_stored (outcome_of shape zs row) ≡ out_in line (core zs) row

@@ -7,11 +7,12 @@ use Rattle.std.proofs.lemmas.List.Elements.{All-head, All-tail, All-weaker, filt
 use Rattle.pcm_cells.specs.declared.array.Sense.{Sense}
 use Rattle.pcm_cells.specs.Device.{counted}
 use Rattle.row_laws.specs.declared.Row.{Row}
-use Rattle.row_laws.specs.Rules.{Rules}
+use Rattle.row_laws.specs.declared.Rules.{Rules}
 use Rattle.bank_shape.specs.declared.BankShape.{BankShape}
 use Rattle.bank_model.specs.History.{in_progress}
 use Rattle.bank_model.specs.After.{target_after}
-use Rattle.bank_model.specs.Timing.{Pacing, Timed, core, last_tick}
+use Rattle.bank_shape.specs.declared.pace.Pace.{Pace}
+use Rattle.bank_model.specs.Timing.{Timed, core, last_tick}
 use Rattle.bank_model.specs.Running.{running}
 use Rattle.bank_model.specs.Changes.{change_after, keeping_after, halted_after, line_of_change}
 use Rattle.bank_model.specs.Sensing.{pulses_of}
@@ -22,7 +23,7 @@ use Rattle.log_laws.proofs.Targets.{WorkAfter}
 use Rattle.log_laws.proofs.Firsts.{BeganFrom}
 use Rattle.log_laws.proofs.Owning.{own}
 
-module _ {n m : ℕ} (shape : BankShape) (pace : Pacing) (rules : Rules) (rows : List (Row n)) (wears : Bool) (line : ℕ) (all : List (Timed n m)) where
+module _ {n m : ℕ} (shape : BankShape) (pace : Pace) (rules : Rules) (rows : List (Row n)) (wears : Bool) (line : ℕ) (all : List (Timed n m)) where
   -- the line is that of the line write that is to be begun: the bank's, or that of the change that stands
   abbrev pub Due : List (Timed n m) → Type 0
   Due xs =

@@ -1,5 +1,6 @@
 -- A row that was read has a sense of its place at its tick, over which the bytes of the queue give those that were read.
 use Rattle.std.proofs.Common.{◌≡◌, ◌≢◌, ℕ, ◌<◌, ◌≤◌, ◌==◌, ◌⊎◌, inl, inr, Bool, true, false, List, [], ◌∷◌, ◌++◌, Some, None, drop, refl, sym, ap, ◌∙◌, subst, arith, cond, eqb, eq-eqb, eqb-true}
+use Rattle.masked_bytes.proofs.Truth.{neither_first, neither_second}
 use Rattle.std.specs.Prelude.{All, map, unwrap_or}
 use Rattle.std.proofs.lemmas.List.Elements.{All-head}
 use Rattle.pcm_cells.specs.declared.array.Sense.{Sense}
@@ -9,22 +10,22 @@ use Rattle.result_rows.specs.declared.Outcome.{Outcome}
 use Rattle.result_rows.specs.declared.Outcome.TheVariants as out
 use Rattle.row_laws.specs.Serving.{same_bytes}
 use Rattle.bank_shape.specs.declared.BankShape.{BankShape}
-use Rattle.bank_model.specs.declared.answer.Served.{Served}
-use Rattle.bank_model.specs.declared.answer.WriteAnswer.TheVariants as wrote
-use Rattle.bank_model.specs.declared.answer.ReadAnswer.TheVariants as came
-use Rattle.bank_model.specs.declared.answer.Step.TheVariants as did
+use Rattle.bank_shape.specs.declared.answer.Served.{Served}
+use Rattle.bank_shape.specs.declared.answer.WriteAnswer.TheVariants as wrote
+use Rattle.bank_shape.specs.declared.answer.ReadAnswer.TheVariants as came
+use Rattle.bank_shape.specs.declared.answer.Step.TheVariants as did
 use Rattle.bank_model.specs.Events.{Write, Read, Serve, Begin, Iterate, Cut, RowsBelow}
 use Rattle.bank_model.specs.History.{Awaited, waits}
 use Rattle.bank_model.specs.After.{stands_at_after}
 use Rattle.bank_model.specs.Answers.{IsServed}
 use Rattle.bank_model.specs.Adding.{senses_of}
 use Rattle.bank_model.specs.Sensing.{pulses_of, stand_of, IsLaid, IsReadRight}
-use Rattle.bank_model.specs.Timing.{Pacing, Happens, Core, Regs, Timed, core, core_of}
+use Rattle.bank_shape.specs.declared.pace.Pace.{Pace}
+use Rattle.bank_model.specs.Timing.{Happens, Core, Regs, Timed, core, core_of}
 use Rattle.bank_model.specs.Lawful.{Lawful, MayCome}
 use Rattle.bank_laws.specs.Logs.{is_sensed}
 use Rattle.bank_laws.specs.Outcomes.{on_row, outcome_with, outcome_of}
 use Rattle.bank_laws.specs.Standing.{has_wait}
-use Rattle.bank_laws.proofs.Entries.{or_left, or_right}
 use Rattle.bank_laws.proofs.Serves.{same_bytes-same}
 use Rattle.bank_laws.proofs.Settling.{opens}
 use Rattle.bank_laws.proofs.Standing.{stand_apart}
@@ -62,8 +63,8 @@ only-drop mine (w ∷ ws) k = k.1
 only-lacks : (mine : Awaited) (ws : List Awaited) → has_wait ws mine.row ≡ false → OnlyOne mine ws
 only-lacks mine [] lacks = tt
 only-lacks mine (w ∷ ws) lacks = (
-  λ same. absurd (cc (eq-eqb w.row mine.row same, or_left (w.row == mine.row) _ lacks)),
-  only-lacks mine ws (or_right (w.row == mine.row) _ lacks),
+  λ same. absurd (cc (eq-eqb w.row mine.row same, neither_first (w.row == mine.row) _ lacks)),
+  only-lacks mine ws (neither_second (w.row == mine.row) _ lacks),
 )
 
 module _ {n : ℕ} where
@@ -116,7 +117,7 @@ module _ {n m : ℕ} (shape : BankShape) where
   answers-now zs y (Core (Iterate did.Exhausted)) row u p bytes s = inr s
   answers-now zs y (Core (Cut tearing)) row u p bytes s = inr (lost_not_read (has_wait (waits shape (core zs)) row) y.tick _ u p bytes s)
 
-module _ {n m : ℕ} (shape : BankShape) (pace : Pacing) (e : ℕ) (mine : Awaited) where
+module _ {n m : ℕ} (shape : BankShape) (pace : Pace) (e : ℕ) (mine : Awaited) where
   -- a read's row is above those before, so its wait stays the only one
   only-next : (zs : List (Timed n m)) (y : Timed n m) (h : Happens n) → MayCome shape pace e zs y h → ((row : ℕ) → RowsBelow (core zs) row → mine.row < row) → OnlyOne mine (waits shape (core zs)) → OnlyOne mine (waits shape (core_of h (core zs)))
   only-next zs y (Core (Write row line bytes given answer)) may above k = k

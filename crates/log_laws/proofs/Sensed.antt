@@ -1,5 +1,6 @@
 -- Each row that was stored or read has its sense in the log.
 use Rattle.std.proofs.Common.{◌≡◌, ℕ, ◌+◌, ◌==◌, ◌&&◌, ◌||◌, inl, inr, Bool, true, false, List, [], ◌∷◌, ◌++◌, refl, sym, ap, ◌∙◌, subst, cond, length, append_assoc}
+use Rattle.std.proofs.lemmas.Bool.{or_left}
 use Rattle.std.specs.Prelude.{filter, nat_le, nat_lt}
 use Rattle.std.specs.List.{list_any}
 use Rattle.std.proofs.lemmas.List.Folds.{list_any-append}
@@ -17,13 +18,14 @@ use Rattle.row_laws.specs.Rows.{each_row}
 use Rattle.row_laws.specs.Serving.{may_have, same_bytes}
 use Rattle.bank_shape.specs.declared.BankShape.{BankShape}
 use Rattle.bank_shape.specs.Shape.{lines_in}
-use Rattle.bank_model.specs.declared.answer.WriteAnswer.{WriteAnswer}
-use Rattle.bank_model.specs.declared.answer.ReadAnswer.{ReadAnswer}
-use Rattle.bank_model.specs.declared.answer.ReadAnswer.TheVariants as came
+use Rattle.bank_shape.specs.declared.answer.WriteAnswer.{WriteAnswer}
+use Rattle.bank_shape.specs.declared.answer.ReadAnswer.{ReadAnswer}
+use Rattle.bank_shape.specs.declared.answer.ReadAnswer.TheVariants as came
 use Rattle.bank_model.specs.Events.{Write, Read, Serve, Begin, Iterate, Cut, newest}
 use Rattle.bank_model.specs.History.{Awaited, awaited, queue, waits}
 use Rattle.bank_model.specs.Adding.{senses_of}
-use Rattle.bank_model.specs.Timing.{Pacing, Happens, Core, Regs, Timed, core, core_of}
+use Rattle.bank_shape.specs.declared.pace.Pace.{Pace}
+use Rattle.bank_model.specs.Timing.{Happens, Core, Regs, Timed, core, core_of}
 use Rattle.bank_model.specs.Lawful.{Lawful, MayCome}
 use Rattle.bank_laws.specs.Laws.{IsSized, log_of}
 use Rattle.bank_laws.specs.Logs.{is_sensed, outcome_sensed, has_sense}
@@ -31,7 +33,7 @@ use Rattle.bank_laws.specs.Outcomes.{outcome_of, ended, row_with, rows_from}
 use Rattle.bank_laws.specs.Settling.{AreOpen}
 use Rattle.bank_laws.specs.Ticks.{ends_action}
 use Rattle.bank_laws.proofs.Ending.{Onwards, own_answer, outcome-may, write_outcome}
-use Rattle.bank_laws.proofs.Fates.{Awaits, IsSettled, ReadFate, awaits-new, or_first}
+use Rattle.bank_laws.proofs.Fates.{Awaits, IsSettled, ReadFate, awaits-new}
 use Rattle.bank_laws.proofs.Serves.{idle-waits, may_at, newest_same, onwards_at}
 use Rattle.bank_laws.proofs.Settling.{opens}
 use Rattle.bank_laws.proofs.Walking.{Passes, walk, rows_after}
@@ -55,12 +57,12 @@ waits-some : {n : ℕ} (all full : Bool) (bytes : List ℕ) → ◌≡◌ {A = R
 waits-some true full bytes is = absurd (cc)
 waits-some false full bytes is = refl
 
-module _ {n m : ℕ} (shape : BankShape) (pace : Pacing) (e : ℕ) (all : List (Timed n m)) (log extra : List (Sense n m)) (sized : IsSized shape pace) (l : Lawful shape pace e all) (o : AreOpen shape all) (shown : log_of shape log ≡ senses_of all ++ extra) where
+module _ {n m : ℕ} (shape : BankShape) (pace : Pace) (e : ℕ) (all : List (Timed n m)) (log extra : List (Sense n m)) (sized : IsSized shape pace) (l : Lawful shape pace e all) (o : AreOpen shape all) (shown : log_of shape log ≡ senses_of all ++ extra) where
   -- what the history sensed is in the log
   in-log : (place tick : ℕ) (gives : List ℕ → Bool) → is_sensed (decode e) (senses_of all) place tick gives ≡ true → is_sensed (decode e) log place tick gives ≡ true
   in-log place tick gives there =
       any-filter (λ (s : Sense n m). s.line == place && (s.tick == tick && gives (decode e s.cells))) (λ s. nat_le shape.base s.line && nat_lt s.line (shape.base + lines_in shape)) log
-      (ap (λ ss. is_sensed (decode e) ss place tick gives) shown ∙ list_any-append _ (senses_of all) extra ∙ or_first (is_sensed (decode e) (senses_of all) place tick gives) _ there)
+      (ap (λ ss. is_sensed (decode e) ss place tick gives) shown ∙ list_any-append _ (senses_of all) extra ∙ or_left (is_sensed (decode e) (senses_of all) place tick gives) _ there)
 
   module _ (later : List (Timed n m)) (x : Timed n m) (ys : List (Timed n m)) (same : all ≡ later ++ x ∷ ys) where
     whole : Lawful shape pace e (later ++ x ∷ ys)

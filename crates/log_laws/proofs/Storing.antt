@@ -1,5 +1,6 @@
 -- A row that was stored has a sense of its place at its tick, which reads as the newest bytes of its line.
 use Rattle.std.proofs.Common.{◌≡◌, ℕ, ◌==◌, ◌⊎◌, inl, inr, Bool, true, false, List, [], ◌∷◌, ◌++◌, Some, None, refl, sym, ap, ◌∙◌, subst, cond, eqb, eq-eqb, eqb-true}
+use Rattle.std.proofs.lemmas.Bool.{and_from, or_left, or_right}
 use Rattle.std.specs.Prelude.{All, map, unwrap_or}
 use Rattle.std.proofs.lemmas.List.Elements.{All-head}
 use Rattle.std.proofs.lemmas.List.Folds.{list_any-append}
@@ -13,24 +14,23 @@ use Rattle.row_laws.specs.Serving.{same_bytes}
 use Rattle.bank_shape.specs.declared.BankShape.{BankShape}
 use Rattle.bank_shape.specs.declared.Work.{Work}
 use Rattle.bank_shape.specs.declared.Work.TheVariants.{Nothing, Store, Copy}
-use Rattle.bank_model.specs.declared.answer.WriteAnswer.{WriteAnswer}
-use Rattle.bank_model.specs.declared.answer.WriteAnswer.TheVariants as wrote
-use Rattle.bank_model.specs.declared.answer.ReadAnswer.TheVariants as came
-use Rattle.bank_model.specs.declared.answer.Step.TheVariants as did
+use Rattle.bank_shape.specs.declared.answer.WriteAnswer.{WriteAnswer}
+use Rattle.bank_shape.specs.declared.answer.WriteAnswer.TheVariants as wrote
+use Rattle.bank_shape.specs.declared.answer.ReadAnswer.TheVariants as came
+use Rattle.bank_shape.specs.declared.answer.Step.TheVariants as did
 use Rattle.bank_model.specs.Events.{Event, Write, Read, Serve, Begin, Iterate, Cut, newest, up_to, line_of_row}
 use Rattle.bank_model.specs.History.{waits}
 use Rattle.bank_model.specs.After.{array_line_after, slot_of_work, sources_of, target_after, work_after}
 use Rattle.bank_model.specs.Answers.{IsDone}
 use Rattle.bank_model.specs.Adding.{senses_of}
 use Rattle.bank_model.specs.Sensing.{pulses_of, IsReadRight}
-use Rattle.bank_model.specs.Timing.{Pacing, Happens, Core, Regs, Timed, core}
+use Rattle.bank_shape.specs.declared.pace.Pace.{Pace}
+use Rattle.bank_model.specs.Timing.{Happens, Core, Regs, Timed, core}
 use Rattle.bank_model.specs.Lawful.{Lawful, MayCome}
 use Rattle.bank_laws.specs.Logs.{is_sensed}
 use Rattle.bank_laws.specs.Outcomes.{on_row, outcome_with, outcome_of}
 use Rattle.bank_laws.specs.Standing.{has_wait}
-use Rattle.bank_laws.proofs.Fates.{or_first, or_second}
 use Rattle.bank_laws.proofs.Serves.{same_bytes-same}
-use Rattle.bank_laws.proofs.Walking.{and_both}
 use Rattle.bank_laws.proofs.Wears.{not_stored, lost_not_stored}
 use Rattle.log_laws.proofs.Outing.{line-in, up_to-in, unstored-first}
 
@@ -45,14 +45,14 @@ pub now-sensed : {n m : ℕ} (read_as : Cells n m → List ℕ) (xs : List (Time
     → is_sensed read_as (senses_of (y ∷ xs)) place tick gives ≡ true
 now-sensed read_as xs y s place tick gives are line at reads =
     list_any-append _ (senses_of xs) y.senses
-    ∙ or_second (is_sensed read_as (senses_of xs) place tick gives) _
+    ∙ or_right (is_sensed read_as (senses_of xs) place tick gives) _
     (subst (λ ss. is_sensed read_as ss place tick gives ≡ true) (sym are)
-    (or_first _ false (and_both (s.line == place) _ (eq-eqb s.line place line) (and_both (s.tick == tick) _ (eq-eqb s.tick tick at) reads))))
+    (or_left _ false (and_from (s.line == place) _ (eq-eqb s.line place line) (and_from (s.tick == tick) _ (eq-eqb s.tick tick at) reads))))
 
 -- or an earlier one
 pub older-sensed : {n m : ℕ} (read_as : Cells n m → List ℕ) (xs : List (Timed n m)) (y : Timed n m) (place tick : ℕ) (gives : List ℕ → Bool) → is_sensed read_as (senses_of xs) place tick gives ≡ true
     → is_sensed read_as (senses_of (y ∷ xs)) place tick gives ≡ true
-older-sensed read_as xs y place tick gives there = list_any-append _ (senses_of xs) y.senses ∙ or_first (is_sensed read_as (senses_of xs) place tick gives) _ there
+older-sensed read_as xs y place tick gives there = list_any-append _ (senses_of xs) y.senses ∙ or_left (is_sensed read_as (senses_of xs) place tick gives) _ there
 
 module _ {n : ℕ} (shape : BankShape) (h : List (Event n)) where
   -- a line write that ends with a store was a store, and has its target as place
@@ -100,7 +100,7 @@ module _ {n m : ℕ} (shape : BankShape) where
   stores-now zs y (Core (Iterate did.Exhausted)) row u p s = inr s
   stores-now zs y (Core (Cut tearing)) row u p s = inr (lost_not_stored (has_wait (waits shape (core zs)) row) y.tick _ u p s)
 
-module _ {n m : ℕ} (shape : BankShape) (pace : Pacing) (e : ℕ) where
+module _ {n m : ℕ} (shape : BankShape) (pace : Pace) (e : ℕ) where
   -- what the event of a store sensed
   record StoredSense (zs : List (Timed n m)) (y : Timed n m) (row p : ℕ) : Type 0 where
     sense : Sense n m

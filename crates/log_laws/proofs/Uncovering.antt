@@ -1,7 +1,7 @@
 -- What the rows show of a line's writes in the queue as a read arrives is what the queue's entries give.
 use Rattle.std.proofs.Common.{◌≡◌, ℕ, ◌<◌, ◌≤◌, ◌==◌, ◌&&◌, ◌⊎◌, inl, inr, Bool, true, false, List, [], ◌∷◌, ◌++◌, refl, sym, ap, ◌∙◌, subst, arith, cond, eqb-true, append_assoc}
 use Rattle.std.specs.List.{list_any}
-use Rattle.std.proofs.lemmas.Bool.{le-leb, lt-leb}
+use Rattle.std.proofs.lemmas.Bool.{le-leb, lt-leb, and_right, or_from}
 use Rattle.std.proofs.lemmas.List.Folds.{list_any-append}
 use Rattle.result_rows.specs.declared.Outcome.{Outcome}
 use Rattle.result_rows.specs.declared.Outcome.TheVariants as out
@@ -11,18 +11,19 @@ use Rattle.row_laws.specs.Answers.{accepts, is_stored, stored_by}
 use Rattle.row_laws.specs.Rows.{write_of}
 use Rattle.row_laws.specs.Queueing.{unstored, cover}
 use Rattle.bank_shape.specs.declared.BankShape.{BankShape}
-use Rattle.bank_model.specs.declared.answer.WriteAnswer.{WriteAnswer}
-use Rattle.bank_model.specs.declared.answer.WriteAnswer.TheVariants as wrote
+use Rattle.bank_shape.specs.declared.answer.WriteAnswer.{WriteAnswer}
+use Rattle.bank_shape.specs.declared.answer.WriteAnswer.TheVariants as wrote
 use Rattle.bank_model.specs.Events.{Write, Read, Serve, Begin, Iterate, Cut}
 use Rattle.bank_model.specs.History.{queue}
 use Rattle.bank_model.specs.Sensing.{most_steps}
-use Rattle.bank_model.specs.Timing.{Pacing, Happens, Core, Regs, Timed, core, core_of, last_tick}
+use Rattle.bank_shape.specs.declared.pace.Pace.{Pace}
+use Rattle.bank_model.specs.Timing.{Happens, Core, Regs, Timed, core, core_of, last_tick}
 use Rattle.bank_model.specs.Lawful.{Lawful, MayCome}
 use Rattle.bank_laws.specs.Laws.{IsSized}
 use Rattle.bank_laws.specs.Outcomes.{outcome_of, ended, row_with, rows_from}
 use Rattle.bank_laws.specs.Settling.{AreOpen}
 use Rattle.bank_laws.specs.Ticks.{ends_action}
-use Rattle.bank_laws.proofs.Entries.{either, or_none}
+use Rattle.bank_laws.proofs.Entries.{either}
 use Rattle.bank_laws.proofs.Ending.{Onwards, write_outcome, outcome-accepts}
 use Rattle.bank_laws.proofs.Pending.{stored_above}
 use Rattle.bank_laws.proofs.Serves.{may_at, onwards_at}
@@ -30,7 +31,7 @@ use Rattle.bank_laws.proofs.Settling.{opens, above_all, lawful_before, stays}
 use Rattle.bank_laws.proofs.Ticks.{last_tick-rises}
 use Rattle.bank_laws.proofs.Waiting.{may_all}
 use Rattle.bank_laws.proofs.Walking.{rows_after}
-use Rattle.bank_laws.proofs.Wears.{and_second, stored_by as stored_by_event, stored_up_to}
+use Rattle.bank_laws.proofs.Wears.{stored_by as stored_by_event, stored_up_to}
 use Rattle.log_laws.proofs.Covering.{uncovered, uncovered_by, out_in, fits-after}
 use Rattle.log_laws.proofs.Fitting.{fits-given}
 use Rattle.log_laws.proofs.Given.{given_of}
@@ -107,7 +108,7 @@ refused_row n true true acc given before rest out is same = absurd (cc)
 refused_row n true false true given before rest out is same = absurd (cc)
 refused_row n true false false given before rest out is same = same
 
-module _ {n m : ℕ} (shape : BankShape) (pace : Pacing) (e : ℕ) (all : List (Timed n m)) (sized : IsSized shape pace) (l : Lawful shape pace e all) (o : AreOpen shape all) where
+module _ {n m : ℕ} (shape : BankShape) (pace : Pace) (e : ℕ) (all : List (Timed n m)) (sized : IsSized shape pace) (l : Lawful shape pace e all) (o : AreOpen shape all) where
   -- what isn't stored after some events isn't stored by a tick up to which they come
   stored-late : (later zs : List (Timed n m)) (row t : ℕ) → all ≡ later ++ zs → t ≤ last_tick zs → is_stored (outcome_of shape zs row) ≡ false → stored_by t (outcome_of shape all row) ≡ false
   stored-late later zs row t same le isnt =
@@ -130,7 +131,7 @@ module _ {n m : ℕ} (shape : BankShape) (pace : Pacing) (e : ℕ) (all : List (
     behind pre [] is = refl
     behind pre (y ∷ mid) is =
         list_any-append (λ (q : Row n). write_of line q && stored_by x.tick q.outcome) (rows_after shape all mid) (row_with shape all y.happens y.tick y.cancels)
-        ∙ or_none _ _ (behind (pre ++ y ∷ []) mid over) (row y.happens y.cancels refl)
+        ∙ or_from _ _ (behind (pre ++ y ∷ []) mid over) (row y.happens y.cancels refl)
       where
         over : all ≡ (pre ++ y ∷ []) ++ (mid ++ x ∷ ys)
         over = is ∙ sym (append_assoc pre (y ∷ []) (mid ++ x ∷ ys))
@@ -145,7 +146,7 @@ module _ {n m : ℕ} (shape : BankShape) (pace : Pacing) (e : ℕ) (all : List (
         row (Core (Write at to bytes given answer)) cancels its =
             let late : stored_by x.tick (outcome_of shape all at) ≡ false =
             stored-late (pre ++ y ∷ []) (mid ++ x ∷ ys) at x.tick over (last-above shape pace e mid x ys sized.read sized.iter now.1) (ap is_stored (coming at to bytes given answer its)) in
-            or_none ((to == line) && stored_by x.tick (ended y.tick (outcome_of shape all at))) false (and_second (to == line) _ (stored-ended x.tick y.tick (outcome_of shape all at) ∙ late)) refl
+            or_from ((to == line) && stored_by x.tick (ended y.tick (outcome_of shape all at))) false (and_right (to == line) _ (stored-ended x.tick y.tick (outcome_of shape all at) ∙ late)) refl
         row (Core (Read at to answer)) cancels its = refl
         row (Core (Serve answer)) cancels its = refl
         row (Regs event) cancels its = refl

@@ -1,7 +1,7 @@
 -- Where a bank's history stands as a row of its module comes, so that the row finds what the bank holds there.
 use Rattle.std.proofs.Common.{◌≡◌, ℕ, ◌<◌, ◌≤◌, ◌&&◌, ◌⊎◌, inl, inr, Bool, true, false, List, [], ◌∷◌, ◌++◌, map, refl, sym, ap, ◌∙◌, subst, cond, arith, append_assoc, le_refl}
 use Rattle.std.specs.Prelude.{filter, All}
-use Rattle.std.proofs.lemmas.Bool.{cases_lt}
+use Rattle.std.proofs.lemmas.Bool.{cases_lt, and_from}
 use Rattle.std.proofs.lemmas.List.Elements.{All-head, All-tail, All-nil, All-cons, All-append, All-weaker}
 use Rattle.result_rows.specs.declared.Outcome.{Outcome}
 use Rattle.row_laws.specs.declared.Row.{Row}
@@ -10,7 +10,8 @@ use Rattle.row_laws.specs.Queueing.{has_room}
 use Rattle.row_laws.specs.Table.{is_of}
 use Rattle.bank_shape.specs.declared.BankShape.{BankShape}
 use Rattle.bank_model.specs.Events.{Write, Read, Serve, Begin, Iterate, Cut}
-use Rattle.bank_model.specs.Timing.{Pacing, Happens, Core, Regs, Timed, last_tick}
+use Rattle.bank_shape.specs.declared.pace.Pace.{Pace}
+use Rattle.bank_model.specs.Timing.{Happens, Core, Regs, Timed, last_tick}
 use Rattle.bank_model.specs.Lawful.{Lawful, IsIdle}
 use Rattle.bank_laws.specs.Laws.{IsSized, rules_of}
 use Rattle.bank_laws.specs.Room.{RoomLaw}
@@ -21,17 +22,13 @@ use Rattle.module_laws.specs.Asking.{Asked, row_with, asked_in, asked_of, bank_t
 use Rattle.module_laws.specs.Serves.{AreRecorded, TicksFall, last_outcome, finds_room_in, RoomByBankLaw}
 use Rattle.module_laws.proofs.Tables.{rows_of_asked, rows_are}
 
-both : (a b : Bool) → a ≡ true → b ≡ true → (a && b) ≡ true
-both true b h k = k
-both false b h k = h
-
 abbrev By : {n : ℕ} → ℕ → Asked n → Type 0
 By tick b = b.tick ≤ tick
 
 too_late : {n : ℕ} (tick at : ℕ) (b : Asked n) (asked : List (Asked n)) → All (By tick) (b ∷ asked) → b.tick ≡ at → tick < at → ⊥
 too_late tick at b asked all same late = let early = All-head (By tick) b asked all in omega (arith, early, same, late)
 
-module _ {n m : ℕ} (shape : BankShape) (pace : Pacing) (e : ℕ) (read : 1 ≤ pace.read) (iter : 1 ≤ pace.iter) where
+module _ {n m : ℕ} (shape : BankShape) (pace : Pace) (e : ℕ) (read : 1 ≤ pace.read) (iter : 1 ≤ pace.iter) where
   -- a part of a history behind the row of this tick, and the events since then
   pub record IsSplit (tick : ℕ) (asked : List (Asked n)) (xs : List (Timed n m)) : Type 0 where
     pub since : List (Timed n m)
@@ -143,7 +140,7 @@ module _ {n : ℕ} (bank_of line_in : ℕ → ℕ) (bank : ℕ) where
       by true ih = All-cons (By tick) (asked_in bank_of line_in a) (asked_of bank_of line_in bank asked) (All-head (By tick) a asked all) ih
       by false ih = ih
 
-module _ {n m : ℕ} (e : ℕ) (shape : BankShape) (pace : Pacing) (bank_of line_in : ℕ → ℕ) (bank : ℕ) (outcome : ℕ → Outcome n)
+module _ {n m : ℕ} (e : ℕ) (shape : BankShape) (pace : Pace) (bank_of line_in : ℕ → ℕ) (bank : ℕ) (outcome : ℕ → Outcome n)
     (room : RoomLaw n m) (sized : IsSized shape pace) (xs : List (Timed n m)) (l : Lawful shape pace e xs) (idle : IsIdle shape pace xs) where
   abbrev IsRight : Asked n → Type 0
   IsRight a = outcome a.row ≡ last_outcome shape xs a a.asks
@@ -181,7 +178,7 @@ module _ {n m : ℕ} (e : ℕ) (shape : BankShape) (pace : Pacing) (bank_of line
       let rest : AreRecorded shape xs outcome (asked_of bank_of line_in bank asked) = rest_right a asked (is_of bank_of bank a.asks) rec in
       let rows : bank_table bank_of line_in bank (map (row_with outcome) asked) ≡ rows_from shape xs s.past =
       rows_of_asked bank_of line_in bank outcome asked ∙ rows_are shape xs outcome s.past (asked_of bank_of line_in bank asked) s.asked_before rest in
-      both _ _
+      and_from _ _
       (ap (λ (rs : List (Row n)). has_room (rules_of e shape pace) a.tick rs) rows
       ∙ ap (λ (zs : List (Timed n m)). has_room (rules_of e shape pace) a.tick (rows_from shape zs s.past)) same'
       ∙ room e shape pace s.past newer' a.tick sized (subst (λ (zs : List (Timed n m)). Lawful shape pace e zs) same' l) (subst (λ (zs : List (Timed n m)). IsIdle shape pace zs) same' idle) s.before late')

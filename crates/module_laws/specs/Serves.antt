@@ -6,11 +6,12 @@ use Rattle.row_laws.specs.declared.Asks.{Asks}
 use Rattle.row_laws.specs.declared.Asks.TheVariants.{Reads, Writes, Cuts}
 use Rattle.row_laws.specs.declared.Row.{Row}
 use Rattle.row_laws.specs.Rows.{RowTest, each_row}
-use Rattle.row_laws.specs.Rules.{Rules}
+use Rattle.row_laws.specs.declared.Rules.{Rules}
 use Rattle.row_laws.specs.Serving.{is_served}
 use Rattle.row_laws.specs.Queueing.{has_room}
 use Rattle.bank_shape.specs.declared.BankShape.{BankShape}
-use Rattle.bank_model.specs.Timing.{Pacing, Timed}
+use Rattle.bank_shape.specs.declared.pace.Pace.{Pace}
+use Rattle.bank_model.specs.Timing.{Timed}
 use Rattle.bank_model.specs.Lawful.{Lawful, IsIdle}
 use Rattle.bank_laws.specs.Outcomes.{table_of, outcome_of, ended}
 use Rattle.bank_laws.specs.Laws.{IsSized, rules_of}
@@ -65,7 +66,7 @@ finds_room_in bank_of line_in rules bank before r after = has_room rules r.tick 
 -- every row of a module finds so, where at any tick between two of its events each bank holds no more than it may
 abbrev pub RoomByBankLaw : Type 0
 RoomByBankLaw =
-    (n m e : ℕ) (shape : BankShape) (pace : Pacing) (bank_of line_in : ℕ → ℕ) (bank : ℕ) (xs : List (Timed n m)) (asked : List (Asked n)) (outcome : ℕ → Outcome n)
+    (n m e : ℕ) (shape : BankShape) (pace : Pace) (bank_of line_in : ℕ → ℕ) (bank : ℕ) (xs : List (Timed n m)) (asked : List (Asked n)) (outcome : ℕ → Outcome n)
     → RoomLaw n m → IsSized shape pace → Lawful shape pace e xs → IsIdle shape pace xs → TicksFall asked
     → AreAsked xs (asked_of bank_of line_in bank asked) → AreRecorded shape xs outcome (asked_of bank_of line_in bank asked)
     → IsTrue (each_row (finds_room_in bank_of line_in (rules_of e shape pace) bank) (map (row_with outcome) asked) [])

@@ -1,7 +1,8 @@
 -- A bank runs on to a tick, and then a row arrives: both calls together are one step.
 use Rattle.std.proofs.Common.{◌≡◌, ◌≢◌, ℕ, ◌≤◌, ◌==◌, ◌||◌, Bool, true, false, if◌then◌else◌, List, [], ◌∷◌, ◌++◌, Option, Some, None, append_assoc, refl, sym, ap, subst, ◌∙◌, arith}
+use Rattle.masked_bytes.proofs.Truth.{neither_first, neither_second}
 use Rattle.std.specs.Prelude.{IsTrue}
-use Rattle.std.proofs.lemmas.Bool.{ne_eqb}
+use Rattle.std.proofs.lemmas.Bool.{ne_eqb, or_from}
 use Rattle.std.proofs.lemmas.List.Elements.{All-head, All-tail}
 use Rattle.pcm_cells.specs.Device.{ArrayState}
 use Rattle.result_rows.specs.declared.Outcome.{Outcome}
@@ -21,7 +22,6 @@ use Rattle.clock_laws.specs.Arriving.{cancels_for}
 use Rattle.bank_timing.specs.Cancelling.{cancel_by, cancel_first}
 use Rattle.bank_timing.specs.Extending.{Extends, IsOpen, IsQuiet, EndsAction, outcome_in}
 use Rattle.bank_laws.specs.Ticks.{ends_action}
-use Rattle.clock_laws.proofs.Deciding.{or_none, or_left, or_right}
 use Rattle.pcm_module.specs.Stepping.{IsStep}
 use Rattle.pcm_module.proofs.Moving.{untouched, open_kept, outcome_at_row}
 
@@ -48,7 +48,7 @@ module _ {n m : ℕ} where
   pub own_off : (added : List (Timed n m)) (row : ℕ) → IsQuiet added → arrives_with added row ≡ false
   own_off [] row by_itself = refl
   own_off (x ∷ added) row by_itself =
-      or_none (is_arrival_of x.happens row) _ (by x.happens (All-head Ends x added by_itself)) (own_off added row (All-tail Ends x added by_itself))
+      or_from (is_arrival_of x.happens row) _ (by x.happens (All-head Ends x added by_itself)) (own_off added row (All-tail Ends x added by_itself))
     where
       by : (h : Happens n) → IsTrue (ends_action h) → is_arrival_of h row ≡ false
       by (Core (Write at line bytes given answer)) own = absurd (cc)
@@ -66,8 +66,8 @@ module _ {n m : ℕ} where
     where
       by : (h : Happens n) → RowsBelow (core_of h (core xs)) bound → ((b : ℕ) → RowsBelow (core xs) b → b ≤ row → arrives_with xs row ≡ false)
           → (is_arrival_of h row || arrives_with xs row) ≡ false
-      by (Core (Write at line bytes given answer)) is rec = or_none (at == row) _ (ne_eqb at row (λ e. absurd (omega (arith, is.0)))) (rec at is.1 (omega (arith, is.0)))
-      by (Core (Read at line answer)) is rec = or_none (at == row) _ (ne_eqb at row (λ e. absurd (omega (arith, is.0)))) (rec at is.1 (omega (arith, is.0)))
+      by (Core (Write at line bytes given answer)) is rec = or_from (at == row) _ (ne_eqb at row (λ e. absurd (omega (arith, is.0)))) (rec at is.1 (omega (arith, is.0)))
+      by (Core (Read at line answer)) is rec = or_from (at == row) _ (ne_eqb at row (λ e. absurd (omega (arith, is.0)))) (rec at is.1 (omega (arith, is.0)))
       by (Core (Serve answer)) is rec = rec bound is le
       by (Core (Begin answer)) is rec = rec bound is le
       by (Core (Iterate answer)) is rec = rec bound is le
@@ -77,7 +77,7 @@ module _ {n m : ℕ} where
   off_append : (added xs : List (Timed n m)) (row : ℕ) → arrives_with added row ≡ false → arrives_with xs row ≡ false → arrives_with (added ++ xs) row ≡ false
   off_append [] xs row off rest = rest
   off_append (x ∷ added) xs row off rest =
-      or_none (is_arrival_of x.happens row) _ (or_left (is_arrival_of x.happens row) _ off) (off_append added xs row (or_right (is_arrival_of x.happens row) _ off) rest)
+      or_from (is_arrival_of x.happens row) _ (neither_first (is_arrival_of x.happens row) _ off) (off_append added xs row (neither_second (is_arrival_of x.happens row) _ off) rest)
 
 module _ {n m e : ℕ} (xs : List (Timed n m)) (clock : ClockState n m e) where
   -- a cancel is asked for by no row
@@ -101,7 +101,7 @@ module _ {n m e : ℕ} (xs : List (Timed n m)) (clock : ClockState n m e) where
   first_off line row = by (cancels_for clock line)
     where
       by : (cancels : Bool) → arrives_with (if cancels then cancel_by clock.regs.change xs clock ∷ [] else []) row ≡ false
-      by true = or_none (is_arrival_of (cancel_by clock.regs.change xs clock).happens row) false (cancel_off clock.regs.change row) refl
+      by true = or_from (is_arrival_of (cancel_by clock.regs.change xs clock).happens row) false (cancel_off clock.regs.change row) refl
       by false = refl
 
 module _ {n m e : ℕ} (xs added : List (Timed n m)) (first between last : ClockState n m e) (a0 a1 a2 : ArrayState n m) (r0 r1 r2 : List (Outcome n))

@@ -1,7 +1,7 @@
 -- What has become of a bank's rows: a write has arrived, and a read stands in no queue.
 use Rattle.std.proofs.Common.{◌≡◌, ◌≢◌, ℕ, ◌<◌, ◌==◌, ◌||◌, ◌&&◌, Bool, true, false, cond, if◌then◌else◌, List, [], ◌∷◌, map, refl, sym, ap, subst, ◌∙◌, eq-eqb, arith}
 use Rattle.std.specs.Prelude.{filter, All}
-use Rattle.std.proofs.lemmas.Bool.{ne_eqb}
+use Rattle.std.proofs.lemmas.Bool.{ne_eqb, and_right, or_from, or_right}
 use Rattle.std.proofs.lemmas.List.Elements.{All-head, All-tail, All-nil, All-cons, All-weaker}
 use Rattle.masked_bytes.specs.Entries.{has_row}
 use Rattle.result_rows.specs.declared.Outcome.{Outcome}
@@ -10,7 +10,7 @@ use Rattle.row_laws.specs.declared.Asks.{Asks}
 use Rattle.row_laws.specs.declared.Asks.TheVariants.{Reads, Writes, Cuts}
 use Rattle.row_laws.specs.Table.{is_of}
 use Rattle.bank_shape.specs.declared.BankShape.{BankShape}
-use Rattle.bank_model.specs.declared.answer.WriteAnswer.{WriteAnswer}
+use Rattle.bank_shape.specs.declared.answer.WriteAnswer.{WriteAnswer}
 use Rattle.bank_model.specs.Events.{Write, Read, Serve, Begin, Iterate, Cut}
 use Rattle.bank_model.specs.History.{queue}
 use Rattle.bank_model.specs.Timing.{Happens, Core, Regs, Timed, core, core_of}
@@ -18,11 +18,10 @@ use Rattle.bank_model.specs.Told.{tick_by, tick_of_row}
 use Rattle.bank_laws.specs.Outcomes.{ended}
 use Rattle.clock_laws.specs.Standing.{is_arrival_of, arrives_with}
 use Rattle.module_laws.specs.Asking.{Asked, asked_in, asked_of, AreAsked, IsAsked}
-use Rattle.clock_laws.proofs.Deciding.{or_none, or_back}
 use Rattle.clock_laws.proofs.Absent.{queue-lacks}
 use Rattle.pcm_module.specs.Replaying.{RowsFall}
 use Rattle.pcm_module.proofs.Standing.{stands_not}
-use Rattle.pcm_module.proofs.Naming.{names, not_named, is_numbered, rows_of_bank_all, and_off, All-both}
+use Rattle.pcm_module.proofs.Naming.{names, not_named, is_numbered, rows_of_bank_all, All-both}
 
 module _ {n : ℕ} where
   pub ended_set : (tick : ℕ) (o : Outcome n) → o ≢ out.Unset → ended tick o ≡ o
@@ -43,8 +42,8 @@ module _ {n : ℕ} where
   names_above row [] all = refl
   names_above row (a ∷ own) all =
       let lower : a.row < row = All-head (λ (a : Asked n). a.row < row) a own all in
-      or_none (is_numbered a.asks && a.row == row) _
-      (and_off (is_numbered a.asks) (a.row == row) (ne_eqb a.row row (λ e. absurd (omega (arith, lower, e)))))
+      or_from (is_numbered a.asks && a.row == row) _
+      (and_right (is_numbered a.asks) (a.row == row) (ne_eqb a.row row (λ e. absurd (omega (arith, lower, e)))))
       (names_above row own (All-tail (λ (a : Asked n). a.row < row) a own all))
 
   -- the rows of a bank fall, where all rows do
@@ -94,7 +93,7 @@ module _ {n m : ℕ} (shape : BankShape) where
       by : (asks : Asks n) → Becomes xs c asks → BecomesBy xs x.happens x.tick c asks
       by (Reads line) was = lacks_step xs x.happens c.row off was
       by (Writes line bytes given) was =
-          (tick_off x.happens x.tick (tick_of_row c.row xs) c.row off ∙ was.0, or_back (is_arrival_of x.happens c.row) (arrives_with xs c.row) was.1)
+          (tick_off x.happens x.tick (tick_of_row c.row xs) c.row off ∙ was.0, or_right (is_arrival_of x.happens c.row) (arrives_with xs c.row) was.1)
       by Cuts was = tt
 
   -- a write that has just arrived

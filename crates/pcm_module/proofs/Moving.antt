@@ -1,5 +1,7 @@
 -- What a row that arrives at one bank leaves of that bank and of the others.
 use Rattle.std.proofs.Common.{◌≡◌, ◌⊎◌, ℕ, ◌-◌, Bool, true, false, List, [], ◌∷◌, ◌++◌, length, Some, refl, sym, ap, subst, ◌∙◌, inl, inr, arith}
+use Rattle.std.proofs.lemmas.Bool.{or_from}
+use Rattle.masked_bytes.proofs.Truth.{neither_first, neither_second}
 use Rattle.std.specs.Prelude.{unwrap_or}
 use Rattle.circular_buffer.proofs.Places.{slice_get-some}
 use Rattle.pcm_cells.specs.Device.{ArrayState}
@@ -8,7 +10,8 @@ use Rattle.result_rows.specs.declared.Outcome.{Outcome}
 use Rattle.result_rows.specs.declared.Outcome.TheVariants as out
 use Rattle.result_rows.specs.Table.{HasRow}
 use Rattle.bank_shape.specs.declared.BankShape.{BankShape}
-use Rattle.bank_model.specs.Timing.{Pacing, Timed}
+use Rattle.bank_shape.specs.declared.pace.Pace.{Pace}
+use Rattle.bank_model.specs.Timing.{Timed}
 use Rattle.bank_model.specs.Lawful.{Lawful}
 use Rattle.bank_laws.specs.Outcomes.{outcome_of, outcome_with}
 use Rattle.clock_laws.specs.State.{ClockState}
@@ -19,7 +22,6 @@ use Rattle.clock_laws.proofs.Recording.{whole_outcome_law}
 use Rattle.clock_laws.proofs.Others.{other_rows_law}
 use Rattle.module_laws.specs.Asking.{Asked, AreAsked}
 use Rattle.bank_timing.specs.Extending.{Extends, IsOpen, outcome_in}
-use Rattle.clock_laws.proofs.Deciding.{or_left, or_right, or_none}
 use Rattle.pcm_module.proofs.Standing.{StandsNot, stands_not}
 use Rattle.pcm_module.proofs.Naming.{names, not_named}
 
@@ -27,8 +29,8 @@ module _ {n m : ℕ} where
   pub off_both : (row : ℕ) (added xs : List (Timed n m)) → arrives_with (added ++ xs) row ≡ false → (arrives_with added row ≡ false) × (arrives_with xs row ≡ false)
   off_both row [] xs off = (refl, off)
   off_both row (x ∷ added) xs off =
-      let rest = off_both row added xs (or_right (is_arrival_of x.happens row) _ off) in
-      (or_none (is_arrival_of x.happens row) _ (or_left (is_arrival_of x.happens row) _ off) rest.0, rest.1)
+      let rest = off_both row added xs (neither_second (is_arrival_of x.happens row) _ off) in
+      (or_from (is_arrival_of x.happens row) _ (neither_first (is_arrival_of x.happens row) _ off) rest.0, rest.1)
 
   -- the outcome of a row depends on its own alone
   pub outcome_at_row : (shape : BankShape) (added xs : List (Timed n m)) (before other : ℕ → Outcome n) (row : ℕ) → before row ≡ other row
@@ -70,7 +72,7 @@ module _ {n m e : ℕ} (xs : List (Timed n m)) (clock : ClockState n m e) (array
     pub lawful_whole : Lawful clock.bank.kept.shape clock.pace e (added ++ xs)
     lawful_whole =
         subst (λ (s : BankShape). Lawful s clock.pace e (added ++ xs)) ext.shape
-        (subst (λ (p : Pacing). Lawful new.bank.kept.shape p e (added ++ xs)) ext.pace ext.leads.lawful)
+        (subst (λ (p : Pace). Lawful new.bank.kept.shape p e (added ++ xs)) ext.pace ext.leads.lawful)
 
     -- a row that neither stood, nor waited, nor came with these events keeps its outcome
     pub left_alone : (row : ℕ) → HasRow results row → has_row clock.bank.kept.entries row ≡ false → has_waiting clock.bank.waiting row ≡ false → arrives_with added row ≡ false

@@ -4,7 +4,8 @@ use Rattle.pcm_cells.specs.Device.{ArrayState}
 use Rattle.result_rows.specs.declared.Outcome.{Outcome}
 use Rattle.result_rows.specs.Table.{HasRow}
 use Rattle.bank_shape.specs.declared.BankShape.{BankShape}
-use Rattle.bank_model.specs.Timing.{Pacing, Timed}
+use Rattle.bank_shape.specs.declared.pace.Pace.{Pace}
+use Rattle.bank_model.specs.Timing.{Timed}
 use Rattle.bank_model.specs.Lawful.{IsIdle}
 use Rattle.module_shape.specs.Addresses.{module_of, bank_shape, array_lines_of}
 use Rattle.module_laws.specs.Asking.{Asked, AreAsked}
@@ -19,7 +20,7 @@ use Rattle.pcm_module.specs.Taking.{StaysBeyond}
 
 -- a whole history leads to a bank of this shape and pace with nothing left to do, and each row that was asked of the bank has its last
 -- outcome
-pub record IsDrained {n m e : ℕ} (shape : BankShape) (pace : Pacing) (xs : List (Timed n m)) (asked : List (Asked n)) (array : ArrayState n m) (results : List (Outcome n)) (clock : ClockState n m e) : Type 0 where
+pub record IsDrained {n m e : ℕ} (shape : BankShape) (pace : Pace) (xs : List (Timed n m)) (asked : List (Asked n)) (array : ArrayState n m) (results : List (Outcome n)) (clock : ClockState n m e) : Type 0 where
   pub shaped : clock.bank.kept.shape ≡ shape
   pub paced : clock.pace ≡ pace
   pub leads : Leads xs clock array

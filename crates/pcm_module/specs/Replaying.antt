@@ -8,7 +8,8 @@ use Rattle.result_rows.specs.Table.{HasRow}
 use Rattle.row_laws.specs.declared.Asks.{Asks}
 use Rattle.row_laws.specs.declared.Asks.TheVariants.{Reads, Writes, Cuts}
 use Rattle.bank_shape.specs.declared.BankShape.{BankShape}
-use Rattle.bank_model.specs.Timing.{Pacing, Timed}
+use Rattle.bank_shape.specs.declared.pace.Pace.{Pace}
+use Rattle.bank_model.specs.Timing.{Timed}
 use Rattle.bank_model.specs.Adding.{senses_of}
 use Rattle.bank_laws.specs.Outcomes.{outcome_of}
 use Rattle.bank_laws.specs.Laws.{log_of}
@@ -39,7 +40,7 @@ IsLogged {n} {m} shape xs array = (log : List (Sense n m)) → array.log ≡ Som
 
 -- a history leads to a bank of this shape and pace, which is not past a tick and may still go on; its rows are what was asked of the
 -- bank, below a bound, and these have the history's outcomes, none as long as they stand
-pub record BankReplays {n m e : ℕ} (shape : BankShape) (pace : Pacing) (tick rows : ℕ) (xs : List (Timed n m)) (asked : List (Asked n)) (array : ArrayState n m) (results : List (Outcome n)) (clock : ClockState n m e) : Type 0 where
+pub record BankReplays {n m e : ℕ} (shape : BankShape) (pace : Pace) (tick rows : ℕ) (xs : List (Timed n m)) (asked : List (Asked n)) (array : ArrayState n m) (results : List (Outcome n)) (clock : ClockState n m e) : Type 0 where
   pub shaped : clock.bank.kept.shape ≡ shape
   pub paced : clock.pace ≡ pace
   pub going : clock.drained ≡ false

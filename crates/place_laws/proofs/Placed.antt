@@ -1,6 +1,6 @@
 -- Each row carries the array line where its line stood.
 use Rattle.std.proofs.Common.{◌≡◌, ℕ, ◌+◌, ◌*◌, ◌/◌, ◌%◌, ◌-◌, ◌<◌, ◌≤◌, ◌==◌, ◌&&◌, ◌||◌, ◌⊎◌, inl, inr, not, Bool, true, false, List, [], ◌∷◌, ◌++◌, length, refl, sym, ap, ◌∙◌, subst, arith, sum_by, append_assoc}
-use Rattle.std.proofs.lemmas.Bool.{eq-eqb, ne_eqb, lt-ltb, le-leb, cases_lt}
+use Rattle.std.proofs.lemmas.Bool.{eq-eqb, ne_eqb, lt-ltb, le-leb, cases_lt, or_left, or_right, and_from}
 use Rattle.std.proofs.lemmas.Nat.{div-mul-add, mod-mul-add}
 use Rattle.result_rows.specs.declared.Outcome.{Outcome}
 use Rattle.result_rows.specs.declared.Outcome.TheVariants as out
@@ -16,7 +16,8 @@ use Rattle.bank_model.specs.Events.{Write, Read, Serve, Begin, Iterate, Cut}
 use Rattle.bank_model.specs.History.{retired, moved_in, stored_in}
 use Rattle.bank_model.specs.After.{slot_after, stands_at_after}
 use Rattle.bank_model.specs.Sensing.{most_steps}
-use Rattle.bank_model.specs.Timing.{Pacing, Happens, Core, Regs, Timed, core, core_of}
+use Rattle.bank_shape.specs.declared.pace.Pace.{Pace}
+use Rattle.bank_model.specs.Timing.{Happens, Core, Regs, Timed, core, core_of}
 use Rattle.bank_model.specs.Lawful.{Lawful}
 use Rattle.bank_laws.specs.Laws.{IsSized, LeavesArray, is_worn_at}
 use Rattle.bank_laws.specs.Outcomes.{outcome_of, ended, row_with, rows_from, table_of}
@@ -24,7 +25,7 @@ use Rattle.bank_laws.specs.Ticks.{ends_action}
 use Rattle.bank_laws.specs.Places.{region_stores, is_place_after, is_place_about, outcome_placed, is_placed}
 use Rattle.bank_laws.proofs.Settling.{lawful_before, above_all}
 use Rattle.bank_laws.proofs.Waiting.{may_all}
-use Rattle.bank_laws.proofs.Walking.{Passes, walk, rows_after, and_both}
+use Rattle.bank_laws.proofs.Walking.{Passes, walk, rows_after}
 use Rattle.place_laws.specs.PlaceLaws.{PlacedLaw}
 use Rattle.place_laws.proofs.Asked.{Asked, asked-one, asked-within, wrote-asked, queue-wrote, waits-asked}
 use Rattle.place_laws.proofs.Counts.{one_if}
@@ -33,14 +34,6 @@ use Rattle.place_laws.proofs.Storing.{before-counted, region-stored}
 use Rattle.place_laws.proofs.Tables.{region-counted, between}
 use Rattle.place_laws.proofs.Slots.{slot_moved-within, retired-few, IsAway, away-later}
 use Rattle.place_laws.proofs.Splits.{IsStoredAt, stored-at, IsReadAt, read-at}
-
-pub or_one : (a b : Bool) → a ≡ true → (a || b) ≡ true
-or_one true b h = refl
-or_one false b h = absurd (cc)
-
-pub or_other : (a b : Bool) → b ≡ true → (a || b) ≡ true
-or_other true b h = refl
-or_other false b h = h
 
 -- a number from a product up to the next has the quotient
 pub between_products : (psi k s : ℕ) → psi * k ≤ s → s < psi * (k + 1) → s / psi ≡ k
@@ -63,15 +56,15 @@ about : (shape : BankShape) (worn : ℕ → Bool) (line place s k : ℕ) → 1 �
     → is_place_about shape worn line place s ≡ true
 about shape worn line place s k some le near is =
     elim (cases_lt s (shape.psi * (k + 1))) [
-      | inl lt ↦ or_one _ _ (ap (is_place_after shape worn line place) (between_products shape.psi k s le lt) ∙ is)
+      | inl lt ↦ or_left _ _ (ap (is_place_after shape worn line place) (between_products shape.psi k s le lt) ∙ is)
       | inr ge ↦
           let at : s ≡ shape.psi * (k + 1) = omega (arith, near, ge) in
           let next : shape.psi * (k + 1) ≡ shape.psi * k + shape.psi = next_product shape.psi k in
           let parts = at_product shape.psi k some in
           let quotient : s / shape.psi ≡ k + 1 = ap (λ s. s / shape.psi) at ∙ parts.1 in
           let less : s / shape.psi - 1 ≡ k = omega (arith, quotient) in
-          or_other _ _ (and_both _ _ (eq-eqb (s % shape.psi) 0 (ap (λ s. s % shape.psi) at ∙ parts.0))
-          (and_both _ _ (not_zero s (omega (arith, ge, next, some))) (ap (is_place_after shape worn line place) less ∙ is)))
+          or_right _ _ (and_from _ _ (eq-eqb (s % shape.psi) 0 (ap (λ s. s % shape.psi) at ∙ parts.0))
+          (and_from _ _ (not_zero s (omega (arith, ge, next, some))) (ap (is_place_after shape worn line place) less ∙ is)))
     ]
 
 module _ {n m : ℕ} (shape : BankShape) where
@@ -89,7 +82,7 @@ module _ {n m : ℕ} (shape : BankShape) where
   asked-later [] zs row line a = a
   asked-later (x ∷ later) zs row line a = asked-more x.happens (later ++ zs) row line (asked-later later zs row line a)
 
-module _ {n m : ℕ} (shape : BankShape) (pace : Pacing) (e : ℕ) (all : List (Timed n m)) (array : ArrayState n m) (sized : IsSized shape pace) (l : Lawful shape pace e all) (leaves : LeavesArray e shape all array) where
+module _ {n m : ℕ} (shape : BankShape) (pace : Pace) (e : ℕ) (all : List (Timed n m)) (array : ArrayState n m) (sized : IsSized shape pace) (l : Lawful shape pace e all) (leaves : LeavesArray e shape all array) where
   -- a slot that was given a spare had a line that is worn in the end
   home_worn : (slot : ℕ) → slot < slots_of shape → IsAway shape (core all) slot → is_worn_at e array (shape.base + slot) ≡ true
   home_worn slot exists away =
@@ -118,12 +111,12 @@ module _ {n m : ℕ} (shape : BankShape) (pace : Pacing) (e : ℕ) (all : List (
 
       by : (line_from (slots_of shape) slot (retired (core zs)) slot ≡ slot) ⊎ HasSpare (slots_of shape) (retired (core zs)) slot (line_from (slots_of shape) slot (retired (core zs)) slot)
           → is_place_after shape (is_worn_at e array) line (stands_at_after shape (core zs) line) (moved_in shape.lines (core zs) (line / shape.lines)) ≡ true
-      by (inl own) = or_one _ _ (eq-eqb (shape.base + line_from (slots_of shape) slot (retired (core zs)) slot) (shape.base + slot) (ap (λ k. shape.base + k) own))
+      by (inl own) = or_left _ _ (eq-eqb (shape.base + line_from (slots_of shape) slot (retired (core zs)) slot) (shape.base + slot) (ap (λ k. shape.base + k) own))
       by (inr spare) =
           let away : IsAway shape (core all) slot =
           subst (λ (xs : List (Timed n m)). IsAway shape (core xs) slot) (sym same) (away-later shape later zs slot (omega (arith, spare.line_is))) in
-          or_other _ _ (and_both _ _ (home_worn slot within away)
-          (and_both _ _ (le-leb (shape.base + slots_of shape) (shape.base + line_from (slots_of shape) slot (retired (core zs)) slot) (omega (arith, spare.line_is)))
+          or_right _ _ (and_from _ _ (home_worn slot within away)
+          (and_from _ _ (le-leb (shape.base + slots_of shape) (shape.base + line_from (slots_of shape) slot (retired (core zs)) slot) (omega (arith, spare.line_is)))
           (lt-ltb (shape.base + line_from (slots_of shape) slot (retired (core zs)) slot) (shape.base + slots_of shape + shape.spares) (omega (arith, spare.line_is, spare.given, few)))))
 
   -- these rows sum up as the table does

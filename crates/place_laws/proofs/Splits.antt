@@ -4,15 +4,16 @@ use Rattle.std.specs.Prelude.{unwrap_or}
 use Rattle.result_rows.specs.declared.Outcome.{Outcome}
 use Rattle.result_rows.specs.declared.Outcome.TheVariants as out
 use Rattle.bank_shape.specs.declared.BankShape.{BankShape}
-use Rattle.bank_model.specs.declared.answer.WriteAnswer.TheVariants as wrote
-use Rattle.bank_model.specs.declared.answer.ReadAnswer.TheVariants as came
-use Rattle.bank_model.specs.declared.answer.Served.{Served}
-use Rattle.bank_model.specs.declared.answer.Step.TheVariants as did
+use Rattle.bank_shape.specs.declared.answer.WriteAnswer.TheVariants as wrote
+use Rattle.bank_shape.specs.declared.answer.ReadAnswer.TheVariants as came
+use Rattle.bank_shape.specs.declared.answer.Served.{Served}
+use Rattle.bank_shape.specs.declared.answer.Step.TheVariants as did
 use Rattle.bank_model.specs.Events.{Event, Write, Read, Serve, Begin, Iterate, Cut}
 use Rattle.bank_model.specs.History.{Awaited, waits}
 use Rattle.bank_model.specs.After.{stands_at_after}
 use Rattle.bank_model.specs.Answers.{IsServed}
-use Rattle.bank_model.specs.Timing.{Pacing, Happens, Core, Regs, Timed, core}
+use Rattle.bank_shape.specs.declared.pace.Pace.{Pace}
+use Rattle.bank_model.specs.Timing.{Happens, Core, Regs, Timed, core}
 use Rattle.bank_model.specs.Lawful.{Lawful, MayCome}
 use Rattle.bank_laws.specs.Standing.{has_wait}
 use Rattle.bank_laws.specs.Outcomes.{on_row, outcome_with, outcome_of}
@@ -77,7 +78,7 @@ module _ {n m : ℕ} (shape : BankShape) where
   read-more : (x : Timed n m) (zs : List (Timed n m)) (row u p : ℕ) → IsReadAt zs row u p → IsReadAt (x ∷ zs) row u p
   read-more x zs row u p s = record { later = x ∷ s.later; event = s.event; before = s.before; same = ap (λ xs. x ∷ xs) s.same; ends = s.ends; tick = s.tick; serve = s.serve }
 
-module _ {n m : ℕ} (shape : BankShape) (pace : Pacing) (e : ℕ) where
+module _ {n m : ℕ} (shape : BankShape) (pace : Pace) (e : ℕ) where
   store_now : (x : Timed n m) (zs : List (Timed n m)) (at place row u p : ℕ) → ends_action x.happens ≡ true → IsStoreOf shape (core zs) at place
       → (outcome_of shape zs row ≡ out.Stored u p → IsStoredAt shape zs row u p)
       → unwrap_or (on_row at row (out.Stored x.tick place)) (outcome_of shape zs row) ≡ out.Stored u p → IsStoredAt shape (x ∷ zs) row u p

@@ -1,5 +1,6 @@
 -- The reads that a row finds waiting are those that wait by the events, at any tick up to the next end of an action.
 use Rattle.std.proofs.Common.{◌≡◌, ℕ, ◌≤◌, ◌&&◌, ◌||◌, inl, inr, not, Bool, true, false, List, [], ◌∷◌, ◌++◌, length, refl, sym, ap, ◌∙◌, subst, append_assoc}
+use Rattle.std.proofs.lemmas.Bool.{or_from}
 use Rattle.std.specs.List.{list_any}
 use Rattle.result_rows.specs.declared.Outcome.{Outcome}
 use Rattle.row_laws.specs.declared.Row.{Row}
@@ -9,11 +10,12 @@ use Rattle.row_laws.specs.Queueing.{waiting}
 use Rattle.bank_shape.specs.declared.BankShape.{BankShape}
 use Rattle.bank_model.specs.Events.{Write, Read, Serve, Begin, Iterate, Cut}
 use Rattle.bank_model.specs.History.{waits}
-use Rattle.bank_model.specs.Timing.{Pacing, Happens, Core, Regs, Timed, core, last_tick}
+use Rattle.bank_shape.specs.declared.pace.Pace.{Pace}
+use Rattle.bank_model.specs.Timing.{Happens, Core, Regs, Timed, core, last_tick}
 use Rattle.bank_model.specs.Lawful.{Lawful}
 use Rattle.bank_laws.specs.Outcomes.{outcome_of, row_with, rows_from}
 use Rattle.bank_laws.specs.Standing.{has_wait}
-use Rattle.bank_laws.proofs.Entries.{or_none, either}
+use Rattle.bank_laws.proofs.Entries.{either}
 use Rattle.bank_laws.proofs.Standing.{stand_apart}
 use Rattle.bank_laws.proofs.Settling.{opens, above_all, lawful_before, stays}
 use Rattle.bank_laws.proofs.Walking.{rows_after, rows_after-more}
@@ -21,7 +23,7 @@ use Rattle.bank_laws.proofs.Counting.{hits, waits-counted}
 use Rattle.bank_laws.proofs.Waiting.{ReadState, StateBy, state, state_new, Onward, onward_step, comb_true, read_rows, reads_in, reads-fall, waits-asked, cond_length}
 use Rattle.queue_laws.proofs.Stood.{EndsAbove}
 
-module _ {n m : ℕ} (shape : BankShape) (pace : Pacing) (e : ℕ) (all later now : List (Timed n m)) (t : ℕ) (r : 1 ≤ pace.read) (i : 1 ≤ pace.iter) (l : Lawful shape pace e all) (same : all ≡ later ++ now)
+module _ {n m : ℕ} (shape : BankShape) (pace : Pace) (e : ℕ) (all later now : List (Timed n m)) (t : ℕ) (r : 1 ≤ pace.read) (i : 1 ≤ pace.iter) (l : Lawful shape pace e all) (same : all ≡ later ++ now)
     (up : last_tick now ≤ t) (ends : EndsAbove t later) (none : waits shape (core all) ≡ []) where
   whole : Lawful shape pace e (later ++ now)
   whole = subst (λ (xs : List (Timed n m)). Lawful shape pace e xs) same l
@@ -47,7 +49,7 @@ module _ {n m : ℕ} (shape : BankShape) (pace : Pacing) (e : ℕ) (all later no
   awaits_same between row (inr past) =
       let kept : outcome_of shape all row ≡ outcome_of shape now row = ap (λ xs. outcome_of shape xs row) same ∙ stays shape pace e later now row whole past.set in
       let gone : has_wait (waits shape (core now)) row ≡ false = either (has_wait (waits shape (core now)) row) (λ there. absurd (past.set ((opens shape pace e now here).waiting row there))) (λ is. is) in
-      subst (λ (o : Outcome n). (read_after t o || (is_lost o && not (list_any is_cut between))) ≡ false) (sym kept) (or_none (read_after t (outcome_of shape now row)) _ (past.ticks t up) past.lost)
+      subst (λ (o : Outcome n). (read_after t o || (is_lost o && not (list_any is_cut between))) ≡ false) (sym kept) (or_from (read_after t (outcome_of shape now row)) _ (past.ticks t up) past.lost)
       ∙ sym gone
 
   waits_among : (mid ys : List (Timed n m)) → now ≡ mid ++ ys → length (waiting t (rows_after shape all mid) (rows_from shape all ys)) ≡ hits (λ row. has_wait (waits shape (core now)) row) (reads_in ys)

@@ -6,12 +6,13 @@ use Rattle.result_rows.specs.declared.Outcome.TheVariants as out
 use Rattle.masked_bytes.specs.declared.entry.Entry.{Entry}
 use Rattle.masked_bytes.specs.Entries.{merged, laid_on}
 use Rattle.bank_shape.specs.declared.BankShape.{BankShape}
-use Rattle.bank_model.specs.declared.answer.WriteAnswer.TheVariants as wrote
-use Rattle.bank_model.specs.declared.answer.ReadAnswer.TheVariants as came
-use Rattle.bank_model.specs.declared.answer.Step.TheVariants as did
+use Rattle.bank_shape.specs.declared.answer.WriteAnswer.TheVariants as wrote
+use Rattle.bank_shape.specs.declared.answer.ReadAnswer.TheVariants as came
+use Rattle.bank_shape.specs.declared.answer.Step.TheVariants as did
 use Rattle.bank_model.specs.Events.{Write, Read, Serve, Begin, Iterate, Cut, newest}
 use Rattle.bank_model.specs.History.{begun, queue, waits, due_after}
-use Rattle.bank_model.specs.Timing.{Pacing, Happens, Core, Regs, Timed, core, core_of, last_tick}
+use Rattle.bank_shape.specs.declared.pace.Pace.{Pace}
+use Rattle.bank_model.specs.Timing.{Happens, Core, Regs, Timed, core, core_of, last_tick}
 use Rattle.bank_model.specs.Lawful.{Lawful, MayCome}
 use Rattle.bank_laws.specs.Standing.{has_wait}
 use Rattle.bank_laws.specs.Ticks.{ends_action}
@@ -69,7 +70,7 @@ module _ {n m : ℕ} (shape : BankShape) (now : List (Timed n m)) where
       ⊎ ((at : ℕ) × LeftAt (unwrap_or (outcome_with shape zs h tick head) (outcome_of shape zs head)) at × (at ≤ tick)
       × NoneBelow at (λ row. unwrap_or (outcome_with shape zs h tick row) (outcome_of shape zs row)))
 
-module _ {n m : ℕ} (shape : BankShape) (pace : Pacing) (e : ℕ) (now : List (Timed n m)) where
+module _ {n m : ℕ} (shape : BankShape) (pace : Pace) (e : ℕ) (now : List (Timed n m)) where
   merge_first : (zs : List (Timed n m)) (x : Timed n m) (at line old head : ℕ) (bytes : List ℕ) (given : List Bool) → IsHead (queue shape (core zs)) head → NoneStored shape now (outcome_of shape zs)
       → FirstBy shape now zs x.tick (Core (Write at line bytes given (wrote.Merged old))) head
   merge_first zs x at line old head bytes given h none = by (eqb old head) refl

@@ -2,7 +2,7 @@
 use Rattle.std.proofs.Common.{◌≡◌, ℕ, ◌<◌, ◌≤◌, ◌==◌, ◌&&◌, ◌||◌, ◌⊎◌, inl, inr, not, Bool, true, false, List, [], ◌∷◌, ◌++◌, Option, Some, None, min, refl, sym, ap, ◌∙◌, subst, arith, cond, eqb}
 use Rattle.std.specs.Prelude.{unwrap_or, nat_lt}
 use Rattle.std.specs.List.{list_any}
-use Rattle.std.proofs.lemmas.Bool.{eq-eqb, lt-ltb}
+use Rattle.std.proofs.lemmas.Bool.{eq-eqb, lt-ltb, and_from, or_left, or_right}
 use Rattle.result_rows.specs.declared.Outcome.{Outcome}
 use Rattle.result_rows.specs.declared.Outcome.TheVariants as out
 use Rattle.masked_bytes.specs.declared.entry.Entry.{Entry}
@@ -12,11 +12,12 @@ use Rattle.row_laws.specs.Answers.{is_stored, stored_before}
 use Rattle.row_laws.specs.Rows.{write_of}
 use Rattle.row_laws.specs.Queueing.{least, store_of, next_store, is_first}
 use Rattle.bank_shape.specs.declared.BankShape.{BankShape}
-use Rattle.bank_model.specs.declared.answer.WriteAnswer.TheVariants as wrote
-use Rattle.bank_model.specs.declared.answer.Step.TheVariants as did
+use Rattle.bank_shape.specs.declared.answer.WriteAnswer.TheVariants as wrote
+use Rattle.bank_shape.specs.declared.answer.Step.TheVariants as did
 use Rattle.bank_model.specs.Events.{Write, Read, Serve, Begin, Iterate, Cut, newest}
 use Rattle.bank_model.specs.History.{begun, queue, due_after}
-use Rattle.bank_model.specs.Timing.{Pacing, Happens, Core, Regs, Timed, core, core_of, last_tick}
+use Rattle.bank_shape.specs.declared.pace.Pace.{Pace}
+use Rattle.bank_model.specs.Timing.{Happens, Core, Regs, Timed, core, core_of, last_tick}
 use Rattle.bank_model.specs.Lawful.{Lawful, MayCome}
 use Rattle.bank_laws.specs.Outcomes.{on_row, outcome_with, outcome_of, ended, row_with, rows_from}
 use Rattle.bank_laws.specs.Ticks.{ends_action}
@@ -24,10 +25,9 @@ use Rattle.bank_laws.proofs.Ticks.{last_tick-rises}
 use Rattle.bank_laws.proofs.Answering.{IsHead, stored-head}
 use Rattle.bank_laws.proofs.Settling.{opens, step_stays}
 use Rattle.bank_laws.proofs.Pairs.{eqb-same}
-use Rattle.bank_laws.proofs.Walking.{rows_after, and_both}
+use Rattle.bank_laws.proofs.Walking.{rows_after}
 use Rattle.bank_laws.proofs.Wears.{stored_by, stored_tick}
 use Rattle.bank_laws.proofs.Lines.{Stands}
-use Rattle.bank_laws.proofs.Pending.{or_on_left, or_on_right}
 use Rattle.queue_laws.proofs.First.{NoneStored, NoneBelow}
 use Rattle.queue_laws.proofs.Written.{Written, items, standing, Each, written_by, written, IsEntry}
 use Rattle.queue_laws.proofs.Stood.{EndsAbove}
@@ -83,7 +83,7 @@ module _ {n : ℕ} where
   store-right line u (x ∷ xs) ys s = inr (store-right line u xs ys s)
 
   store_of-own : (t line u p : ℕ) (q : Row n) (found : Option ℕ) → write_of line q ≡ true → t < u → NextBy u (store_of t line q (out.Stored u p) found)
-  store_of-own t line u p q found own lt = subst (λ b. NextBy u (cond b (least found u) found)) (sym (and_both (write_of line q) (nat_lt t u) own (lt-ltb t u lt))) (least-own found u)
+  store_of-own t line u p q found own lt = subst (λ b. NextBy u (cond b (least found u) found)) (sym (and_from (write_of line q) (nat_lt t u) own (lt-ltb t u lt))) (least-own found u)
 
   store_of-more : (t line u : ℕ) (q : Row n) (o : Outcome n) (found : Option ℕ) → NextBy u found → NextBy u (store_of t line q o found)
   store_of-more t line u q out.Unset found f = f
@@ -177,7 +177,7 @@ module _ {n m : ℕ} (shape : BankShape) (now : List (Timed n m)) (t line : ℕ)
   LineFirstBy zs tick h =
       (HasHead line (queue shape (core_of h (core zs))) × NoneStored shape now (λ row. unwrap_or (outcome_with shape zs h tick row) (outcome_of shape zs row))) ⊎ IsStoredFirstBy zs tick h
 
-module _ {n m : ℕ} (shape : BankShape) (pace : Pacing) (e : ℕ) (now : List (Timed n m)) (t line : ℕ) where
+module _ {n m : ℕ} (shape : BankShape) (pace : Pace) (e : ℕ) (now : List (Timed n m)) (t line : ℕ) where
   asked_more : (zs : List (Timed n m)) (h : Happens n) (row : ℕ) → Asked (core zs) row line → Asked (core_of h (core zs)) row line
   asked_more zs (Core (Write at k bytes given answer)) row a = inr a
   asked_more zs (Core (Read at k answer)) row a = a
@@ -278,20 +278,20 @@ module _ {n m : ℕ} (shape : BankShape) (all now : List (Timed n m)) (k : Stand
   line_before None [] each none = refl
   line_before (Some v) [] each none = refl
   line_before None (w ∷ ws) each none =
-      and_both (w.line == line || not (is_stored w.outcome)) _
-      (or_on_right (w.line == line) _ (ap (λ (o : Outcome n). not (is_stored o)) each.0.fate ∙ not_stored_ended w.tick (outcome_of shape all w.row) (λ u p s. none w.row u p (entry_unset shape all now k w each.0) s)))
+      and_from (w.line == line || not (is_stored w.outcome)) _
+      (or_right (w.line == line) _ (ap (λ (o : Outcome n). not (is_stored o)) each.0.fate ∙ not_stored_ended w.tick (outcome_of shape all w.row) (λ u p s. none w.row u p (entry_unset shape all now k w each.0) s)))
       (line_before None ws each.1 none)
   line_before (Some v) (w ∷ ws) each none =
-      and_both (w.line == line || not (stored_before v w.outcome)) _
-      (or_on_right (w.line == line) _
+      and_from (w.line == line || not (stored_before v w.outcome)) _
+      (or_right (w.line == line) _
       (ap (λ (o : Outcome n). not (stored_before v o)) each.0.fate ∙ not_before_ended w.tick v (outcome_of shape all w.row) (λ u p s. absurd (none w.row u p (entry_unset shape all now k w each.0) s))))
       (line_before (Some v) ws each.1 none)
 
   line_until : (v at : ℕ) (ws : List (Written n)) → Each (λ w. IsEntry shape all now w) ws → v ≤ at → NoneBelow shape now at (outcome_of shape all) → is_first line (Some v) (items ws) ≡ true
   line_until v at [] each le none = refl
   line_until v at (w ∷ ws) each le none =
-      and_both (w.line == line || not (stored_before v w.outcome)) _
-      (or_on_right (w.line == line) _
+      and_from (w.line == line || not (stored_before v w.outcome)) _
+      (or_right (w.line == line) _
       (ap (λ (o : Outcome n). not (stored_before v o)) each.0.fate
       ∙ not_before_ended w.tick v (outcome_of shape all w.row) (λ u p s. let above : at ≤ u = none w.row u p (entry_unset shape all now k w each.0) s in omega (arith, le, above))))
       (line_until v at ws each.1 le none)
@@ -309,11 +309,11 @@ any_entry shape all p row line [] hit a = absurd a
 any_entry {n} {m} shape all p row line (y ∷ ys) hit a = by y.happens (λ k. any_entry shape all p row line ys hit k) a
   where
     more : (b : Bool) (w : Written n) (ws : List (Written n)) → list_any (write_of line) (items ws) ≡ true → list_any (write_of line) (items (cond b (w ∷ ws) ws)) ≡ true
-    more true w ws h = or_on_right (w.line == line) _ h
+    more true w ws h = or_right (w.line == line) _ h
     more false w ws h = h
 
     own : (b : Bool) (w : Written n) (ws : List (Written n)) → b ≡ true → (w.line == line) ≡ true → list_any (write_of line) (items (cond b (w ∷ ws) ws)) ≡ true
-    own true w ws h is = or_on_left (w.line == line) _ is
+    own true w ws h is = or_left (w.line == line) _ is
     own false w ws h is = absurd (cc)
 
     by : (h : Happens n) → (Asked (core ys) row line → list_any (write_of line) (items (standing p (written shape all ys))) ≡ true) → Asked (core_of h (core ys)) row line

@@ -1,7 +1,7 @@
 -- What a bank holds at a row, and at any tick between two of its events.
 use Rattle.std.proofs.Common.{◌≡◌, ℕ, ◌<◌, ◌≤◌, ◌||◌, ◌⊎◌, inl, inr, not, Bool, true, false, List, [], ◌∷◌, ◌++◌, Option, Some, None, length, refl, sym, ap, ◌∙◌, subst, arith, cond, append_assoc}
 use Rattle.std.specs.Prelude.{nat_le, filter, All}
-use Rattle.std.proofs.lemmas.Bool.{eq-eqb, le-leb}
+use Rattle.std.proofs.lemmas.Bool.{eq-eqb, le-leb, and_from}
 use Rattle.std.proofs.lemmas.List.Elements.{All-head, All-tail}
 use Rattle.std.proofs.Math.Nat.{eq-or-lt_of_le}
 use Rattle.result_rows.specs.declared.Outcome.TheVariants as out
@@ -12,12 +12,13 @@ use Rattle.row_laws.specs.Answers.{is_full}
 use Rattle.row_laws.specs.Rows.{write_of}
 use Rattle.row_laws.specs.Queueing.{pending, waiting, has_room, pairs_few, is_refused}
 use Rattle.bank_shape.specs.declared.BankShape.{BankShape}
-use Rattle.bank_model.specs.declared.answer.WriteAnswer.TheVariants as wrote
+use Rattle.bank_shape.specs.declared.answer.WriteAnswer.TheVariants as wrote
 use Rattle.bank_model.specs.Events.{Event, Write, Read, Serve, Begin, Iterate, Cut}
 use Rattle.bank_model.specs.History.{queue, waits, has_exhausted}
 use Rattle.bank_model.specs.Answers.{head_busy_after, accept_answer, write_answer}
 use Rattle.bank_model.specs.Sensing.{most_steps}
-use Rattle.bank_model.specs.Timing.{Pacing, Happens, Core, Regs, Timed, core, last_tick}
+use Rattle.bank_shape.specs.declared.pace.Pace.{Pace}
+use Rattle.bank_model.specs.Timing.{Happens, Core, Regs, Timed, core, last_tick}
 use Rattle.bank_model.specs.Told.{tick_of_row}
 use Rattle.bank_model.specs.Lawful.{Lawful, MayCome}
 use Rattle.bank_laws.specs.Laws.{rules_of}
@@ -28,7 +29,7 @@ use Rattle.bank_laws.proofs.Ticks.{last_tick-rises, last-below}
 use Rattle.bank_laws.proofs.Answering.{IsHead}
 use Rattle.bank_laws.proofs.Settling.{opens, lawful_before}
 use Rattle.bank_laws.proofs.Pairs.{keeps_pairs, no_candidate-head, no_candidate-rest}
-use Rattle.bank_laws.proofs.Walking.{Passes, walk, rows_after, and_both}
+use Rattle.bank_laws.proofs.Walking.{Passes, walk, rows_after}
 use Rattle.bank_laws.proofs.Ending.{Onwards, write_outcome}
 use Rattle.bank_laws.proofs.Serves.{may_at, onwards_at, idle-waits}
 use Rattle.bank_laws.proofs.Holding.{bound_law}
@@ -53,7 +54,7 @@ module _ {n : ℕ} (shape : BankShape) where
       by false (Some at) a = absurd (cc)
       by false None a = refl
 
-module _ {n m : ℕ} (shape : BankShape) (pace : Pacing) (e : ℕ) where
+module _ {n m : ℕ} (shape : BankShape) (pace : Pace) (e : ℕ) where
   -- Ends above a tick
 
   pub ends_later : (later zs : List (Timed n m)) (t : ℕ) → 1 ≤ pace.read → 1 ≤ pace.iter → Lawful shape pace e (later ++ zs) → t ≤ last_tick zs → EndsAbove t later × (t ≤ last_tick (later ++ zs))
@@ -106,8 +107,8 @@ module _ {n m : ℕ} (shape : BankShape) (pace : Pacing) (e : ℕ) where
         let bound = bound_law n (most_steps e) shape (core now) (may_all shape pace e now here) in
         let stand : length (pending t [] (rows_from shape all now)) ≡ length (queue shape (core now)) = stood_length shape pace e all later now t r i l same up ends in
         let wait : length (waiting t [] (rows_from shape all now)) ≡ length (waits shape (core now)) = awaiting_length shape pace e all later now t r i l same up ends none in
-        and_both (nat_le (length (pending t [] (rows_from shape all now))) shape.writes) _ (le-leb (length (pending t [] (rows_from shape all now))) shape.writes (omega (arith, stand, bound.writes)))
-        (and_both (nat_le (length (waiting t [] (rows_from shape all now))) shape.reads) _ (le-leb (length (waiting t [] (rows_from shape all now))) shape.reads (omega (arith, wait, bound.reads))) pairs_at)
+        and_from (nat_le (length (pending t [] (rows_from shape all now))) shape.writes) _ (le-leb (length (pending t [] (rows_from shape all now))) shape.writes (omega (arith, stand, bound.writes)))
+        (and_from (nat_le (length (waiting t [] (rows_from shape all now))) shape.reads) _ (le-leb (length (waiting t [] (rows_from shape all now))) shape.reads (omega (arith, wait, bound.reads))) pairs_at)
 
   -- At a row
 
@@ -225,7 +226,7 @@ no_rows shape all (Core (Begin answer)) tick cancels is = refl
 no_rows shape all (Core (Iterate answer)) tick cancels is = refl
 no_rows shape all (Core (Cut tearing)) tick cancels is = absurd (cc)
 
-module _ {n m : ℕ} (shape : BankShape) (pace : Pacing) (e : ℕ) where
+module _ {n m : ℕ} (shape : BankShape) (pace : Pace) (e : ℕ) where
   -- at the tick of the end of an action the bank is as behind it, and else as before it
   room_within : (all front : List (Timed n m)) (y : Timed n m) (now : List (Timed n m)) (t : ℕ) → 1 ≤ pace.read → 1 ≤ pace.iter → Lawful shape pace e all → waits shape (core all) ≡ [] → all ≡ front ++ y ∷ now
       → last_tick now ≤ t → t ≤ y.tick → has_room (rules_of e shape pace) t (rows_from shape all now) ≡ true

@@ -1,5 +1,6 @@
 -- The writes that a row finds are those that stand in the queue, at any tick up to the next end of an action.
 use Rattle.std.proofs.Common.{◌≡◌, ◌≢◌, ℕ, ◌<◌, ◌≤◌, ◌==◌, ◌⊎◌, inl, inr, not, Bool, true, false, List, [], ◌∷◌, ◌++◌, length, refl, sym, ap, ◌∙◌, subst, arith, cond, append_assoc}
+use Rattle.std.proofs.lemmas.Bool.{or_left}
 use Rattle.std.specs.Prelude.{unwrap_or}
 use Rattle.std.specs.List.{list_any}
 use Rattle.result_rows.specs.declared.Outcome.{Outcome}
@@ -12,7 +13,8 @@ use Rattle.row_laws.specs.Queueing.{pending}
 use Rattle.bank_shape.specs.declared.BankShape.{BankShape}
 use Rattle.bank_model.specs.Events.{Write, Read, Serve, Begin, Iterate, Cut}
 use Rattle.bank_model.specs.History.{queue}
-use Rattle.bank_model.specs.Timing.{Pacing, Happens, Core, Regs, Timed, core, last_tick}
+use Rattle.bank_shape.specs.declared.pace.Pace.{Pace}
+use Rattle.bank_model.specs.Timing.{Happens, Core, Regs, Timed, core, last_tick}
 use Rattle.bank_model.specs.Told.{tick_by, tick_of_row}
 use Rattle.bank_model.specs.Lawful.{Lawful, MayCome}
 use Rattle.bank_laws.specs.Outcomes.{outcome_with, outcome_of, ended, row_with, rows_from}
@@ -29,7 +31,7 @@ use Rattle.bank_laws.proofs.Wears.{stored_by, stored_up_to}
 use Rattle.bank_laws.proofs.Lines.{Stands, covered-stands, stands-row}
 use Rattle.bank_laws.proofs.Merging.{Fate, FateBy, fate, fate_new}
 use Rattle.bank_laws.proofs.Counting.{among, entries-counted}
-use Rattle.bank_laws.proofs.Pending.{stands_by, by_refused, any_merges, by_stored_later, by_stored_before, write_rows, writes_in, writes-fall, queue-asked, refused_set, CoveredOn, covered_on, left_by, or_on_left}
+use Rattle.bank_laws.proofs.Pending.{stands_by, by_refused, any_merges, by_stored_later, by_stored_before, write_rows, writes_in, writes-fall, queue-asked, refused_set, CoveredOn, covered_on, left_by}
 use Rattle.queue_laws.proofs.Order.{tick_stays}
 use Rattle.queue_laws.proofs.Written.{Written, items, standing, Each, NumbersFall, cond_items, cond_each, written_by, written, IsEntry, standing-falls, standing-count}
 
@@ -38,7 +40,7 @@ abbrev pub EndsAbove : {n m : ℕ} → ℕ → List (Timed n m) → Type 0
 EndsAbove t [] = Unit {0}
 EndsAbove t (x ∷ later) = (ends_action x.happens ≡ true → t < x.tick) × EndsAbove t later
 
-module _ {n m : ℕ} (shape : BankShape) (pace : Pacing) (e : ℕ) where
+module _ {n m : ℕ} (shape : BankShape) (pace : Pace) (e : ℕ) where
   -- what is stored by such events is stored above that tick
   pub stored_over : (t : ℕ) (later zs : List (Timed n m)) (row u p : ℕ) → EndsAbove t later → (outcome_of shape zs row ≡ out.Stored u p → ⊥) → Lawful shape pace e (later ++ zs)
       → outcome_of shape (later ++ zs) row ≡ out.Stored u p → t < u
@@ -49,7 +51,7 @@ module _ {n m : ℕ} (shape : BankShape) (pace : Pacing) (e : ℕ) where
       by (inl now) go = let lt : t < y.tick = ends.0 now.0 in omega (arith, lt, now.1)
       by (inr s) go = go s
 
-module _ {n m : ℕ} (shape : BankShape) (pace : Pacing) (e : ℕ) (all later now : List (Timed n m)) (t : ℕ) (r : 1 ≤ pace.read) (i : 1 ≤ pace.iter) (l : Lawful shape pace e all) (same : all ≡ later ++ now)
+module _ {n m : ℕ} (shape : BankShape) (pace : Pace) (e : ℕ) (all later now : List (Timed n m)) (t : ℕ) (r : 1 ≤ pace.read) (i : 1 ≤ pace.iter) (l : Lawful shape pace e all) (same : all ≡ later ++ now)
     (up : last_tick now ≤ t) (ends : EndsAbove t later) where
   pub whole : Lawful shape pace e (later ++ now)
   whole = subst (λ (xs : List (Timed n m)). Lawful shape pace e xs) same l
@@ -153,7 +155,7 @@ module _ {n m : ℕ} (shape : BankShape) (pace : Pacing) (e : ℕ) (all later no
         cond_each (λ w. IsEntry shape all now w) (has_row (queue shape (core now)) at) _ (stood ys)
             (λ stands. record {
               there = own stands (accepting answer) refl;
-              came = sym (ticks at (or_on_left (at == at) _ (eqb-same at)) ∙ ap (λ b. cond b z.tick (tick_of_row at ys)) (eqb-same at));
+              came = sym (ticks at (or_left (at == at) _ (eqb-same at)) ∙ ap (λ b. cond b z.tick (tick_of_row at ys)) (eqb-same at));
               fate = refl;
             })
             each,

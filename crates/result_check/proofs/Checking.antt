@@ -17,7 +17,7 @@ use Rattle.row_judging.specs.Rising.{rising}
 use Rattle.row_judging.specs.Runs.{GivesSized}
 use Rattle.row_verdict.specs.Fitting.{is_brief, all_brief}
 use Rattle.row_verdict.specs.Verdicts.{asks_of, rows_with}
-use Rattle.row_verdict.specs.declared.Rules.{Rules}
+use Rattle.row_laws.specs.declared.Rules.{Rules}
 use Rattle.result_check.specs.Checkable.{IsTimed, IsCheckable}
 use Rattle.result_check.specs.Finding.{IsBelow, row_of}
 use Rattle.result_check.specs.Tables.{IsTable, IsRowOf}

@@ -8,7 +8,7 @@ use Rattle.row_laws.specs.declared.Asks.{Asks}
 use Rattle.row_laws.specs.declared.Asks.TheVariants.{Reads, Writes, Cuts}
 use Rattle.row_laws.specs.declared.Row.{Row}
 use Rattle.row_laws.specs.Answers.{is_merged, is_queued, is_stored, is_full, is_busy, is_answered, is_forwarded, is_lost, stored_after, stored_by, stored_before, read_after}
-use Rattle.row_laws.specs.Rules.{Rules}
+use Rattle.row_laws.specs.declared.Rules.{Rules}
 use Rattle.row_laws.specs.Rows.{RowTest, asks_read, line_of, given_of, accepted, accepted_of, write_of, is_cut}
 
 -- the lesser of a number and another, if there is one

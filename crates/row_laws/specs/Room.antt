@@ -2,7 +2,7 @@
 use Rattle.std.specs.Prelude.{ℕ, Bool, filter}
 use Rattle.row_laws.specs.declared.Asks.{Asks}
 use Rattle.row_laws.specs.Rows.{RowTest}
-use Rattle.row_laws.specs.Rules.{Rules}
+use Rattle.row_laws.specs.declared.Rules.{Rules}
 use Rattle.row_laws.specs.Queueing.{has_room}
 
 -- the bank whose rows pass the test `own` holds no more than it may as a row comes

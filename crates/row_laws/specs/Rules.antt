@@ -1,6 +1,6 @@
 -- How much a bank holds, and its times.
 use Rattle.std.specs.Prelude.{ℕ, Bool}
-use Rattle.bank_shape.specs.Pausing.{Pausing}
+use Rattle.bank_shape.specs.declared.pace.Policy.{Policy}
 
 pub record Rules : Type 0 where
   -- how many writes the queue holds
@@ -15,6 +15,6 @@ pub record Rules : Type 0 where
   -- how many iterations a line write takes at most
   pub steps : ℕ
   -- when a line write gives way to a read
-  pub policy : Pausing
+  pub policy : Policy
   -- whether each event of a bank brings a second line write, that of its registers
   pub twice : Bool

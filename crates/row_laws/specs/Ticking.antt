@@ -8,8 +8,9 @@ use Rattle.row_laws.specs.declared.Asks.TheVariants.{Reads, Writes, Cuts}
 use Rattle.row_laws.specs.declared.Row.{Row}
 use Rattle.row_laws.specs.Answers.{is_answered, is_lost, stored_after, stored_by, read_after, read_by}
 use Rattle.row_laws.specs.Rows.{RowTest, asks_read, asks_write, is_cut}
-use Rattle.bank_shape.specs.Pausing.{Pausing, Pause, Plain, Cancel}
-use Rattle.row_laws.specs.Rules.{Rules}
+use Rattle.bank_shape.specs.declared.pace.Policy.{Policy}
+use Rattle.bank_shape.specs.declared.pace.Policy.TheVariants.{Pause, Plain, Cancel}
+use Rattle.row_laws.specs.declared.Rules.{Rules}
 use Rattle.row_laws.specs.Queueing.{waiting}
 
 -- the longest time of one attempt to write a line: a sense, and then at most so many iterations
@@ -17,7 +18,7 @@ abbrev pub attempt : Rules → ℕ
 attempt rules = rules.read + rules.steps * rules.iter
 
 -- how often one line write may be begun: reads cancel it at most four times
-abbrev pub tries : Pausing → ℕ
+abbrev pub tries : Policy → ℕ
 tries Pause = 1
 tries Plain = 1
 tries Cancel = 5
@@ -47,7 +48,7 @@ module _ {n : ℕ} where
   came_since v rows = count_by (λ q. asks_read q.asks && (nat_le v q.tick && (is_answered q.outcome || is_lost q.outcome))) rows
 
   -- how long a read that arrives at tick a may find its bank busy with something else than reads
-  abbrev pub delay : Rules → Pausing → ℕ → List (Row n) → List (Row n) → ℕ
+  abbrev pub delay : Rules → Policy → ℕ → List (Row n) → List (Row n) → ℕ
   delay rules Pause a before after = max rules.read rules.iter
   delay rules Plain a before after = attempt rules
   delay rules Cancel a before after =

@@ -2,18 +2,19 @@
 use Rattle.std.specs.Prelude.{ℕ, List, [], ◌∷◌, Bool, true, false}
 use Rattle.result_rows.specs.declared.Outcome.{Outcome}
 use Rattle.result_rows.specs.declared.Outcome.TheVariants as out
-use Rattle.bank_shape.specs.Pausing.{Pausing, Pause}
+use Rattle.bank_shape.specs.declared.pace.Policy.{Policy}
+use Rattle.bank_shape.specs.declared.pace.Policy.TheVariants.{Pause}
 use Rattle.row_laws.specs.declared.Asks.TheVariants.{Reads, Writes, Cuts}
 use Rattle.row_laws.specs.declared.Row.{Row}
-use Rattle.row_laws.specs.Rules.{Rules}
+use Rattle.row_laws.specs.declared.Rules.{Rules}
 
 -- a bank with room for so many writes and reads
-abbrev pub holding : ℕ → ℕ → Pausing → Rules
+abbrev pub holding : ℕ → ℕ → Policy → Rules
 holding writes reads policy =
     record { writes = writes; reads = reads; spares = 2; read = 5; iter = 10; steps = 160; policy = policy; twice = false }
 
 -- the small bank: four writes, four reads, two spares
-abbrev pub small : Pausing → Rules
+abbrev pub small : Policy → Rules
 small policy = holding 4 4 policy
 
 -- a bank that holds one write

@@ -2,7 +2,7 @@
 //! is computed from the definitions; there is nothing to run.
 
 ghost use Rattle.std.specs.Prelude.{◌≡◌, ◌+◌, ◌*◌, None, true, false, reverse, [], ◌∷◌, nat_lt};
-ghost use Rattle.bank_shape.specs.Pausing.{Pause, Plain, Cancel};
+ghost use Rattle.bank_shape.specs.declared.pace.Policy.TheVariants.{Pause, Plain, Cancel};
 ghost use Rattle.row_laws.specs.Rows.{each_row, line_of};
 ghost use Rattle.row_laws.specs.Room.{finds_room};
 ghost use Rattle.row_laws.specs.Table.{first_fault, Serves, Queues, Wears, Earns, Ticks};

@@ -1,7 +1,7 @@
 -- What a verdict says.
 use Rattle.std.specs.Prelude.{◌≡◌, ℕ, ◌+◌, List, ◌∷◌, ◌++◌, length, reverse, Some, true}
 use Rattle.row_laws.specs.declared.Row.{Row}
-use Rattle.row_laws.specs.Rules.{Rules}
+use Rattle.row_laws.specs.declared.Rules.{Rules}
 use Rattle.row_laws.specs.Rows.{each_row}
 use Rattle.row_verdict.specs.declared.Rule.{Rule}
 use Rattle.row_verdict.specs.declared.Verdict.TheVariants.{Yes, No}

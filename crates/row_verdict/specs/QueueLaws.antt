@@ -3,7 +3,7 @@ use Rattle.std.specs.Prelude.{◌≡◌, ℕ, ◌+◌, ◌<◌, ◌≤◌, IsTru
 use Rattle.masked_bytes.specs.Masked.{gives_all}
 use Rattle.row_laws.specs.declared.Asks.TheVariants.{Reads, Writes, Cuts}
 use Rattle.row_laws.specs.declared.Row.{Row}
-use Rattle.row_laws.specs.Rules.{Rules}
+use Rattle.row_laws.specs.declared.Rules.{Rules}
 use Rattle.row_laws.specs.Rows.{accepted_of}
 use Rattle.row_laws.specs.Queueing.{pending, waiting, cover, read_fits, queue_fits, has_room}
 use Rattle.row_judging.specs.Counting.{line_stores}

@@ -5,7 +5,7 @@ use Rattle.result_rows.specs.declared.Outcome.{Outcome}
 use Rattle.result_rows.specs.declared.Outcome.TheVariants as out
 use Rattle.row_laws.specs.declared.Asks.TheVariants.{Reads, Writes, Cuts}
 use Rattle.row_laws.specs.declared.Row.{Row}
-use Rattle.row_laws.specs.Rules.{Rules}
+use Rattle.row_laws.specs.declared.Rules.{Rules}
 use Rattle.row_laws.specs.Queueing.{has_room}
 use Rattle.row_laws.specs.Serving.{may_have}
 use Rattle.row_laws.specs.Wearing.{worn_row}

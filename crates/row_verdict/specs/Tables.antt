@@ -1,7 +1,7 @@
 -- What sorted keys of a whole table tell of a row of it, and what the reads that came tell.
 use Rattle.std.specs.Prelude.{◌≡◌, ℕ, ◌+◌, ◌<◌, ◌≤◌, ◌==◌, Bool, true, false, IsTrue, List, [], ◌∷◌, ◌++◌, Option, Some, None, IsPermutation, reverse, slice_get}
 use Rattle.row_laws.specs.declared.Row.{Row}
-use Rattle.row_laws.specs.Rules.{Rules}
+use Rattle.row_laws.specs.declared.Rules.{Rules}
 use Rattle.row_laws.specs.Rows.{asks_write}
 use Rattle.row_laws.specs.Serving.{may_have}
 use Rattle.row_laws.specs.Table.{of_bank}

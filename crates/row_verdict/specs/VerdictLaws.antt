@@ -5,7 +5,7 @@ use Rattle.result_rows.specs.declared.Outcome.{Outcome}
 use Rattle.row_laws.specs.declared.Asks.TheVariants.{Reads, Writes, Cuts}
 use Rattle.row_laws.specs.declared.Row.{Row}
 use Rattle.row_laws.specs.Answers.{is_worn}
-use Rattle.row_laws.specs.Rules.{Rules}
+use Rattle.row_laws.specs.declared.Rules.{Rules}
 use Rattle.row_laws.specs.Rows.{newest}
 use Rattle.row_laws.specs.Serving.{may_have}
 use Rattle.row_laws.specs.Queueing.{read_fits}

@@ -1,5 +1,6 @@
 -- What a right run says of each row.
 use Rattle.std.proofs.Common.{◌≡◌, ℕ, ◌+◌, ◌*◌, ◌<◌, ◌≤◌, ◌&&◌, ◌||◌, Bool, true, false, List, [], ◌∷◌, ◌++◌, map, length, Some, refl, ap, ◌∙◌, subst, arith}
+use Rattle.masked_bytes.proofs.Truth.{and_second}
 use Rattle.std.specs.Prelude.{All, nat_lt}
 use Rattle.std.specs.Option.{ForSome}
 use Rattle.std.proofs.lemmas.Bool.{lt-ltb}
@@ -35,10 +36,6 @@ use Rattle.run_laws.proofs.Facts.{IsOfBank, own_outcome, placed-of_bank, cut-now
 -- a row has an outcome of its own operation
 abbrev IsOwn : {n : ℕ} → Row n → Type 0
 IsOwn r = op_of r.outcome ≡ Some (op_asked r.asks)
-
-second_of_both : (a b : Bool) → (a && b) ≡ true → b ≡ true
-second_of_both true b h = h
-second_of_both false b h = absurd (cc)
 
 pub own_outcomes_law : OwnOutcomesLaw
 own_outcomes_law n m e raw seed rows array ends right =
@@ -158,7 +155,7 @@ module _ {n m : ℕ} (e : ℕ) (raw : RawShape) (seed : ℕ) (rows : List (Row n
   busy_in : (bank : ℕ) → bank < raw.banks → Each (IsBusyFair raw.reads) (table_in raw seed bank rows)
   busy_in bank few =
       each-passes (IsBusyFair raw.reads) (is_queue_fair (rules_in e raw bank))
-      (λ before r after h. busy-fair (rules_in e raw bank) r r.asks (pending r.tick [] before) before after (second_of_both (has_room (rules_in e raw bank) r.tick before) _ h))
+      (λ before r after h. busy-fair (rules_in e raw bank) r r.asks (pending r.tick [] before) before after (and_second (has_room (rules_in e raw bank) r.tick before) _ h))
       (table_in raw seed bank rows) [] (right.serves.banks bank few).queue
 
   abbrev NotShort : Row n → Type 0

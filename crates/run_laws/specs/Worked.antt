@@ -7,7 +7,7 @@ use Rattle.result_rows.specs.declared.Outcome.TheVariants as out
 use Rattle.row_laws.specs.declared.Row.{Row}
 use Rattle.row_laws.specs.Worked.{W, R, whole}
 use Rattle.bank_model.specs.Worked.{holds}
-use Rattle.pace.specs.declared.Policy.TheVariants.{Pause}
+use Rattle.bank_shape.specs.declared.pace.Policy.TheVariants.{Pause}
 use Rattle.bank_shape.specs.declared.Home.TheVariants.{Guarded}
 use Rattle.module_shape.specs.declared.raw.RawShape.{RawShape}
 use Rattle.end_laws.specs.Ends.{BankEnd}

@@ -2,20 +2,21 @@
 use Rattle.std.proofs.Common.{◌≡◌, ℕ, ◌+◌, ◌<◌, ◌≤◌, ◌⊎◌, inl, inr, Bool, true, false, List, [], ◌∷◌, ◌++◌, Some, None, drop, refl, sym, ◌∙◌, arith, cond, eqb, eqb-true}
 use Rattle.std.specs.Prelude.{unwrap_or}
 use Rattle.std.specs.List.{list_all}
-use Rattle.std.proofs.lemmas.Bool.{cases_lt}
+use Rattle.std.proofs.lemmas.Bool.{cases_lt, and_from}
 use Rattle.result_rows.specs.declared.Outcome.{Outcome}
 use Rattle.result_rows.specs.declared.Outcome.TheVariants as out
 use Rattle.row_laws.specs.declared.Row.{Row}
 use Rattle.row_laws.specs.Ticking.{apart}
 use Rattle.bank_shape.specs.declared.BankShape.{BankShape}
-use Rattle.bank_model.specs.declared.answer.WriteAnswer.TheVariants as wrote
-use Rattle.bank_model.specs.declared.answer.ReadAnswer.TheVariants as came
-use Rattle.bank_model.specs.declared.answer.Step.TheVariants as did
-use Rattle.bank_model.specs.declared.answer.Served.{Served}
-use Rattle.bank_model.specs.declared.clock.Doing.TheVariants.{Serving, Beginning, Iterating}
+use Rattle.bank_shape.specs.declared.answer.WriteAnswer.TheVariants as wrote
+use Rattle.bank_shape.specs.declared.answer.ReadAnswer.TheVariants as came
+use Rattle.bank_shape.specs.declared.answer.Step.TheVariants as did
+use Rattle.bank_shape.specs.declared.answer.Served.{Served}
+use Rattle.bank_shape.specs.declared.clock.Doing.TheVariants.{Serving, Beginning, Iterating}
 use Rattle.bank_model.specs.Events.{Write, Read, Serve, Begin, Iterate, Cut, RowsBelow}
 use Rattle.bank_model.specs.History.{Awaited, waits, in_progress}
-use Rattle.bank_model.specs.Timing.{Pacing, Happens, Core, Regs, Timed, core, core_of}
+use Rattle.bank_shape.specs.declared.pace.Pace.{Pace}
+use Rattle.bank_model.specs.Timing.{Happens, Core, Regs, Timed, core, core_of}
 use Rattle.bank_model.specs.Running.{left_by, running_at}
 use Rattle.bank_model.specs.Changes.{change_after}
 use Rattle.bank_model.specs.Lawful.{Lawful, MayCome}
@@ -24,7 +25,7 @@ use Rattle.bank_laws.specs.Standing.{has_wait}
 use Rattle.bank_laws.proofs.Entries.{either, no_wait-push}
 use Rattle.bank_laws.proofs.Answering.{IsFirst, served-first}
 use Rattle.bank_laws.proofs.Settling.{opens, above_all, rows_below-more}
-use Rattle.bank_laws.proofs.Walking.{Passes, walk, rows_after, and_both}
+use Rattle.bank_laws.proofs.Walking.{Passes, walk, rows_after}
 use Rattle.bank_laws.proofs.Serves.{may_at}
 use Rattle.tick_laws.specs.TickLaws.{is_apart, ApartLaw}
 use Rattle.tick_laws.proofs.Actions.{since, since_of, since-rises, end-since}
@@ -42,7 +43,7 @@ module _ {n : ℕ} where
   plain_lost o tick true = inr refl
   plain_lost o tick false = inl refl
 
-module _ {n m : ℕ} (shape : BankShape) (pace : Pacing) (e : ℕ) where
+module _ {n m : ℕ} (shape : BankShape) (pace : Pace) (e : ℕ) where
   abbrev Spaced : List (Timed n m) → Type 0
   Spaced xs = AreSpaced pace.read (outcome_of shape xs) (since_of shape pace xs) (in_progress (core xs)) (waits shape (core xs))
 
@@ -140,14 +141,14 @@ module _ {n m : ℕ} (shape : BankShape) (pace : Pacing) (e : ℕ) where
           → ((bound : ℕ) → RowsBelow (core zs) bound → ((lower : ℕ) → lower < bound → apart pace.read o (outcome_of shape all lower) ≡ true) → list_all (λ q. apart pace.read o q.outcome) (rows_from shape all zs) ≡ true)
           → RowsBelow (core_of h (core zs)) bound → list_all (λ q. apart pace.read o q.outcome) (row_with shape all h z.tick cancels ++ rows_from shape all zs) ≡ true
       by (Core (Write row line bytes given answer)) cancels go b =
-          and_both _ _ (ended-right pace.read z.tick o (outcome_of shape all row) (far row b.0)) (go row b.1 (λ lower lt. far lower (let up : row < bound = b.0 in omega (arith, lt, up))))
-      by (Core (Read row line answer)) cancels go b = and_both _ _ (far row b.0) (go row b.1 (λ lower lt. far lower (let up : row < bound = b.0 in omega (arith, lt, up))))
+          and_from _ _ (ended-right pace.read z.tick o (outcome_of shape all row) (far row b.0)) (go row b.1 (λ lower lt. far lower (let up : row < bound = b.0 in omega (arith, lt, up))))
+      by (Core (Read row line answer)) cancels go b = and_from _ _ (far row b.0) (go row b.1 (λ lower lt. far lower (let up : row < bound = b.0 in omega (arith, lt, up))))
       by (Core (Serve answer)) cancels go b = go bound b far
       by (Regs event) cancels go b = go bound b far
       by (Core (Begin answer)) cancels go b = go bound b far
       by (Core (Iterate answer)) cancels go b = go bound b far
       by (Core (Cut tearing)) true go b = go bound b far
-      by (Core (Cut tearing)) false go b = and_both _ _ (apart-right pace.read o (out.Cut z.tick) refl) (go bound b far)
+      by (Core (Cut tearing)) false go b = and_from _ _ (apart-right pace.read o (out.Cut z.tick) refl) (go bound b far)
 
   -- the row of each event stands apart
   pub apart_at : (all later : List (Timed n m)) (x : Timed n m) (ys : List (Timed n m)) → 1 ≤ pace.read → 1 ≤ pace.iter → Lawful shape pace e all → all ≡ later ++ x ∷ ys

@@ -10,18 +10,23 @@ use Rattle.row_laws.specs.Answers.{is_answered, is_lost}
 use Rattle.row_laws.specs.Rows.{asks_read, asks_write}
 use Rattle.row_laws.specs.Ticking.{store_up_to, last_store, came_since}
 use Rattle.masked_bytes.specs.Entries.{layer_of}
-use Rattle.bank_shape.specs.Pausing.{Pausing, Pause, Plain, Cancel, is_cancelling, most_cancels}
+use Rattle.bank_shape.specs.declared.pace.Policy.{Policy}
+use Rattle.bank_shape.specs.declared.pace.Policy.TheVariants.{Pause, Plain, Cancel}
+use Rattle.bank_shape.specs.Pausing.{is_cancelling, most_cancels}
 use Rattle.bank_shape.specs.declared.BankShape.{BankShape}
-use Rattle.bank_model.specs.declared.answer.ReadAnswer.TheVariants as came
-use Rattle.bank_model.specs.declared.answer.Keep.TheVariants as keep
-use Rattle.bank_model.specs.declared.answer.Step.TheVariants as did
-use Rattle.bank_model.specs.declared.clock.Doing.{Doing}
-use Rattle.bank_model.specs.declared.clock.Doing.TheVariants.{Serving}
-use Rattle.bank_model.specs.declared.clock.Action.{Action}
+use Rattle.bank_shape.specs.declared.answer.ReadAnswer.TheVariants as came
+use Rattle.bank_shape.specs.declared.answer.Keep.TheVariants as keep
+use Rattle.bank_shape.specs.declared.answer.Step.TheVariants as did
+use Rattle.bank_shape.specs.declared.clock.Doing.{Doing}
+use Rattle.bank_shape.specs.declared.clock.Doing.TheVariants.{Serving}
+use Rattle.bank_shape.specs.declared.clock.Action.{Action}
 use Rattle.bank_model.specs.Events.{Event, Write, Read, Serve, Begin, Iterate, Cut, newest}
 use Rattle.bank_model.specs.History.{Awaited, awaited, queue, waits}
-use Rattle.bank_model.specs.Timing.{Pacing, Happens, Core, Regs, KeepBegin, KeepIterate, KeepCut, Timed, is_writing, is_empty, core, core_of, last_tick}
-use Rattle.bank_model.specs.Running.{busy_after, ready_after, drops_begin, gives_way, choice, chosen_by, started, left_by, running, running_at, chosen_after, cancels_with, cancels_after}
+use Rattle.bank_shape.specs.declared.pace.Pace.{Pace}
+use Rattle.bank_model.specs.Timing.{Happens, Core, Regs, KeepBegin, KeepIterate, KeepCut, Timed, is_writing, is_empty, core, core_of, last_tick}
+use Rattle.bank_shape.specs.Pausing.{gives_way}
+use Rattle.bank_shape.specs.Acting.{choice, chosen_by}
+use Rattle.bank_model.specs.Running.{busy_after, ready_after, drops_begin, started, left_by, running, running_at, chosen_after, cancels_with, cancels_after}
 use Rattle.bank_model.specs.Changes.{change_after}
 use Rattle.bank_model.specs.Lawful.{Lawful, MayCome, FollowsCancel, IsRead, IsUncancelled}
 use Rattle.bank_laws.specs.Outcomes.{outcome_with, outcome_of, ended, row_with, rows_from}
@@ -38,7 +43,7 @@ use Rattle.tick_laws.proofs.Counts.{count-cons}
 use Rattle.tick_laws.proofs.StoreTimes.{store_event}
 
 -- what gives way to reads lets none of its line writes start while they wait
-gives : (p : Pausing) → is_cancelling p ≡ true → gives_way p ≡ true
+gives : (p : Policy) → is_cancelling p ≡ true → gives_way p ≡ true
 gives Pause is = refl
 gives Plain is = absurd (cc)
 gives Cancel is = refl
@@ -64,7 +69,7 @@ started-now : (d : Option Doing) (last tick : ℕ) → tick ≡ last → started
 started-now None last tick is = refl
 started-now (Some doing) last tick is = ap (λ b. cond b (Some (record { doing = doing; first = last })) None) (le-ltb last tick (omega (arith, is)))
 
-module _ {n m : ℕ} (shape : BankShape) (pace : Pacing) (e : ℕ) where
+module _ {n m : ℕ} (shape : BankShape) (pace : Pace) (e : ℕ) where
   -- a line write runs on while reads wait only where it may be cancelled no more
   full_count : (zs : List (Timed n m)) → is_cancelling pace.policy ≡ true → Lawful shape pace e zs → is_writing (running shape pace zs) ≡ true → reads_of shape pace zs ≡ true → 4 ≤ cancels_after zs
   full_count [] cancelling l writes waits_some = absurd (cc)
@@ -210,7 +215,7 @@ module _ {n m : ℕ} (shape : BankShape) (all : List (Timed n m)) (a most : ℕ)
   after_stored (z ∷ later) = stored-append a most (rows_after shape all later) (row_with shape all z.happens z.tick z.cancels) (after_stored later) (own_stored z.happens z.tick z.cancels)
 
 module _ {n m : ℕ} where
-  no_pending : (shape : BankShape) (pace : Pacing) (zs : List (Timed n m)) (at : ℕ) (event : Event n) → FollowsCancel shape pace zs at event → (IsRead (last_tick zs) at event → ⊥) → pending_cancel zs ≡ 0
+  no_pending : (shape : BankShape) (pace : Pace) (zs : List (Timed n m)) (at : ℕ) (event : Event n) → FollowsCancel shape pace zs at event → (IsRead (last_tick zs) at event → ⊥) → pending_cancel zs ≡ 0
   no_pending shape pace [] at event f other = refl
   no_pending shape pace (y ∷ ys) at event f other = by y.cancels f
     where
@@ -236,7 +241,7 @@ module _ {n : ℕ} where
   came-settled owed (out.Lost at) h = refl
   came-settled owed (out.Cut at) h = absurd h
 
-module _ {n m : ℕ} (shape : BankShape) (pace : Pacing) (e : ℕ) where
+module _ {n m : ℕ} (shape : BankShape) (pace : Pace) (e : ℕ) where
   -- a cancel leaves nothing running
   cancel-drops : (zs : List (Timed n m)) (z : Timed n m) (h : Happens n) → MayCome shape pace e zs z h → z.cancels ≡ true → left_by shape (core zs) (change_after shape zs) h (running_at shape pace zs z.tick) ≡ None
   cancel-drops zs z (Core (Write row line bytes given answer)) may is = absurd (cc (may.on_time.1))

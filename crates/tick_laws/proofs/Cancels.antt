@@ -3,13 +3,16 @@ use Rattle.std.proofs.Common.{◌≡◌, ℕ, ◌+◌, ◌*◌, ◌<◌, ◌≤�
 use Rattle.std.specs.Prelude.{nat_lt}
 use Rattle.std.proofs.lemmas.Bool.{ltb-true}
 use Rattle.row_laws.specs.Ticking.{tries}
-use Rattle.bank_shape.specs.Pausing.{Pausing, Pause, Plain, Cancel, is_cancelling, most_cancels}
+use Rattle.bank_shape.specs.declared.pace.Policy.{Policy}
+use Rattle.bank_shape.specs.declared.pace.Policy.TheVariants.{Pause, Plain, Cancel}
+use Rattle.bank_shape.specs.Pausing.{is_cancelling, most_cancels}
 use Rattle.bank_shape.specs.declared.BankShape.{BankShape}
-use Rattle.bank_model.specs.declared.answer.Keep.TheVariants as keep
-use Rattle.bank_model.specs.declared.answer.Step.TheVariants as did
+use Rattle.bank_shape.specs.declared.answer.Keep.TheVariants as keep
+use Rattle.bank_shape.specs.declared.answer.Step.TheVariants as did
 use Rattle.bank_model.specs.Events.{Event, Write, Read, Serve, Begin, Iterate, Cut}
 use Rattle.bank_model.specs.History.{waits, has_exhausted}
-use Rattle.bank_model.specs.Timing.{Pacing, Happens, Core, Regs, KeepBegin, KeepIterate, KeepCut, Timed, is_writing, is_empty, core, core_of}
+use Rattle.bank_shape.specs.declared.pace.Pace.{Pace}
+use Rattle.bank_model.specs.Timing.{Happens, Core, Regs, KeepBegin, KeepIterate, KeepCut, Timed, is_writing, is_empty, core, core_of}
 use Rattle.bank_model.specs.Running.{running_at, cancels_with, cancels_after}
 use Rattle.bank_model.specs.Changes.{halted_after, halted_by}
 use Rattle.bank_model.specs.Lawful.{Lawful, MayCome, would_cancel}
@@ -37,7 +40,7 @@ module _ {n : ℕ} where
   runs_before (Regs (KeepIterate keep.Halted)) old runs = absurd (cc)
   runs_before (Regs (KeepCut tearing)) old runs = runs
 
-module _ {n m : ℕ} (shape : BankShape) (pace : Pacing) (e : ℕ) where
+module _ {n m : ℕ} (shape : BankShape) (pace : Pace) (e : ℕ) where
   -- the present line write was cancelled at most as often as may be
   pub few_cancels : (zs : List (Timed n m)) → Lawful shape pace e zs → cancels_after zs ≤ 4
   few_cancels [] l = omega arith
@@ -138,7 +141,7 @@ module _ {n m : ℕ} (shape : BankShape) (pace : Pacing) (e : ℕ) where
       few : tally_cuts cancelled_by mid ≤ 4 * (tally stores_by mid + tally moves_by mid + tally others_by mid + tally_cuts cuts_by mid) + cancels_after (mid ++ zs)
       few = cancels_few mid zs l fine runs
 
-      by : (p : Pausing) → (is_cancelling p ≡ false → tally_cuts cancelled_by mid ≡ 0) → (tally stores_by mid + tally moves_by mid + tally others_by mid + tally_cuts cuts_by mid) + tally_cuts cancelled_by mid
+      by : (p : Policy) → (is_cancelling p ≡ false → tally_cuts cancelled_by mid ≡ 0) → (tally stores_by mid + tally moves_by mid + tally others_by mid + tally_cuts cuts_by mid) + tally_cuts cancelled_by mid
           ≤ tries p * (tally stores_by mid + tally moves_by mid + tally others_by mid + tally_cuts cuts_by mid)
       by Pause none = let k : tally_cuts cancelled_by mid ≡ 0 = none refl in omega (arith, k)
       by Plain none = let k : tally_cuts cancelled_by mid ≡ 0 = none refl in omega (arith, k)

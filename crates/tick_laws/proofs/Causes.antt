@@ -7,11 +7,12 @@ use Rattle.bank_shape.specs.declared.BankShape.{BankShape}
 use Rattle.bank_shape.specs.declared.Home.{Home}
 use Rattle.bank_shape.specs.declared.Home.TheVariants as home
 use Rattle.bank_shape.specs.Shape.{controls_of, if_array}
-use Rattle.bank_model.specs.declared.answer.Step.TheVariants as did
-use Rattle.bank_model.specs.declared.answer.Keep.TheVariants as keep
+use Rattle.bank_shape.specs.declared.answer.Step.TheVariants as did
+use Rattle.bank_shape.specs.declared.answer.Keep.TheVariants as keep
 use Rattle.bank_model.specs.Events.{Write, Read, Serve, Begin, Iterate, Cut, line_of_row}
 use Rattle.bank_model.specs.History.{first_or, stores, retired, has_exhausted}
-use Rattle.bank_model.specs.Timing.{Pacing, Happens, Core, Regs, KeepBegin, KeepIterate, KeepCut, Timed, core, core_of}
+use Rattle.bank_shape.specs.declared.pace.Pace.{Pace}
+use Rattle.bank_model.specs.Timing.{Happens, Core, Regs, KeepBegin, KeepIterate, KeepCut, Timed, core, core_of}
 use Rattle.bank_model.specs.Changes.{change_after, change_by, halted_after, halted_by, item_if}
 use Rattle.bank_model.specs.Lawful.{Lawful, MayCome}
 use Rattle.bank_laws.proofs.Changing.{halted-stops}
@@ -39,7 +40,7 @@ sums : (g o a b p q r : ℕ) (s m t ss mm tt : ℕ) → o + a ≤ (t + b) + g * 
     → (o + p) + a ≤ (t + q) + r + g * ((s + ss) + (m + mm) + (t + tt))
 sums g o a b p q r s m t ss mm tt h k = let d : g * ((s + ss) + (m + mm) + (t + tt)) ≡ g * (s + m + t) + g * (ss + mm + tt) = grind arith in omega (arith, h, k, d)
 
-module _ {n m : ℕ} (shape : BankShape) (pace : Pacing) (e : ℕ) where
+module _ {n m : ℕ} (shape : BankShape) (pace : Pace) (e : ℕ) where
   -- what is written stood before, and what stands was brought
   one_more : (zs : List (Timed n m)) (y : Timed n m) (h : Happens n) → MayCome shape pace e zs y h → has_exhausted (core_of h (core zs)) ≡ false
       → others_by h + stands (change_by shape (core zs) h (change_after shape zs)) ≤ (retires_by h + stands (change_after shape zs)) + brought shape.home * (stores_by h + moves_by h + retires_by h)

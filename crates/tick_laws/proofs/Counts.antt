@@ -11,7 +11,8 @@ use Rattle.row_laws.specs.Rows.{asks_read, asks_write}
 use Rattle.row_laws.specs.Ticking.{cuts_to}
 use Rattle.bank_shape.specs.declared.BankShape.{BankShape}
 use Rattle.bank_model.specs.Events.{Write, Read, Serve, Begin, Iterate, Cut}
-use Rattle.bank_model.specs.Timing.{Pacing, Happens, Core, Regs, Timed, last_tick}
+use Rattle.bank_shape.specs.declared.pace.Pace.{Pace}
+use Rattle.bank_model.specs.Timing.{Happens, Core, Regs, Timed, last_tick}
 use Rattle.bank_model.specs.Lawful.{Lawful}
 use Rattle.bank_laws.specs.Outcomes.{outcome_of, ended, row_with, rows_from}
 use Rattle.bank_laws.proofs.Settling.{opens, step_stays, stays}
@@ -69,7 +70,7 @@ among-later rows of unfolds (y ∷ late) xs c there = subst (λ rs. among rs c �
     behind [] more h = h
     behind (r ∷ rs) more h = or_right (r == c) _ (behind rs more h)
 
-module _ {n m : ℕ} (shape : BankShape) (pace : Pacing) (e : ℕ) (all : List (Timed n m)) where
+module _ {n m : ℕ} (shape : BankShape) (pace : Pace) (e : ℕ) (all : List (Timed n m)) where
   -- an event ends nothing that is counted, or sets the outcome of one of these rows
   abbrev pub Sets : (Happens n → ℕ) → List ℕ → (Outcome n → Bool) → Timed n m → List (Timed n m) → Type 0
   Sets by rows p y zs =
@@ -167,7 +168,7 @@ module _ {n m : ℕ} (shape : BankShape) (all : List (Timed n m)) where
       omega (arith, before, front, back)
 
   -- the cuts among some events
-  pub cuts-counted : (pace : Pacing) (e u : ℕ) (mid zs : List (Timed n m)) → 1 ≤ pace.read → 1 ≤ pace.iter → Lawful shape pace e (mid ++ zs) → last_tick (mid ++ zs) ≤ u
+  pub cuts-counted : (pace : Pace) (e u : ℕ) (mid zs : List (Timed n m)) → 1 ≤ pace.read → 1 ≤ pace.iter → Lawful shape pace e (mid ++ zs) → last_tick (mid ++ zs) ≤ u
       → tally_cuts cuts_by mid ≤ cuts_to u (rows_after shape all mid)
   cuts-counted pace e u [] zs r i l le = omega arith
   cuts-counted pace e u (y ∷ mid) zs r i l le =

@@ -6,12 +6,13 @@ use Rattle.std.proofs.Math.Nat.{mul-le-mul_left}
 use Rattle.masked_bytes.specs.declared.entry.Entry.{Entry}
 use Rattle.bank_shape.specs.declared.BankShape.{BankShape}
 use Rattle.bank_shape.specs.declared.Work.TheVariants.{Nothing}
-use Rattle.bank_model.specs.declared.answer.Step.TheVariants as did
+use Rattle.bank_shape.specs.declared.answer.Step.TheVariants as did
 use Rattle.bank_model.specs.Events.{Event, Write, Read, Serve, Begin, Iterate, Cut, line_of_row}
 use Rattle.bank_model.specs.History.{first_or, stores, stored_in, moved_in, due_after, retired, queue, has_exhausted}
 use Rattle.bank_model.specs.After.{work_after, due_work}
 use Rattle.bank_model.specs.Answers.{IsDone}
-use Rattle.bank_model.specs.Timing.{Pacing, Happens, Core, Regs, Timed, core, core_of}
+use Rattle.bank_shape.specs.declared.pace.Pace.{Pace}
+use Rattle.bank_model.specs.Timing.{Happens, Core, Regs, Timed, core, core_of}
 use Rattle.bank_model.specs.Lawful.{Lawful, MayCome}
 use Rattle.tick_laws.proofs.Tallies.{stores_by, moves_by, retires_by, tally}
 
@@ -105,7 +106,7 @@ module _ {n : ℕ} (shape : BankShape) where
       (stored_in shape.lines h (first_or 0 (stores h) / shape.lines))) (Some (first_or 0 (stores h) / shape.lines)) None) ≡ 0
   moved_flag h some b = ap (λ c. flag (cond c (Some (first_or 0 (stores h) / shape.lines)) None)) (not-due _ _ _ _ b some)
 
-module _ {n m : ℕ} (shape : BankShape) (pace : Pacing) (e : ℕ) where
+module _ {n m : ℕ} (shape : BankShape) (pace : Pace) (e : ℕ) where
   balanced : (xs : List (Timed n m)) → 1 ≤ shape.psi → Lawful shape pace e xs → Balanced shape (core xs)
   balanced [] some l = record { most = λ at. omega arith; others = λ at ne. grind arith }
   balanced (x ∷ xs) some l = by x.happens l.0 (balanced xs some l.1)

@@ -8,22 +8,26 @@ use Rattle.result_rows.specs.declared.Outcome.{Outcome}
 use Rattle.result_rows.specs.declared.Outcome.TheVariants as out
 use Rattle.row_laws.specs.declared.Row.{Row}
 use Rattle.row_laws.specs.Rows.{is_cut}
-use Rattle.row_laws.specs.Rules.{Rules}
+use Rattle.row_laws.specs.declared.Rules.{Rules}
 use Rattle.row_laws.specs.Queueing.{waiting}
 use Rattle.row_laws.specs.Ticking.{delay, bound, last_store, came_since, no_cut_below, first_cut_at, read_in_time}
-use Rattle.bank_shape.specs.Pausing.{Pausing, Pause, Plain, Cancel, is_cancelling, most_cancels}
+use Rattle.bank_shape.specs.declared.pace.Policy.{Policy}
+use Rattle.bank_shape.specs.declared.pace.Policy.TheVariants.{Pause, Plain, Cancel}
+use Rattle.bank_shape.specs.Pausing.{is_cancelling, most_cancels}
 use Rattle.bank_shape.specs.declared.BankShape.{BankShape}
-use Rattle.bank_model.specs.declared.answer.WriteAnswer.TheVariants as wrote
-use Rattle.bank_model.specs.declared.answer.ReadAnswer.TheVariants as came
-use Rattle.bank_model.specs.declared.answer.Step.TheVariants as did
-use Rattle.bank_model.specs.declared.clock.Doing.{Doing}
-use Rattle.bank_model.specs.declared.clock.Doing.TheVariants.{Serving, Beginning, Iterating}
-use Rattle.bank_model.specs.declared.clock.Action.{Action}
+use Rattle.bank_shape.specs.declared.answer.WriteAnswer.TheVariants as wrote
+use Rattle.bank_shape.specs.declared.answer.ReadAnswer.TheVariants as came
+use Rattle.bank_shape.specs.declared.answer.Step.TheVariants as did
+use Rattle.bank_shape.specs.declared.clock.Doing.{Doing}
+use Rattle.bank_shape.specs.declared.clock.Doing.TheVariants.{Serving, Beginning, Iterating}
+use Rattle.bank_shape.specs.declared.clock.Action.{Action}
 use Rattle.bank_model.specs.Events.{Write, Read, Serve, Begin, Iterate, Cut, newest}
 use Rattle.bank_model.specs.History.{Awaited, awaited, queue, waits}
 use Rattle.masked_bytes.specs.Entries.{layer_of}
-use Rattle.bank_model.specs.Timing.{Pacing, Happens, Core, Regs, KeepBegin, KeepIterate, KeepCut, Timed, is_writing, is_empty, core, core_of, last_tick}
-use Rattle.bank_model.specs.Running.{busy_after, made_after, drops_begin, gives_way, left_by, running_at, cancels_after}
+use Rattle.bank_shape.specs.declared.pace.Pace.{Pace}
+use Rattle.bank_model.specs.Timing.{Happens, Core, Regs, KeepBegin, KeepIterate, KeepCut, Timed, is_writing, is_empty, core, core_of, last_tick}
+use Rattle.bank_shape.specs.Pausing.{gives_way}
+use Rattle.bank_model.specs.Running.{busy_after, made_after, drops_begin, left_by, running_at, cancels_after}
 use Rattle.bank_model.specs.Changes.{change_after}
 use Rattle.bank_model.specs.Lawful.{Lawful, MayCome, would_cancel}
 use Rattle.bank_laws.specs.Laws.{rules_of}
@@ -79,7 +83,7 @@ module _ {n : ℕ} where
   in_time rules a most before after (out.Cut at) same h = refl
 
   -- a line write holds up a read that comes no longer than is said
-  delay-most : (rules : Rules) (p : Pausing) (a : ℕ) (before after : List (Row n)) (busy : Bool) (r : Option Action)
+  delay-most : (rules : Rules) (p : Policy) (a : ℕ) (before after : List (Row n)) (busy : Bool) (r : Option Action)
       → (is_cancelling p ≡ true → nat_lt (came_since (last_store a (before ++ after)) before) 4 ≡ true → owes rules.read rules.iter (rules.steps * rules.iter) true busy r ≡ 0)
       → owes rules.read rules.iter (rules.steps * rules.iter) (gives_way p) busy r ≤ delay rules p a before after
   delay-most rules Pause a before after busy r few = owes-most rules.read rules.iter (rules.steps * rules.iter) true busy r
@@ -107,7 +111,7 @@ would_find true true false d h = absurd (cc)
 would_find true false c d h = absurd (cc)
 would_find false b c d h = absurd (cc)
 
-uncancelled : {n m : ℕ} (shape : BankShape) (pace : Pacing) (e : ℕ) (zs : List (Timed n m)) (s : Timed n m) (h : Happens n) (row : ℕ) → MayCome shape pace e zs s h → has_wait (waits shape (core zs)) row ≡ true → s.cancels ≡ false
+uncancelled : {n m : ℕ} (shape : BankShape) (pace : Pace) (e : ℕ) (zs : List (Timed n m)) (s : Timed n m) (h : Happens n) (row : ℕ) → MayCome shape pace e zs s h → has_wait (waits shape (core zs)) row ≡ true → s.cancels ≡ false
 uncancelled shape pace e zs s (Core (Write at line bytes given answer)) row may there = may.on_time.1
 uncancelled shape pace e zs s (Core (Read at line answer)) row may there = may.on_time.1
 uncancelled shape pace e zs s (Core (Serve answer)) row may there = may.on_time.1
@@ -130,7 +134,7 @@ uncancelled shape pace e zs s (Core (Cut tearing)) row may there = by s.cancels 
         absurd (cc (ap not none, some))
     by false would = refl
 
-module _ {n m : ℕ} (shape : BankShape) (pace : Pacing) (e : ℕ) (all : List (Timed n m)) where
+module _ {n m : ℕ} (shape : BankShape) (pace : Pace) (e : ℕ) (all : List (Timed n m)) where
   -- a read that waits is in time, and no cut came
   turns : (a most row : ℕ) (owed : List ℕ) (zs : List (Timed n m)) → 1 ≤ pace.read → 1 ≤ pace.iter → Awaits (waits shape (core zs)) row owed → a ≤ last_tick zs → Turn shape pace e a most row zs
       → (mid : List (Timed n m)) → Lawful shape pace e (mid ++ zs) → outcome_of shape (mid ++ zs) row ≡ out.Unset
@@ -327,7 +331,7 @@ module _ {n m : ℕ} (shape : BankShape) (pace : Pacing) (e : ℕ) (all : List (
       by (Core (Cut tearing)) true may on count top free go = tt
       by (Core (Cut tearing)) false may on count top free go = refl
 
-module _ {n m : ℕ} (shape : BankShape) (pace : Pacing) (e : ℕ) (all : List (Timed n m)) where
+module _ {n m : ℕ} (shape : BankShape) (pace : Pace) (e : ℕ) (all : List (Timed n m)) where
   sum_few : (s o t x k p : ℕ) → s ≤ x → o ≡ 0 → t ≡ k → s + o + t ≤ x + k + p
   sum_few s o t x k p top none is = omega arith
 
@@ -361,7 +365,7 @@ module _ {n m : ℕ} (shape : BankShape) (pace : Pacing) (e : ℕ) (all : List (
       ways : gives_way pace.policy ≡ true
       ways = by_policy pace.policy cancelling
         where
-          by_policy : (p : Pausing) → is_cancelling p ≡ true → gives_way p ≡ true
+          by_policy : (p : Policy) → is_cancelling p ≡ true → gives_way p ≡ true
           by_policy Pause is = absurd (cc)
           by_policy Plain is = absurd (cc)
           by_policy Cancel is = refl

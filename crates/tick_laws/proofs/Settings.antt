@@ -6,7 +6,8 @@ use Rattle.result_rows.specs.declared.Outcome.TheVariants as out
 use Rattle.masked_bytes.specs.Entries.{has_row}
 use Rattle.bank_shape.specs.declared.BankShape.{BankShape}
 use Rattle.bank_model.specs.History.{waits, queue}
-use Rattle.bank_model.specs.Timing.{Pacing, Timed, core}
+use Rattle.bank_shape.specs.declared.pace.Pace.{Pace}
+use Rattle.bank_model.specs.Timing.{Timed, core}
 use Rattle.bank_model.specs.Lawful.{Lawful}
 use Rattle.bank_laws.specs.Outcomes.{on_row, outcome_with, outcome_of}
 use Rattle.bank_laws.specs.Standing.{has_wait}
@@ -49,7 +50,7 @@ module _ {n m : ℕ} (shape : BankShape) where
     pub unset : outcome_of shape (mid ++ zs) row ≡ out.Unset
     pub sets : outcome_with shape (mid ++ zs) event.happens event.tick row ≡ Some o
 
-module _ {n m : ℕ} (shape : BankShape) (pace : Pacing) (e : ℕ) where
+module _ {n m : ℕ} (shape : BankShape) (pace : Pace) (e : ℕ) where
   pub setting : (later zs : List (Timed n m)) (row : ℕ) (o : Outcome n) → Lawful shape pace e (later ++ zs) → outcome_of shape zs row ≡ out.Unset → o ≢ out.Unset
       → outcome_of shape (later ++ zs) row ≡ o → SetAt shape later zs row o
   setting [] zs row o l un set is = absurd (set (sym is ∙ un))

@@ -8,18 +8,19 @@ use Rattle.result_rows.specs.declared.Outcome.TheVariants as out
 use Rattle.masked_bytes.specs.Entries.{has_row}
 use Rattle.row_laws.specs.declared.Row.{Row}
 use Rattle.row_laws.specs.Answers.{stored_after, stored_by, read_after, read_by}
-use Rattle.row_laws.specs.Rules.{Rules}
+use Rattle.row_laws.specs.declared.Rules.{Rules}
 use Rattle.row_laws.specs.Ticking.{tries, writings, longest, stores_in, reads_in, cuts_to}
 use Rattle.bank_shape.specs.declared.BankShape.{BankShape}
 use Rattle.bank_shape.specs.Shape.{controls_of}
-use Rattle.bank_model.specs.declared.answer.WriteAnswer.TheVariants as wrote
-use Rattle.bank_model.specs.declared.answer.ReadAnswer.TheVariants as came
-use Rattle.bank_model.specs.declared.answer.Step.TheVariants as did
+use Rattle.bank_shape.specs.declared.answer.WriteAnswer.TheVariants as wrote
+use Rattle.bank_shape.specs.declared.answer.ReadAnswer.TheVariants as came
+use Rattle.bank_shape.specs.declared.answer.Step.TheVariants as did
 use Rattle.bank_model.specs.Events.{Write, Read, Serve, Begin, Iterate, Cut}
 use Rattle.bank_model.specs.History.{queue, waits, due_after, has_exhausted}
 use Rattle.bank_model.specs.After.{work_after}
 use Rattle.bank_model.specs.Answers.{IsDone}
-use Rattle.bank_model.specs.Timing.{Pacing, Happens, Core, Regs, Timed, core, core_of, last_tick}
+use Rattle.bank_shape.specs.declared.pace.Pace.{Pace}
+use Rattle.bank_model.specs.Timing.{Happens, Core, Regs, Timed, core, core_of, last_tick}
 use Rattle.bank_model.specs.Running.{cancels_with, cancels_after}
 use Rattle.bank_model.specs.Changes.{change_after, halted_after, halted_by}
 use Rattle.bank_model.specs.Lawful.{Lawful, MayCome}
@@ -106,7 +107,7 @@ module _ {n : ℕ} where
   ended-within a u tick (out.Lost at) = refl
   ended-within a u tick (out.Cut at) = refl
 
-module _ {n m : ℕ} (shape : BankShape) (pace : Pacing) (e : ℕ) where
+module _ {n m : ℕ} (shape : BankShape) (pace : Pace) (e : ℕ) where
   -- while a write stands the ticks are in time
   delays : (a row : ℕ) (zs : List (Timed n m)) → 1 ≤ pace.read → 1 ≤ pace.iter → has_row (queue shape (core zs)) row ≡ true → Delay shape pace e a zs
       → (mid : List (Timed n m)) → Lawful shape pace e (mid ++ zs) → outcome_of shape (mid ++ zs) row ≡ out.Unset → has_exhausted (core (mid ++ zs)) ≡ false → halted_after (mid ++ zs) ≡ false
@@ -194,7 +195,7 @@ module _ {n m : ℕ} (shape : BankShape) (pace : Pacing) (e : ℕ) where
         by true is = absurd (cc)
         by false is = absurd (cc)
 
-module _ {n m : ℕ} (shape : BankShape) (pace : Pacing) (e : ℕ) (all : List (Timed n m)) where
+module _ {n m : ℕ} (shape : BankShape) (pace : Pace) (e : ℕ) (all : List (Timed n m)) where
   module _ (a u : ℕ) (zs : List (Timed n m)) (r : 1 ≤ pace.read) (i : 1 ≤ pace.iter) (up : a ≤ last_tick zs) where
     written : (late back : List (Timed n m)) (y : Timed n m) → all ≡ late ++ y ∷ (back ++ zs) → (c : ℕ) → among (writes_in (back ++ zs)) c ≡ true → among (writes_in all) c ≡ true
     written late back y same c there =

@@ -1,7 +1,7 @@
 -- How many line writes ended, reads were served and cuts came, over some events.
 use Rattle.std.proofs.Common.{ℕ, ◌+◌, Bool, true, false, List, [], ◌∷◌}
-use Rattle.bank_model.specs.declared.answer.Keep.TheVariants as keep
-use Rattle.bank_model.specs.declared.answer.Step.TheVariants as did
+use Rattle.bank_shape.specs.declared.answer.Keep.TheVariants as keep
+use Rattle.bank_shape.specs.declared.answer.Step.TheVariants as did
 use Rattle.bank_model.specs.Events.{Serve, Begin, Iterate, Cut}
 use Rattle.bank_model.specs.Timing.{Happens, Core, Regs, KeepBegin, KeepIterate, KeepCut, Timed}
 

@@ -1,5 +1,5 @@
 use Rattle.std.proofs.Common.{ℕ, ◌<◌, ◌==◌, List, ◌∷◌, ◌++◌, sym, ap, subst, ◌∙◌, arith}
-use Rattle.std.proofs.lemmas.Bool.{ne_eqb}
+use Rattle.std.proofs.lemmas.Bool.{ne_eqb, or_from}
 use Rattle.row_laws.specs.declared.Asks.TheVariants.{Reads}
 use Rattle.bank_shape.specs.declared.BankShape.{BankShape}
 use Rattle.bank_model.specs.Events.{Read}
@@ -9,7 +9,6 @@ use Rattle.power_recovery.specs.Slots.{bank_lines}
 use Rattle.clock_laws.specs.Arriving.{arrival}
 use Rattle.module_laws.specs.Asking.{Asked}
 use Rattle.bank_timing.proofs.Sizes.{timed_fits, row_fits}
-use Rattle.clock_laws.proofs.Deciding.{or_none}
 use Rattle.bank_timing.specs.Cancelling.{cancel_first}
 use Rattle.pcm_module.proofs.Arriving.{open_on, step_on, first_asked, first_off}
 use Rattle.pcm_module.proofs.bank.read_at.Goals as goal
@@ -66,5 +65,5 @@ returns-clause-step g c xs leads =
             ap (λ (t : ℕ). let b : Asked g.row.B = record { row = c.args.row; tick = t; asks = Reads c.args.line } in b) (sym c.advance.ensures.now),
             first_asked (run.0 ++ xs) clock c.args.line asked is,
           ))
-          (λ other off. or_none (c.args.row == other) _ (ne_eqb c.args.row other (λ e. off (sym e))) (first_off (run.0 ++ xs) clock c.args.line other)),
+          (λ other off. or_from (c.args.row == other) _ (ne_eqb c.args.row other (λ e. off (sym e))) (first_off (run.0 ++ xs) clock c.args.line other)),
     )

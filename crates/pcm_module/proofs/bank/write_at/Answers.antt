@@ -1,5 +1,5 @@
 use Rattle.std.proofs.Common.{ℕ, ◌<◌, ◌==◌, [], ◌∷◌, ◌++◌, refl, sym, ap, subst, ◌∙◌, arith}
-use Rattle.std.proofs.lemmas.Bool.{ne_eqb}
+use Rattle.std.proofs.lemmas.Bool.{ne_eqb, or_from}
 use Rattle.row_laws.specs.declared.Asks.TheVariants.{Writes}
 use Rattle.bank_shape.specs.declared.BankShape.{BankShape}
 use Rattle.bank_model.specs.Events.{Write}
@@ -9,7 +9,6 @@ use Rattle.power_recovery.specs.Slots.{bank_lines}
 use Rattle.clock_laws.specs.Arriving.{arrival}
 use Rattle.module_laws.specs.Asking.{Asked}
 use Rattle.bank_timing.proofs.Sizes.{timed_fits, row_fits, bytes_fits}
-use Rattle.clock_laws.proofs.Deciding.{or_none}
 use Rattle.pcm_module.proofs.Arriving.{open_on, step_on}
 use Rattle.pcm_module.proofs.bank.write_at.Goals as goal
 
@@ -64,5 +63,5 @@ returns-clause-step g c xs leads =
       event ∷ run.0,
       step_on xs run.0 c.args.timed.now c.advance.new.self c.arrive_write.new.self before after after c.args.results.now c.advance.new.results c.arrive_write.new.results leads run.2 run.1 (event ∷ []) a next
           (λ asked is. (ap (λ (t : ℕ). let b : Asked g.row.B = record { row = c.args.row; tick = t; asks = Writes c.args.line c.args.bytes c.args.given } in b) (sym c.advance.ensures.now), is))
-          (λ other off. or_none (c.args.row == other) _ (ne_eqb c.args.row other (λ e. off (sym e))) refl),
+          (λ other off. or_from (c.args.row == other) _ (ne_eqb c.args.row other (λ e. off (sym e))) refl),
     )

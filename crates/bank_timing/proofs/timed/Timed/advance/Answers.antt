@@ -1,5 +1,4 @@
 use Rattle.std.proofs.Common.{arith, sym, ◌∙◌}
-use Rattle.pace.specs.Policies.{pacing_of}
 use Rattle.clock_laws.specs.State.{ClockState}
 use Rattle.bank_timing.proofs.Sizes.{timed_fits}
 use Rattle.bank_timing.proofs.Acting.{begun-before}
@@ -21,7 +20,7 @@ pub ends-end-requires : goal.ends-end-requires
 ends-end-requires g c =
     let t = c.self.inside in
     let clock : ClockState g.row.B g.row.M g.row.E =
-    record { bank = t.bank; regs = t.regs; pace = pacing_of t.pace; tick = t.tick; action = t.action; arrivals = t.arrivals.items; cancels = t.cancels; drained = t.drained } in
+    record { bank = t.bank; regs = t.regs; pace = t.pace; tick = t.tick; action = t.action; arrivals = t.arrivals.items; cancels = t.cancels; drained = t.drained } in
     let next = rw (← c.self.view_is) at (sym c.next_action.ensures ∙ c.in-Some.is) in
     first-fits c.in-Some.action.first t.tick c.args.to (begun-before clock c.in-Some.action next c.self.invariant.begun) c.loop-self-test.true c.requires.within
 

@@ -1,6 +1,6 @@
 use Rattle.std.proofs.Common.{arith, ◌≡◌, sym, ◌∙◌}
-use Rattle.bank_model.specs.declared.answer.WriteAnswer.{WriteAnswer}
-use Rattle.bank_model.specs.declared.answer.WriteAnswer.TheVariants as wrote
+use Rattle.bank_shape.specs.declared.answer.WriteAnswer.{WriteAnswer}
+use Rattle.bank_shape.specs.declared.answer.WriteAnswer.TheVariants as wrote
 use Rattle.bank_timing.proofs.Sizes.{bank_fits, timed_fits, outcome_fits, bytes_fits, row_fits}
 use Rattle.bank_timing.proofs.Views.{clock_of}
 use Rattle.bank_timing.proofs.WriteArrivals.{TakesWrite, write-extends, write-unset, write-others, write-clock, write-bound, merge-unset, merge-there, accept-room}

@@ -1,5 +1,4 @@
 use Rattle.std.proofs.Common.{◌≡◌, sym, ap, ◌∙◌, refl, arith}
-use Rattle.pace.specs.Policies.{pacing_of}
 use Rattle.bank_model.specs.Timing.{ends}
 use Rattle.clock_laws.specs.Putting.{item_by}
 use Rattle.bank_timing.specs.Completing.{item_from}
@@ -26,7 +25,7 @@ begin-step-requires g c =
     (bank_fits g.row.B g.row.M g.row.E c.self.invariant.layout, (begin-ready (clock_of c.self.inside) c.args.action d.next d.doing d.fit alone, d.led.1.holds.tied))
 
 -- the bank takes the step
-steps : (g : Over) (c : After-begin-step g) → Steps c.self.inside.bank c.self.inside.regs c.begin-step.new.self c.begin-step.result (ends (pacing_of c.self.inside.pace) c.args.action) c.args.results.now
+steps : (g : Over) (c : After-begin-step g) → Steps c.self.inside.bank c.self.inside.regs c.begin-step.new.self c.begin-step.result (ends c.self.inside.pace c.args.action) c.args.results.now
 steps g c =
     let d = due c.self.inside c.self.view_is c.self.invariant c.requires.next c.requires.doing c.requires.led c.requires.unset in
     let alone = rw (← c.self.view_is) at c.requires.alone in

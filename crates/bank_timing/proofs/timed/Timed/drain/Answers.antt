@@ -1,5 +1,4 @@
 use Rattle.std.proofs.Common.{arith, true}
-use Rattle.pace.specs.Policies.{pacing_of}
 use Rattle.clock_laws.specs.State.{ClockState}
 use Rattle.clock_laws.proofs.Draining.{resting_registers_law}
 use Rattle.bank_timing.proofs.Sizes.{bank_fits, kept_fits, row_fits}
@@ -14,7 +13,7 @@ pub leave_queued-requires : goal.leave_queued-requires
 leave_queued-requires g c =
     let t = c.self.inside in
     let clock : ClockState g.row.B g.row.M g.row.E =
-    record { bank = t.bank; regs = t.regs; pace = pacing_of t.pace; tick = t.tick; action = t.action; arrivals = t.arrivals.items; cancels = t.cancels; drained = t.drained } in
+    record { bank = t.bank; regs = t.regs; pace = t.pace; tick = t.tick; action = t.action; arrivals = t.arrivals.items; cancels = t.cancels; drained = t.drained } in
     let ran = rw (← c.self.view_is) at c.settle.ensures.ran in (
       kept_fits,
       (
@@ -35,7 +34,7 @@ pub returns-clause-drains : goal.returns-clause-drains
 returns-clause-drains g c =
     let t = c.self.inside in
     let clock : ClockState g.row.B g.row.M g.row.E =
-    record { bank = t.bank; regs = t.regs; pace = pacing_of t.pace; tick = t.tick; action = t.action; arrivals = t.arrivals.items; cancels = t.cancels; drained = t.drained } in
+    record { bank = t.bank; regs = t.regs; pace = t.pace; tick = t.tick; action = t.action; arrivals = t.arrivals.items; cancels = t.cancels; drained = t.drained } in
     let ran = rw (← c.self.view_is) at c.settle.ensures.ran in
     let rests = rw (← c.self.view_is) at c.settle.ensures.rests in
     let queued = rw c.kept.ensures.kept at c.leave_queued.ensures in
@@ -45,7 +44,7 @@ pub returns-clause-others : goal.returns-clause-others
 returns-clause-others g c =
     let t = c.self.inside in
     let clock : ClockState g.row.B g.row.M g.row.E =
-    record { bank = t.bank; regs = t.regs; pace = pacing_of t.pace; tick = t.tick; action = t.action; arrivals = t.arrivals.items; cancels = t.cancels; drained = t.drained } in
+    record { bank = t.bank; regs = t.regs; pace = t.pace; tick = t.tick; action = t.action; arrivals = t.arrivals.items; cancels = t.cancels; drained = t.drained } in
     let ran = rw (← c.self.view_is) at c.settle.ensures.ran in
     let queued = rw c.kept.ensures.kept at c.leave_queued.ensures in
     drain-others c.args.self.now clock (g.A.CellArray.state c.args.array.now) (g.A.CellArray.state c.settle.new.array) c.args.results.now c.settle.new.results ran c.leave_queued.new.results queued c.requires.led
@@ -54,7 +53,7 @@ pub returns-clause-laws : goal.returns-clause-laws
 returns-clause-laws g c =
     let t = c.self.inside in
     let clock : ClockState g.row.B g.row.M g.row.E =
-    record { bank = t.bank; regs = t.regs; pace = pacing_of t.pace; tick = t.tick; action = t.action; arrivals = t.arrivals.items; cancels = t.cancels; drained = true } in
+    record { bank = t.bank; regs = t.regs; pace = t.pace; tick = t.tick; action = t.action; arrivals = t.arrivals.items; cancels = t.cancels; drained = true } in
     let rests = rw (← c.self.view_is) at c.settle.ensures.rests in
     λ xs leads.
     keeps-laws g.row.B g.row.M g.row.E
@@ -65,7 +64,7 @@ pub returns-clause-registers : goal.returns-clause-registers
 returns-clause-registers g c =
     let t = c.self.inside in
     let clock : ClockState g.row.B g.row.M g.row.E =
-    record { bank = t.bank; regs = t.regs; pace = pacing_of t.pace; tick = t.tick; action = t.action; arrivals = t.arrivals.items; cancels = t.cancels; drained = true } in
+    record { bank = t.bank; regs = t.regs; pace = t.pace; tick = t.tick; action = t.action; arrivals = t.arrivals.items; cancels = t.cancels; drained = true } in
     let rests = rw (← c.self.view_is) at c.settle.ensures.rests in
     λ xs leads region exists.
     resting_registers_law g.row.B g.row.M g.row.E region xs clock (g.A.CellArray.state c.settle.new.array) c.self.invariant.paced.some_read c.self.invariant.paced.some_iter leads rests exists

@@ -1,5 +1,4 @@
 use Rattle.std.proofs.Common.{◌≡◌, ℕ, List, drop, slice_get, Some, None, refl, sym, ap, subst, ◌∙◌}
-use Rattle.pace.specs.Policies.{pacing_of}
 use Rattle.clock_laws.specs.State.{ClockState}
 use Rattle.bank_timing.specs.Clock.{IsClock}
 use Rattle.bank_timing.specs.Losing.{with_lost}
@@ -53,7 +52,7 @@ returns g c =
     let t = c.loop-row.self-inside in
     let t0 = c.self.inside in
     let clock : ClockState g.row.B g.row.M g.row.E =
-    record { bank = t0.bank; regs = t0.regs; pace = pacing_of t0.pace; tick = t0.tick; action = t0.action; arrivals = t0.arrivals.items; cancels = t0.cancels; drained = t0.drained } in
+    record { bank = t0.bank; regs = t0.regs; pace = t0.pace; tick = t0.tick; action = t0.action; arrivals = t0.arrivals.items; cancels = t0.cancels; drained = t0.drained } in
     let taken : slice_get t.bank.lost 0 ≡ None = sym c.take_lost.ensures.row ∙ c.in_default.is in
     let none = lose-none t0.tick t.bank.lost c.loop-row.results taken in
     let moved = ap (λ (t : Inside g.row.B g.row.M g.row.E). view_by (lost_taken t.bank) t.regs t.pace t.tick t.action t.arrivals.items t.cancels t.drained) c.loop-row.invariant.2 in

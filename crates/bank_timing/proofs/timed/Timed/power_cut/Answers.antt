@@ -1,5 +1,5 @@
 use Rattle.std.proofs.Common.{arith, ◌≡◌, ◌&&◌, not, None, false, List, [], ◌∷◌, length, is_some, ap, subst, refl}
-use Rattle.bank_model.specs.declared.clock.Doing.TheVariants.{Iterating}
+use Rattle.bank_shape.specs.declared.clock.Doing.TheVariants.{Iterating}
 use Rattle.bank_model.specs.Changes.{all_controls}
 use Rattle.bank_model.specs.Events.{Event, Cut}
 use Rattle.bank_model.specs.Timing.{is_doing}

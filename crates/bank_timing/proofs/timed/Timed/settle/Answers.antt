@@ -1,5 +1,4 @@
 use Rattle.std.proofs.Common.{◌≤◌, arith, refl, subst, sym, ◌∙◌}
-use Rattle.pace.specs.Policies.{pacing_of}
 use Rattle.clock_laws.specs.State.{ClockState}
 use Rattle.clock_laws.specs.Remaining.{actions_left}
 use Rattle.bank_timing.proofs.Sizes.{timed_fits, row_fits}
@@ -35,7 +34,7 @@ loop-action-preserved g c =
     let kept = c.loop-action.invariant in
     let t = c.self-in-loop-action.inside in
     let clock : ClockState g.row.B g.row.M g.row.E =
-    record { bank = t.bank; regs = t.regs; pace = pacing_of t.pace; tick = t.tick; action = t.action; arrivals = t.arrivals.items; cancels = t.cancels; drained = t.drained } in
+    record { bank = t.bank; regs = t.regs; pace = t.pace; tick = t.tick; action = t.action; arrivals = t.arrivals.items; cancels = t.cancels; drained = t.drained } in
     let next = rw (← c.self-in-loop-action.view_is) at (sym c.next_action.ensures ∙ c.in-Some.is) in
     let now = rw (← c.self-in-loop-action.view_is) at c.complete.ensures.now in
     let less = rw (← c.self-in-loop-action.view_is) at c.complete.ensures.less in

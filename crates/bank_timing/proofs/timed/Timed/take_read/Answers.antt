@@ -1,6 +1,6 @@
 use Rattle.std.proofs.Common.{arith, ◌≡◌, sym, ◌∙◌}
-use Rattle.bank_model.specs.declared.answer.ReadAnswer.{ReadAnswer}
-use Rattle.bank_model.specs.declared.answer.ReadAnswer.TheVariants as came
+use Rattle.bank_shape.specs.declared.answer.ReadAnswer.{ReadAnswer}
+use Rattle.bank_shape.specs.declared.answer.ReadAnswer.TheVariants as came
 use Rattle.bank_timing.proofs.Sizes.{bank_fits, outcome_fits, read_fits, row_fits}
 use Rattle.bank_timing.proofs.Views.{clock_of}
 use Rattle.bank_timing.proofs.ReadArrivals.{TakesRead, read-extends, read-unset, read-others, read-clock, read-bound}
