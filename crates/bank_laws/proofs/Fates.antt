@@ -15,7 +15,7 @@ use Rattle.bank_model.specs.Events.{Write, Read, Serve, Begin, Iterate, Cut, new
 use Rattle.bank_model.specs.History.{Awaited, queue, waits, due_after}
 use Rattle.bank_model.specs.Answers.{IsServed}
 use Rattle.bank_shape.specs.declared.pace.Pace.{Pace}
-use Rattle.bank_model.specs.Timing.{Happens, Core, Regs, Timed, core, core_of}
+use Rattle.bank_model.specs.Timing.{Happens, Core, Regs, TimedEvent, core, core_of}
 use Rattle.bank_model.specs.Lawful.{Lawful, MayCome}
 use Rattle.bank_laws.specs.Outcomes.{on_row, outcome_with, outcome_of}
 use Rattle.bank_laws.specs.Standing.{has_wait}
@@ -125,22 +125,22 @@ awaits-has (w ∷ ws) row owed (inr a) = or_right (w.row == row) _ (awaits-has w
 
 module _ {n m : ℕ} (shape : BankShape) where
   -- an accepted write stands in the queue, or has left it
-  abbrev pub WriteFate : List (Timed n m) → ℕ → Type 0
+  abbrev pub WriteFate : List (TimedEvent n m) → ℕ → Type 0
   WriteFate zs row = (has_row (queue shape (core zs)) row ≡ true) ⊎ IsLeft (outcome_of shape zs row)
 
   -- a read waits, or is settled
-  abbrev pub ReadFate : List (Timed n m) → ℕ → List ℕ → Type 0
+  abbrev pub ReadFate : List (TimedEvent n m) → ℕ → List ℕ → Type 0
   ReadFate zs row owed = Awaits (waits shape (core zs)) row owed ⊎ IsSettled owed (outcome_of shape zs row)
 
   -- these after one more event
-  abbrev pub WriteFateBy : List (Timed n m) → ℕ → Happens n → ℕ → Type 0
+  abbrev pub WriteFateBy : List (TimedEvent n m) → ℕ → Happens n → ℕ → Type 0
   WriteFateBy zs tick h row = (has_row (queue shape (core_of h (core zs))) row ≡ true) ⊎ IsLeft (unwrap_or (outcome_with shape zs h tick row) (outcome_of shape zs row))
 
-  abbrev pub ReadFateBy : List (Timed n m) → ℕ → Happens n → ℕ → List ℕ → Type 0
+  abbrev pub ReadFateBy : List (TimedEvent n m) → ℕ → Happens n → ℕ → List ℕ → Type 0
   ReadFateBy zs tick h row owed = Awaits (waits shape (core_of h (core zs))) row owed ⊎ IsSettled owed (unwrap_or (outcome_with shape zs h tick row) (outcome_of shape zs row))
 
 module _ {n m : ℕ} (shape : BankShape) (pace : Pace) (e : ℕ) where
-  merged_fate : (zs : List (Timed n m)) (tick at line old row : ℕ) (bytes : List ℕ) (given : List Bool)
+  merged_fate : (zs : List (TimedEvent n m)) (tick at line old row : ℕ) (bytes : List ℕ) (given : List Bool)
       → has_row (queue shape (core zs)) row ≡ true → WriteFateBy shape zs tick (Core (Write at line bytes given (wrote.Merged old))) row
   merged_fate zs tick at line old row bytes given h =
       elim (eqb old row) as (λ b. eqb old row ≡ b → (has_row (merged old at bytes given (queue shape (core zs))) row ≡ true) ⊎ IsLeft (unwrap_or (cond b (Some (out.Merged tick)) None) (outcome_of shape zs row))) [
@@ -148,7 +148,7 @@ module _ {n m : ℕ} (shape : BankShape) (pace : Pace) (e : ℕ) where
         | false ↦ λ is. inl (there-merged old at bytes given (queue shape (core zs)) row h is)
       ] refl
 
-  stored_fate : (zs : List (Timed n m)) (tick at place row : ℕ) (es : List (Entry n)) → IsHead es at → has_row es row ≡ true
+  stored_fate : (zs : List (TimedEvent n m)) (tick at place row : ℕ) (es : List (Entry n)) → IsHead es at → has_row es row ≡ true
       → (has_row (drop 1 es) row ≡ true) ⊎ IsLeft (unwrap_or (on_row at row (out.Stored tick place)) (outcome_of shape zs row))
   stored_fate zs tick at place row [] head h = absurd head
   stored_fate zs tick at place row (f ∷ es) head h = by (eqb at row) refl
@@ -162,7 +162,7 @@ module _ {n m : ℕ} (shape : BankShape) (pace : Pace) (e : ℕ) where
       by false is = inl (rest (f.row == row) (subst (λ a. (a == row) ≡ false) head is) h)
 
   -- what stands before an event stands after it, or leaves by it
-  standing_fate : (zs : List (Timed n m)) (x : Timed n m) (h : Happens n) (row : ℕ) → MayCome shape pace e zs x h
+  standing_fate : (zs : List (TimedEvent n m)) (x : TimedEvent n m) (h : Happens n) (row : ℕ) → MayCome shape pace e zs x h
       → has_row (queue shape (core zs)) row ≡ true → WriteFateBy shape zs x.tick h row
   standing_fate zs x (Core (Write at line bytes given wrote.Accepted)) row may h = inl (there-push (queue shape (core zs)) _ row h)
   standing_fate zs x (Core (Write at line bytes given (wrote.Merged old))) row may h = merged_fate zs x.tick at line old row bytes given h
@@ -183,7 +183,7 @@ module _ {n m : ℕ} (shape : BankShape) (pace : Pace) (e : ℕ) where
   standing_fate zs x (Core (Iterate did.Exhausted)) row may h = inl h
   standing_fate zs x (Core (Cut tearing)) row may h = inl h
 
-  served_fate : (zs : List (Timed n m)) (tick row : ℕ) (owed : List ℕ) (ws : List Awaited) (answer : Served n) → IsServed shape (core zs) ws answer
+  served_fate : (zs : List (TimedEvent n m)) (tick row : ℕ) (owed : List ℕ) (ws : List Awaited) (answer : Served n) → IsServed shape (core zs) ws answer
       → Awaits ws row owed → Awaits (drop 1 ws) row owed ⊎ IsSettled owed (unwrap_or (on_row answer.row row (out.Read tick answer.place answer.bytes)) (outcome_of shape zs row))
   served_fate zs tick row owed [] answer s a = absurd a
   served_fate zs tick row owed (w ∷ ws) answer s (inr a) = inl a
@@ -191,12 +191,12 @@ module _ {n m : ℕ} (shape : BankShape) (pace : Pace) (e : ℕ) where
       inr (subst (λ b. IsSettled owed (unwrap_or (cond b (Some (out.Read tick answer.place answer.bytes)) None) (outcome_of shape zs row)))
       (sym (eq-eqb answer.row row (s.0 ∙ a.0))) (s.2 ∙ a.1))
 
-  lost_fate : (zs : List (Timed n m)) (tick row : ℕ) (owed : List ℕ) (b : Bool) → b ≡ true
+  lost_fate : (zs : List (TimedEvent n m)) (tick row : ℕ) (owed : List ℕ) (b : Bool) → b ≡ true
       → IsSettled owed (unwrap_or (cond b (Some (out.Lost tick)) None) (outcome_of shape zs row))
   lost_fate zs tick row owed true is = tt
   lost_fate zs tick row owed false is = absurd (cc)
 
-  waiting_fate : (zs : List (Timed n m)) (x : Timed n m) (h : Happens n) (row : ℕ) (owed : List ℕ) → MayCome shape pace e zs x h
+  waiting_fate : (zs : List (TimedEvent n m)) (x : TimedEvent n m) (h : Happens n) (row : ℕ) (owed : List ℕ) → MayCome shape pace e zs x h
       → Awaits (waits shape (core zs)) row owed → ReadFateBy shape zs x.tick h row owed
   waiting_fate zs x (Core (Write at line bytes given answer)) row owed may a = inl a
   waiting_fate zs x (Core (Read at line came.Waiting)) row owed may a = inl (awaits-push (waits shape (core zs)) _ row owed a)
@@ -209,7 +209,7 @@ module _ {n m : ℕ} (shape : BankShape) (pace : Pace) (e : ℕ) where
   waiting_fate zs x (Core (Cut tearing)) row owed may a = inr (lost_fate zs x.tick row owed (has_wait (waits shape (core zs)) row) (awaits-has (waits shape (core zs)) row owed a))
 
   -- over any later events
-  pub write_fate : (later zs : List (Timed n m)) (row : ℕ) → Lawful shape pace e (later ++ zs) → WriteFate shape zs row → WriteFate shape (later ++ zs) row
+  pub write_fate : (later zs : List (TimedEvent n m)) (row : ℕ) → Lawful shape pace e (later ++ zs) → WriteFate shape zs row → WriteFate shape (later ++ zs) row
   write_fate [] zs row l f = f
   write_fate (x ∷ later) zs row l f = by (write_fate later zs row l.1 f)
     where
@@ -218,7 +218,7 @@ module _ {n m : ℕ} (shape : BankShape) (pace : Pace) (e : ℕ) where
       by (inr left) =
           inr (subst (λ (o : Outcome n). IsLeft o) (sym (step_stays shape pace e (later ++ zs) x x.happens row l.1 (opens shape pace e (later ++ zs) l.1) l.0 (left-set (outcome_of shape (later ++ zs) row) left))) left)
 
-  pub read_fate : (later zs : List (Timed n m)) (row : ℕ) (owed : List ℕ) → Lawful shape pace e (later ++ zs) → ReadFate shape zs row owed → ReadFate shape (later ++ zs) row owed
+  pub read_fate : (later zs : List (TimedEvent n m)) (row : ℕ) (owed : List ℕ) → Lawful shape pace e (later ++ zs) → ReadFate shape zs row owed → ReadFate shape (later ++ zs) row owed
   read_fate [] zs row owed l f = f
   read_fate (x ∷ later) zs row owed l f = by (read_fate later zs row owed l.1 f)
     where

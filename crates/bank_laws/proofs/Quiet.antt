@@ -7,10 +7,10 @@ use Rattle.std.proofs.lemmas.Bool.{lt-leb, and_from}
 use Rattle.result_rows.specs.declared.Outcome.{Outcome}
 use Rattle.result_rows.specs.declared.Outcome.TheVariants as out
 use Rattle.masked_bytes.specs.declared.entry.Entry.{Entry}
-use Rattle.row_laws.specs.declared.Row.{Row}
-use Rattle.row_laws.specs.Answers.{is_worn, accepts}
-use Rattle.row_laws.specs.Rows.{accepted}
-use Rattle.row_laws.specs.Wearing.{worn_row, worn_by, store_fits, is_wear_final, is_wear_earned}
+use Rattle.row_rules.specs.declared.Row.{Row}
+use Rattle.row_rules.specs.Answers.{is_worn, accepts}
+use Rattle.row_rules.specs.Rows.{accepted}
+use Rattle.row_rules.specs.Wearing.{worn_row, worn_by, store_fits, is_wear_final, is_wear_earned}
 use Rattle.bank_shape.specs.declared.BankShape.{BankShape}
 use Rattle.bank_shape.specs.declared.Work.TheVariants.{Nothing}
 use Rattle.bank_shape.specs.declared.answer.WriteAnswer.{WriteAnswer}
@@ -19,7 +19,7 @@ use Rattle.bank_model.specs.Events.{Event, Write, Read, Serve, Begin, Iterate, C
 use Rattle.bank_model.specs.History.{first_or, stores, stored_in, moved_in, due_after, queue, waits, has_exhausted, in_progress}
 use Rattle.bank_model.specs.After.{is_ready, due_work, may_begin_after}
 use Rattle.bank_shape.specs.declared.pace.Pace.{Pace}
-use Rattle.bank_model.specs.Timing.{Happens, Core, Regs, Timed, core, core_of}
+use Rattle.bank_model.specs.Timing.{Happens, Core, Regs, TimedEvent, core, core_of}
 use Rattle.bank_model.specs.Lawful.{Lawful, MayCome}
 use Rattle.bank_laws.specs.Outcomes.{outcome_of, ended, row_with, rows_from}
 use Rattle.bank_laws.specs.Settling.{AreOpen}
@@ -63,9 +63,9 @@ module _ {n : ℕ} (shape : BankShape) (h : List (Event n)) where
       by false false None [] fine none empty m = absurd (cc)
       by false false None (e ∷ es) fine none empty m = absurd (cc)
 
-module _ {n m : ℕ} (shape : BankShape) (pace : Pace) (e : ℕ) (all : List (Timed n m)) where
+module _ {n m : ℕ} (shape : BankShape) (pace : Pace) (e : ℕ) (all : List (TimedEvent n m)) where
   -- where no row is an accepted write the bank is quiet
-  quiet : (later ys : List (Timed n m)) → 1 ≤ shape.psi → Lawful shape pace e all → AreOpen shape all → all ≡ later ++ ys → list_any accepted (rows_from shape all ys) ≡ false
+  quiet : (later ys : List (TimedEvent n m)) → 1 ≤ shape.psi → Lawful shape pace e all → AreOpen shape all → all ≡ later ++ ys → list_any accepted (rows_from shape all ys) ≡ false
       → IsQuiet shape (core ys)
   quiet later [] some l o same none = record { queue = refl; stored = λ region. refl; exhausted = refl; idle = refl }
   quiet later (x ∷ ys) some l o same none =
@@ -133,7 +133,7 @@ module _ {n m : ℕ} (shape : BankShape) (pace : Pace) (e : ℕ) (all : List (Ti
   worn-is_worn tick wrote.Full o is ex = absurd (cc)
   worn-is_worn tick wrote.Exhausted o is ex = ap is_worn is
 
-  final_at : 1 ≤ pace.read → 1 ≤ pace.iter → Lawful shape pace e all → AreOpen shape all → (later : List (Timed n m)) (x : Timed n m) (ys : List (Timed n m)) → all ≡ later ++ x ∷ ys
+  final_at : 1 ≤ pace.read → 1 ≤ pace.iter → Lawful shape pace e all → AreOpen shape all → (later : List (TimedEvent n m)) (x : TimedEvent n m) (ys : List (TimedEvent n m)) → all ≡ later ++ x ∷ ys
       → Passes is_wear_final (rows_from shape all ys) (row_with shape all x.happens x.tick x.cancels) (rows_after shape all later)
   final_at r i l o later x ys same =
       by x.happens x.cancels (may_at shape pace e all later x ys l same) (onwards_at shape pace e all later x ys l same)
@@ -160,7 +160,7 @@ module _ {n m : ℕ} (shape : BankShape) (pace : Pace) (e : ℕ) (all : List (Ti
       by (Core (Cut tearing)) true may on worn = tt
       by (Core (Cut tearing)) false may on worn = refl
 
-  earned_at : 1 ≤ shape.psi → Lawful shape pace e all → AreOpen shape all → (later : List (Timed n m)) (x : Timed n m) (ys : List (Timed n m)) → all ≡ later ++ x ∷ ys
+  earned_at : 1 ≤ shape.psi → Lawful shape pace e all → AreOpen shape all → (later : List (TimedEvent n m)) (x : TimedEvent n m) (ys : List (TimedEvent n m)) → all ≡ later ++ x ∷ ys
       → Passes is_wear_earned (rows_from shape all ys) (row_with shape all x.happens x.tick x.cancels) (rows_after shape all later)
   earned_at some l o later x ys same =
       by x.happens x.cancels (may_at shape pace e all later x ys l same) (onwards_at shape pace e all later x ys l same)

@@ -5,11 +5,11 @@ use Rattle.result_rows.specs.declared.Outcome.{Outcome}
 use Rattle.result_rows.specs.declared.Outcome.TheVariants as out
 use Rattle.masked_bytes.specs.Masked.{laid, gives_all}
 use Rattle.masked_bytes.specs.Entries.{layer_of}
-use Rattle.row_laws.specs.declared.Asks.TheVariants.{Reads}
-use Rattle.row_laws.specs.Answers.{accepts}
-use Rattle.row_laws.specs.Rows as rows
-use Rattle.row_laws.specs.Rows.{each_row}
-use Rattle.row_laws.specs.Serving.{may_have, same_bytes, is_served}
+use Rattle.row_rules.specs.declared.Asks.TheVariants.{Reads}
+use Rattle.row_rules.specs.Answers.{accepts}
+use Rattle.row_rules.specs.Rows as rows
+use Rattle.row_rules.specs.Rows.{each_row}
+use Rattle.row_rules.specs.Serving.{may_have, same_bytes, is_served}
 use Rattle.bank_shape.specs.declared.BankShape.{BankShape}
 use Rattle.bank_shape.specs.declared.answer.WriteAnswer.{WriteAnswer}
 use Rattle.bank_shape.specs.declared.answer.WriteAnswer.TheVariants as wrote
@@ -20,7 +20,7 @@ use Rattle.bank_model.specs.Events.{Event, Write, Read, Serve, Begin, Iterate, C
 use Rattle.bank_model.specs.History.{Awaited, awaited, queue, waits}
 use Rattle.bank_model.specs.Answers.{read_answer}
 use Rattle.bank_shape.specs.declared.pace.Pace.{Pace}
-use Rattle.bank_model.specs.Timing.{Happens, Core, Regs, Timed, core, core_of, is_empty}
+use Rattle.bank_model.specs.Timing.{Happens, Core, Regs, TimedEvent, core, core_of, is_empty}
 use Rattle.bank_shape.specs.Pausing.{gives_way}
 use Rattle.bank_shape.specs.Acting.{Choice, chosen_by}
 use Rattle.bank_model.specs.Running.{choice_after}
@@ -54,7 +54,7 @@ empty-waits : (ws : List Awaited) → not (is_empty ws) ≡ false → ws ≡ []
 empty-waits [] h = refl
 empty-waits (w ∷ ws) h = absurd (cc)
 
-pub idle-waits : {n m : ℕ} (shape : BankShape) (pace : Pace) (xs : List (Timed n m)) → IsIdle shape pace xs → waits shape (core xs) ≡ []
+pub idle-waits : {n m : ℕ} (shape : BankShape) (pace : Pace) (xs : List (TimedEvent n m)) → IsIdle shape pace xs → waits shape (core xs) ≡ []
 idle-waits shape pace xs idle = empty-waits (waits shape (core xs)) (none-waits (gives_way pace.policy) (not (is_empty (waits shape (core xs)))) (choice_after shape pace xs) idle.chosen)
 
 lay_taken : (a b : Bool) (xs ys : List ℕ) → b ≡ true → cond (a && b) xs ys ≡ cond a xs ys
@@ -77,16 +77,16 @@ module _ {n : ℕ} where
       by false true f = absurd (cc)
       by false false f = absurd (cc)
 
-module _ {n m : ℕ} (shape : BankShape) (pace : Pace) (e : ℕ) (all : List (Timed n m)) where
+module _ {n m : ℕ} (shape : BankShape) (pace : Pace) (e : ℕ) (all : List (TimedEvent n m)) where
   -- of each split of a lawful history: its event was allowed, and what it leaves stands in the end
-  pub may_at : (later : List (Timed n m)) (x : Timed n m) (ys : List (Timed n m)) → Lawful shape pace e all → all ≡ later ++ x ∷ ys → MayCome shape pace e ys x x.happens
-  may_at later x ys l same = (lawful_before shape pace e later (x ∷ ys) (subst (λ (xs : List (Timed n m)). Lawful shape pace e xs) same l)).0
+  pub may_at : (later : List (TimedEvent n m)) (x : TimedEvent n m) (ys : List (TimedEvent n m)) → Lawful shape pace e all → all ≡ later ++ x ∷ ys → MayCome shape pace e ys x x.happens
+  may_at later x ys l same = (lawful_before shape pace e later (x ∷ ys) (subst (λ (xs : List (TimedEvent n m)). Lawful shape pace e xs) same l)).0
 
-  pub onwards_at : (later : List (Timed n m)) (x : Timed n m) (ys : List (Timed n m)) → Lawful shape pace e all → all ≡ later ++ x ∷ ys → Onwards shape all ys x.tick x.happens
+  pub onwards_at : (later : List (TimedEvent n m)) (x : TimedEvent n m) (ys : List (TimedEvent n m)) → Lawful shape pace e all → all ≡ later ++ x ∷ ys → Onwards shape all ys x.tick x.happens
   onwards_at later x ys l same =
-      subst (λ (xs : List (Timed n m)). Onwards shape xs ys x.tick x.happens) (sym same) (onwards shape pace e later x ys (subst (λ (xs : List (Timed n m)). Lawful shape pace e xs) same l))
+      subst (λ (xs : List (TimedEvent n m)). Onwards shape xs ys x.tick x.happens) (sym same) (onwards shape pace e later x ys (subst (λ (xs : List (TimedEvent n m)). Lawful shape pace e xs) same l))
 
-  newest_write : (ys : List (Timed n m)) (x : Timed n m) (at row line : ℕ) (bytes : List ℕ) (given : List Bool) (answer : WriteAnswer)
+  newest_write : (ys : List (TimedEvent n m)) (x : TimedEvent n m) (at row line : ℕ) (bytes : List ℕ) (given : List Bool) (answer : WriteAnswer)
       → accepts (ended x.tick (outcome_of shape all row)) ≡ accepting answer → rows.newest (rows_from shape all ys) line ≡ newest (core ys) line
       → cond (eqb at line && accepts (ended x.tick (outcome_of shape all row))) (laid bytes given (rows.newest (rows_from shape all ys) line)) (rows.newest (rows_from shape all ys) line)
       ≡ newest (Write row at bytes given answer ∷ core ys) line
@@ -96,7 +96,7 @@ module _ {n m : ℕ} (shape : BankShape) (pace : Pace) (e : ℕ) (all : List (Ti
   newest_write ys x at row line bytes given wrote.Exhausted acc ih = lay_left (eqb at line) _ _ _ acc ∙ ih
 
   -- the newest bytes by the rows are those by the events
-  pub newest_same : (later ys : List (Timed n m)) (line : ℕ) → Lawful shape pace e all → AreOpen shape all → all ≡ later ++ ys → rows.newest (rows_from shape all ys) line ≡ newest (core ys) line
+  pub newest_same : (later ys : List (TimedEvent n m)) (line : ℕ) → Lawful shape pace e all → AreOpen shape all → all ≡ later ++ ys → rows.newest (rows_from shape all ys) line ≡ newest (core ys) line
   newest_same later [] line l o same = refl
   newest_same later (x ∷ ys) line l o same =
       by x.happens x.cancels (may_at later x ys l same) (onwards_at later x ys l same) (newest_same (later ++ x ∷ []) ys line l o (same ∙ sym (append_assoc later (x ∷ []) ys)))
@@ -132,7 +132,7 @@ module _ {n m : ℕ} (shape : BankShape) (pace : Pace) (e : ℕ) (all : List (Ti
   waited_may tick line row newest owed none is (inr s) = read_may tick line newest owed (outcome_of shape all row) is s
 
   -- the row of each event is served
-  served_at : Lawful shape pace e all → AreOpen shape all → waits shape (core all) ≡ [] → (later : List (Timed n m)) (x : Timed n m) (ys : List (Timed n m)) → all ≡ later ++ x ∷ ys
+  served_at : Lawful shape pace e all → AreOpen shape all → waits shape (core all) ≡ [] → (later : List (TimedEvent n m)) (x : TimedEvent n m) (ys : List (TimedEvent n m)) → all ≡ later ++ x ∷ ys
       → Passes is_served (rows_from shape all ys) (row_with shape all x.happens x.tick x.cancels) (rows_after shape all later)
   served_at l o none later x ys same =
       by x.happens x.cancels (may_at later x ys l same) (onwards_at later x ys l same) (λ line. newest_same (later ++ x ∷ []) ys line l o (same ∙ sym (append_assoc later (x ∷ []) ys)))

@@ -11,7 +11,7 @@ use Rattle.bank_model.specs.Events.{Write, Read, Serve, Begin, Iterate, Cut}
 use Rattle.bank_model.specs.After.{work_after, is_store_of}
 use Rattle.bank_shape.specs.declared.pace.Pace.{Pace}
 use Rattle.bank_shape.specs.Acting.{lasts}
-use Rattle.bank_model.specs.Timing.{Happens, Core, Regs, KeepBegin, KeepIterate, KeepCut, Timed, ends, is_doing, core, last_tick}
+use Rattle.bank_model.specs.Timing.{Happens, Core, Regs, KeepBegin, KeepIterate, KeepCut, TimedEvent, ends, is_doing, core, last_tick}
 use Rattle.bank_model.specs.Running.{drops_begin, started, left_by, running, running_at, chosen_after}
 use Rattle.bank_model.specs.Changes.{change_after}
 use Rattle.bank_model.specs.Lawful.{Lawful, MayCome}
@@ -39,7 +39,7 @@ started-above pace None (Some doing) last tick a r i above e = by (nat_lt last t
 
 module _ {n m : ℕ} (shape : BankShape) (pace : Pace) (e : ℕ) where
   -- what runs after an event ends above it
-  running-above : (xs : List (Timed n m)) → Lawful shape pace e xs → IfSome (running shape pace xs) (λ a. last_tick xs < ends pace a)
+  running-above : (xs : List (TimedEvent n m)) → Lawful shape pace e xs → IfSome (running shape pace xs) (λ a. last_tick xs < ends pace a)
   running-above [] l = tt
   running-above (x ∷ xs) l = by x.happens l.0
     where
@@ -59,7 +59,7 @@ module _ {n m : ℕ} (shape : BankShape) (pace : Pace) (e : ℕ) where
       by (Core (Cut tearing)) may = tt
 
   -- the action that ends at an event ends above the last one
-  ends-after : (xs : List (Timed n m)) (x : Timed n m) (doing : Doing) → 1 ≤ pace.read → 1 ≤ pace.iter → Lawful shape pace e xs
+  ends-after : (xs : List (TimedEvent n m)) (x : TimedEvent n m) (doing : Doing) → 1 ≤ pace.read → 1 ≤ pace.iter → Lawful shape pace e xs
       → running_at shape pace xs x.tick ≡ Some (record { doing = doing; first = x.first }) → x.tick ≡ ends pace (record { doing = doing; first = x.first })
       → last_tick xs < x.tick
   ends-after xs x doing r i l runs at =
@@ -67,7 +67,7 @@ module _ {n m : ℕ} (shape : BankShape) (pace : Pace) (e : ℕ) where
       started-above pace (running shape pace xs) (chosen_after shape pace xs) (last_tick xs) x.tick (record { doing = doing; first = x.first }) r i (running-above xs l) runs in
       omega (arith, above, at)
 
-  pub last-below : (xs : List (Timed n m)) (x : Timed n m) → 1 ≤ pace.read → 1 ≤ pace.iter → Lawful shape pace e (x ∷ xs)
+  pub last-below : (xs : List (TimedEvent n m)) (x : TimedEvent n m) → 1 ≤ pace.read → 1 ≤ pace.iter → Lawful shape pace e (x ∷ xs)
       → IsTrue (ends_action x.happens) → last_tick xs < x.tick
   last-below xs x r i l = by x.happens l.0
     where
@@ -82,7 +82,7 @@ module _ {n m : ℕ} (shape : BankShape) (pace : Pace) (e : ℕ) where
       by (Core (Iterate answer)) may is = ends-after xs x Iterating r i l.1 may.on_time.0.0 may.on_time.0.1
       by (Core (Cut tearing)) may is = absurd (cc)
 
-  pub last_tick-rises : (xs : List (Timed n m)) (x : Timed n m) → 1 ≤ pace.read → 1 ≤ pace.iter → Lawful shape pace e (x ∷ xs) → last_tick xs ≤ x.tick
+  pub last_tick-rises : (xs : List (TimedEvent n m)) (x : TimedEvent n m) → 1 ≤ pace.read → 1 ≤ pace.iter → Lawful shape pace e (x ∷ xs) → last_tick xs ≤ x.tick
   last_tick-rises xs x r i l = by x.happens l.0
     where
       by : (h : Happens n) → MayCome shape pace e xs x h → last_tick xs ≤ x.tick
@@ -97,7 +97,7 @@ module _ {n m : ℕ} (shape : BankShape) (pace : Pace) (e : ℕ) where
       by (Core (Cut tearing)) may = may.on_time.0.1
 
   -- no event is above the last
-  pub ticks-up_to : (xs : List (Timed n m)) → 1 ≤ pace.read → 1 ≤ pace.iter → Lawful shape pace e xs → All (λ y. y.tick ≤ last_tick xs) xs
+  pub ticks-up_to : (xs : List (TimedEvent n m)) → 1 ≤ pace.read → 1 ≤ pace.iter → Lawful shape pace e xs → All (λ y. y.tick ≤ last_tick xs) xs
   ticks-up_to [] r i l = All-nil (λ y. y.tick ≤ 0)
   ticks-up_to (x ∷ xs) r i l =
       let rises : last_tick xs ≤ x.tick = last_tick-rises xs x r i l in

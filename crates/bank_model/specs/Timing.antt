@@ -23,7 +23,7 @@ pub data Happens (n : ℕ) : Type 0 where
   Regs : (event : Keeping) → Happens n
 
 -- an event with its tick, the first tick of its action, the array lines that it sensed, the one that it pulsed or tore, and whether it is a cut that a read made
-pub record Timed (n m : ℕ) : Type 0 where
+pub record TimedEvent (n m : ℕ) : Type 0 where
   pub happens : Happens n
   pub tick : ℕ
   pub first : ℕ
@@ -60,10 +60,10 @@ core_of (Regs event) h = h
 
 module _ {n m : ℕ} where
   -- the core events
-  abbrev pub core : List (Timed n m) → List (Event n)
+  abbrev pub core : List (TimedEvent n m) → List (Event n)
   core [] = []
   core (x ∷ xs) = core_of x.happens (core xs)
 
-  abbrev pub last_tick : List (Timed n m) → ℕ
+  abbrev pub last_tick : List (TimedEvent n m) → ℕ
   last_tick [] = 0
   last_tick (x ∷ xs) = x.tick

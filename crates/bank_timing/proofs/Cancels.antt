@@ -14,7 +14,7 @@ use Rattle.bank_shape.specs.declared.clock.Doing.TheVariants.{Iterating}
 use Rattle.bank_model.specs.Events.{Event, Read, Cut}
 use Rattle.bank_model.specs.History.{Awaited, waits}
 use Rattle.bank_shape.specs.declared.clock.Action.{Action}
-use Rattle.bank_model.specs.Timing.{Timed, core, is_doing, is_writing}
+use Rattle.bank_model.specs.Timing.{TimedEvent, core, is_doing, is_writing}
 use Rattle.bank_laws.specs.Outcomes.{outcome_with}
 use Rattle.bank_model.specs.Touching.{Touches}
 use Rattle.reg_lines.specs.declared.Change.{Change}
@@ -86,7 +86,7 @@ module _ {n m e : ℕ} (clock : ClockState n m e) (line : ℕ) (would : IsTrue (
       -- a cancel of the bank's line write
       pub cancels-work : clock.regs.change ≡ None → Touches clock.tick [] (torn_line tearing clock.bank.running) tearing old new
           → ((h : List (Event n)) → Holds h clock.bank old → Holds (Cut tearing ∷ h) (cut_off clock.bank) new)
-          → (xs : List (Timed n m)) → Leads xs clock old → ReachesBy clock.bank.kept.shape xs (cancel_by clock.regs.change xs clock) (after_cancel clock (cut_off clock.bank) clock.regs) old new
+          → (xs : List (TimedEvent n m)) → Leads xs clock old → ReachesBy clock.bank.kept.shape xs (cancel_by clock.regs.change xs clock) (after_cancel clock (cut_off clock.bank) clock.regs) old new
       cancels-work none touches holds xs leads =
           subst (λ (change : Option Change). ReachesBy clock.bank.kept.shape xs (cancel_by change xs clock) (after_cancel clock (cut_off clock.bank) clock.regs) old new) (sym none)
           (cancel_ends_law n m e line tearing xs clock (cut_off clock.bank) old new leads would none tears (holds (core xs) leads.holds) refl refl
@@ -97,7 +97,7 @@ module _ {n m e : ℕ} (clock : ClockState n m e) (line : ℕ) (would : IsTrue (
 
       -- one of the change's
       pub cancels-change : (change : Change) → clock.regs.change ≡ Some change → Touches clock.tick [] (regs_torn tearing clock.regs) tearing old new → AreHeld (broken_off clock.regs) new
-          → (xs : List (Timed n m)) → Leads xs clock old → ReachesBy clock.bank.kept.shape xs (cancel_by clock.regs.change xs clock) (after_cancel clock clock.bank (broken_off clock.regs)) old new
+          → (xs : List (TimedEvent n m)) → Leads xs clock old → ReachesBy clock.bank.kept.shape xs (cancel_by clock.regs.change xs clock) (after_cancel clock clock.bank (broken_off clock.regs)) old new
       cancels-change change is touches held xs leads =
           subst (λ (change : Option Change). ReachesBy clock.bank.kept.shape xs (cancel_by change xs clock) (after_cancel clock clock.bank (broken_off clock.regs)) old new) (sym is)
           (keep_cancel_ends_law n m e line tearing xs clock old new leads would (ap (λ (change : Option Change). is_some change) is) fit tears
@@ -151,7 +151,7 @@ read-waits {n} bank line lacks none some = by (gives_all (layer_of bank.kept.ent
 
 module _ {n m e : ℕ} where
   -- a cancel makes no outcome
-  cancel-quiet : (change : Option Change) (clock : ClockState n m e) (xs : List (Timed n m)) (row : ℕ) → waits clock.bank.kept.shape (core xs) ≡ []
+  cancel-quiet : (change : Option Change) (clock : ClockState n m e) (xs : List (TimedEvent n m)) (row : ℕ) → waits clock.bank.kept.shape (core xs) ≡ []
       → outcome_with clock.bank.kept.shape xs (cancel_by change xs clock).happens (cancel_by change xs clock).tick row ≡ None
   cancel-quiet None clock xs row none = rw none refl
   cancel-quiet (Some change) clock xs row none = refl
@@ -159,17 +159,17 @@ module _ {n m e : ℕ} where
 -- a read cancels what runs: what is true of the clock before, and what the cancel and the read leave
 pub record CancelsRead {n m e : ℕ} (row line : ℕ) (clock : ClockState n m e) (old new : ArrayState n m) (bank : BankState n m e) : Type 0 where
   pub would : IsTrue (cancels_for clock line)
-  pub led : (xs : List (Timed n m)) × Leads xs clock old
+  pub led : (xs : List (TimedEvent n m)) × Leads xs clock old
   pub rises : clock.bank.rows_below ≤ row
-  pub reaches : (xs : List (Timed n m)) → Leads xs clock old → ReachesBy clock.bank.kept.shape xs (cancel_by clock.regs.change xs clock) (cancelled_by clock.regs.change clock) old new
+  pub reaches : (xs : List (TimedEvent n m)) → Leads xs clock old → ReachesBy clock.bank.kept.shape xs (cancel_by clock.regs.change xs clock) (cancelled_by clock.regs.change clock) old new
   pub left : bank ≡ bank_after_read (cancelled_by clock.regs.change clock).bank row line (read_from (cancelled_by clock.regs.change clock).bank line)
   pub holds : (h : List (Event n)) (array : ArrayState n m) → Holds h (cancelled_by clock.regs.change clock).bank array
       → Holds (Read row line (read_from (cancelled_by clock.regs.change clock).bank line) ∷ h) bank array
 
 -- the calls say so: the cancel leaves this clock, and its bank then takes the read
 pub cancels-read : {n m e : ℕ} (row line : ℕ) (clock now : ClockState n m e) (old new : ArrayState n m) (bank : BankState n m e) (answer : ReadAnswer n)
-    → now ≡ cancelled_by clock.regs.change clock → IsTrue (cancels_for clock line) → (xs : List (Timed n m)) × Leads xs clock old → clock.bank.rows_below ≤ row
-    → ((xs : List (Timed n m)) → Leads xs clock old → ReachesBy clock.bank.kept.shape xs (cancel_by clock.regs.change xs clock) now old new)
+    → now ≡ cancelled_by clock.regs.change clock → IsTrue (cancels_for clock line) → (xs : List (TimedEvent n m)) × Leads xs clock old → clock.bank.rows_below ≤ row
+    → ((xs : List (TimedEvent n m)) → Leads xs clock old → ReachesBy clock.bank.kept.shape xs (cancel_by clock.regs.change xs clock) now old new)
     → answer ≡ read_from now.bank line → bank ≡ bank_after_read now.bank row line answer
     → ((h : List (Event n)) (array : ArrayState n m) → Holds h now.bank array → Holds (Read row line answer ∷ h) bank array)
     → CancelsRead row line clock old new bank
@@ -213,7 +213,7 @@ module _ {n m e row line : ℕ} {clock : ClockState n m e} {old new : ArrayState
   ended = with_bank bank behind
 
   -- each history that led to the clock goes on with the cancel and its read
-  pub cancel-extends : (results : List (Outcome n)) → (xs : List (Timed n m)) → Leads xs clock old
+  pub cancel-extends : (results : List (Outcome n)) → (xs : List (TimedEvent n m)) → Leads xs clock old
       → Extends xs (arrival clock.tick (Read row line (read_from clock.bank line)) ∷ cancel_by clock.regs.change xs clock ∷ []) clock ended old new results results
   cancel-extends results xs leads =
       subst (λ (a : ReadAnswer n). Extends xs (arrival clock.tick (Read row line a) ∷ x ∷ []) clock ended old new results results) (sym waits-before)
@@ -228,7 +228,7 @@ module _ {n m e row line : ℕ} {clock : ClockState n m e} {old new : ArrayState
         outcomes = λ at there. ap (λ (o : Option (Outcome n)). unwrap_or o (outcome_in results at)) (sym (cancel-quiet clock.regs.change clock xs at (waits-none (sym leads.holds.waiting ∙ none-waits clock line c.would))));
       })
     where
-      x : Timed n m
+      x : TimedEvent n m
       x = cancel_by clock.regs.change xs clock
 
       by-cancel : ReachesBy clock.bank.kept.shape xs x behind old new
@@ -274,8 +274,8 @@ module _ {n m e row line : ℕ} {clock : ClockState n m e} {old new : ArrayState
       }
 
 -- whether a cancel comes first
-pub first-then : {n m e : ℕ} (xs : List (Timed n m)) (clock : ClockState n m e) (line : ℕ) → cancels_for clock line ≡ true → cancel_first xs clock line ≡ cancel_by clock.regs.change xs clock ∷ []
+pub first-then : {n m e : ℕ} (xs : List (TimedEvent n m)) (clock : ClockState n m e) (line : ℕ) → cancels_for clock line ≡ true → cancel_first xs clock line ≡ cancel_by clock.regs.change xs clock ∷ []
 first-then {n} {m} xs clock line would = ap (λ (b : Bool). if b then cancel_by clock.regs.change xs clock ∷ [] else []) would
 
-pub first-else : {n m e : ℕ} (xs : List (Timed n m)) (clock : ClockState n m e) (line : ℕ) → cancels_for clock line ≡ false → cancel_first xs clock line ≡ []
+pub first-else : {n m e : ℕ} (xs : List (TimedEvent n m)) (clock : ClockState n m e) (line : ℕ) → cancels_for clock line ≡ false → cancel_first xs clock line ≡ []
 first-else {n} {m} xs clock line quiet = ap (λ (b : Bool). if b then cancel_by clock.regs.change xs clock ∷ [] else []) quiet

@@ -12,7 +12,7 @@ use Rattle.bank_shape.specs.declared.clock.Doing.TheVariants.{Serving, Beginning
 use Rattle.bank_shape.specs.declared.clock.Action.{Action}
 use Rattle.bank_model.specs.Events.{Event, Cut}
 use Rattle.bank_model.specs.History.{waits}
-use Rattle.bank_model.specs.Timing.{Timed, core, is_doing, same_doing}
+use Rattle.bank_model.specs.Timing.{TimedEvent, core, is_doing, same_doing}
 use Rattle.bank_model.specs.Touching.{Touches}
 use Rattle.bank_shape.specs.declared.waiting.Waiting.{Waiting}
 use Rattle.bank_invariant.specs.State.{BankState, Operation}
@@ -152,20 +152,20 @@ not-some (Some a) is = absurd (cc)
 -- a cut meets a clock whose action has what it needs: some history leads there over an array, and the rows that stand have no outcome yet
 pub record MeetsCut {n m e : ℕ} (clock : ClockState n m e) (old : ArrayState n m) (results : List (Outcome n)) : Type 0 where
   pub fit : IsFit clock.bank clock.regs clock.action
-  pub led : (xs : List (Timed n m)) × Leads xs clock old
+  pub led : (xs : List (TimedEvent n m)) × Leads xs clock old
   pub unset : AreOpen clock.bank results
 
 -- what a power cut asks for says so
 pub meets : {n m e : ℕ} {clock now : ClockState n m e} {old : ArrayState n m} {results : List (Outcome n)} → clock ≡ now
-    → IsFit clock.bank clock.regs clock.action → (xs : List (Timed n m)) × Leads xs now old → AreOpen now.bank results → MeetsCut clock old results
+    → IsFit clock.bank clock.regs clock.action → (xs : List (TimedEvent n m)) × Leads xs now old → AreOpen now.bank results → MeetsCut clock old results
 meets {n = n} {m = m} {e = e} {old = old} {results = results} view fit led unset = record {
   fit = fit;
-  led = subst (λ (clock : ClockState n m e). (xs : List (Timed n m)) × Leads xs clock old) (sym view) led;
+  led = subst (λ (clock : ClockState n m e). (xs : List (TimedEvent n m)) × Leads xs clock old) (sym view) led;
   unset = subst (λ (clock : ClockState n m e). AreOpen clock.bank results) (sym view) unset;
 }
 
 -- what a line write of the bank pulses or tears is no control line
-pub work-leaves : {n m e : ℕ} (xs : List (Timed n m)) (clock : ClockState n m e) (old new : ArrayState n m) (tick : ℕ) (tearing : Bool) → Leads xs clock old
+pub work-leaves : {n m e : ℕ} (xs : List (TimedEvent n m)) (clock : ClockState n m e) (old new : ArrayState n m) (tick : ℕ) (tearing : Bool) → Leads xs clock old
     → Touches tick [] (torn_line tearing clock.bank.running) tearing old new → LeavesControls clock.regs old new
 work-leaves {n} {m} {e} xs clock old new tick tearing leads touches = record { lines = touches.lines; controls = by tearing clock.bank.running refl touches }
   where
@@ -274,7 +274,7 @@ module _ {n m e : ℕ} {clock : ClockState n m e} {old : ArrayState n m} {result
             (subst (λ (b : Bool). Touches clock.tick [] (regs_torn b clock.regs) b between later) change_is second) third
 
         -- each history that led to the clock goes on with the cut
-        pub cut-extends : (xs : List (Timed n m)) → Leads xs clock old
+        pub cut-extends : (xs : List (TimedEvent n m)) → Leads xs clock old
             → Extends xs (cut xs clock new ∷ []) clock (after_cut clock after) old new results recorded
         cut-extends xs leads = record {
           leads = ends.leads;
@@ -303,4 +303,4 @@ module _ {n m e : ℕ} {clock : ClockState n m e} {old : ArrayState n m} {result
 -- what a cut promises of every history that led to the clock
 abbrev pub CutExtends : {n m e : ℕ} → ClockState n m e → ClockState n m e → ArrayState n m → ArrayState n m → List (Outcome n) → List (Outcome n) → Type 0
 CutExtends {n} {m} clock new before after results recorded =
-    (xs : List (Timed n m)) → Leads xs clock before → Extends xs (cut xs clock after ∷ []) clock new before after results recorded
+    (xs : List (TimedEvent n m)) → Leads xs clock before → Extends xs (cut xs clock after ∷ []) clock new before after results recorded

@@ -14,7 +14,7 @@ use Rattle.bank_shape.specs.declared.answer.ReadAnswer.TheVariants as came
 use Rattle.bank_model.specs.Events.{Event, Read}
 use Rattle.bank_model.specs.History.{Awaited, waits}
 use Rattle.bank_shape.specs.declared.pace.Pace.{Pace}
-use Rattle.bank_model.specs.Timing.{Timed, Core, core}
+use Rattle.bank_model.specs.Timing.{TimedEvent, Core, core}
 use Rattle.bank_model.specs.Lawful.{Lawful}
 use Rattle.bank_laws.specs.Outcomes.{outcome_by}
 use Rattle.bank_shape.specs.declared.waiting.Waiting.{Waiting}
@@ -83,7 +83,7 @@ module _ {n m e : ℕ} where
   -- an arrival leaves each other row
   pub arrival-others : (arrives : ℕ) (event : Event n) (clock new : ClockState n m e) (array : ArrayState n m) (results recorded : List (Outcome n))
       → ((row : ℕ) → row ≢ arrives → (is_arrival_of (Core event) row || false) ≡ false)
-      → (xs : List (Timed n m)) → Leads xs clock array → Extends xs (arrival clock.tick event ∷ []) clock new array array results recorded
+      → (xs : List (TimedEvent n m)) → Leads xs clock array → Extends xs (arrival clock.tick event ∷ []) clock new array array results recorded
       → LeavesOthersThan arrives clock.bank results recorded
   arrival-others arrives event clock new array results recorded quiet xs leads extends row there other unqueued unawaited =
       let lawful : Lawful clock.bank.kept.shape clock.pace e (arrival clock.tick event ∷ xs) =
@@ -95,7 +95,7 @@ module _ {n m e : ℕ} where
 -- a bank takes a read, with an answer: what is true of its clock and of the results before, and what the bank promises
 pub record TakesRead {n m e : ℕ} (row line : ℕ) (clock : ClockState n m e) (results : List (Outcome n)) (answer : ReadAnswer n) (bank : BankState n m e) : Type 0 where
   pub quiet : cancels_for clock line ≡ false
-  pub led : (xs : List (Timed n m)) × (array : ArrayState n m) × Leads xs clock array
+  pub led : (xs : List (TimedEvent n m)) × (array : ArrayState n m) × Leads xs clock array
   pub rises : clock.bank.rows_below ≤ row
   pub unset : AreOpen clock.bank results
   pub fresh : IsOpen results row
@@ -136,7 +136,7 @@ read-keeps bank row line came.Busy = record { shape = refl; items = λ item. ref
 
 module _ {n m e row line : ℕ} {clock : ClockState n m e} {results : List (Outcome n)} {answer : ReadAnswer n} {bank : BankState n m e} (r : TakesRead row line clock results answer bank) where
   -- each history that led to the clock goes on with the arrival of the read
-  pub read-extends : (xs : List (Timed n m)) (array : ArrayState n m) → Leads xs clock array
+  pub read-extends : (xs : List (TimedEvent n m)) (array : ArrayState n m) → Leads xs clock array
       → Extends xs (arrival clock.tick (Read row line (read_from clock.bank line)) ∷ []) clock (after_read clock bank line answer) array array results (read_recorded answer clock.tick row results)
   read-extends xs array leads =
       subst (λ (a : ReadAnswer n). Extends xs (arrival clock.tick (Read row line a) ∷ []) clock (after_read clock bank line answer) array array results (read_recorded answer clock.tick row results)) (sym r.answered)

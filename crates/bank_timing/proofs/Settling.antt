@@ -11,7 +11,7 @@ use Rattle.bank_shape.specs.declared.clock.Doing.{Doing}
 use Rattle.bank_shape.specs.declared.clock.Doing.TheVariants.{Serving, Beginning, Iterating}
 use Rattle.bank_shape.specs.declared.clock.Action.{Action}
 use Rattle.bank_shape.specs.Acting.{lasts}
-use Rattle.bank_model.specs.Timing.{ends, Timed}
+use Rattle.bank_model.specs.Timing.{ends, TimedEvent}
 use Rattle.pcm_cells.specs.Device.{ArrayState}
 use Rattle.bank_shape.specs.declared.pace.Pace.{Pace}
 use Rattle.bank_shape.specs.Pausing.{IsPace}
@@ -87,7 +87,7 @@ few-in-all waiting most attempts one a b c d =
     sum : (p : ℕ) → p ≤ 3066 * 3076 → waiting + p + one ≤ 10000000
     sum p h = omega (arith, a, b, d, h)
 
-pub few-actions : {n m e : ℕ} (xs : List (Timed n m)) (clock : ClockState n m e) (array : ArrayState n m) → IsLayout n m e → Leads xs clock array → actions_left clock.bank clock.regs ≤ 10000000
+pub few-actions : {n m e : ℕ} (xs : List (TimedEvent n m)) (clock : ClockState n m e) (array : ArrayState n m) → IsLayout n m e → Leads xs clock array → actions_left clock.bank clock.regs ≤ 10000000
 few-actions {n} {m} {e} xs clock array layout leads =
     few-in-all (length clock.bank.waiting) (most_steps e) (attempts_left clock.bank.kept) (present_left (item_of clock.regs.change) clock.regs.halted clock.regs.writer clock.bank.running)
     (waiting leads.holds.few_waiting leads.holds.kept.shape.few_reads) (most e (few-pointers e (width n) m layout.shape.3 layout.room))

@@ -1,7 +1,7 @@
 -- A bank with its clock, as contracts see it.
 use Rattle.std.specs.Prelude.{ℕ}
 use Rattle.clock_laws.specs.State.{ClockState}
-use Rattle.bank_timing.specs.declared.timed.Timed.TheInside.{Inside}
+use Rattle.bank_timing.specs.declared.clocked.ClockedBank.TheInside.{Inside}
 
 -- the state that contracts name, of the fields that the code has
 abbrev pub clock_of : {n m e : ℕ} → Inside n m e → ClockState n m e

@@ -17,7 +17,7 @@ use Rattle.bank_shape.specs.declared.answer.WriteAnswer.TheVariants as wrote
 use Rattle.bank_model.specs.Events.{Event, Write}
 use Rattle.bank_model.specs.History.{Awaited, queue, waits, has_exhausted}
 use Rattle.bank_model.specs.Answers.{MayAll, head_busy_after}
-use Rattle.bank_model.specs.Timing.{Timed, core}
+use Rattle.bank_model.specs.Timing.{TimedEvent, core}
 use Rattle.bank_laws.specs.Outcomes.{outcome_by}
 use Rattle.bank_shape.specs.declared.waiting.Waiting.{Waiting}
 use Rattle.bank_invariant.specs.State.{BankState}
@@ -102,7 +102,7 @@ module _ {n : ℕ} (es : List (Entry n)) (ws : List (Waiting n)) (next row : ℕ
 
 -- a bank takes a write, with an answer: what is true of its clock and of the results before, and what the bank promises
 pub record TakesWrite {n m e : ℕ} (row line : ℕ) (bytes : List ℕ) (given : List Bool) (clock : ClockState n m e) (results : List (Outcome n)) (answer : WriteAnswer) (bank : BankState n m e) : Type 0 where
-  pub led : (xs : List (Timed n m)) × (array : ArrayState n m) × Leads xs clock array
+  pub led : (xs : List (TimedEvent n m)) × (array : ArrayState n m) × Leads xs clock array
   pub rises : clock.bank.rows_below ≤ row
   pub unset : AreOpen clock.bank results
   pub fresh : IsOpen results row
@@ -119,7 +119,7 @@ write-rows row tick results wrote.Exhausted = rows-set results row (out.Worn tic
 
 module _ {n m e : ℕ} where
   -- a write is merged into the entry of a row that stands in the queue
-  merges-into : (row line : ℕ) (bytes : List ℕ) (given : List Bool) (clock : ClockState n m e) (old : ℕ) (bank : BankState n m e) (array : ArrayState n m) (xs : List (Timed n m)) → Leads xs clock array
+  merges-into : (row line : ℕ) (bytes : List ℕ) (given : List Bool) (clock : ClockState n m e) (old : ℕ) (bank : BankState n m e) (array : ArrayState n m) (xs : List (TimedEvent n m)) → Leads xs clock array
       → bank.kept.shape ≡ clock.bank.kept.shape → Holds (Write row line bytes given (wrote.Merged old) ∷ core xs) bank array → has_row clock.bank.kept.entries old ≡ true
   merges-into row line bytes given clock old bank array xs leads same holds =
       let shape : BankShape = clock.bank.kept.shape in
@@ -159,7 +159,7 @@ module _ {n m e row line : ℕ} {bytes : List ℕ} {given : List Bool} {clock : 
   keeps = subst (λ (b : BankState n m e). KeepsWork clock.bank b) (sym w.left) (write-keeps clock.bank entry_of answer)
 
   -- the row that the write is merged into stands in the queue
-  stands-by : (xs : List (Timed n m)) (array : ArrayState n m) → Leads xs clock array → Stands clock.bank answer
+  stands-by : (xs : List (TimedEvent n m)) (array : ArrayState n m) → Leads xs clock array → Stands clock.bank answer
   stands-by xs array leads = by answer (w.holds (core xs) array leads.holds)
     where
       by : (answer : WriteAnswer) → Holds (Write row line bytes given answer ∷ core xs) bank array → Stands clock.bank answer
@@ -169,7 +169,7 @@ module _ {n m e row line : ℕ} {bytes : List ℕ} {given : List Bool} {clock : 
       by wrote.Exhausted after = tt
 
   -- each history that led to the clock goes on with the arrival of the write
-  pub write-extends : (place : ℕ) → IsPlaceOf bank.kept row place answer → (xs : List (Timed n m)) (array : ArrayState n m) → Leads xs clock array
+  pub write-extends : (place : ℕ) → IsPlaceOf bank.kept row place answer → (xs : List (TimedEvent n m)) (array : ArrayState n m) → Leads xs clock array
       → Extends xs (arrival clock.tick (Write row line bytes given (write_from clock.bank line)) ∷ []) clock (after_write clock bank place answer) array array results (write_recorded answer clock.tick row results)
   write-extends place at xs array leads =
       subst (λ (a : WriteAnswer). Extends xs (arrival clock.tick (Write row line bytes given a) ∷ []) clock (after_write clock bank place answer) array array results (write_recorded answer clock.tick row results)) (sym w.answered)
@@ -189,7 +189,7 @@ module _ {n m e row line : ℕ} {bytes : List ℕ} {given : List Bool} {clock : 
       (λ other apart. no-other row other apart) w.led.0 w.led.2 (write-extends place at w.led.0 w.led.1 w.led.2)
 
   -- the entries are those of the history that the write extends
-  entries-then : (xs : List (Timed n m)) (array : ArrayState n m) → Leads xs clock array → bank.kept.entries ≡ queue clock.bank.kept.shape (Write row line bytes given answer ∷ core xs)
+  entries-then : (xs : List (TimedEvent n m)) (array : ArrayState n m) → Leads xs clock array → bank.kept.entries ≡ queue clock.bank.kept.shape (Write row line bytes given answer ∷ core xs)
   entries-then xs array leads = (w.holds (core xs) array leads.holds).entries ∙ ap (λ shape. queue shape (Write row line bytes given answer ∷ core xs)) keeps.shape
 
   -- the same reads wait

@@ -18,7 +18,7 @@ use Rattle.bank_model.specs.History.{Awaited, queue, waits, due_after, has_exhau
 use Rattle.bank_model.specs.After.{due_work}
 use Rattle.bank_model.specs.Answers.{MayHappen, IsServed, IsDone, head_busy_after}
 use Rattle.bank_shape.specs.declared.pace.Pace.{Pace}
-use Rattle.bank_model.specs.Timing.{Happens, Core, Regs, Timed, core, core_of}
+use Rattle.bank_model.specs.Timing.{Happens, Core, Regs, TimedEvent, core, core_of}
 use Rattle.bank_model.specs.Lawful.{Lawful, MayCome}
 use Rattle.bank_model.specs.Sensing.{most_steps}
 use Rattle.bank_laws.specs.Outcomes.{outcome_by, outcome_with, on_row}
@@ -135,12 +135,12 @@ module _ {n : ℕ} where
 
 module _ {n m : ℕ} (shape : BankShape) (pace : Pace) (e row : ℕ) (before : ℕ → Outcome n) where
   -- a row that neither stands nor waits after events, and whose outcome is as before them
-  record IsAside (added xs : List (Timed n m)) : Type 0 where
+  record IsAside (added xs : List (TimedEvent n m)) : Type 0 where
     queued : has_row (queue shape (core (added ++ xs))) row ≡ false
     waiting : has_wait (waits shape (core (added ++ xs))) row ≡ false
     outcome : outcome_on shape added xs before row ≡ before row
 
-  aside : (added xs : List (Timed n m)) → Lawful shape pace e (added ++ xs) → has_row (queue shape (core xs)) row ≡ false → has_wait (waits shape (core xs)) row ≡ false
+  aside : (added xs : List (TimedEvent n m)) → Lawful shape pace e (added ++ xs) → has_row (queue shape (core xs)) row ≡ false → has_wait (waits shape (core xs)) row ≡ false
       → arrives_with added row ≡ false → IsAside added xs
   aside [] xs lawful none waits_not off = record { queued = none; waiting = waits_not; outcome = refl }
   aside (x ∷ added) xs lawful none waits_not off =
@@ -152,7 +152,7 @@ module _ {n m : ℕ} (shape : BankShape) (pace : Pace) (e row : ℕ) (before : �
         outcome = ap (λ outcome. unwrap_or outcome (outcome_on shape added xs before row)) one.2 ∙ rest.outcome;
       }
     where
-      by : (h : Happens n) (ys : List (Timed n m)) → MayCome shape pace e ys x h → has_row (queue shape (core ys)) row ≡ false → has_wait (waits shape (core ys)) row ≡ false
+      by : (h : Happens n) (ys : List (TimedEvent n m)) → MayCome shape pace e ys x h → has_row (queue shape (core ys)) row ≡ false → has_wait (waits shape (core ys)) row ≡ false
           → is_arrival_of h row ≡ false
           → (has_row (queue shape (core_of h (core ys))) row ≡ false) × (has_wait (waits shape (core_of h (core ys))) row ≡ false) × (outcome_with shape ys h x.tick row ≡ None)
       by (Core event) ys may none waits_not off = (

@@ -19,7 +19,7 @@ use Rattle.bank_model.specs.History.{Awaited, queue, waits, begun, due_after, ha
 use Rattle.bank_model.specs.After.{work_after}
 use Rattle.bank_model.specs.Answers.{MayHappen, IsServed, IsDone, head_busy_after}
 use Rattle.bank_shape.specs.declared.pace.Pace.{Pace}
-use Rattle.bank_model.specs.Timing.{Happens, Core, Regs, Timed, core, core_of}
+use Rattle.bank_model.specs.Timing.{Happens, Core, Regs, TimedEvent, core, core_of}
 use Rattle.bank_model.specs.Lawful.{Lawful, MayCome}
 use Rattle.bank_model.specs.Sensing.{most_steps}
 use Rattle.bank_model.specs.Told.{tick_by, tick_of_row}
@@ -184,7 +184,7 @@ module _ {n : ℕ} (shape : BankShape) (h : List (Event n)) (row tick : ℕ) (be
       kept-by (has_wait (waits shape h) row) (out.Lost tick) (queue shape h) (queue shape h) (waits shape h) [] refl (λ off there. there) (λ off waiting. cc) stands
 
 module _ {n m : ℕ} (shape : BankShape) (pace : Pace) (e row : ℕ) where
-  stands : (xs : List (Timed n m)) → Lawful shape pace e xs → arrives_with xs row ≡ true → Stands shape (core xs) row 0 (outcome_of shape xs row) (queue shape (core xs)) (waits shape (core xs)) (outcome_of shape xs row)
+  stands : (xs : List (TimedEvent n m)) → Lawful shape pace e xs → arrives_with xs row ≡ true → Stands shape (core xs) row 0 (outcome_of shape xs row) (queue shape (core xs)) (waits shape (core xs)) (outcome_of shape xs row)
   stands [] lawful came = cc
   stands (x ∷ xs) lawful came = by x.happens lawful.0 (which (is_arrival_of x.happens row) came (stands xs lawful.1))
     where
@@ -224,7 +224,7 @@ lost_rows_law n m e row tick tearing xs clock array leads =
 
 module _ {n m : ℕ} where
   -- a row that came is below the bound of all
-  came-below : (row line : ℕ) (bytes : List ℕ) (given : List Bool) (answer : WriteAnswer) (later xs : List (Timed n m)) (x : Timed n m) (bound : ℕ) → RowsBelow (core (later ++ x ∷ xs)) bound
+  came-below : (row line : ℕ) (bytes : List ℕ) (given : List Bool) (answer : WriteAnswer) (later xs : List (TimedEvent n m)) (x : TimedEvent n m) (bound : ℕ) → RowsBelow (core (later ++ x ∷ xs)) bound
       → x.happens ≡ Core (Write row line bytes given answer) → (row < bound) × (tick_of_row row (later ++ x ∷ xs) ≡ x.tick)
   came-below row line bytes given answer [] xs x bound below is =
       let P : Happens n → Type 0 = λ h. RowsBelow (core_of h (core xs)) bound in

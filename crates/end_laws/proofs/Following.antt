@@ -6,8 +6,8 @@ use Rattle.result_rows.specs.declared.Outcome.TheVariants as out
 use Rattle.pcm_cells.specs.Device.{ArrayState}
 use Rattle.spare_pool.specs.Table.{Table, line_from}
 use Rattle.spare_pool.proofs.Lines.{line_from-more, line_by-within, line_by-apart}
-use Rattle.row_laws.specs.declared.Row.{Row}
-use Rattle.row_laws.specs.Answers.{stored_before}
+use Rattle.row_rules.specs.declared.Row.{Row}
+use Rattle.row_rules.specs.Answers.{stored_before}
 use Rattle.bank_shape.specs.declared.BankShape.{BankShape}
 use Rattle.bank_shape.specs.Shape.{slots_of, slot_moved}
 use Rattle.power_recovery.specs.Kept.{array_line}
@@ -17,7 +17,7 @@ use Rattle.bank_model.specs.History.{retired, moved_in, stored_in}
 use Rattle.bank_model.specs.After.{slot_after, array_line_after, stands_at_after}
 use Rattle.bank_model.specs.Sensing.{most_steps}
 use Rattle.bank_shape.specs.declared.pace.Pace.{Pace}
-use Rattle.bank_model.specs.Timing.{Happens, Core, Regs, Timed, core, core_of}
+use Rattle.bank_model.specs.Timing.{Happens, Core, Regs, TimedEvent, core, core_of}
 use Rattle.bank_model.specs.Lawful.{Lawful}
 use Rattle.bank_laws.specs.Laws.{IsSized, LeavesArray, is_worn_at}
 use Rattle.bank_laws.specs.Outcomes.{outcome_of, ended, row_with, rows_from}
@@ -89,7 +89,7 @@ module _ (slots slot : ℕ) (before : List ℕ) (exists : slot < slots) where
     follows-event (Iterate (did.Retired at line)) h f = follows-retired (retired h) at f
     follows-event (Iterate did.Exhausted) h f = f
 
-pub follows-later : {n m : ℕ} (slots slot : ℕ) (later zs : List (Timed n m)) → slot < slots → Follows slots slot (retired (core zs)) (retired (core (later ++ zs)))
+pub follows-later : {n m : ℕ} (slots slot : ℕ) (later zs : List (TimedEvent n m)) → slot < slots → Follows slots slot (retired (core zs)) (retired (core (later ++ zs)))
 follows-later slots slot [] zs exists = follows-same slots slot (retired (core zs)) exists
 follows-later {n} slots slot (x ∷ later) zs exists = by x.happens (follows-later slots slot later zs exists)
   where
@@ -97,10 +97,10 @@ follows-later {n} slots slot (x ∷ later) zs exists = by x.happens (follows-lat
     by (Core event) f = follows-event slots slot (retired (core zs)) exists event (core (later ++ zs)) f
     by (Regs event) f = f
 
-module _ {n m : ℕ} (shape : BankShape) (pace : Pace) (e : ℕ) (all : List (Timed n m)) (array : ArrayState n m) (sized : IsSized shape pace) (l : Lawful shape pace e all) (left : LeavesArray e shape all array)
+module _ {n m : ℕ} (shape : BankShape) (pace : Pace) (e : ℕ) (all : List (TimedEvent n m)) (array : ArrayState n m) (sized : IsSized shape pace) (l : Lawful shape pace e all) (left : LeavesArray e shape all array)
     (table : ℕ → ℕ) (is_table : (slot : ℕ) → table slot ≡ array_line_after shape (core all) slot) where
   -- the line that a slot had at some time has its place by the table of the end
-  had_place : (later zs : List (Timed n m)) (slot : ℕ) → all ≡ later ++ zs → slot < slots_of shape
+  had_place : (later zs : List (TimedEvent n m)) (slot : ℕ) → all ≡ later ++ zs → slot < slots_of shape
       → has_place (shape.base + slots_of shape) (is_worn_at e array) (table slot) (array_line_after shape (core zs) slot) ≡ true
   had_place later zs slot same exists =
       ap (λ now. has_place (shape.base + slots_of shape) (is_worn_at e array) now (array_line_after shape (core zs) slot)) (is_table slot) ∙ by f.own
@@ -109,7 +109,7 @@ module _ {n m : ℕ} (shape : BankShape) (pace : Pace) (e : ℕ) (all : List (Ti
       slots = slots_of shape
 
       f : Follows slots slot (retired (core zs)) (retired (core all))
-      f = subst (λ (xs : List (Timed n m)). Follows slots slot (retired (core zs)) (retired (core xs))) (sym same) (follows-later slots slot later zs exists)
+      f = subst (λ (xs : List (TimedEvent n m)). Follows slots slot (retired (core zs)) (retired (core xs))) (sym same) (follows-later slots slot later zs exists)
 
       was : ℕ
       was = line_from slots slot (retired (core zs)) slot
@@ -134,7 +134,7 @@ module _ {n m : ℕ} (shape : BankShape) (pace : Pace) (e : ℕ) (all : List (Ti
   still_there : (rows : List (Row n)) (row line u p : ℕ) → SumsUp shape pace e all array sized l left rows → Asked (core all) row line → IsStoredAt shape all row u p
       → has_place (shape.base + slots_of shape) (is_worn_at e array) (table (slot_moved shape line (region_stores (stored_before u) shape (line / shape.lines) rows / shape.psi))) p ≡ true
   still_there rows row line u p sums asked s =
-      let whole : Lawful shape pace e (s.later ++ s.event ∷ s.before) = subst (λ (xs : List (Timed n m)). Lawful shape pace e xs) s.same l in
+      let whole : Lawful shape pace e (s.later ++ s.event ∷ s.before) = subst (λ (xs : List (TimedEvent n m)). Lawful shape pace e xs) s.same l in
       let before : Lawful shape pace e s.before = (lawful_before shape pace e s.later (s.event ∷ s.before) whole).1 in
       let may = may_all shape pace e s.before before in
       let bound = above_all shape pace e s.before before in
@@ -167,9 +167,9 @@ module _ {n m : ℕ} (shape : BankShape) (pace : Pace) (e : ℕ) (all : List (Ti
   ended-ends tick line rows (out.Stored u p) is = is
   ended-ends tick line rows _ is = refl
 
-  pub still_at : (later : List (Timed n m)) (x : Timed n m) (ys : List (Timed n m)) → all ≡ later ++ x ∷ ys
+  pub still_at : (later : List (TimedEvent n m)) (x : TimedEvent n m) (ys : List (TimedEvent n m)) → all ≡ later ++ x ∷ ys
       → Passes (is_still_there shape (is_worn_at e array) table) (rows_from shape all ys) (row_with shape all x.happens x.tick x.cancels) (rows_after shape all later)
-  still_at later x ys same = by x.happens x.cancels (λ f. between shape all f later x ys same) (λ row line a. subst (λ (xs : List (Timed n m)). Asked (core xs) row line) (sym same) (asked-later shape later (x ∷ ys) row line a))
+  still_at later x ys same = by x.happens x.cancels (λ f. between shape all f later x ys same) (λ row line a. subst (λ (xs : List (TimedEvent n m)). Asked (core xs) row line) (sym same) (asked-later shape later (x ∷ ys) row line a))
     where
       by : (h : Happens n) (cancels : Bool) → SumsUp shape pace e all array sized l left (rows_from shape all ys ++ (row_with shape all h x.tick cancels ++ rows_after shape all later))
           → ((row line : ℕ) → Asked (core_of h (core ys)) row line → Asked (core all) row line)

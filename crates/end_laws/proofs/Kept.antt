@@ -6,16 +6,16 @@ use Rattle.result_rows.specs.declared.Outcome.TheVariants as out
 use Rattle.masked_bytes.specs.declared.entry.Entry.{Entry}
 use Rattle.masked_bytes.specs.Masked.{laid, gives_all}
 use Rattle.masked_bytes.specs.Entries.{layer_of}
-use Rattle.row_laws.specs.Answers.{is_stored}
-use Rattle.row_laws.specs.Rows as rows
-use Rattle.row_laws.specs.Queueing.{unstored}
+use Rattle.row_rules.specs.Answers.{is_stored}
+use Rattle.row_rules.specs.Rows as rows
+use Rattle.row_rules.specs.Queueing.{unstored}
 use Rattle.masked_bytes.proofs.Layering.{laid-over}
 use Rattle.bank_shape.specs.declared.BankShape.{BankShape}
 use Rattle.power_recovery.specs.Kept.{array_line}
 use Rattle.bank_model.specs.History.{queue, moved_in}
 use Rattle.bank_model.specs.Sensing.{most_steps}
 use Rattle.bank_shape.specs.declared.pace.Pace.{Pace}
-use Rattle.bank_model.specs.Timing.{Timed, core, last_tick}
+use Rattle.bank_model.specs.Timing.{TimedEvent, core, last_tick}
 use Rattle.bank_model.specs.Lawful.{Lawful}
 use Rattle.bank_laws.specs.Laws.{IsSized}
 use Rattle.bank_laws.specs.Pairs.{has_line, ArePaired}
@@ -59,7 +59,7 @@ module _ {n : ℕ} where
   ended-stored tick out.Unset = refl
   ended-stored tick _ = refl
 
-module _ {n m : ℕ} (shape : BankShape) (pace : Pace) (e : ℕ) (all : List (Timed n m)) (sized : IsSized shape pace) (l : Lawful shape pace e all) where
+module _ {n m : ℕ} (shape : BankShape) (pace : Pace) (e : ℕ) (all : List (TimedEvent n m)) (sized : IsSized shape pace) (l : Lawful shape pace e all) where
   -- which bytes of a line the rows show as not stored
   unstored-since : (line : ℕ) → unstored is_stored line (table_of shape all) ≡ since (core all) line (floor_of (outcome_of shape all) (core all) line)
   unstored-since line =

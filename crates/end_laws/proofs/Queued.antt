@@ -5,15 +5,15 @@ use Rattle.std.proofs.lemmas.Bool.{eq-eqb, and_from, or_left, or_right}
 use Rattle.masked_bytes.specs.declared.entry.Entry.{Entry}
 use Rattle.masked_bytes.specs.Masked.{gives_all}
 use Rattle.result_rows.specs.declared.Outcome.TheVariants as out
-use Rattle.row_laws.specs.declared.Row.{Row}
-use Rattle.row_laws.specs.Answers.{is_queued}
-use Rattle.row_laws.specs.Rows.{write_of}
+use Rattle.row_rules.specs.declared.Row.{Row}
+use Rattle.row_rules.specs.Answers.{is_queued}
+use Rattle.row_rules.specs.Rows.{write_of}
 use Rattle.bank_shape.specs.declared.BankShape.{BankShape}
 use Rattle.bank_model.specs.Events.{Write, Read, Serve, Begin, Iterate, Cut}
 use Rattle.bank_model.specs.History.{queue}
 use Rattle.bank_model.specs.Sensing.{most_steps}
 use Rattle.bank_shape.specs.declared.pace.Pace.{Pace}
-use Rattle.bank_model.specs.Timing.{Happens, Core, Regs, Timed, core, core_of}
+use Rattle.bank_model.specs.Timing.{Happens, Core, Regs, TimedEvent, core, core_of}
 use Rattle.bank_model.specs.Lawful.{Lawful}
 use Rattle.bank_laws.specs.Outcomes.{outcome_of, ended, row_with, rows_from, table_of}
 use Rattle.bank_laws.proofs.Lines.{Stands, stands-row}
@@ -23,9 +23,9 @@ use Rattle.place_laws.proofs.Asked.{Wrote, queue-wrote}
 use Rattle.end_laws.specs.Ends.{is_excused}
 use Rattle.end_laws.specs.EndLaws.{QueuedLaw, whole_head}
 
-module _ {n m : ℕ} (shape : BankShape) (all : List (Timed n m)) where
+module _ {n m : ℕ} (shape : BankShape) (all : List (TimedEvent n m)) where
   -- a row that was written and has no outcome is queued in the end
-  any_queued : (row line : ℕ) → outcome_of shape all row ≡ out.Unset → (ys : List (Timed n m)) → Wrote (core ys) row line
+  any_queued : (row line : ℕ) → outcome_of shape all row ≡ out.Unset → (ys : List (TimedEvent n m)) → Wrote (core ys) row line
       → list_any (λ (r : Row n). write_of line r && is_queued r.outcome) (rows_from shape all ys) ≡ true
   any_queued row line unset [] w = absurd w
   any_queued row line unset (y ∷ ys) w = by y.happens y.cancels w (λ w. any_queued row line unset ys w)
@@ -44,7 +44,7 @@ module _ {n m : ℕ} (shape : BankShape) (all : List (Timed n m)) where
       by (Core (Cut tearing)) true w go = go w
       by (Core (Cut tearing)) false w go = go w
 
-module _ {n m : ℕ} (shape : BankShape) (pace : Pace) (e : ℕ) (all : List (Timed n m)) (l : Lawful shape pace e all) where
+module _ {n m : ℕ} (shape : BankShape) (pace : Pace) (e : ℕ) (all : List (TimedEvent n m)) (l : Lawful shape pace e all) where
   stands-queued : (row line : ℕ) → Stands (queue shape (core all)) row line → list_any (λ (r : Row n). write_of line r && is_queued r.outcome) (table_of shape all) ≡ true
   stands-queued row line s =
       let bound = above_all shape pace e all l in

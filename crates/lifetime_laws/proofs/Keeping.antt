@@ -19,7 +19,7 @@ use Rattle.bank_model.specs.Changes.{change_after, change_by, changed_by, keepin
 use Rattle.bank_model.specs.Running.{running_at, cancels_after, cancels_with}
 use Rattle.bank_model.specs.Sensing.{is_at, most_steps, pulses_of, pulsed_by, torn_control, kept_pulsed}
 use Rattle.bank_shape.specs.declared.pace.Pace.{Pace}
-use Rattle.bank_model.specs.Timing.{Happens, Core, Regs, KeepBegin, KeepIterate, KeepCut, Timed, is_doing, core, core_of}
+use Rattle.bank_model.specs.Timing.{Happens, Core, Regs, KeepBegin, KeepIterate, KeepCut, TimedEvent, is_doing, core, core_of}
 use Rattle.bank_model.specs.Lawful.{Lawful, MayCome}
 use Rattle.bank_laws.specs.Laws.{IsSized}
 use Rattle.bank_laws.proofs.Changing.{halted-stops}
@@ -364,14 +364,14 @@ begun-item shape item h answer None is = refl
 begun-item shape item h answer (Some other) is = absurd (cc (is))
 
 module _ {n m : ℕ} (shape : BankShape) (pace : Pace) (e item : ℕ) where
-  abbrev pub Kept : List (Timed n m) → Type 0
+  abbrev pub Kept : List (TimedEvent n m) → Type 0
   Kept xs =
       IsKept (most_steps e) (pulses_of xs (control_line shape item)) (rounds_after xs) (changes_of shape item (core xs)) (cuts_in xs) (cancels_after xs)
       (is_item item (change_after shape xs)) (keeping_after xs) (halted_after xs) (is_cancelling pace.policy)
 
 module _ {n m : ℕ} (shape : BankShape) (pace : Pace) (e item : ℕ) (sized : IsSized shape pace) where
   -- the bank's own line write writes no control line
-  target-low : (xs : List (Timed n m)) → Lawful shape pace e xs → target_after shape (core xs) < control_line shape item
+  target-low : (xs : List (TimedEvent n m)) → Lawful shape pace e xs → target_after shape (core xs) < control_line shape item
   target-low xs l =
       let may = may_all shape pace e xs l in
       let b = above_all shape pace e xs l in
@@ -379,7 +379,7 @@ module _ {n m : ℕ} (shape : BankShape) (pace : Pace) (e item : ℕ) (sized : I
       let table : Table = record { slots = slots_of shape; spares = shape.spares; replaced = retired (core xs) } in
       omega (arith, line_by-within table (slot_of_work shape (core xs) (work_after shape (core xs))) own, retired-few shape (most_steps e) (core xs) may)
 
-  pub kept : (xs : List (Timed n m)) → Lawful shape pace e xs → Kept shape pace e item xs
+  pub kept : (xs : List (TimedEvent n m)) → Lawful shape pace e xs → Kept shape pace e item xs
   kept [] l = record {
     ended = 0;
     broken = 0;

@@ -16,7 +16,7 @@ use Rattle.bank_model.specs.Running.{running_at}
 use Rattle.bank_shape.specs.declared.clock.Action.{Action}
 use Rattle.bank_shape.specs.declared.clock.Doing.TheVariants.{Iterating}
 use Rattle.bank_shape.specs.declared.pace.Pace.{Pace}
-use Rattle.bank_model.specs.Timing.{Happens, Core, Regs, Keeping, KeepBegin, KeepIterate, KeepCut, Timed, core, core_of, is_doing}
+use Rattle.bank_model.specs.Timing.{Happens, Core, Regs, Keeping, KeepBegin, KeepIterate, KeepCut, TimedEvent, core, core_of, is_doing}
 use Rattle.bank_model.specs.Lawful.{Lawful, MayCome}
 use Rattle.bank_laws.proofs.Waiting.{may_all}
 use Rattle.place_laws.proofs.Pulsing.{begins-idle}
@@ -64,10 +64,10 @@ module _ (w works pulses new : ℕ) where
   cut-step false false false k few more room tears = let same : w * (0 + works) ≡ w * works = omega arith in omega (arith, few, more, same)
 
 module _ {n m : ℕ} (shape : BankShape) (pace : Pace) (e at : ℕ) (low : at < controls_from shape) where
-  abbrev Few : List (Timed n m) → Type 0
+  abbrev Few : List (TimedEvent n m) → Type 0
   Few xs = pulses_of xs at ≤ most_steps e * works_on shape at (core xs) + held_on shape at (core xs)
 
-  room : (xs : List (Timed n m)) → Lawful shape pace e xs → Room (most_steps e) (core xs)
+  room : (xs : List (TimedEvent n m)) → Lawful shape pace e xs → Room (most_steps e) (core xs)
   room [] l = λ is. absurd (cc (is))
   room (x ∷ xs) l = by x.happens l.0 (room xs l.1)
     where
@@ -80,7 +80,7 @@ module _ {n m : ℕ} (shape : BankShape) (pace : Pace) (e at : ℕ) (low : at < 
       by (Core (Cut tearing)) may r = λ is. absurd (cc (is))
       by (Regs event) may r = r
 
-  pub pulses-few : (xs : List (Timed n m)) → Lawful shape pace e xs → Few xs
+  pub pulses-few : (xs : List (TimedEvent n m)) → Lawful shape pace e xs → Few xs
   pulses-few [] l = omega arith
   pulses-few (x ∷ xs) l = by x.happens l.0 (pulses-few xs l.1)
     where

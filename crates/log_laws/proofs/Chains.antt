@@ -6,9 +6,9 @@ use Rattle.std.proofs.lemmas.List.Elements.{All-head, All-tail}
 use Rattle.std.specs.Prelude.{nat_le, nat_lt, All}
 use Rattle.std.specs.List.{list_any}
 use Rattle.pcm_cells.specs.declared.array.Sense.{Sense}
-use Rattle.row_laws.specs.declared.Row.{Row}
-use Rattle.row_laws.specs.declared.Rules.{Rules}
-use Rattle.row_laws.specs.Wearing.{worn_row}
+use Rattle.row_rules.specs.declared.Row.{Row}
+use Rattle.row_rules.specs.declared.Rules.{Rules}
+use Rattle.row_rules.specs.Wearing.{worn_row}
 use Rattle.bank_laws.specs.Logs.{is_broken, follows, follow_on, begins_unpulsed}
 use Rattle.bank_laws.proofs.Fates.{eqb-same}
 

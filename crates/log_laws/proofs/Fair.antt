@@ -9,7 +9,7 @@ use Rattle.bank_shape.specs.Shape.{slots_of, lines_in, controls_from}
 use Rattle.bank_shape.specs.declared.clock.Doing.TheVariants.{Serving}
 use Rattle.bank_model.specs.History.{waits}
 use Rattle.bank_shape.specs.declared.pace.Pace.{Pace}
-use Rattle.bank_model.specs.Timing.{Timed, core, is_empty}
+use Rattle.bank_model.specs.Timing.{TimedEvent, core, is_empty}
 use Rattle.bank_model.specs.After.{may_begin_after}
 use Rattle.bank_shape.specs.Pausing.{gives_way}
 use Rattle.bank_shape.specs.Acting.{Choice, chosen_by}
@@ -42,15 +42,15 @@ none-begins way reads c is = by (way && reads) c.busy reads c.ready is
     by false false false true is = absurd (cc)
     by false false false false is = refl
 
-module _ {n m : ℕ} (e : ℕ) (shape : BankShape) (pace : Pace) (wears : Bool) (line : ℕ) (wears_is : wears ≡ nat_lt line (controls_from shape)) (all : List (Timed n m)) (sized : IsSized shape pace) (lawful : Lawful shape pace e all) where
-  abbrev Known : List (Timed n m) → Type 0
+module _ {n m : ℕ} (e : ℕ) (shape : BankShape) (pace : Pace) (wears : Bool) (line : ℕ) (wears_is : wears ≡ nat_lt line (controls_from shape)) (all : List (TimedEvent n m)) (sized : IsSized shape pace) (lawful : Lawful shape pace e all) where
+  abbrev Known : List (TimedEvent n m) → Type 0
   Known zs = Shown shape pace (rules_of e shape pace) (rows_from shape all all) wears line all zs
 
   idle-first : Busy shape pace (rules_of e shape pace) (rows_from shape all all) wears line all [] → ⊥
   idle-first (inl k) = absurd (cc (k.1))
   idle-first (inr k) = absurd (cc (k.1))
 
-  known : AreOpen shape all → (pre xs : List (Timed n m)) → all ≡ pre ++ xs → Known xs
+  known : AreOpen shape all → (pre xs : List (TimedEvent n m)) → all ≡ pre ++ xs → Known xs
   known o pre [] same = inl (record { none = refl; unpulsed = refl; untouched = λ b. idle-first b })
   known o pre (x ∷ xs) same =
       step e shape pace wears line wears_is all sized lawful o pre x xs same (known o (pre ++ x ∷ []) xs (same ∙ sym (append_assoc pre (x ∷ []) xs)))

@@ -4,7 +4,7 @@ use Rattle.std.proofs.lemmas.Bool.{or_right}
 use Rattle.std.specs.Prelude.{unwrap_or}
 use Rattle.result_rows.specs.declared.Outcome.{Outcome}
 use Rattle.result_rows.specs.declared.Outcome.TheVariants as out
-use Rattle.row_laws.specs.Answers.{is_stored}
+use Rattle.row_rules.specs.Answers.{is_stored}
 use Rattle.bank_shape.specs.declared.BankShape.{BankShape}
 use Rattle.bank_shape.specs.declared.answer.WriteAnswer.{WriteAnswer}
 use Rattle.bank_shape.specs.declared.answer.WriteAnswer.TheVariants as wrote
@@ -14,7 +14,7 @@ use Rattle.bank_model.specs.Events.{Event, Write, Read, Serve, Begin, Iterate, C
 use Rattle.bank_model.specs.History.{waits}
 use Rattle.bank_model.specs.Sensing.{most_steps}
 use Rattle.bank_shape.specs.declared.pace.Pace.{Pace}
-use Rattle.bank_model.specs.Timing.{Happens, Core, Regs, Timed, core, core_of}
+use Rattle.bank_model.specs.Timing.{Happens, Core, Regs, TimedEvent, core, core_of}
 use Rattle.bank_model.specs.Lawful.{Lawful, MayCome}
 use Rattle.bank_laws.specs.Outcomes.{on_row, outcome_with, outcome_of}
 use Rattle.bank_laws.specs.Standing.{has_wait}
@@ -27,7 +27,7 @@ use Rattle.log_laws.proofs.Covering.{out_in, out-fresh}
 use Rattle.log_laws.proofs.Fitting.{out_with, out_with-not, out_with-kept}
 use Rattle.log_laws.proofs.Naming.{line-kept, up_to-kept}
 
-pub core-append : {n m : ℕ} (mid ys : List (Timed n m)) → core (mid ++ ys) ≡ core mid ++ core ys
+pub core-append : {n m : ℕ} (mid ys : List (TimedEvent n m)) → core (mid ++ ys) ≡ core mid ++ core ys
 core-append [] ys = refl
 core-append {n} {m} (x ∷ mid) ys = by x.happens (core-append mid ys)
   where
@@ -93,7 +93,7 @@ module _ {n : ℕ} where
 
 module _ {n m : ℕ} (shape : BankShape) (pace : Pace) (e : ℕ) where
   -- over one more event
-  step_out : (zs : List (Timed n m)) (y : Timed n m) (h : Happens n) (row line : ℕ) → Lawful shape pace e zs → MayCome shape pace e zs y h → line_of_row row (core zs) ≡ line
+  step_out : (zs : List (TimedEvent n m)) (y : TimedEvent n m) (h : Happens n) (row line : ℕ) → Lawful shape pace e zs → MayCome shape pace e zs y h → line_of_row row (core zs) ≡ line
       → is_stored (outcome_of shape zs row) ≡ out_in line (core zs) row
       → is_stored (unwrap_or (outcome_with shape zs h y.tick row) (outcome_of shape zs row)) ≡ out_in line (core_of h (core zs)) row
   step_out zs y h row line l may is same = either (is_stored (outcome_of shape zs row)) (λ there. stay h may there) (λ isnt. by h isnt (sym same ∙ isnt))
@@ -131,17 +131,17 @@ module _ {n m : ℕ} (shape : BankShape) (pace : Pace) (e : ℕ) where
       by (Core (Iterate did.Exhausted)) isnt none = isnt ∙ sym none
       by (Core (Cut tearing)) isnt none = lost-not (has_wait (waits shape (core zs)) row) y.tick o isnt ∙ sym none
 
-  module _ (x : Timed n m) (ys : List (Timed n m)) (row line : ℕ) (bytes : List ℕ) (given : List Bool) (answer : WriteAnswer) (is : x.happens ≡ Core (Write row line bytes given answer)) where
-    whole : (mid : List (Timed n m)) → core (mid ++ x ∷ ys) ≡ core mid ++ Write row line bytes given answer ∷ core ys
+  module _ (x : TimedEvent n m) (ys : List (TimedEvent n m)) (row line : ℕ) (bytes : List ℕ) (given : List Bool) (answer : WriteAnswer) (is : x.happens ≡ Core (Write row line bytes given answer)) where
+    whole : (mid : List (TimedEvent n m)) → core (mid ++ x ∷ ys) ≡ core mid ++ Write row line bytes given answer ∷ core ys
     whole mid = core-append mid (x ∷ ys) ∙ ap (λ h. core mid ++ core_of h (core ys)) is
 
     -- a write's line and its history, among all events
-    pub line-in : (mid : List (Timed n m)) → Lawful shape pace e (mid ++ x ∷ ys) → line_of_row row (core (mid ++ x ∷ ys)) ≡ line
+    pub line-in : (mid : List (TimedEvent n m)) → Lawful shape pace e (mid ++ x ∷ ys) → line_of_row row (core (mid ++ x ∷ ys)) ≡ line
     line-in mid l =
         let b = above_all shape pace e (mid ++ x ∷ ys) l in
         ap (line_of_row row) (whole mid) ∙ line-kept (core mid) row line bytes given answer (core ys) b.0 (subst (λ h. RowsBelow h b.0) (whole mid) b.1)
 
-    pub up_to-in : (mid : List (Timed n m)) → Lawful shape pace e (mid ++ x ∷ ys) → up_to row (core (mid ++ x ∷ ys)) ≡ Write row line bytes given answer ∷ core ys
+    pub up_to-in : (mid : List (TimedEvent n m)) → Lawful shape pace e (mid ++ x ∷ ys) → up_to row (core (mid ++ x ∷ ys)) ≡ Write row line bytes given answer ∷ core ys
     up_to-in mid l =
         let b = above_all shape pace e (mid ++ x ∷ ys) l in
         ap (up_to row) (whole mid) ∙ up_to-kept (core mid) row line bytes given answer (core ys) b.0 (subst (λ h. RowsBelow h b.0) (whole mid) b.1)
@@ -158,7 +158,7 @@ module _ {n m : ℕ} (shape : BankShape) (pace : Pace) (e : ℕ) where
         by u p (inl k) = absurd (cc (sym k.0 ∙ ap ends_action is))
         by u p (inr s) = let j : ◌≡◌ {A = Outcome n} out.Unset (out.Stored u p) = sym unset ∙ s in absurd (cc)
 
-    pub out-same : (mid : List (Timed n m)) → Lawful shape pace e (mid ++ x ∷ ys) → is_stored (outcome_of shape (mid ++ x ∷ ys) row) ≡ out_in line (core (mid ++ x ∷ ys)) row
+    pub out-same : (mid : List (TimedEvent n m)) → Lawful shape pace e (mid ++ x ∷ ys) → is_stored (outcome_of shape (mid ++ x ∷ ys) row) ≡ out_in line (core (mid ++ x ∷ ys)) row
     out-same [] l =
         unstored-first l
         ∙ sym (ap (λ h. out_in line h row) (whole []) ∙ out-fresh shape (most_steps e) (core ys) row line row (may_all shape pace e ys l.1) (subst (λ h. MayCome shape pace e ys x h) is l.0).asked (omega arith))

@@ -8,7 +8,7 @@ use Rattle.ecp_line.specs.Reading.{decode}
 use Rattle.masked_bytes.specs.Masked.{laid}
 use Rattle.result_rows.specs.declared.Outcome.{Outcome}
 use Rattle.result_rows.specs.declared.Outcome.TheVariants as out
-use Rattle.row_laws.specs.Serving.{same_bytes}
+use Rattle.row_rules.specs.Serving.{same_bytes}
 use Rattle.masked_bytes.proofs.Layering.{laid-over}
 use Rattle.bank_shape.specs.declared.BankShape.{BankShape}
 use Rattle.bank_shape.specs.declared.answer.Served.{Served}
@@ -22,7 +22,7 @@ use Rattle.bank_model.specs.Answers.{IsServed}
 use Rattle.bank_model.specs.Adding.{senses_of}
 use Rattle.bank_model.specs.Sensing.{pulses_of, stand_of, IsLaid, IsReadRight}
 use Rattle.bank_shape.specs.declared.pace.Pace.{Pace}
-use Rattle.bank_model.specs.Timing.{Happens, Core, Regs, Timed, core, core_of}
+use Rattle.bank_model.specs.Timing.{Happens, Core, Regs, TimedEvent, core, core_of}
 use Rattle.bank_model.specs.Lawful.{Lawful, MayCome}
 use Rattle.bank_laws.specs.Logs.{is_sensed}
 use Rattle.bank_laws.specs.Outcomes.{on_row, outcome_with, outcome_of}
@@ -77,11 +77,11 @@ module _ {n : ℕ} where
 
 module _ {n m : ℕ} (shape : BankShape) where
   -- the event answers the row, at its tick
-  abbrev pub AnswersNow : Timed n m → Happens n → ℕ → ℕ → ℕ → List ℕ → Type 0
+  abbrev pub AnswersNow : TimedEvent n m → Happens n → ℕ → ℕ → ℕ → List ℕ → Type 0
   AnswersNow y (Core (Serve answer)) row u p bytes = (answer.row ≡ row) × (y.tick ≡ u) × (answer.place ≡ p) × (answer.bytes ≡ bytes)
   AnswersNow y h row u p bytes = ⊥
 
-  answers-now : (zs : List (Timed n m)) (y : Timed n m) (h : Happens n) (row u p : ℕ) (bytes : List ℕ) → unwrap_or (outcome_with shape zs h y.tick row) (outcome_of shape zs row) ≡ out.Read u p bytes
+  answers-now : (zs : List (TimedEvent n m)) (y : TimedEvent n m) (h : Happens n) (row u p : ℕ) (bytes : List ℕ) → unwrap_or (outcome_with shape zs h y.tick row) (outcome_of shape zs row) ≡ out.Read u p bytes
       → AnswersNow y h row u p bytes ⊎ (outcome_of shape zs row ≡ out.Read u p bytes)
   answers-now zs y (Core (Write at line some given wrote.Accepted)) row u p bytes s = inr s
   answers-now zs y (Core (Write at line some given (wrote.Merged old))) row u p bytes s = inr (not_read old row _ _ u p bytes (λ is. absurd (cc)) s)
@@ -106,7 +106,7 @@ module _ {n m : ℕ} (shape : BankShape) where
 
 module _ {n m : ℕ} (shape : BankShape) (pace : Pace) (e : ℕ) (mine : Awaited) where
   -- a read's row is above those before, so its wait stays the only one
-  only-next : (zs : List (Timed n m)) (y : Timed n m) (h : Happens n) → MayCome shape pace e zs y h → ((row : ℕ) → RowsBelow (core zs) row → mine.row < row) → OnlyOne mine (waits shape (core zs)) → OnlyOne mine (waits shape (core_of h (core zs)))
+  only-next : (zs : List (TimedEvent n m)) (y : TimedEvent n m) (h : Happens n) → MayCome shape pace e zs y h → ((row : ℕ) → RowsBelow (core zs) row → mine.row < row) → OnlyOne mine (waits shape (core zs)) → OnlyOne mine (waits shape (core_of h (core zs)))
   only-next zs y (Core (Write row line bytes given answer)) may above k = k
   only-next zs y (Core (Read row line came.Waiting)) may above k =
       only-push mine _ (waits shape (core zs)) k (λ same. let lt : mine.row < row = above row may.asked in absurd (omega (arith, same, lt)))
@@ -119,7 +119,7 @@ module _ {n m : ℕ} (shape : BankShape) (pace : Pace) (e : ℕ) (mine : Awaited
   only-next zs y (Core (Cut tearing)) may above k = tt
 
   -- what the serve of a read sensed
-  record ServedSense (y : Timed n m) (p : ℕ) (bytes : List ℕ) : Type 0 where
+  record ServedSense (y : TimedEvent n m) (p : ℕ) (bytes : List ℕ) : Type 0 where
     sense : Sense n m
     are : y.senses ≡ sense ∷ []
     line : sense.line ≡ p
@@ -127,7 +127,7 @@ module _ {n m : ℕ} (shape : BankShape) (pace : Pace) (e : ℕ) (mine : Awaited
     over : bytes ≡ laid mine.kept mine.given (decode e sense.cells)
     owed : bytes ≡ mine.newest
 
-  served_first : (zs : List (Timed n m)) (y : Timed n m) (answer : Served n) (ws : List Awaited) → IsServed shape (core zs) ws answer → OnlyOne mine ws → answer.row ≡ mine.row
+  served_first : (zs : List (TimedEvent n m)) (y : TimedEvent n m) (answer : Served n) (ws : List Awaited) → IsServed shape (core zs) ws answer → OnlyOne mine ws → answer.row ≡ mine.row
       → map (λ s. s.line) y.senses ≡ stand_of shape (core zs) ws → All (λ s. (s.tick ≡ y.tick) × (s.pulses ≡ pulses_of (y ∷ zs) s.line)) y.senses
       → ((s : Sense n m) → y.senses ≡ s ∷ [] → IsLaid e ws answer.bytes s.cells) → ServedSense y answer.place answer.bytes
   served_first zs y answer [] served only same lines all right = absurd served
@@ -143,7 +143,7 @@ module _ {n m : ℕ} (shape : BankShape) (pace : Pace) (e : ℕ) (mine : Awaited
         owed = served.2 ∙ ap (λ (w : Awaited). w.newest) is;
       }
 
-  served-sense : (zs : List (Timed n m)) (y : Timed n m) (h : Happens n) (u p : ℕ) (bytes : List ℕ) → MayCome shape pace e zs y h → OnlyOne mine (waits shape (core zs)) → AnswersNow shape y h mine.row u p bytes → (y.tick ≡ u) × ServedSense y p bytes
+  served-sense : (zs : List (TimedEvent n m)) (y : TimedEvent n m) (h : Happens n) (u p : ℕ) (bytes : List ℕ) → MayCome shape pace e zs y h → OnlyOne mine (waits shape (core zs)) → AnswersNow shape y h mine.row u p bytes → (y.tick ≡ u) × ServedSense y p bytes
   served-sense zs y (Core (Serve answer)) u p bytes may only s = (
     s.1,
     subst (λ b. ServedSense y p b) s.3
@@ -157,11 +157,11 @@ module _ {n m : ℕ} (shape : BankShape) (pace : Pace) (e : ℕ) (mine : Awaited
   served-sense zs y (Core (Iterate answer)) u p bytes may only s = absurd s
   served-sense zs y (Core (Cut tearing)) u p bytes may only s = absurd s
 
-  module _ (x : Timed n m) (ys : List (Timed n m)) (line : ℕ) (is : x.happens ≡ Core (Read mine.row line came.Waiting)) (waiting : waits shape (core (x ∷ ys)) ≡ waits shape (core ys) ++ mine ∷ []) where
+  module _ (x : TimedEvent n m) (ys : List (TimedEvent n m)) (line : ℕ) (is : x.happens ≡ Core (Read mine.row line came.Waiting)) (waiting : waits shape (core (x ∷ ys)) ≡ waits shape (core ys) ++ mine ∷ []) where
     asked : Lawful shape pace e (x ∷ ys) → RowsBelow (core ys) mine.row
     asked l = (subst (λ h. MayCome shape pace e ys x h) is l.0).asked
 
-    only-in : (mid : List (Timed n m)) → Lawful shape pace e (mid ++ x ∷ ys) → OnlyOne mine (waits shape (core (mid ++ x ∷ ys)))
+    only-in : (mid : List (TimedEvent n m)) → Lawful shape pace e (mid ++ x ∷ ys) → OnlyOne mine (waits shape (core (mid ++ x ∷ ys)))
     only-in [] l =
         subst (λ ws. OnlyOne mine ws) (sym waiting)
         (only-push mine mine (waits shape (core ys)) (only-lacks mine (waits shape (core ys)) ((stand_apart shape (core ys) mine.row (asked l)).waiting_below mine.row (omega arith))) (λ same. refl))
@@ -175,7 +175,7 @@ module _ {n m : ℕ} (shape : BankShape) (pace : Pace) (e : ℕ) (mine : Awaited
         omega (arith, lt, le)) (only-in mid l.1)
 
     -- a read that waited and was read has its sense
-    pub read-sensed : (mid : List (Timed n m)) → Lawful shape pace e (mid ++ x ∷ ys) → (u p : ℕ) (bytes : List ℕ) → outcome_of shape (mid ++ x ∷ ys) mine.row ≡ out.Read u p bytes
+    pub read-sensed : (mid : List (TimedEvent n m)) → Lawful shape pace e (mid ++ x ∷ ys) → (u p : ℕ) (bytes : List ℕ) → outcome_of shape (mid ++ x ∷ ys) mine.row ≡ out.Read u p bytes
         → is_sensed (decode e) (senses_of (mid ++ x ∷ ys)) p u (λ under. same_bytes bytes (laid mine.newest mine.given under)) ≡ true
     read-sensed [] l u p bytes s =
         by (answers-now shape ys x (Core (Read mine.row line came.Waiting)) mine.row u p bytes (subst (λ h. unwrap_or (outcome_with shape ys h x.tick mine.row) (outcome_of shape ys mine.row) ≡ out.Read u p bytes) is s))

@@ -20,7 +20,7 @@ use Rattle.bank_model.specs.Events.{Event, Write, Read, Serve, Begin, Iterate, C
 use Rattle.bank_model.specs.History.{queue, due_after, has_exhausted, in_progress}
 use Rattle.bank_model.specs.After.{target_after, sources_of, work_after}
 use Rattle.bank_shape.specs.declared.pace.Pace.{Pace}
-use Rattle.bank_model.specs.Timing.{Happens, Core, Regs, Keeping, KeepBegin, KeepIterate, KeepCut, Timed, is_doing, core, core_of, last_tick}
+use Rattle.bank_model.specs.Timing.{Happens, Core, Regs, Keeping, KeepBegin, KeepIterate, KeepCut, TimedEvent, is_doing, core, core_of, last_tick}
 use Rattle.bank_model.specs.Running.{tears_bank, running, running_at, chosen_after, left, left_by}
 use Rattle.bank_model.specs.Changes.{change_after, change_by, written_by, keeping_after, keeping_by, halted_after, halted_by, line_of_change, all_controls}
 use Rattle.bank_model.specs.Sensing.{is_at, most_steps, pulses_of, read_again, kept_sensed}
@@ -89,27 +89,27 @@ tears-none : (change : Option ℕ) (action : Option Action) → true ≡ tears_b
 tears-none None action is = refl
 tears-none (Some item) action is = absurd (cc)
 
-module _ {n m : ℕ} (e : ℕ) (shape : BankShape) (pace : Pace) (wears : Bool) (line : ℕ) (wears_is : wears ≡ nat_lt line (controls_from shape)) (all : List (Timed n m)) (sized : IsSized shape pace) (lawful : Lawful shape pace e all) (open_rows : AreOpen shape all) (pre : List (Timed n m)) (x : Timed n m) (xs : List (Timed n m)) (same : all ≡ pre ++ x ∷ xs) where
-  abbrev Known : List (Timed n m) → Type 0
+module _ {n m : ℕ} (e : ℕ) (shape : BankShape) (pace : Pace) (wears : Bool) (line : ℕ) (wears_is : wears ≡ nat_lt line (controls_from shape)) (all : List (TimedEvent n m)) (sized : IsSized shape pace) (lawful : Lawful shape pace e all) (open_rows : AreOpen shape all) (pre : List (TimedEvent n m)) (x : TimedEvent n m) (xs : List (TimedEvent n m)) (same : all ≡ pre ++ x ∷ xs) where
+  abbrev Known : List (TimedEvent n m) → Type 0
   Known zs = Shown shape pace (rules_of e shape pace) (rows_from shape all all) wears line all zs
 
-  abbrev TornHere : List (Timed n m) → Sense n m → Type 0
+  abbrev TornHere : List (TimedEvent n m) → Sense n m → Type 0
   TornHere zs s = Torn shape pace (rules_of e shape pace) (rows_from shape all all) wears line all zs s
 
-  abbrev UnseenHere : List (Timed n m) → Type 0
+  abbrev UnseenHere : List (TimedEvent n m) → Type 0
   UnseenHere zs = Unseen shape pace (rules_of e shape pace) (rows_from shape all all) wears line all zs
 
-  abbrev SeenHere : List (Timed n m) → Sense n m → List (Sense n m) → Type 0
+  abbrev SeenHere : List (TimedEvent n m) → Sense n m → List (Sense n m) → Type 0
   SeenHere zs s ss = Seen shape pace (rules_of e shape pace) (rows_from shape all all) wears line all zs s ss
 
-  abbrev DueHere : List (Timed n m) → Type 0
+  abbrev DueHere : List (TimedEvent n m) → Type 0
   DueHere zs = Due shape pace (rules_of e shape pace) (rows_from shape all all) wears line all zs
 
-  abbrev BusyHere : List (Timed n m) → Type 0
+  abbrev BusyHere : List (TimedEvent n m) → Type 0
   BusyHere zs = Busy shape pace (rules_of e shape pace) (rows_from shape all all) wears line all zs
 
   here : Lawful shape pace e (x ∷ xs)
-  here = lawful_before shape pace e pre (x ∷ xs) (subst (λ (zs : List (Timed n m)). Lawful shape pace e zs) same lawful)
+  here = lawful_before shape pace e pre (x ∷ xs) (subst (λ (zs : List (TimedEvent n m)). Lawful shape pace e zs) same lawful)
 
   rises : last_tick xs ≤ x.tick
   rises = last_tick-rises shape pace e xs x sized.read sized.iter here

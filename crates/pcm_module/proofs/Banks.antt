@@ -9,9 +9,9 @@ use Rattle.circular_buffer.proofs.Places.{slice_get-set_same, slice_get-set_othe
 use Rattle.pcm_cells.specs.Device.{ArrayState}
 use Rattle.result_rows.specs.declared.Outcome.{Outcome}
 use Rattle.result_rows.specs.Table.{HasRow}
-use Rattle.row_laws.specs.Table.{is_of}
+use Rattle.row_rules.specs.Table.{is_of}
 use Rattle.bank_shape.specs.declared.pace.Pace.{Pace}
-use Rattle.bank_model.specs.Timing.{Timed}
+use Rattle.bank_model.specs.Timing.{TimedEvent}
 use Rattle.module_shape.specs.Addresses.{ModuleShape, bank_shape, array_lines_of}
 use Rattle.clock_laws.specs.State.{ClockState}
 use Rattle.clock_laws.specs.Standing.{arrives_with}
@@ -67,14 +67,14 @@ from_get P o x is p = subst (λ o. IsSomeAnd o P) is p
 
 module _ {n m e : ℕ} (shape : ModuleShape) (pace : Pace) where
   -- each bank replays by its history what was asked of it
-  abbrev pub AllReplay : ℕ → ℕ → (ℕ → List (Timed n m)) → (ℕ → List (Asked n)) → ArrayState n m → List (Outcome n) → List (ClockState n m e) → Type 0
+  abbrev pub AllReplay : ℕ → ℕ → (ℕ → List (TimedEvent n m)) → (ℕ → List (Asked n)) → ArrayState n m → List (Outcome n) → List (ClockState n m e) → Type 0
   AllReplay tick rows h owns array results banks =
       (bank : ℕ) → bank < shape.banks
       → IsSomeAnd (slice_get banks bank) (BankReplays (bank_shape shape bank) pace tick rows (h bank) (owns bank) array results)
 
   -- a row that arrives at one bank leaves each bank replaying: that one with the row, and the others what they did
-  pub all_step : (tick rows later above bank : ℕ) (h grown : ℕ → List (Timed n m)) (owns asked : ℕ → List (Asked n)) (banks : List (ClockState n m e))
-      (added : List (Timed n m)) (a : Asked n) (clock next : ClockState n m e) (before after : ArrayState n m) (results recorded : List (Outcome n))
+  pub all_step : (tick rows later above bank : ℕ) (h grown : ℕ → List (TimedEvent n m)) (owns asked : ℕ → List (Asked n)) (banks : List (ClockState n m e))
+      (added : List (TimedEvent n m)) (a : Asked n) (clock next : ClockState n m e) (before after : ArrayState n m) (results recorded : List (Outcome n))
       → AllReplay tick rows h owns before results banks → bank < shape.banks → slice_get banks bank ≡ Some clock
       → IsStep (h bank) added a clock next before after results recorded → IsAt later above next recorded
       → (grown bank ≡ added ++ h bank) → ((other : ℕ) → other ≢ bank → grown other ≡ h other)

@@ -6,14 +6,14 @@ use Rattle.std.proofs.lemmas.List.Elements.{All-head, All-tail, All-nil, All-con
 use Rattle.masked_bytes.specs.Entries.{has_row}
 use Rattle.result_rows.specs.declared.Outcome.{Outcome}
 use Rattle.result_rows.specs.declared.Outcome.TheVariants as out
-use Rattle.row_laws.specs.declared.Asks.{Asks}
-use Rattle.row_laws.specs.declared.Asks.TheVariants.{Reads, Writes, Cuts}
-use Rattle.row_laws.specs.Table.{is_of}
+use Rattle.row_rules.specs.declared.Asks.{Asks}
+use Rattle.row_rules.specs.declared.Asks.TheVariants.{Reads, Writes, Cuts}
+use Rattle.row_rules.specs.Table.{is_of}
 use Rattle.bank_shape.specs.declared.BankShape.{BankShape}
 use Rattle.bank_shape.specs.declared.answer.WriteAnswer.{WriteAnswer}
 use Rattle.bank_model.specs.Events.{Write, Read, Serve, Begin, Iterate, Cut}
 use Rattle.bank_model.specs.History.{queue}
-use Rattle.bank_model.specs.Timing.{Happens, Core, Regs, Timed, core, core_of}
+use Rattle.bank_model.specs.Timing.{Happens, Core, Regs, TimedEvent, core, core_of}
 use Rattle.bank_model.specs.Told.{tick_by, tick_of_row}
 use Rattle.bank_laws.specs.Outcomes.{ended}
 use Rattle.clock_laws.specs.Standing.{is_arrival_of, arrives_with}
@@ -68,25 +68,25 @@ module _ {n : ℕ} where
 
 module _ {n m : ℕ} (shape : BankShape) where
   -- what has become of a row that asks this, by one event after others: a write has arrived, at its tick; a read doesn't stand in the queue
-  abbrev pub BecomesBy : List (Timed n m) → Happens n → ℕ → Asked n → Asks n → Type 0
+  abbrev pub BecomesBy : List (TimedEvent n m) → Happens n → ℕ → Asked n → Asks n → Type 0
   BecomesBy xs h tick c (Reads line) = has_row (queue shape (core_of h (core xs))) c.row ≡ false
   BecomesBy xs h tick c (Writes line bytes given) =
       (tick_by c.row h tick (tick_of_row c.row xs) ≡ c.tick) × ((is_arrival_of h c.row || arrives_with xs c.row) ≡ true)
   BecomesBy xs h tick c Cuts = Unit {0}
 
   -- what has become of it by all events
-  abbrev pub Becomes : List (Timed n m) → Asked n → Asks n → Type 0
+  abbrev pub Becomes : List (TimedEvent n m) → Asked n → Asks n → Type 0
   Becomes xs c (Reads line) = has_row (queue shape (core xs)) c.row ≡ false
   Becomes xs c (Writes line bytes given) = (tick_of_row c.row xs ≡ c.tick) × (arrives_with xs c.row ≡ true)
   Becomes xs c Cuts = Unit {0}
 
-  lacks_step : (xs : List (Timed n m)) (h : Happens n) (row : ℕ) → is_arrival_of h row ≡ false → has_row (queue shape (core xs)) row ≡ false
+  lacks_step : (xs : List (TimedEvent n m)) (h : Happens n) (row : ℕ) → is_arrival_of h row ≡ false → has_row (queue shape (core xs)) row ≡ false
       → has_row (queue shape (core_of h (core xs))) row ≡ false
   lacks_step xs (Core event) row off none = queue-lacks shape (core xs) row none event off
   lacks_step xs (Regs event) row off none = none
 
   -- an event that isn't the row's arrival
-  becomes_step : (xs : List (Timed n m)) (x : Timed n m) (c : Asked n) → is_arrival_of x.happens c.row ≡ false
+  becomes_step : (xs : List (TimedEvent n m)) (x : TimedEvent n m) (c : Asked n) → is_arrival_of x.happens c.row ≡ false
       → Becomes xs c c.asks → BecomesBy xs x.happens x.tick c c.asks
   becomes_step xs x c off = by c.asks
     where
@@ -97,13 +97,13 @@ module _ {n m : ℕ} (shape : BankShape) where
       by Cuts was = tt
 
   -- a write that has just arrived
-  written : (xs : List (Timed n m)) (tick at line : ℕ) (bytes : List ℕ) (given : List Bool) (answer : WriteAnswer)
+  written : (xs : List (TimedEvent n m)) (tick at line : ℕ) (bytes : List ℕ) (given : List Bool) (answer : WriteAnswer)
       → BecomesBy xs (Core (Write at line bytes given answer)) tick (record { row = at; tick = tick; asks = Writes line bytes given }) (Writes line bytes given)
   written xs tick at line bytes given answer =
       (ap (λ b. if b then tick else tick_of_row at xs) (eq-eqb at at refl), ap (λ b. b || arrives_with xs at) (eq-eqb at at refl))
 
   -- so it is with each row that was asked of a bank
-  pub all_become : (xs : List (Timed n m)) (own : List (Asked n)) → AreAsked xs own → RowsFall own → All (λ c. Becomes xs c c.asks) own
+  pub all_become : (xs : List (TimedEvent n m)) (own : List (Asked n)) → AreAsked xs own → RowsFall own → All (λ c. Becomes xs c c.asks) own
   all_become [] own are falls = subst (λ (own : List (Asked n)). All (λ c. Becomes [] c c.asks) own) (sym are) (All-nil (λ (c : Asked n). Becomes [] c c.asks))
   all_become (x ∷ xs) own are falls =
       by x.happens x.cancels (becomes_step xs x) own are falls (λ rest is rest_falls. all_become xs rest is rest_falls)

@@ -7,11 +7,11 @@ use Rattle.masked_bytes.specs.Entries.{has_row}
 use Rattle.result_rows.specs.declared.Outcome.{Outcome}
 use Rattle.result_rows.specs.declared.Outcome.TheVariants as out
 use Rattle.result_rows.specs.Table.{HasRow}
-use Rattle.row_laws.specs.declared.Asks.{Asks}
-use Rattle.row_laws.specs.declared.Asks.TheVariants.{Reads, Writes, Cuts}
+use Rattle.row_rules.specs.declared.Asks.{Asks}
+use Rattle.row_rules.specs.declared.Asks.TheVariants.{Reads, Writes, Cuts}
 use Rattle.bank_shape.specs.declared.BankShape.{BankShape}
 use Rattle.bank_shape.specs.declared.pace.Pace.{Pace}
-use Rattle.bank_model.specs.Timing.{Timed, core}
+use Rattle.bank_model.specs.Timing.{TimedEvent, core}
 use Rattle.bank_model.specs.Adding.{Adds}
 use Rattle.bank_model.specs.Told.{tick_of_row}
 use Rattle.bank_model.specs.History.{Awaited, queue}
@@ -44,7 +44,7 @@ use Rattle.pcm_module.proofs.Steps.{stays_replayed, own_senses}
 use Rattle.pcm_module.proofs.Arriving.{own_asked}
 use Rattle.pcm_module.proofs.Becoming.{Becomes, all_become, ended_set}
 
-module _ {n m e : ℕ} (xs added : List (Timed n m)) (old new : ClockState n m e) (before after : ArrayState n m) (results recorded : List (Outcome n))
+module _ {n m e : ℕ} (xs added : List (TimedEvent n m)) (old new : ClockState n m e) (before after : ArrayState n m) (results recorded : List (Outcome n))
     (leads : Leads xs old before) (d : Drains xs added old new before after results recorded) where
   drained_lawful : Lawful old.bank.kept.shape old.pace e (added ++ xs)
   drained_lawful =
@@ -178,7 +178,7 @@ module _ {n m e : ℕ} (xs added : List (Timed n m)) (old new : ClockState n m e
       Told : Asked n → Type 0
       Told c = outcome_in recorded c.row ≡ last_outcome old.bank.kept.shape (added ++ xs) c c.asks
 
-  module _ (ys : List (Timed n m)) (clock : ClockState n m e) (asked : List (Asked n)) (own shape : BankShape) (pace : Pace)
+  module _ (ys : List (TimedEvent n m)) (clock : ClockState n m e) (asked : List (Asked n)) (own shape : BankShape) (pace : Pace)
       (of_own : old.bank.kept.shape ≡ own) (shaped : clock.bank.kept.shape ≡ shape) (off : AreOff own shape)
       (has : All (λ c. HasRow results c.row) asked) (apart : All (λ c. arrives_with (added ++ xs) c.row ≡ false) asked) where
     adds : Adds own added before after

@@ -8,7 +8,7 @@ use Rattle.pcm_cells.specs.declared.array.Sense.{Sense}
 use Rattle.pcm_cells.specs.Device.{ArrayState}
 use Rattle.bank_shape.specs.declared.BankShape.{BankShape}
 use Rattle.bank_shape.specs.Shape.{lines_in}
-use Rattle.bank_model.specs.Timing.{Timed}
+use Rattle.bank_model.specs.Timing.{TimedEvent}
 use Rattle.bank_model.specs.Adding.{Adds, senses_of}
 use Rattle.bank_laws.specs.Laws.{log_of}
 use Rattle.clock_laws.specs.State.{ClockState}
@@ -50,13 +50,13 @@ module _ {n m : ℕ} (shape : BankShape) where
           let high : s.line + 1 ≤ other.base + lines_in other = omega (arith, leb-true _ _ (and_second (nat_le other.base s.line) _ is)) in
           elim (off s.line (low, omega arith)) [ inl below ↦ absurd (omega (arith, here.0)) | inr above ↦ absurd (omega (arith, here.1)) ]
 
-senses-append : {n m : ℕ} (added xs : List (Timed n m)) → senses_of (added ++ xs) ≡ senses_of xs ++ senses_of added
+senses-append : {n m : ℕ} (added xs : List (TimedEvent n m)) → senses_of (added ++ xs) ≡ senses_of xs ++ senses_of added
 senses-append [] xs = sym (append-nil (senses_of xs))
 senses-append (x ∷ added) xs = ap (λ s. s ++ x.senses) (senses-append added xs) ∙ append_assoc (senses_of xs) (senses_of added) x.senses
 
-module _ {n m : ℕ} (shape : BankShape) (added : List (Timed n m)) (old new : ArrayState n m) (adds : Adds shape added old new) (own : All (IsOwnSense shape) (senses_of added)) where
+module _ {n m : ℕ} (shape : BankShape) (added : List (TimedEvent n m)) (old new : ArrayState n m) (adds : Adds shape added old new) (own : All (IsOwnSense shape) (senses_of added)) where
   -- the log of a bank gains the senses of its events
-  pub logged_own : (xs : List (Timed n m)) → IsLogged shape xs old → IsLogged shape (added ++ xs) new
+  pub logged_own : (xs : List (TimedEvent n m)) → IsLogged shape xs old → IsLogged shape (added ++ xs) new
   logged_own xs logged log told =
       let was = adds.log log told in
       ap (λ (l : List (Sense n m)). log_of shape l) was.2
@@ -66,7 +66,7 @@ module _ {n m : ℕ} (shape : BankShape) (added : List (Timed n m)) (old new : A
       ∙ sym (senses-append added xs)
 
   -- that of another bank stays
-  pub logged_off : (other : BankShape) (xs : List (Timed n m)) → AreOff shape other → IsLogged other xs old → IsLogged other xs new
+  pub logged_off : (other : BankShape) (xs : List (TimedEvent n m)) → AreOff shape other → IsLogged other xs old → IsLogged other xs new
   logged_off other xs off logged log told =
       let was = adds.log log told in
       ap (λ (l : List (Sense n m)). log_of other l) was.2
@@ -77,11 +77,11 @@ module _ {n m : ℕ} (shape : BankShape) (added : List (Timed n m)) (old new : A
 
 module _ {n m e : ℕ} where
   -- each sense of a bank's history is of one of its lines
-  pub senses_within : (xs : List (Timed n m)) (clock : ClockState n m e) (array : ArrayState n m) → Leads xs clock array → All (IsOwnSense clock.bank.kept.shape) (senses_of xs)
+  pub senses_within : (xs : List (TimedEvent n m)) (clock : ClockState n m e) (array : ArrayState n m) → Leads xs clock array → All (IsOwnSense clock.bank.kept.shape) (senses_of xs)
   senses_within xs clock array leads =
       within_law n m e clock.bank.kept.shape clock.pace xs leads.holds.kept.shape.some_regions leads.holds.kept.shape.some_lines leads.lawful
 
-  pub added_within : (added xs : List (Timed n m)) (clock : ClockState n m e) (array : ArrayState n m) → Leads (added ++ xs) clock array → All (IsOwnSense clock.bank.kept.shape) (senses_of added)
+  pub added_within : (added xs : List (TimedEvent n m)) (clock : ClockState n m e) (array : ArrayState n m) → Leads (added ++ xs) clock array → All (IsOwnSense clock.bank.kept.shape) (senses_of added)
   added_within added xs clock array leads =
       right (senses_of xs) (subst (λ s. All (IsOwnSense clock.bank.kept.shape) s) (senses-append added xs) (senses_within (added ++ xs) clock array leads))
     where

@@ -4,11 +4,11 @@ use Rattle.masked_bytes.proofs.Truth.{neither_first, neither_second}
 use Rattle.std.specs.Prelude.{filter, All}
 use Rattle.std.proofs.lemmas.Bool.{ne_eqb, and_right, or_from}
 use Rattle.std.proofs.lemmas.List.Elements.{All-head, All-tail, All-nil, All-cons, All-map, All-filter}
-use Rattle.row_laws.specs.declared.Asks.{Asks}
-use Rattle.row_laws.specs.declared.Asks.TheVariants.{Reads, Writes, Cuts}
-use Rattle.row_laws.specs.Table.{is_of}
+use Rattle.row_rules.specs.declared.Asks.{Asks}
+use Rattle.row_rules.specs.declared.Asks.TheVariants.{Reads, Writes, Cuts}
+use Rattle.row_rules.specs.Table.{is_of}
 use Rattle.bank_model.specs.Events.{Write, Read, Serve, Begin, Iterate, Cut}
-use Rattle.bank_model.specs.Timing.{Happens, Core, Regs, Timed}
+use Rattle.bank_model.specs.Timing.{Happens, Core, Regs, TimedEvent}
 use Rattle.module_laws.specs.Asking.{Asked, asked_in, asked_of, AreAsked, IsAsked}
 use Rattle.clock_laws.specs.Standing.{is_arrival_of, arrives_with}
 use Rattle.pcm_module.specs.Replaying.{RowsFall}
@@ -32,7 +32,7 @@ All-both P Q R both (x ∷ xs) p q =
 
 module _ {n m : ℕ} (row : ℕ) where
   -- a row that isn't among those that were asked for didn't arrive
-  pub not_named : (xs : List (Timed n m)) (own : List (Asked n)) → AreAsked xs own → names own row ≡ false → arrives_with xs row ≡ false
+  pub not_named : (xs : List (TimedEvent n m)) (own : List (Asked n)) → AreAsked xs own → names own row ≡ false → arrives_with xs row ≡ false
   not_named [] own is off = refl
   not_named (x ∷ xs) own is off = by x.happens x.cancels own is off (λ rest are none. not_named xs rest are none)
     where

@@ -12,7 +12,7 @@ use Rattle.bank_model.specs.Running.{over_by, is_over, running_at, cancels_with,
 use Rattle.bank_model.specs.Changes.{change_after, change_by, halted_after, halted_by}
 use Rattle.bank_shape.specs.declared.answer.Keep.TheVariants as keep
 use Rattle.bank_shape.specs.declared.pace.Pace.{Pace}
-use Rattle.bank_model.specs.Timing.{Happens, Core, Regs, KeepBegin, KeepIterate, KeepCut, Timed, is_writing, is_empty, core, core_of}
+use Rattle.bank_model.specs.Timing.{Happens, Core, Regs, KeepBegin, KeepIterate, KeepCut, TimedEvent, is_writing, is_empty, core, core_of}
 use Rattle.bank_model.specs.Lawful.{Lawful, MayCome, would_cancel}
 use Rattle.place_laws.proofs.Counts.{one_if}
 use Rattle.place_laws.proofs.Pulsing.{ends_work, cancels_work, ends_in, cancels_in}
@@ -40,7 +40,7 @@ closed : (policy : Policy) (ex new : Bool) (cancels ends count : ℕ) → KeepsC
 closed policy ex new cancels ends count k = record { few = omega (arith, k.few, k.most); most = omega arith; calm = λ is. refl; plain = λ is. omega (arith, k.plain is) }
 
 module _ {n m : ℕ} (shape : BankShape) (pace : Pace) (e : ℕ) where
-  cut_kept : (xs : List (Timed n m)) (tick : ℕ) (by_read : Bool) (cancels ends count : ℕ) → Lawful shape pace e xs
+  cut_kept : (xs : List (TimedEvent n m)) (tick : ℕ) (by_read : Bool) (cancels ends count : ℕ) → Lawful shape pace e xs
       → (by_read ≡ true → would_cancel shape (core xs) pace.policy (running_at shape pace xs tick) (cancels_after xs) ≡ true) → count ≡ cond by_read (cancels_after xs + 1) 0
       → KeepsCancels pace.policy (is_over shape xs) cancels ends (cancels_after xs)
       → KeepsCancels pace.policy (is_over shape xs) (one_if by_read + cancels) (one_if (not by_read) + ends) count
@@ -55,7 +55,7 @@ module _ {n m : ℕ} (shape : BankShape) (pace : Pace) (e : ℕ) where
   cut_kept xs tick false cancels ends count l would is k =
       subst (λ c. KeepsCancels pace.policy (is_over shape xs) (0 + cancels) (1 + ends) c) (sym is) (closed pace.policy (is_over shape xs) (is_over shape xs) cancels ends (cancels_after xs) k)
 
-  pub cancels-kept : (xs : List (Timed n m)) → Lawful shape pace e xs → KeepsCancels pace.policy (is_over shape xs) (cancels_in xs) (ends_in xs) (cancels_after xs)
+  pub cancels-kept : (xs : List (TimedEvent n m)) → Lawful shape pace e xs → KeepsCancels pace.policy (is_over shape xs) (cancels_in xs) (ends_in xs) (cancels_after xs)
   cancels-kept [] l = record { few = omega arith; most = omega arith; calm = λ is. refl; plain = λ is. refl }
   cancels-kept (x ∷ xs) l = by x.happens x.cancels refl l.0 (cancels-kept xs l.1)
     where

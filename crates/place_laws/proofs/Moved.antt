@@ -1,12 +1,12 @@
 -- The moves of a region in the end, by the rows.
 use Rattle.std.proofs.Common.{◌≡◌, ℕ, ◌+◌, ◌*◌, ◌/◌, ◌%◌, ◌≤◌, ◌==◌, inl, inr, List, Option, Some, None, refl, sym, ap, ◌∙◌, arith, true}
 use Rattle.std.proofs.lemmas.Bool.{eq-eqb, cases_lt, and_from, or_left, or_right}
-use Rattle.row_laws.specs.Answers.{is_stored}
+use Rattle.row_rules.specs.Answers.{is_stored}
 use Rattle.bank_shape.specs.declared.BankShape.{BankShape}
 use Rattle.bank_model.specs.History.{moved_in, stored_in, due_after}
 use Rattle.bank_model.specs.Sensing.{most_steps}
 use Rattle.bank_shape.specs.declared.pace.Pace.{Pace}
-use Rattle.bank_model.specs.Timing.{Timed, core}
+use Rattle.bank_model.specs.Timing.{TimedEvent, core}
 use Rattle.bank_model.specs.Lawful.{Lawful}
 use Rattle.bank_laws.specs.Laws.{is_worn_at}
 use Rattle.bank_laws.specs.Outcomes.{table_of}
@@ -21,7 +21,7 @@ use Rattle.place_laws.proofs.Taken.{leaves_work}
 use Rattle.place_laws.proofs.Placed.{between_products, at_product}
 
 -- the stores of a region by the rows are those by the events
-pub region_stores-counted : {n m : ℕ} (shape : BankShape) (pace : Pace) (e : ℕ) (xs : List (Timed n m)) (region : ℕ) → Lawful shape pace e xs
+pub region_stores-counted : {n m : ℕ} (shape : BankShape) (pace : Pace) (e : ℕ) (xs : List (TimedEvent n m)) (region : ℕ) → Lawful shape pace e xs
     → region_stores is_stored shape region (table_of shape xs) ≡ stored_in shape.lines (core xs) region
 region_stores-counted shape pace e xs region l =
     region-all shape xs region ∙ stored-counted shape pace e (λ line. line / shape.lines == region) xs l ∙ region-stored shape.lines (core xs) region

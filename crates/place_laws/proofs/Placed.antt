@@ -7,9 +7,9 @@ use Rattle.result_rows.specs.declared.Outcome.TheVariants as out
 use Rattle.pcm_cells.specs.Device.{ArrayState}
 use Rattle.spare_pool.specs.Table.{Table, line_from}
 use Rattle.spare_pool.proofs.Lines.{line_from-cases, HasSpare, only_own}
-use Rattle.row_laws.specs.declared.Row.{Row}
-use Rattle.row_laws.specs.Answers.{stored_before}
-use Rattle.row_laws.specs.Rows.{asks_write, line_of}
+use Rattle.row_rules.specs.declared.Row.{Row}
+use Rattle.row_rules.specs.Answers.{stored_before}
+use Rattle.row_rules.specs.Rows.{asks_write, line_of}
 use Rattle.bank_shape.specs.declared.BankShape.{BankShape}
 use Rattle.bank_shape.specs.Shape.{slots_of}
 use Rattle.bank_model.specs.Events.{Write, Read, Serve, Begin, Iterate, Cut}
@@ -17,7 +17,7 @@ use Rattle.bank_model.specs.History.{retired, moved_in, stored_in}
 use Rattle.bank_model.specs.After.{slot_after, stands_at_after}
 use Rattle.bank_model.specs.Sensing.{most_steps}
 use Rattle.bank_shape.specs.declared.pace.Pace.{Pace}
-use Rattle.bank_model.specs.Timing.{Happens, Core, Regs, Timed, core, core_of}
+use Rattle.bank_model.specs.Timing.{Happens, Core, Regs, TimedEvent, core, core_of}
 use Rattle.bank_model.specs.Lawful.{Lawful}
 use Rattle.bank_laws.specs.Laws.{IsSized, LeavesArray, is_worn_at}
 use Rattle.bank_laws.specs.Outcomes.{outcome_of, ended, row_with, rows_from, table_of}
@@ -69,7 +69,7 @@ about shape worn line place s k some le near is =
 
 module _ {n m : ℕ} (shape : BankShape) where
   -- what an event asks for, later events still do
-  asked-more : (h : Happens n) (zs : List (Timed n m)) (row line : ℕ) → Asked (core zs) row line → Asked (core_of h (core zs)) row line
+  asked-more : (h : Happens n) (zs : List (TimedEvent n m)) (row line : ℕ) → Asked (core zs) row line → Asked (core_of h (core zs)) row line
   asked-more (Core (Write at of bytes given answer)) zs row line a = inr a
   asked-more (Core (Read at of answer)) zs row line a = inr a
   asked-more (Core (Serve answer)) zs row line a = a
@@ -78,11 +78,11 @@ module _ {n m : ℕ} (shape : BankShape) where
   asked-more (Core (Iterate answer)) zs row line a = a
   asked-more (Core (Cut tearing)) zs row line a = a
 
-  pub asked-later : (later zs : List (Timed n m)) (row line : ℕ) → Asked (core zs) row line → Asked (core (later ++ zs)) row line
+  pub asked-later : (later zs : List (TimedEvent n m)) (row line : ℕ) → Asked (core zs) row line → Asked (core (later ++ zs)) row line
   asked-later [] zs row line a = a
   asked-later (x ∷ later) zs row line a = asked-more x.happens (later ++ zs) row line (asked-later later zs row line a)
 
-module _ {n m : ℕ} (shape : BankShape) (pace : Pace) (e : ℕ) (all : List (Timed n m)) (array : ArrayState n m) (sized : IsSized shape pace) (l : Lawful shape pace e all) (leaves : LeavesArray e shape all array) where
+module _ {n m : ℕ} (shape : BankShape) (pace : Pace) (e : ℕ) (all : List (TimedEvent n m)) (array : ArrayState n m) (sized : IsSized shape pace) (l : Lawful shape pace e all) (leaves : LeavesArray e shape all array) where
   -- a slot that was given a spare had a line that is worn in the end
   home_worn : (slot : ℕ) → slot < slots_of shape → IsAway shape (core all) slot → is_worn_at e array (shape.base + slot) ≡ true
   home_worn slot exists away =
@@ -93,7 +93,7 @@ module _ {n m : ℕ} (shape : BankShape) (pace : Pace) (e : ℕ) (all : List (Ti
       omega (arith, away, own, exists))
 
   -- where a line stands is its place after the moves so far, or a spare
-  stands-placed : (later zs : List (Timed n m)) (line : ℕ) → all ≡ later ++ zs → line < shape.regions * shape.lines
+  stands-placed : (later zs : List (TimedEvent n m)) (line : ℕ) → all ≡ later ++ zs → line < shape.regions * shape.lines
       → is_place_after shape (is_worn_at e array) line (stands_at_after shape (core zs) line) (moved_in shape.lines (core zs) (line / shape.lines)) ≡ true
   stands-placed later zs line same exists = by (line_from-cases (slots_of shape) slot (retired (core zs)) slot)
     where
@@ -101,7 +101,7 @@ module _ {n m : ℕ} (shape : BankShape) (pace : Pace) (e : ℕ) (all : List (Ti
       slot = slot_after shape (core zs) line
 
       before : Lawful shape pace e zs
-      before = lawful_before shape pace e later zs (subst (λ (xs : List (Timed n m)). Lawful shape pace e xs) same l)
+      before = lawful_before shape pace e later zs (subst (λ (xs : List (TimedEvent n m)). Lawful shape pace e xs) same l)
 
       within : slot < slots_of shape
       within = slot_moved-within shape line (moved_in shape.lines (core zs) (line / shape.lines)) sized.lines exists
@@ -114,7 +114,7 @@ module _ {n m : ℕ} (shape : BankShape) (pace : Pace) (e : ℕ) (all : List (Ti
       by (inl own) = or_left _ _ (eq-eqb (shape.base + line_from (slots_of shape) slot (retired (core zs)) slot) (shape.base + slot) (ap (λ k. shape.base + k) own))
       by (inr spare) =
           let away : IsAway shape (core all) slot =
-          subst (λ (xs : List (Timed n m)). IsAway shape (core xs) slot) (sym same) (away-later shape later zs slot (omega (arith, spare.line_is))) in
+          subst (λ (xs : List (TimedEvent n m)). IsAway shape (core xs) slot) (sym same) (away-later shape later zs slot (omega (arith, spare.line_is))) in
           or_right _ _ (and_from _ _ (home_worn slot within away)
           (and_from _ _ (le-leb (shape.base + slots_of shape) (shape.base + line_from (slots_of shape) slot (retired (core zs)) slot) (omega (arith, spare.line_is)))
           (lt-ltb (shape.base + line_from (slots_of shape) slot (retired (core zs)) slot) (shape.base + slots_of shape + shape.spares) (omega (arith, spare.line_is, spare.given, few)))))
@@ -124,7 +124,7 @@ module _ {n m : ℕ} (shape : BankShape) (pace : Pace) (e : ℕ) (all : List (Ti
   SumsUp rows = (f : Row n → ℕ) → sum_by f rows ≡ sum_by f (table_of shape all)
 
   -- the stores of a region by the rows below the end of an action
-  pub stores-below : (rows : List (Row n)) (later : List (Timed n m)) (z : Timed n m) (zs : List (Timed n m)) (region : ℕ) → SumsUp rows → all ≡ later ++ z ∷ zs → ends_action z.happens ≡ true
+  pub stores-below : (rows : List (Row n)) (later : List (TimedEvent n m)) (z : TimedEvent n m) (zs : List (TimedEvent n m)) (region : ℕ) → SumsUp rows → all ≡ later ++ z ∷ zs → ends_action z.happens ≡ true
       → region_stores (stored_before z.tick) shape region rows ≡ stored_in shape.lines (core zs) region
   stores-below rows later z zs region sums same ends =
       sums (λ q. one_if (asks_write q.asks && (line_of q.asks / shape.lines == region && stored_before z.tick q.outcome)))
@@ -132,16 +132,16 @@ module _ {n m : ℕ} (shape : BankShape) (pace : Pace) (e : ℕ) (all : List (Ti
       ∙ before-counted shape pace e all later z zs sized.read sized.iter l same ends (λ line. line / shape.lines == region)
       ∙ region-stored shape.lines (core zs) region
 
-  pub same_line : (later : List (Timed n m)) (z : Timed n m) (zs : List (Timed n m)) (row one other : ℕ) → all ≡ later ++ z ∷ zs → Asked (core zs) row one → Asked (core all) row other → one ≡ other
+  pub same_line : (later : List (TimedEvent n m)) (z : TimedEvent n m) (zs : List (TimedEvent n m)) (row one other : ℕ) → all ≡ later ++ z ∷ zs → Asked (core zs) row one → Asked (core all) row other → one ≡ other
   same_line later z zs row one other same a b =
       let bound = above_all shape pace e all l in
       asked-one (core all) bound.0 row one other bound.1
-      (subst (λ (xs : List (Timed n m)). Asked (core xs) row one) (append_assoc later (z ∷ []) zs ∙ sym same) (asked-later shape (later ++ z ∷ []) zs row one a)) b
+      (subst (λ (xs : List (TimedEvent n m)). Asked (core xs) row one) (append_assoc later (z ∷ []) zs ∙ sym same) (asked-later shape (later ++ z ∷ []) zs row one a)) b
 
   store_placed : (rows : List (Row n)) (row line u p : ℕ) → SumsUp rows → Asked (core all) row line → IsStoredAt shape all row u p
       → is_place_after shape (is_worn_at e array) line p (region_stores (stored_before u) shape (line / shape.lines) rows / shape.psi) ≡ true
   store_placed rows row line u p sums asked s =
-      let whole : Lawful shape pace e (s.later ++ s.event ∷ s.before) = subst (λ (xs : List (Timed n m)). Lawful shape pace e xs) s.same l in
+      let whole : Lawful shape pace e (s.later ++ s.event ∷ s.before) = subst (λ (xs : List (TimedEvent n m)). Lawful shape pace e xs) s.same l in
       let before : Lawful shape pace e s.before = (lawful_before shape pace e s.later (s.event ∷ s.before) whole).1 in
       let may = may_all shape pace e s.before before in
       let bound = above_all shape pace e s.before before in
@@ -162,7 +162,7 @@ module _ {n m : ℕ} (shape : BankShape) (pace : Pace) (e : ℕ) (all : List (Ti
   read_placed : (rows : List (Row n)) (row line u p : ℕ) → SumsUp rows → Asked (core all) row line → IsReadAt shape all row u p
       → is_place_about shape (is_worn_at e array) line p (region_stores (stored_before u) shape (line / shape.lines) rows) ≡ true
   read_placed rows row line u p sums asked s =
-      let whole : Lawful shape pace e (s.later ++ s.event ∷ s.before) = subst (λ (xs : List (Timed n m)). Lawful shape pace e xs) s.same l in
+      let whole : Lawful shape pace e (s.later ++ s.event ∷ s.before) = subst (λ (xs : List (TimedEvent n m)). Lawful shape pace e xs) s.same l in
       let before : Lawful shape pace e s.before = (lawful_before shape pace e s.later (s.event ∷ s.before) whole).1 in
       let may = may_all shape pace e s.before before in
       let own : s.serve.line ≡ line =
@@ -192,9 +192,9 @@ module _ {n m : ℕ} (shape : BankShape) (pace : Pace) (e : ℕ) (all : List (Ti
   ended-placed tick line rows (out.Read u p bytes) is = is
   ended-placed tick line rows _ is = refl
 
-  placed_at : (later : List (Timed n m)) (x : Timed n m) (ys : List (Timed n m)) → all ≡ later ++ x ∷ ys
+  placed_at : (later : List (TimedEvent n m)) (x : TimedEvent n m) (ys : List (TimedEvent n m)) → all ≡ later ++ x ∷ ys
       → Passes (is_placed shape (is_worn_at e array)) (rows_from shape all ys) (row_with shape all x.happens x.tick x.cancels) (rows_after shape all later)
-  placed_at later x ys same = by x.happens x.cancels (λ f. between shape all f later x ys same) (λ row line a. subst (λ (xs : List (Timed n m)). Asked (core xs) row line) (sym same) (asked-later shape later (x ∷ ys) row line a))
+  placed_at later x ys same = by x.happens x.cancels (λ f. between shape all f later x ys same) (λ row line a. subst (λ (xs : List (TimedEvent n m)). Asked (core xs) row line) (sym same) (asked-later shape later (x ∷ ys) row line a))
     where
       by : (h : Happens n) (cancels : Bool) → SumsUp (rows_from shape all ys ++ (row_with shape all h x.tick cancels ++ rows_after shape all later))
           → ((row line : ℕ) → Asked (core_of h (core ys)) row line → Asked (core all) row line)

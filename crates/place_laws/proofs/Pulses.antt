@@ -1,11 +1,11 @@
 -- All pulses of a bank, by its rows.
 use Rattle.std.proofs.Common.{◌≡◌, ℕ, zero, suc, ◌+◌, ◌*◌, ◌<◌, ◌≤◌, ◌&&◌, not, Bool, true, false, List, [], ◌∷◌, ◌++◌, Option, Some, None, refl, sym, ap, ◌∙◌, subst, arith, sum_by, length, cond}
 use Rattle.std.proofs.Math.Nat.{mul-le-mul_left}
-use Rattle.row_laws.specs.declared.Asks.TheVariants.{Reads, Writes, Cuts}
-use Rattle.row_laws.specs.declared.Row.{Row}
-use Rattle.row_laws.specs.Answers.{is_stored}
-use Rattle.row_laws.specs.Rows.{asks_write, is_cut}
-use Rattle.row_laws.specs.Ticking.{tries, writings}
+use Rattle.row_rules.specs.declared.Asks.TheVariants.{Reads, Writes, Cuts}
+use Rattle.row_rules.specs.declared.Row.{Row}
+use Rattle.row_rules.specs.Answers.{is_stored}
+use Rattle.row_rules.specs.Rows.{asks_write, is_cut}
+use Rattle.row_rules.specs.Ticking.{tries, writings}
 use Rattle.result_rows.specs.declared.Outcome.TheVariants as out
 use Rattle.std.proofs.lemmas.List.Sums.{sum_by-cons}
 use Rattle.bank_shape.specs.declared.BankShape.{BankShape}
@@ -25,7 +25,7 @@ use Rattle.bank_model.specs.Changes.{change_after, halted_after}
 use Rattle.bank_model.specs.Answers.{MayAll}
 use Rattle.bank_model.specs.Sensing.{most_steps, pulses_of}
 use Rattle.bank_shape.specs.declared.pace.Pace.{Pace}
-use Rattle.bank_model.specs.Timing.{Happens, Core, Regs, Timed, core, is_empty}
+use Rattle.bank_model.specs.Timing.{Happens, Core, Regs, TimedEvent, core, is_empty}
 use Rattle.bank_model.specs.Lawful.{Lawful, IsIdle}
 use Rattle.bank_laws.specs.Laws.{IsSized, rules_of}
 use Rattle.bank_laws.specs.Outcomes.{outcome_of, ended, row_with, rows_from, table_of}
@@ -65,9 +65,9 @@ bounded steps times all most le =
     let swap : steps * (times * most) ≡ times * steps * most = grind arith in
     omega (arith, more, swap)
 
-module _ {n m : ℕ} (shape : BankShape) (all : List (Timed n m)) where
+module _ {n m : ℕ} (shape : BankShape) (all : List (TimedEvent n m)) where
   -- the cuts by the rows are those by the events
-  pub cuts-counted : (ys : List (Timed n m)) → sum_by (λ (r : Row n). one_if (is_cut r)) (rows_from shape all ys) ≡ cuts_in ys
+  pub cuts-counted : (ys : List (TimedEvent n m)) → sum_by (λ (r : Row n). one_if (is_cut r)) (rows_from shape all ys) ≡ cuts_in ys
   cuts-counted [] = refl
   cuts-counted (x ∷ ys) = by x.happens x.cancels (cuts-counted ys)
     where
@@ -88,7 +88,7 @@ module _ {n m : ℕ} (shape : BankShape) (all : List (Timed n m)) where
       by (Core (Cut tearing)) false ih =
           omega (arith, ih, sum_by-cons (λ (r : Row n). one_if (is_cut r)) (record { tick = x.tick; asks = Cuts; outcome = out.Cut x.tick }) (rows_from shape all ys))
 
-module _ {n m : ℕ} (shape : BankShape) (pace : Pace) (e : ℕ) (all : List (Timed n m)) (sized : IsSized shape pace) (l : Lawful shape pace e all) (idle : IsIdle shape pace all) where
+module _ {n m : ℕ} (shape : BankShape) (pace : Pace) (e : ℕ) (all : List (TimedEvent n m)) (sized : IsSized shape pace) (l : Lawful shape pace e all) (idle : IsIdle shape pace all) where
   abbrev stores_by_rows : ℕ
   stores_by_rows = sum_by (λ (q : Row n). one_if (asks_write q.asks && is_stored q.outcome)) (table_of shape all)
 

@@ -6,20 +6,20 @@ use Rattle.std.proofs.lemmas.Bool.{ltb-true, lt-ltb, eqb-true, or_left, or_right
 use Rattle.result_rows.specs.declared.Outcome.{Outcome}
 use Rattle.result_rows.specs.declared.Outcome.TheVariants as out
 use Rattle.pcm_cells.specs.Device.{ArrayState}
-use Rattle.row_laws.specs.declared.Asks.{Asks}
-use Rattle.row_laws.specs.declared.Asks.TheVariants.{Reads, Writes, Cuts}
-use Rattle.row_laws.specs.declared.Row.{Row}
-use Rattle.row_laws.specs.Answers.{accepts, is_worn, is_queued, is_full}
-use Rattle.row_laws.specs.Rows.{RowTest, each_row}
-use Rattle.row_laws.specs.Queueing.{pending}
-use Rattle.row_laws.specs.Serving.{may_have, is_served}
+use Rattle.row_rules.specs.declared.Asks.{Asks}
+use Rattle.row_rules.specs.declared.Asks.TheVariants.{Reads, Writes, Cuts}
+use Rattle.row_rules.specs.declared.Row.{Row}
+use Rattle.row_rules.specs.Answers.{accepts, is_worn, is_queued, is_full}
+use Rattle.row_rules.specs.Rows.{RowTest, each_row}
+use Rattle.row_rules.specs.Queueing.{pending}
+use Rattle.row_rules.specs.Serving.{may_have, is_served}
 use Rattle.bank_shape.specs.declared.BankShape.{BankShape}
 use Rattle.bank_shape.specs.declared.answer.WriteAnswer.{WriteAnswer}
 use Rattle.bank_shape.specs.declared.answer.WriteAnswer.TheVariants as wrote
 use Rattle.bank_model.specs.Events.{Write, Read, Serve, Begin, Iterate, Cut}
 use Rattle.bank_model.specs.History.{queue, has_exhausted}
 use Rattle.bank_shape.specs.declared.pace.Pace.{Pace}
-use Rattle.bank_model.specs.Timing.{Happens, Core, Regs, Timed, core}
+use Rattle.bank_model.specs.Timing.{Happens, Core, Regs, TimedEvent, core}
 use Rattle.bank_model.specs.Changes.{change_after, halted_after}
 use Rattle.bank_model.specs.Running.{over_by, is_over}
 use Rattle.bank_shape.specs.Shape.{controls_of, control_line}
@@ -74,7 +74,7 @@ module _ {n : ℕ} where
       and_from _ _ (pass rows x after (and_first _ _ p) (and_first _ _ q) (and_first _ _ r))
       (each-of one two three test pass rows (x ∷ after) (and_second _ _ p) (and_second _ _ q) (and_second _ _ r))
 
-module _ {n m : ℕ} (shape : BankShape) (pace : Pace) (e : ℕ) (all : List (Timed n m)) (array : ArrayState n m) (sized : IsSized shape pace) (l : Lawful shape pace e all) (idle : IsIdle shape pace all) (leaves : LeavesArray e shape all array) where
+module _ {n m : ℕ} (shape : BankShape) (pace : Pace) (e : ℕ) (all : List (TimedEvent n m)) (array : ArrayState n m) (sized : IsSized shape pace) (l : Lawful shape pace e all) (idle : IsIdle shape pace all) (leaves : LeavesArray e shape all array) where
   pub leaves_work : is_over shape all ≡ true → may_leave shape (is_worn_at e array) ≡ true
   leaves_work over = by (change_after shape all) (change-within shape pace e all sized.regions sized.lines l) over leaves.halted
     where
@@ -88,7 +88,7 @@ module _ {n m : ℕ} (shape : BankShape) (pace : Pace) (e : ℕ) (all : List (Ti
   fate_true tick row (inl there) queued = leaves_work (idle-queued shape pace all row idle there)
   fate_true tick row (inr left) queued = absurd (cc (left-not_queued tick (outcome_of shape all row) left))
 
-  queued_true : (ys : List (Timed n m)) (x : Timed n m) (row line : ℕ) (bytes : List ℕ) (given : List Bool) (answer : WriteAnswer) → MayCome shape pace e ys x (Core (Write row line bytes given answer))
+  queued_true : (ys : List (TimedEvent n m)) (x : TimedEvent n m) (row line : ℕ) (bytes : List ℕ) (given : List Bool) (answer : WriteAnswer) → MayCome shape pace e ys x (Core (Write row line bytes given answer))
       → Onwards shape all ys x.tick (Core (Write row line bytes given answer)) → IsOutcome x.tick answer (ended x.tick (outcome_of shape all row))
       → is_queued (ended x.tick (outcome_of shape all row)) ≡ true → may_leave shape (is_worn_at e array) ≡ true
   queued_true ys x row line bytes given wrote.Accepted may on is queued =
@@ -98,11 +98,11 @@ module _ {n m : ℕ} (shape : BankShape) (pace : Pace) (e : ℕ) (all : List (Ti
   queued_true ys x row line bytes given wrote.Full may on is queued = absurd (cc (ap is_queued is))
   queued_true ys x row line bytes given wrote.Exhausted may on is queued = absurd (cc (ap is_queued is))
 
-  wear_at : (later : List (Timed n m)) (x : Timed n m) (ys : List (Timed n m)) → all ≡ later ++ x ∷ ys
+  wear_at : (later : List (TimedEvent n m)) (x : TimedEvent n m) (ys : List (TimedEvent n m)) → all ≡ later ++ x ∷ ys
       → Passes (is_wear_true shape (is_worn_at e array)) (rows_from shape all ys) (row_with shape all x.happens x.tick x.cancels) (rows_after shape all later)
   wear_at later x ys same =
       by x.happens x.cancels (may_at shape pace e all later x ys l same) (onwards_at shape pace e all later x ys l same)
-      (λ ex. subst (λ (xs : List (Timed n m)). has_exhausted (core xs) ≡ true) (append_assoc later (x ∷ []) ys ∙ sym same) (exhausted_later shape pace e (later ++ x ∷ []) ys ex))
+      (λ ex. subst (λ (xs : List (TimedEvent n m)). has_exhausted (core xs) ≡ true) (append_assoc later (x ∷ []) ys ∙ sym same) (exhausted_later shape pace e (later ++ x ∷ []) ys ex))
     where
       by : (h : Happens n) (cancels : Bool) → MayCome shape pace e ys x h → Onwards shape all ys x.tick h → (has_exhausted (core ys) ≡ true → has_exhausted (core all) ≡ true)
           → Passes (is_wear_true shape (is_worn_at e array)) (rows_from shape all ys) (row_with shape all h x.tick cancels) (rows_after shape all later)

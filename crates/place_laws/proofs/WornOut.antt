@@ -27,7 +27,7 @@ use Rattle.bank_model.specs.Running.{busy_by, ready_by, over_by, busy_after, rea
 use Rattle.bank_model.specs.Changes.{item_if, change_after, change_by, keeping_after, halted_after}
 use Rattle.bank_model.specs.Sensing.{most_steps}
 use Rattle.bank_shape.specs.declared.pace.Pace.{Pace}
-use Rattle.bank_model.specs.Timing.{Happens, Core, Regs, KeepBegin, KeepIterate, KeepCut, Timed, core, is_empty}
+use Rattle.bank_model.specs.Timing.{Happens, Core, Regs, KeepBegin, KeepIterate, KeepCut, TimedEvent, core, is_empty}
 use Rattle.bank_model.specs.Lawful.{Lawful, IsIdle, MayCome}
 use Rattle.bank_laws.specs.Laws.{IsSized, LeavesArray, is_worn_at}
 use Rattle.bank_laws.specs.Places.{worn_among, is_worn_out}
@@ -121,7 +121,7 @@ none-ready way reads c is = by way reads c.busy c.ready is
     by false false false false is = (refl, refl)
 
 -- a bank without work in which something is left to do begins no line write any more: it is exhausted, or the writing of a change has halted
-idle-over : {n m : ℕ} (shape : BankShape) (xs : List (Timed n m)) → busy_after shape xs ≡ false → ready_after shape xs ≡ false
+idle-over : {n m : ℕ} (shape : BankShape) (xs : List (TimedEvent n m)) → busy_after shape xs ≡ false → ready_after shape xs ≡ false
     → (in_progress (core xs) ≡ false → may_begin_after shape (core xs) ≡ false → has_exhausted (core xs) ≡ true) → is_over shape xs ≡ true
 idle-over shape xs idle none core_over = by (change_after shape xs) idle none
   where
@@ -136,7 +136,7 @@ idle-over shape xs idle none core_over = by (change_after shape xs) idle none
     by (Some item) idle none = stopped (keeping_after xs) (halted_after xs) idle none
 
 -- so is one in whose queue a row stands
-pub idle-queued : {n m : ℕ} (shape : BankShape) (pace : Pace) (xs : List (Timed n m)) (row : ℕ) → IsIdle shape pace xs → has_row (queue shape (core xs)) row ≡ true → is_over shape xs ≡ true
+pub idle-queued : {n m : ℕ} (shape : BankShape) (pace : Pace) (xs : List (TimedEvent n m)) (row : ℕ) → IsIdle shape pace xs → has_row (queue shape (core xs)) row ≡ true → is_over shape xs ≡ true
 idle-queued {n} shape pace xs row idle there = idle-over shape xs none.0 none.1 (λ still never.
     by (in_progress (core xs)) (has_exhausted (core xs)) (due_after shape (core xs)) (queue shape (core xs)) (waits shape (core xs)) still (idle-waits shape pace xs idle) never there)
   where
@@ -153,7 +153,7 @@ idle-queued {n} shape pace xs row idle there = idle-over shape xs none.0 none.1 
     by false false None (e ∷ es) (w ∷ ws) idle empty ready there = absurd (cc)
 
 -- and so is one where a move is due
-pub idle-due : {n m : ℕ} (shape : BankShape) (pace : Pace) (xs : List (Timed n m)) (region : ℕ) → IsIdle shape pace xs → due_after shape (core xs) ≡ Some region → is_over shape xs ≡ true
+pub idle-due : {n m : ℕ} (shape : BankShape) (pace : Pace) (xs : List (TimedEvent n m)) (region : ℕ) → IsIdle shape pace xs → due_after shape (core xs) ≡ Some region → is_over shape xs ≡ true
 idle-due {n} shape pace xs region idle due = idle-over shape xs none.0 none.1 (λ still never.
     by (in_progress (core xs)) (has_exhausted (core xs)) (due_after shape (core xs)) still due never)
   where
@@ -166,7 +166,7 @@ idle-due {n} shape pace xs region idle due = idle-over shape xs none.0 none.1 (�
     by false false None idle is ready = absurd (cc)
     by false false (Some at) idle is ready = absurd (cc)
 
-module _ {n m : ℕ} (shape : BankShape) (pace : Pace) (e : ℕ) (all : List (Timed n m)) (array : ArrayState n m) (sized : IsSized shape pace) (l : Lawful shape pace e all) (leaves : LeavesArray e shape all array) where
+module _ {n m : ℕ} (shape : BankShape) (pace : Pace) (e : ℕ) (all : List (TimedEvent n m)) (array : ArrayState n m) (sized : IsSized shape pace) (l : Lawful shape pace e all) (leaves : LeavesArray e shape all array) where
   -- an exhausted bank is worn out
   pub worn_out : has_exhausted (core all) ≡ true → is_worn_out shape (is_worn_at e array) ≡ true
   worn_out ex = le-leb (shape.spares + 1) (worn_among (is_worn_at e array) shape.base (slots_of shape + shape.spares)) many
@@ -229,7 +229,7 @@ module _ {n m : ℕ} (shape : BankShape) (pace : Pace) (e : ℕ) (all : List (Ti
           omega (arith, rest)
 
 -- a change is of an item of the bank
-pub change-within : {n m : ℕ} (shape : BankShape) (pace : Pace) (e : ℕ) (xs : List (Timed n m)) → 1 ≤ shape.regions → 1 ≤ shape.lines → Lawful shape pace e xs
+pub change-within : {n m : ℕ} (shape : BankShape) (pace : Pace) (e : ℕ) (xs : List (TimedEvent n m)) → 1 ≤ shape.regions → 1 ≤ shape.lines → Lawful shape pace e xs
     → IfSome (change_after shape xs) (λ item. item < controls_of shape)
 change-within shape pace e [] r l law = tt
 change-within {n} shape pace e (x ∷ xs) r l law = by x.happens law.0 (change-within shape pace e xs r l law.1)

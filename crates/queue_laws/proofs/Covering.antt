@@ -8,7 +8,7 @@ use Rattle.result_rows.specs.declared.Outcome.TheVariants as out
 use Rattle.masked_bytes.specs.declared.entry.Entry.{Entry}
 use Rattle.masked_bytes.specs.Masked.{joined, none_given, gives_all}
 use Rattle.masked_bytes.specs.Entries.{RowsApart, has_row, candidate, merged}
-use Rattle.row_laws.specs.Answers.{is_stored}
+use Rattle.row_rules.specs.Answers.{is_stored}
 use Rattle.bank_shape.specs.declared.BankShape.{BankShape}
 use Rattle.bank_shape.specs.declared.answer.WriteAnswer.{WriteAnswer}
 use Rattle.bank_shape.specs.declared.answer.WriteAnswer.TheVariants as wrote
@@ -20,7 +20,7 @@ use Rattle.bank_model.specs.History.{begun, queue, waits, due_after, has_exhaust
 use Rattle.bank_model.specs.Answers.{head_busy_after}
 use Rattle.bank_model.specs.Sensing.{most_steps}
 use Rattle.bank_shape.specs.declared.pace.Pace.{Pace}
-use Rattle.bank_model.specs.Timing.{Happens, Core, Regs, Timed, core, core_of}
+use Rattle.bank_model.specs.Timing.{Happens, Core, Regs, TimedEvent, core, core_of}
 use Rattle.bank_model.specs.Told.{tick_of_row}
 use Rattle.bank_model.specs.Lawful.{Lawful, MayCome}
 use Rattle.bank_laws.specs.Pairs.{ArePaired}
@@ -55,20 +55,20 @@ module _ {n : ℕ} where
 
 module _ {n m : ℕ} (shape : BankShape) where
   -- what the queue gives of each line, by the writes of the line and the outcomes so far
-  pub record IsCovered (zs : List (Timed n m)) : Type 0 where
+  pub record IsCovered (zs : List (TimedEvent n m)) : Type 0 where
     pub front : (line : ℕ) → Front (λ f. since (core zs) line f) (floor_of (outcome_of shape zs) (core zs) line) line (queue shape (core zs))
     pub tails : (line : ℕ) → Tails (λ f. since (core zs) line f) line (queue shape (core zs))
     pub above : (row line : ℕ) → Stands (queue shape (core zs)) row line → floor_of (outcome_of shape zs) (core zs) line ≤ row
     pub asked : (row line : ℕ) → Stands (queue shape (core zs)) row line → Asked (core zs) row line
 
-  record CoveredBy (zs : List (Timed n m)) (tick : ℕ) (h : Happens n) : Type 0 where
+  record CoveredBy (zs : List (TimedEvent n m)) (tick : ℕ) (h : Happens n) : Type 0 where
     front : (line : ℕ) → Front (λ f. since (core_of h (core zs)) line f) (floor_of (λ row. unwrap_or (outcome_with shape zs h tick row) (outcome_of shape zs row)) (core_of h (core zs)) line) line (queue shape (core_of h (core zs)))
     tails : (line : ℕ) → Tails (λ f. since (core_of h (core zs)) line f) line (queue shape (core_of h (core zs)))
     above : (row line : ℕ) → Stands (queue shape (core_of h (core zs))) row line → floor_of (λ row. unwrap_or (outcome_with shape zs h tick row) (outcome_of shape zs row)) (core_of h (core zs)) line ≤ row
     asked : (row line : ℕ) → Stands (queue shape (core_of h (core zs))) row line → Asked (core_of h (core zs)) row line
 
 module _ {n m : ℕ} (shape : BankShape) (pace : Pace) (e : ℕ) where
-  pub none_new : (zs : List (Timed n m)) (x : Timed n m) (h : Happens n) (row u p : ℕ) → Storeless h → unwrap_or (outcome_with shape zs h x.tick row) (outcome_of shape zs row) ≡ out.Stored u p → outcome_of shape zs row ≡ out.Stored u p
+  pub none_new : (zs : List (TimedEvent n m)) (x : TimedEvent n m) (h : Happens n) (row u p : ℕ) → Storeless h → unwrap_or (outcome_with shape zs h x.tick row) (outcome_of shape zs row) ≡ out.Stored u p → outcome_of shape zs row ≡ out.Stored u p
   none_new zs x (Core (Write at line bytes given wrote.Accepted)) row u p less s = s
   none_new zs x (Core (Write at line bytes given (wrote.Merged old))) row u p less s = not_stored old row (out.Merged x.tick) (outcome_of shape zs row) u p (λ is. absurd (cc)) s
   none_new zs x (Core (Write at line bytes given wrote.Full)) row u p less s = not_stored at row (out.Full x.tick) (outcome_of shape zs row) u p (λ is. absurd (cc)) s
@@ -90,7 +90,7 @@ module _ {n m : ℕ} (shape : BankShape) (pace : Pace) (e : ℕ) where
   none_new zs x (Core (Iterate did.Exhausted)) row u p less s = s
   none_new zs x (Core (Cut tearing)) row u p less s = lost_not_stored (has_wait (waits shape (core zs)) row) x.tick (outcome_of shape zs row) u p s
 
-  module _ (zs : List (Timed n m)) (x : Timed n m) (r : 1 ≤ pace.read) (i : 1 ≤ pace.iter) (l : Lawful shape pace e zs) (c : IsCovered shape zs) where
+  module _ (zs : List (TimedEvent n m)) (x : TimedEvent n m) (r : 1 ≤ pace.read) (i : 1 ≤ pace.iter) (l : Lawful shape pace e zs) (c : IsCovered shape zs) where
     pairs : KeepsPairs shape (core zs)
     pairs = keeps_pairs shape (most_steps e) (core zs) (may_all shape pace e zs l)
 
@@ -377,7 +377,7 @@ module _ {n m : ℕ} (shape : BankShape) (pace : Pace) (e : ℕ) where
     covered_step (Core (Iterate did.Exhausted)) may = quiet (Core (Iterate did.Exhausted)) may tt (λ line f. refl) (λ line. same_floor (Core (Iterate did.Exhausted)) line may tt) (λ row line a. a) refl
     covered_step (Core (Cut tearing)) may = quiet (Core (Cut tearing)) may tt (λ line f. refl) (λ line. same_floor (Core (Cut tearing)) line may tt) (λ row line a. a) refl
 
-  pub is_covered : (zs : List (Timed n m)) → 1 ≤ pace.read → 1 ≤ pace.iter → Lawful shape pace e zs → IsCovered shape zs
+  pub is_covered : (zs : List (TimedEvent n m)) → 1 ≤ pace.read → 1 ≤ pace.iter → Lawful shape pace e zs → IsCovered shape zs
   is_covered [] r i l = record { front = λ line. refl; tails = λ line. tt; above = λ row line s. absurd s; asked = λ row line s. s }
   is_covered (x ∷ zs) r i l =
       let s = covered_step zs x r i l.1 (is_covered zs r i l.1) x.happens l.0 in

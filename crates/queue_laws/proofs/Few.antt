@@ -7,13 +7,13 @@ use Rattle.std.proofs.lemmas.Bool.{lt-ltb, le-ltb, and_from}
 use Rattle.result_rows.specs.declared.Outcome.{Outcome}
 use Rattle.result_rows.specs.declared.Outcome.TheVariants as out
 use Rattle.masked_bytes.specs.declared.entry.Entry.{Entry}
-use Rattle.row_laws.specs.declared.Row.{Row}
-use Rattle.row_laws.specs.Answers.{accepts, is_merged, is_stored, stored_before}
-use Rattle.row_laws.specs.Rows.{accepted_of, write_of}
-use Rattle.row_laws.specs.Queueing.{none_before, is_older, has_few, pairs_few, is_refused}
+use Rattle.row_rules.specs.declared.Row.{Row}
+use Rattle.row_rules.specs.Answers.{accepts, is_merged, is_stored, stored_before}
+use Rattle.row_rules.specs.Rows.{accepted_of, write_of}
+use Rattle.row_rules.specs.Queueing.{none_before, is_older, has_few, pairs_few, is_refused}
 use Rattle.bank_shape.specs.declared.BankShape.{BankShape}
 use Rattle.bank_model.specs.History.{queue}
-use Rattle.bank_model.specs.Timing.{Timed, core}
+use Rattle.bank_model.specs.Timing.{TimedEvent, core}
 use Rattle.bank_model.specs.Told.{tick_of_row}
 use Rattle.bank_laws.specs.Pairs.{has_line, LinesApart, ArePaired}
 use Rattle.bank_laws.specs.Outcomes.{outcome_of, ended}
@@ -91,7 +91,7 @@ module _ {n : ℕ} where
   not_before_ended tick v (out.Cut at) h = refl
 
 -- what holds of a queue by now, and of its rows in the end
-pub record StandsWell {n m : ℕ} (shape : BankShape) (all now : List (Timed n m)) : Type 0 where
+pub record StandsWell {n m : ℕ} (shape : BankShape) (all now : List (TimedEvent n m)) : Type 0 where
   pub open_now : AreOpen shape now
   pub open_all : AreOpen shape all
   pub paired : ArePaired (queue shape (core now))
@@ -99,7 +99,7 @@ pub record StandsWell {n m : ℕ} (shape : BankShape) (all now : List (Timed n m
   pub first : (row : ℕ) → IsHead (queue shape (core now)) row → First shape now all row
   pub covered : (row line : ℕ) → Covered (queue shape (core now)) row line → Covered (queue shape (core all)) row line ⊎ ((u : ℕ) × (p : ℕ) × (outcome_of shape all row ≡ out.Stored u p))
 
-module _ {n m : ℕ} (shape : BankShape) (all now : List (Timed n m)) (k : StandsWell shape all now) where
+module _ {n m : ℕ} (shape : BankShape) (all now : List (TimedEvent n m)) (k : StandsWell shape all now) where
   pub entry_unset : (w : Written n) → IsEntry shape all now w → outcome_of shape now w.row ≡ out.Unset
   entry_unset w is = k.open_now.queued w.row (stands-row (queue shape (core now)) w.row w.line is.there)
 

@@ -7,17 +7,17 @@ use Rattle.result_rows.specs.declared.Outcome.{Outcome}
 use Rattle.result_rows.specs.declared.Outcome.TheVariants as out
 use Rattle.masked_bytes.specs.declared.entry.Entry.{Entry}
 use Rattle.masked_bytes.specs.Entries.{merged, laid_on}
-use Rattle.row_laws.specs.declared.Row.{Row}
-use Rattle.row_laws.specs.Answers.{is_stored, stored_before}
-use Rattle.row_laws.specs.Rows.{write_of}
-use Rattle.row_laws.specs.Queueing.{least, store_of, next_store, is_first}
+use Rattle.row_rules.specs.declared.Row.{Row}
+use Rattle.row_rules.specs.Answers.{is_stored, stored_before}
+use Rattle.row_rules.specs.Rows.{write_of}
+use Rattle.row_rules.specs.Queueing.{least, store_of, next_store, is_first}
 use Rattle.bank_shape.specs.declared.BankShape.{BankShape}
 use Rattle.bank_shape.specs.declared.answer.WriteAnswer.TheVariants as wrote
 use Rattle.bank_shape.specs.declared.answer.Step.TheVariants as did
 use Rattle.bank_model.specs.Events.{Write, Read, Serve, Begin, Iterate, Cut, newest}
 use Rattle.bank_model.specs.History.{begun, queue, due_after}
 use Rattle.bank_shape.specs.declared.pace.Pace.{Pace}
-use Rattle.bank_model.specs.Timing.{Happens, Core, Regs, Timed, core, core_of, last_tick}
+use Rattle.bank_model.specs.Timing.{Happens, Core, Regs, TimedEvent, core, core_of, last_tick}
 use Rattle.bank_model.specs.Lawful.{Lawful, MayCome}
 use Rattle.bank_laws.specs.Outcomes.{on_row, outcome_with, outcome_of, ended, row_with, rows_from}
 use Rattle.bank_laws.specs.Ticks.{ends_action}
@@ -107,12 +107,12 @@ module _ {n : ℕ} where
   next_found t line u (q ∷ rows) (inl s) lt = subst (λ (o : Outcome n). NextBy u (store_of t line q o (next_store t line rows))) (sym s.2) (store_of-own t line u s.1 q (next_store t line rows) s.0 lt)
   next_found t line u (q ∷ rows) (inr s) lt = store_of-more t line u q q.outcome (next_store t line rows) (next_found t line u rows s lt)
 
-module _ {n m : ℕ} (shape : BankShape) (all : List (Timed n m)) (row line u p : ℕ) (stored : outcome_of shape all row ≡ out.Stored u p) where
+module _ {n m : ℕ} (shape : BankShape) (all : List (TimedEvent n m)) (row line u p : ℕ) (stored : outcome_of shape all row ≡ out.Stored u p) where
   -- the row of a stored write is among the rows
   store-own : (tick at k : ℕ) → at ≡ row → k ≡ line → ((k == line) ≡ true) × (q : ℕ) × (ended tick (outcome_of shape all at) ≡ out.Stored u q)
   store-own tick at k a b = (eq-eqb k line b, p, ap (λ r. ended tick (outcome_of shape all r)) a ∙ ap (ended tick) stored)
 
-  pub store-from : (ys : List (Timed n m)) → Asked (core ys) row line → HasStore line u (rows_from shape all ys)
+  pub store-from : (ys : List (TimedEvent n m)) → Asked (core ys) row line → HasStore line u (rows_from shape all ys)
   store-from [] a = absurd a
   store-from (y ∷ ys) a = by y.happens y.cancels (λ k. store-from ys k) a
     where
@@ -127,7 +127,7 @@ module _ {n m : ℕ} (shape : BankShape) (all : List (Timed n m)) (row line u p 
       by (Core (Cut tearing)) true go a = go a
       by (Core (Cut tearing)) false go a = inr (go a)
 
-  pub store-after : (mid zs : List (Timed n m)) → Asked (core (mid ++ zs)) row line → HasStore line u (rows_after shape all mid) ⊎ Asked (core zs) row line
+  pub store-after : (mid zs : List (TimedEvent n m)) → Asked (core (mid ++ zs)) row line → HasStore line u (rows_after shape all mid) ⊎ Asked (core zs) row line
   store-after [] zs a = inr a
   store-after (x ∷ mid) zs a = by x.happens x.cancels (λ k. store-after mid zs k) a
     where
@@ -147,9 +147,9 @@ module _ {n m : ℕ} (shape : BankShape) (all : List (Timed n m)) (row line u p 
       by (Core (Iterate answer)) cancels go a = more (Core (Iterate answer)) cancels (go a)
       by (Core (Cut tearing)) cancels go a = more (Core (Cut tearing)) cancels (go a)
 
-module _ {n m : ℕ} (shape : BankShape) (now : List (Timed n m)) (t line : ℕ) where
+module _ {n m : ℕ} (shape : BankShape) (now : List (TimedEvent n m)) (t line : ℕ) where
   -- a write of the line is stored above a tick, and no other row before it
-  pub record IsStoredFirst (zs : List (Timed n m)) : Type 0 where
+  pub record IsStoredFirst (zs : List (TimedEvent n m)) : Type 0 where
     pub row : ℕ
     pub at : ℕ
     pub place : ℕ
@@ -160,10 +160,10 @@ module _ {n m : ℕ} (shape : BankShape) (now : List (Timed n m)) (t line : ℕ)
     pub none : NoneBelow shape now at (outcome_of shape zs)
 
   -- the line has the head and none of the rows that stood is stored, or a write of it is stored first
-  abbrev pub LineFirst : List (Timed n m) → Type 0
+  abbrev pub LineFirst : List (TimedEvent n m) → Type 0
   LineFirst zs = (HasHead line (queue shape (core zs)) × NoneStored shape now (outcome_of shape zs)) ⊎ IsStoredFirst zs
 
-  record IsStoredFirstBy (zs : List (Timed n m)) (tick : ℕ) (h : Happens n) : Type 0 where
+  record IsStoredFirstBy (zs : List (TimedEvent n m)) (tick : ℕ) (h : Happens n) : Type 0 where
     row : ℕ
     at : ℕ
     place : ℕ
@@ -173,12 +173,12 @@ module _ {n m : ℕ} (shape : BankShape) (now : List (Timed n m)) (t line : ℕ)
     by_now : at ≤ tick
     none : NoneBelow shape now at (λ row. unwrap_or (outcome_with shape zs h tick row) (outcome_of shape zs row))
 
-  abbrev LineFirstBy : List (Timed n m) → ℕ → Happens n → Type 0
+  abbrev LineFirstBy : List (TimedEvent n m) → ℕ → Happens n → Type 0
   LineFirstBy zs tick h =
       (HasHead line (queue shape (core_of h (core zs))) × NoneStored shape now (λ row. unwrap_or (outcome_with shape zs h tick row) (outcome_of shape zs row))) ⊎ IsStoredFirstBy zs tick h
 
-module _ {n m : ℕ} (shape : BankShape) (pace : Pace) (e : ℕ) (now : List (Timed n m)) (t line : ℕ) where
-  asked_more : (zs : List (Timed n m)) (h : Happens n) (row : ℕ) → Asked (core zs) row line → Asked (core_of h (core zs)) row line
+module _ {n m : ℕ} (shape : BankShape) (pace : Pace) (e : ℕ) (now : List (TimedEvent n m)) (t line : ℕ) where
+  asked_more : (zs : List (TimedEvent n m)) (h : Happens n) (row : ℕ) → Asked (core zs) row line → Asked (core_of h (core zs)) row line
   asked_more zs (Core (Write at k bytes given answer)) row a = inr a
   asked_more zs (Core (Read at k answer)) row a = a
   asked_more zs (Core (Serve answer)) row a = a
@@ -187,7 +187,7 @@ module _ {n m : ℕ} (shape : BankShape) (pace : Pace) (e : ℕ) (now : List (Ti
   asked_more zs (Core (Iterate answer)) row a = a
   asked_more zs (Core (Cut tearing)) row a = a
 
-  module _ (zs : List (Timed n m)) (x : Timed n m) (r : 1 ≤ pace.read) (i : 1 ≤ pace.iter) (l : Lawful shape pace e zs) where
+  module _ (zs : List (TimedEvent n m)) (x : TimedEvent n m) (r : 1 ≤ pace.read) (i : 1 ≤ pace.iter) (l : Lawful shape pace e zs) where
     on : (h : Happens n) → Storeless h → NoneStored shape now (outcome_of shape zs) → HasHead line (queue shape (core_of h (core zs))) → LineFirstBy shape now t line zs x.tick h
     on h less none head = inl (head, λ row u p unset s. none row u p unset (none_new shape pace e zs x h row u p less s))
 
@@ -263,7 +263,7 @@ module _ {n m : ℕ} (shape : BankShape) (pace : Pace) (e : ℕ) (now : List (Ti
         by row u p unset (inr k) = s.none row u p unset k
 
   -- over any later events
-  pub line_first : (later zs : List (Timed n m)) → 1 ≤ pace.read → 1 ≤ pace.iter → Lawful shape pace e (later ++ zs) → EndsAbove t later → LineFirst shape now t line zs → LineFirst shape now t line (later ++ zs)
+  pub line_first : (later zs : List (TimedEvent n m)) → 1 ≤ pace.read → 1 ≤ pace.iter → Lawful shape pace e (later ++ zs) → EndsAbove t later → LineFirst shape now t line zs → LineFirst shape now t line (later ++ zs)
   line_first [] zs r i l ends f = f
   line_first (x ∷ later) zs r i l ends f =
       by (line_step (later ++ zs) x r i l.1 x.happens l.0 ends.0 (last_tick-rises shape pace e (later ++ zs) x r i l) (line_first later zs r i l.1 ends.1 f))
@@ -272,7 +272,7 @@ module _ {n m : ℕ} (shape : BankShape) (pace : Pace) (e : ℕ) (now : List (Ti
       by (inl there) = inl there
       by (inr s) = inr (record { row = s.row; at = s.at; place = s.place; asked = s.asked; stored = s.stored; after = s.after; by_now = s.by_now; none = s.none })
 
-module _ {n m : ℕ} (shape : BankShape) (all now : List (Timed n m)) (k : StandsWell shape all now) (line : ℕ) where
+module _ {n m : ℕ} (shape : BankShape) (all now : List (TimedEvent n m)) (k : StandsWell shape all now) (line : ℕ) where
   -- where none is stored before a line's next store, or at all, the line is first
   line_before : (found : Option ℕ) (ws : List (Written n)) → Each (λ w. IsEntry shape all now w) ws → NoneStored shape now (outcome_of shape all) → is_first line found (items ws) ≡ true
   line_before None [] each none = refl
@@ -304,7 +304,7 @@ module _ {n m : ℕ} (shape : BankShape) (all now : List (Timed n m)) (k : Stand
       ap (λ found. is_first line found (items ws)) f.1 ∙ line_until f.0 s.at ws each f.2 s.none
 
 -- an entry of the queue is among the writes that stand
-pub any_entry : {n m : ℕ} (shape : BankShape) (all : List (Timed n m)) (p : ℕ → Bool) (row line : ℕ) (ys : List (Timed n m)) → p row ≡ true → Asked (core ys) row line → list_any (write_of line) (items (standing p (written shape all ys))) ≡ true
+pub any_entry : {n m : ℕ} (shape : BankShape) (all : List (TimedEvent n m)) (p : ℕ → Bool) (row line : ℕ) (ys : List (TimedEvent n m)) → p row ≡ true → Asked (core ys) row line → list_any (write_of line) (items (standing p (written shape all ys))) ≡ true
 any_entry shape all p row line [] hit a = absurd a
 any_entry {n} {m} shape all p row line (y ∷ ys) hit a = by y.happens (λ k. any_entry shape all p row line ys hit k) a
   where

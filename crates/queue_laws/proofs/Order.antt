@@ -14,7 +14,7 @@ use Rattle.bank_model.specs.History.{begun, queue, due_after, has_exhausted, in_
 use Rattle.bank_model.specs.After.{is_store, due_work}
 use Rattle.bank_model.specs.Answers.{head_busy_after}
 use Rattle.bank_shape.specs.declared.pace.Pace.{Pace}
-use Rattle.bank_model.specs.Timing.{Happens, Core, Regs, KeepBegin, KeepIterate, KeepCut, Timed, core, core_of, last_tick}
+use Rattle.bank_model.specs.Timing.{Happens, Core, Regs, KeepBegin, KeepIterate, KeepCut, TimedEvent, core, core_of, last_tick}
 use Rattle.bank_model.specs.Told.{tick_by, tick_of_row}
 use Rattle.bank_model.specs.Sensing.{most_steps}
 use Rattle.bank_model.specs.Lawful.{Lawful, MayCome}
@@ -44,7 +44,7 @@ among_after : (xs ys : List ℕ) (row : ℕ) → among ys row ≡ true → among
 among_after [] ys row h = h
 among_after (x ∷ xs) ys row h = or_right (x == row) _ (among_after xs ys row h)
 
-pub among_later : {n m : ℕ} (later zs : List (Timed n m)) (row : ℕ) → among (writes_in zs) row ≡ true → among (writes_in (later ++ zs)) row ≡ true
+pub among_later : {n m : ℕ} (later zs : List (TimedEvent n m)) (row : ℕ) → among (writes_in zs) row ≡ true → among (writes_in (later ++ zs)) row ≡ true
 among_later [] zs row h = h
 among_later (x ∷ later) zs row h = among_after (write_rows x.happens) (writes_in (later ++ zs)) row (among_later later zs row h)
 
@@ -208,7 +208,7 @@ pick_tick false tick old le = le
 
 module _ {n m : ℕ} (shape : BankShape) (pace : Pace) (e : ℕ) where
   -- the tick of a write that came stays
-  tick_step : (zs : List (Timed n m)) (x : Timed n m) (h : Happens n) (row : ℕ) → MayCome shape pace e zs x h → among (writes_in zs) row ≡ true → tick_by row h x.tick (tick_of_row row zs) ≡ tick_of_row row zs
+  tick_step : (zs : List (TimedEvent n m)) (x : TimedEvent n m) (h : Happens n) (row : ℕ) → MayCome shape pace e zs x h → among (writes_in zs) row ≡ true → tick_by row h x.tick (tick_of_row row zs) ≡ tick_of_row row zs
   tick_step zs x (Core (Write at line bytes given answer)) row may there =
       ap (λ b. cond b x.tick (tick_of_row row zs)) (differ_back row at (below_among (writes_in zs) at row (writes-fall zs at may.asked) there))
   tick_step zs x (Core (Read at line answer)) row may there = refl
@@ -218,11 +218,11 @@ module _ {n m : ℕ} (shape : BankShape) (pace : Pace) (e : ℕ) where
   tick_step zs x (Core (Iterate answer)) row may there = refl
   tick_step zs x (Core (Cut tearing)) row may there = refl
 
-  pub tick_stays : (later zs : List (Timed n m)) (row : ℕ) → Lawful shape pace e (later ++ zs) → among (writes_in zs) row ≡ true → tick_of_row row (later ++ zs) ≡ tick_of_row row zs
+  pub tick_stays : (later zs : List (TimedEvent n m)) (row : ℕ) → Lawful shape pace e (later ++ zs) → among (writes_in zs) row ≡ true → tick_of_row row (later ++ zs) ≡ tick_of_row row zs
   tick_stays [] zs row l there = refl
   tick_stays (x ∷ later) zs row l there = tick_step (later ++ zs) x x.happens row l.0 (among_later later zs row there) ∙ tick_stays later zs row l.1 there
 
-  pub tick_up_to : (zs : List (Timed n m)) (row : ℕ) → 1 ≤ pace.read → 1 ≤ pace.iter → Lawful shape pace e zs → tick_of_row row zs ≤ last_tick zs
+  pub tick_up_to : (zs : List (TimedEvent n m)) (row : ℕ) → 1 ≤ pace.read → 1 ≤ pace.iter → Lawful shape pace e zs → tick_of_row row zs ≤ last_tick zs
   tick_up_to [] row r i l = omega arith
   tick_up_to (x ∷ zs) row r i l =
       let before : tick_of_row row zs ≤ last_tick zs = tick_up_to zs row r i l.1 in
@@ -239,15 +239,15 @@ module _ {n m : ℕ} (shape : BankShape) (pace : Pace) (e : ℕ) where
       by (Core (Cut tearing)) le = le
 
   -- the entries of a line stand in order, and a busy head came before the last tick
-  pub record InOrder (zs : List (Timed n m)) : Type 0 where
+  pub record InOrder (zs : List (TimedEvent n m)) : Type 0 where
     pub leads : Leads (λ row. tick_of_row row zs) (queue shape (core zs))
     pub busy : head_busy_after shape (core zs) ≡ true → HeadBefore (λ row. tick_of_row row zs) (last_tick zs) (queue shape (core zs))
 
-  record OrderBy (zs : List (Timed n m)) (x : Timed n m) (h : Happens n) : Type 0 where
+  record OrderBy (zs : List (TimedEvent n m)) (x : TimedEvent n m) (h : Happens n) : Type 0 where
     leads : Leads (λ row. tick_by row h x.tick (tick_of_row row zs)) (queue shape (core_of h (core zs)))
     busy : head_busy_after shape (core_of h (core zs)) ≡ true → HeadBefore (λ row. tick_by row h x.tick (tick_of_row row zs)) x.tick (queue shape (core_of h (core zs)))
 
-  module _ (zs : List (Timed n m)) (x : Timed n m) (r : 1 ≤ pace.read) (i : 1 ≤ pace.iter) (l : Lawful shape pace e (x ∷ zs)) (o : InOrder zs) where
+  module _ (zs : List (TimedEvent n m)) (x : TimedEvent n m) (r : 1 ≤ pace.read) (i : 1 ≤ pace.iter) (l : Lawful shape pace e (x ∷ zs)) (o : InOrder zs) where
     rises : last_tick zs ≤ x.tick
     rises = last_tick-rises shape pace e zs x r i l
 
@@ -369,7 +369,7 @@ module _ {n m : ℕ} (shape : BankShape) (pace : Pace) (e : ℕ) where
     step (Core (Iterate did.Exhausted)) may lt = ends (Core (Iterate did.Exhausted)) (λ row. refl) (lt refl) o.leads
     step (Core (Cut tearing)) may lt = quiet (Core (Cut tearing)) may refl (λ b. absurd (cc))
 
-  pub in_order : (zs : List (Timed n m)) → 1 ≤ pace.read → 1 ≤ pace.iter → Lawful shape pace e zs → InOrder zs
+  pub in_order : (zs : List (TimedEvent n m)) → 1 ≤ pace.read → 1 ≤ pace.iter → Lawful shape pace e zs → InOrder zs
   in_order [] r i l = record { leads = tt; busy = λ b. tt }
   in_order (x ∷ zs) r i l =
       let s = step zs x r i l (in_order zs r i l.1) x.happens l.0 (λ is. last-below shape pace e zs x r i l is) in

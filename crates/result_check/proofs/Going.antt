@@ -12,9 +12,9 @@ use Rattle.std.proofs.Math.ListN.{get_or-append}
 use Rattle.std.proofs.Math.Seq.{get_or-append_seam}
 use Rattle.result_rows.specs.declared.Outcome.{Outcome}
 use Rattle.result_rows.specs.declared.Outcome.TheVariants as out
-use Rattle.row_laws.specs.declared.Row.{Row}
-use Rattle.row_laws.specs.declared.Rules.{Rules}
-use Rattle.row_laws.specs.Rows.{asks_cut, asks_read, asks_write, is_cut, line_of}
+use Rattle.row_rules.specs.declared.Row.{Row}
+use Rattle.row_rules.specs.declared.Rules.{Rules}
+use Rattle.row_rules.specs.Rows.{asks_cut, asks_read, asks_write, is_cut, line_of}
 use Rattle.row_judging.specs.Cutting.{cut_ticks}
 use Rattle.row_judging.specs.Keys.{key, store_key, store_keys, read_key, read_keys, all_short}
 use Rattle.row_judging.specs.Rising.{rising}

@@ -6,7 +6,7 @@ use Rattle.std.specs.List.{list_all}
 use Rattle.std.proofs.lemmas.List.Elements.{All-tail}
 use Rattle.result_rows.specs.declared.Outcome.{Outcome}
 use Rattle.result_rows.specs.declared.Outcome.TheVariants as out
-use Rattle.row_laws.specs.declared.Row.{Row}
+use Rattle.row_rules.specs.declared.Row.{Row}
 use Rattle.row_judging.specs.Keys.{is_short, all_short}
 use Rattle.row_judging.specs.Rising.{rising}
 use Rattle.row_verdict.specs.Fitting.{is_brief, all_brief}

@@ -1,12 +1,12 @@
--- Worked tables of lines of two bytes, beside those of row_laws.
+-- Worked tables of lines of two bytes, beside those of row_rules.
 use Rattle.std.specs.Prelude.{ℕ, List, [], ◌∷◌, Bool, true, false, if◌then◌else◌, Option, Some, None, nat_lt, ◌^◌}
 use Rattle.result_rows.specs.declared.Outcome.{Outcome}
 use Rattle.result_rows.specs.declared.Outcome.TheVariants as out
 use Rattle.result_rows.specs.Outcomes.{tick_of}
 use Rattle.bank_shape.specs.declared.pace.Policy.{Policy}
-use Rattle.row_laws.specs.declared.Row.{Row}
-use Rattle.row_laws.specs.declared.Rules.{Rules}
-use Rattle.row_laws.specs.Worked.{W, R, C, whole}
+use Rattle.row_rules.specs.declared.Row.{Row}
+use Rattle.row_rules.specs.declared.Rules.{Rules}
+use Rattle.row_rules.specs.Worked.{W, R, C, whole}
 
 -- four lines of one bank
 abbrev pub one_bank : List ℕ

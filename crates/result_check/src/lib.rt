@@ -3,7 +3,7 @@
 #![tactic(auto)]
 
 ghost use Rattle.std.specs.Prelude.{◌≡◌, ◌+◌, ◌≤◌, if◌then◌else◌, drop, length, slice_get, Some, ◌<◌, IfOk};
-ghost use Rattle.row_laws.specs.Rows.{asks_cut};
+ghost use Rattle.row_rules.specs.Rows.{asks_cut};
 ghost use Rattle.row_verdict.specs.Within.{AreWithin};
 ghost use Rattle.row_verdict.specs.Verdicts.{asks_of, rows_with, verdict_of};
 ghost use Rattle.result_check.specs.Checkable.{IsCheckable};
@@ -20,7 +20,7 @@ use ahead::{Coming, look_ahead};
 use found::Found;
 use kept::Kept;
 use result_rows::Results;
-pub use row_laws::Rules;
+pub use row_rules::Rules;
 pub use row_verdict::{Rule, Verdict};
 use std::alloc::{AllocError, Global};
 use trace_reader::{Event, EventOp};

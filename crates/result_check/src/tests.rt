@@ -2,9 +2,9 @@
 
 ghost use Rattle.std.specs.Prelude.{◌≡◌, [], ◌∷◌, true};
 ghost use Rattle.bank_shape.specs.declared.pace.Policy.TheVariants.{Pause, Plain, Cancel};
-ghost use Rattle.row_laws.specs.Altered as altered;
-ghost use Rattle.row_laws.specs.Worked.{narrow, small, whole};
-ghost use Rattle.row_laws.specs.Worked.{cancelled, cancelled_begin, cancelled_often, lost_read, no_spare, one_entry, paused};
+ghost use Rattle.row_rules.specs.Altered as altered;
+ghost use Rattle.row_rules.specs.Worked.{narrow, small, whole};
+ghost use Rattle.row_rules.specs.Worked.{cancelled, cancelled_begin, cancelled_often, lost_read, no_spare, one_entry, paused};
 ghost use Rattle.row_verdict.specs.Verdicts.{verdict_of, no};
 ghost use Rattle.row_verdict.specs.declared.Rule.TheVariants.{Serves, Queue, Worn, Tick};
 ghost use Rattle.row_verdict.specs.declared.Verdict.TheVariants.{Yes};

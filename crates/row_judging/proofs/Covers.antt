@@ -8,12 +8,12 @@ use Rattle.masked_bytes.specs.Masked.{joined, none_given}
 use Rattle.masked_bytes.proofs.Layering.{length-joined, joined-none_given, joined-joined}
 use Rattle.result_rows.specs.declared.Outcome.{Outcome}
 use Rattle.result_rows.specs.declared.Outcome.TheVariants as out
-use Rattle.row_laws.specs.declared.Asks.{Asks}
-use Rattle.row_laws.specs.declared.Asks.TheVariants.{Reads, Writes, Cuts}
-use Rattle.row_laws.specs.declared.Row.{Row}
-use Rattle.row_laws.specs.Answers.{accepts, is_stored, stored_by}
-use Rattle.row_laws.specs.Rows.{asks_write, asks_write_of, accepted_of, given_of}
-use Rattle.row_laws.specs.Queueing.{unstored}
+use Rattle.row_rules.specs.declared.Asks.{Asks}
+use Rattle.row_rules.specs.declared.Asks.TheVariants.{Reads, Writes, Cuts}
+use Rattle.row_rules.specs.declared.Row.{Row}
+use Rattle.row_rules.specs.Answers.{accepts, is_stored, stored_by}
+use Rattle.row_rules.specs.Rows.{asks_write, asks_write_of, accepted_of, given_of}
+use Rattle.row_rules.specs.Queueing.{unstored}
 use Rattle.row_judging.specs.Runs.{run, held, GivesSized, CoverLaw}
 
 none_long : (n : ℕ) → length (none_given n) ≡ n

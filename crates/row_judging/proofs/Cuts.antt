@@ -4,12 +4,12 @@ use Rattle.masked_bytes.proofs.Truth.{and_first, and_second}
 use Rattle.std.specs.Prelude.{nat_le, not, count_by}
 use Rattle.std.proofs.lemmas.Bool.{le-leb, leb-true, and_from, or_right}
 use Rattle.std.proofs.lemmas.List.Sums.{sum_by-cons}
-use Rattle.row_laws.specs.declared.Asks.{Asks}
-use Rattle.row_laws.specs.declared.Asks.TheVariants.{Reads, Writes, Cuts}
-use Rattle.row_laws.specs.declared.Row.{Row}
-use Rattle.row_laws.specs.Rows.{asks_cut, is_cut}
-use Rattle.row_laws.specs.Table.{is_of, of_bank}
-use Rattle.row_laws.specs.Ticking.{no_cut_below, first_cut_at, cuts_to}
+use Rattle.row_rules.specs.declared.Asks.{Asks}
+use Rattle.row_rules.specs.declared.Asks.TheVariants.{Reads, Writes, Cuts}
+use Rattle.row_rules.specs.declared.Row.{Row}
+use Rattle.row_rules.specs.Rows.{asks_cut, is_cut}
+use Rattle.row_rules.specs.Table.{is_of, of_bank}
+use Rattle.row_rules.specs.Ticking.{no_cut_below, first_cut_at, cuts_to}
 use Rattle.row_judging.specs.Rising.{rising}
 use Rattle.row_judging.specs.Cutting.{cut_ticks, first_from, first_is, FirstCutLaw, CutsOfBankLaw}
 

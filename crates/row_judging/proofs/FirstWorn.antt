@@ -6,10 +6,10 @@ use Rattle.std.specs.List.{list_any}
 use Rattle.std.proofs.lemmas.Bool.{leb-true, leb-false, lt-leb, and_right, or_from}
 use Rattle.result_rows.specs.declared.Outcome.{Outcome}
 use Rattle.result_rows.specs.declared.Outcome.TheVariants as out
-use Rattle.row_laws.specs.declared.Row.{Row}
-use Rattle.row_laws.specs.Answers.{is_worn}
-use Rattle.row_laws.specs.Rows.{asks_write}
-use Rattle.row_laws.specs.Wearing.{worn_row, worn_by, store_fits}
+use Rattle.row_rules.specs.declared.Row.{Row}
+use Rattle.row_rules.specs.Answers.{is_worn}
+use Rattle.row_rules.specs.Rows.{asks_write}
+use Rattle.row_rules.specs.Wearing.{worn_row, worn_by, store_fits}
 use Rattle.row_judging.specs.Rising.{rising}
 use Rattle.row_judging.specs.Worn.{first_worn_by, store_precedes, WornLaw}
 

@@ -3,10 +3,10 @@ use Rattle.std.proofs.Common.{◌≡◌, ℕ, ◌+◌, ◌<◌, ◌≤◌, ◌&&
 use Rattle.masked_bytes.proofs.Truth.{and_first, and_second}
 use Rattle.std.specs.Prelude.{nat_le, nat_lt, not, count_by}
 use Rattle.std.proofs.lemmas.Bool.{le-leb, leb-true, leb-false, lt-leb, lt-ltb, le-ltb, cases_lt, and_from}
-use Rattle.row_laws.specs.declared.Row.{Row}
-use Rattle.row_laws.specs.Answers.{is_answered, is_lost}
-use Rattle.row_laws.specs.Rows.{asks_read}
-use Rattle.row_laws.specs.Ticking.{came_since}
+use Rattle.row_rules.specs.declared.Row.{Row}
+use Rattle.row_rules.specs.Answers.{is_answered, is_lost}
+use Rattle.row_rules.specs.Rows.{asks_read}
+use Rattle.row_rules.specs.Ticking.{came_since}
 use Rattle.row_judging.specs.Rising.{falling}
 use Rattle.row_judging.specs.Coming.{came, fourth_from, FourthLaw}
 use Rattle.row_judging.proofs.Cuts.{count-cons}

@@ -8,10 +8,10 @@ use Rattle.std.proofs.lemmas.List.Elements.{All-nil, All-cons, All-head, All-tai
 use Rattle.std.proofs.lemmas.List.Folds.{list_any-append}
 use Rattle.result_rows.specs.declared.Outcome.{Outcome}
 use Rattle.result_rows.specs.declared.Outcome.TheVariants as out
-use Rattle.row_laws.specs.declared.Row.{Row}
-use Rattle.row_laws.specs.Answers.{is_merged, is_stored, stored_before, stored_by}
-use Rattle.row_laws.specs.Rows.{accepted_of, line_of}
-use Rattle.row_laws.specs.Queueing.{none_before, is_older, has_few, pairs_few}
+use Rattle.row_rules.specs.declared.Row.{Row}
+use Rattle.row_rules.specs.Answers.{is_merged, is_stored, stored_before, stored_by}
+use Rattle.row_rules.specs.Rows.{accepted_of, line_of}
+use Rattle.row_rules.specs.Queueing.{none_before, is_older, has_few, pairs_few}
 use Rattle.row_judging.specs.Joining.{has_pair, comes_behind, JoinLaw}
 
 not_true : (a : Bool) → not a ≡ true → a ≡ false

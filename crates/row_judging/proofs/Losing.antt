@@ -5,10 +5,10 @@ use Rattle.std.specs.Prelude.{nat_lt, not}
 use Rattle.std.specs.List.{list_all, list_any}
 use Rattle.result_rows.specs.declared.Outcome.{Outcome}
 use Rattle.result_rows.specs.declared.Outcome.TheVariants as out
-use Rattle.row_laws.specs.declared.Row.{Row}
-use Rattle.row_laws.specs.Answers.{is_stored, is_answered, read_after, is_lost}
-use Rattle.row_laws.specs.Rows.{asks_read, asks_write, is_cut}
-use Rattle.row_laws.specs.Queueing.{waiting}
+use Rattle.row_rules.specs.declared.Row.{Row}
+use Rattle.row_rules.specs.Answers.{is_stored, is_answered, read_after, is_lost}
+use Rattle.row_rules.specs.Rows.{asks_read, asks_write, is_cut}
+use Rattle.row_rules.specs.Queueing.{waiting}
 use Rattle.row_judging.specs.Distances.{wait_above, waits_above}
 use Rattle.row_judging.specs.Standing.{is_own}
 use Rattle.row_judging.specs.Lost.{lost_since, WaitingLaw}

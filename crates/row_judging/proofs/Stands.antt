@@ -5,10 +5,10 @@ use Rattle.std.specs.Prelude.{nat_lt, not}
 use Rattle.std.specs.List.{list_all, list_any}
 use Rattle.result_rows.specs.declared.Outcome.{Outcome}
 use Rattle.result_rows.specs.declared.Outcome.TheVariants as out
-use Rattle.row_laws.specs.declared.Row.{Row}
-use Rattle.row_laws.specs.Answers.{accepts, is_stored, is_answered, stored_after, read_after, is_queued, is_merged, is_lost}
-use Rattle.row_laws.specs.Rows.{asks_write, asks_read, accepted_of, is_cut, line_of}
-use Rattle.row_laws.specs.Queueing.{pending, waiting}
+use Rattle.row_rules.specs.declared.Row.{Row}
+use Rattle.row_rules.specs.Answers.{accepts, is_stored, is_answered, stored_after, read_after, is_queued, is_merged, is_lost}
+use Rattle.row_rules.specs.Rows.{asks_write, asks_read, accepted_of, is_cut, line_of}
+use Rattle.row_rules.specs.Queueing.{pending, waiting}
 use Rattle.row_judging.specs.Distances.{end_above, ends_above, wait_above, waits_above}
 use Rattle.row_judging.specs.Standing.{is_own, at_end, at_read, StandLaw}
 

@@ -6,12 +6,12 @@ use Rattle.std.specs.List.{list_all, list_any}
 use Rattle.std.proofs.lemmas.Bool.{le-leb, leb-true, lt-ltb, ltb-true, and_from}
 use Rattle.result_rows.specs.declared.Outcome.{Outcome}
 use Rattle.result_rows.specs.declared.Outcome.TheVariants as out
-use Rattle.row_laws.specs.declared.Asks.{Asks}
-use Rattle.row_laws.specs.declared.Asks.TheVariants.{Reads, Writes, Cuts}
-use Rattle.row_laws.specs.declared.Row.{Row}
-use Rattle.row_laws.specs.Answers.{accepts, stored_after, read_after, is_merged, is_queued, is_lost, is_stored, stored_before}
-use Rattle.row_laws.specs.Rows.{accepted, accepted_of, line_of, asks_read, asks_write, asks_write_of, asks_cut, is_cut}
-use Rattle.row_laws.specs.Queueing.{stands, pending, awaits, waiting, none_before, is_older, has_few, pairs_few}
+use Rattle.row_rules.specs.declared.Asks.{Asks}
+use Rattle.row_rules.specs.declared.Asks.TheVariants.{Reads, Writes, Cuts}
+use Rattle.row_rules.specs.declared.Row.{Row}
+use Rattle.row_rules.specs.Answers.{accepts, stored_after, read_after, is_merged, is_queued, is_lost, is_stored, stored_before}
+use Rattle.row_rules.specs.Rows.{accepted, accepted_of, line_of, asks_read, asks_write, asks_write_of, asks_cut, is_cut}
+use Rattle.row_rules.specs.Queueing.{stands, pending, awaits, waiting, none_before, is_older, has_few, pairs_few}
 use Rattle.row_judging.specs.Staying.{RoomStaysLaw, RoomBehindCutLaw}
 
 -- the second list is the first one with some left out

@@ -9,13 +9,13 @@ use Rattle.std.proofs.lemmas.List.Folds.{list_any-append, list_all-map}
 use Rattle.std.proofs.lemmas.List.Sorted.{IsPermutation-reverse}
 use Rattle.result_rows.specs.declared.Outcome.{Outcome}
 use Rattle.result_rows.specs.declared.Outcome.TheVariants as out
-use Rattle.row_laws.specs.declared.Asks.{Asks}
-use Rattle.row_laws.specs.declared.Asks.TheVariants.{Reads, Writes, Cuts}
-use Rattle.row_laws.specs.declared.Row.{Row}
-use Rattle.row_laws.specs.Answers.{accepts, is_merged, is_queued, stored_after, stored_by}
-use Rattle.row_laws.specs.declared.Rules.{Rules}
-use Rattle.row_laws.specs.Rows.{asks_write, asks_write_of, accepted, accepted_of, write_of, line_of}
-use Rattle.row_laws.specs.Queueing.{stands, pending, waiting, none_before, is_older, has_few, pairs_few, is_refused, has_room}
+use Rattle.row_rules.specs.declared.Asks.{Asks}
+use Rattle.row_rules.specs.declared.Asks.TheVariants.{Reads, Writes, Cuts}
+use Rattle.row_rules.specs.declared.Row.{Row}
+use Rattle.row_rules.specs.Answers.{accepts, is_merged, is_queued, stored_after, stored_by}
+use Rattle.row_rules.specs.declared.Rules.{Rules}
+use Rattle.row_rules.specs.Rows.{asks_write, asks_write_of, accepted, accepted_of, write_of, line_of}
+use Rattle.row_rules.specs.Queueing.{stands, pending, waiting, none_before, is_older, has_few, pairs_few, is_refused, has_room}
 use Rattle.row_judging.specs.Few.{few_by}
 use Rattle.row_judging.specs.Heads.{end_of, leave_of, stored_below, all_stored_below}
 use Rattle.row_judging.specs.Joining.{has_pair, comes_behind}

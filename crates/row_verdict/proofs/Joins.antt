@@ -7,12 +7,12 @@ use Rattle.std.specs.List.{list_any}
 use Rattle.std.proofs.lemmas.List.{reverse-append, map-append}
 use Rattle.result_rows.specs.declared.Outcome.{Outcome}
 use Rattle.result_rows.specs.declared.Outcome.TheVariants as out
-use Rattle.row_laws.specs.declared.Asks.{Asks}
-use Rattle.row_laws.specs.declared.Asks.TheVariants.{Reads, Writes, Cuts}
-use Rattle.row_laws.specs.declared.Row.{Row}
-use Rattle.row_laws.specs.Answers.{accepts, is_stored, is_answered, is_merged, is_queued, is_lost, stored_after}
-use Rattle.row_laws.specs.Rows.{asks_read, asks_write, asks_write_of, asks_cut, accepted, accepted_of, is_cut, line_of}
-use Rattle.row_laws.specs.Queueing.{pending}
+use Rattle.row_rules.specs.declared.Asks.{Asks}
+use Rattle.row_rules.specs.declared.Asks.TheVariants.{Reads, Writes, Cuts}
+use Rattle.row_rules.specs.declared.Row.{Row}
+use Rattle.row_rules.specs.Answers.{accepts, is_stored, is_answered, is_merged, is_queued, is_lost, stored_after}
+use Rattle.row_rules.specs.Rows.{asks_read, asks_write, asks_write_of, asks_cut, accepted, accepted_of, is_cut, line_of}
+use Rattle.row_rules.specs.Queueing.{pending}
 use Rattle.row_judging.specs.Distances.{later_of, is_far_below, wait_above, waits_above, end_to, last_end, read_to, last_read}
 use Rattle.row_judging.specs.Lost.{lost_since}
 use Rattle.row_judging.specs.Standing.{is_own}

@@ -4,11 +4,11 @@ use Rattle.std.proofs.lemmas.Bool.{and_from}
 use Rattle.std.specs.Prelude.{not, reverse, map, filter}
 use Rattle.result_rows.specs.declared.Outcome.{Outcome}
 use Rattle.result_rows.specs.declared.Outcome.TheVariants as out
-use Rattle.row_laws.specs.declared.Asks.{Asks}
-use Rattle.row_laws.specs.declared.Asks.TheVariants.{Reads, Writes, Cuts}
-use Rattle.row_laws.specs.Answers.{accepts, is_stored, is_merged, is_queued, stored_after}
-use Rattle.row_laws.specs.Rows.{asks_read, asks_write, asks_write_of, line_of}
-use Rattle.row_laws.specs.Queueing.{pending}
+use Rattle.row_rules.specs.declared.Asks.{Asks}
+use Rattle.row_rules.specs.declared.Asks.TheVariants.{Reads, Writes, Cuts}
+use Rattle.row_rules.specs.Answers.{accepts, is_stored, is_merged, is_queued, stored_after}
+use Rattle.row_rules.specs.Rows.{asks_read, asks_write, asks_write_of, line_of}
+use Rattle.row_rules.specs.Queueing.{pending}
 use Rattle.row_judging.specs.Distances.{is_far_below, waits_above, end_to, last_end, last_read}
 use Rattle.row_judging.specs.Lost.{lost_since}
 use Rattle.row_judging.specs.Standing.{is_own}

@@ -4,11 +4,11 @@ use Rattle.masked_bytes.proofs.Truth.{and_first, and_second}
 use Rattle.std.specs.Prelude.{slice_get, unwrap_or}
 use Rattle.std.specs.List.{list_all}
 use Rattle.std.proofs.lemmas.Bool.{eq-eqb, ne_eqb, eqb-true, cases_eq}
-use Rattle.row_laws.specs.declared.Asks.TheVariants.{Reads, Writes, Cuts}
-use Rattle.row_laws.specs.declared.Row.{Row}
-use Rattle.row_laws.specs.declared.Rules.{Rules}
-use Rattle.row_laws.specs.Table.{is_of, of_bank}
-use Rattle.row_laws.specs.Queueing.{has_room}
+use Rattle.row_rules.specs.declared.Asks.TheVariants.{Reads, Writes, Cuts}
+use Rattle.row_rules.specs.declared.Row.{Row}
+use Rattle.row_rules.specs.declared.Rules.{Rules}
+use Rattle.row_rules.specs.Table.{is_of, of_bank}
+use Rattle.row_rules.specs.Queueing.{has_room}
 use Rattle.row_judging.proofs.Sublists.{room_stays_law, room_behind_cut_law}
 use Rattle.row_verdict.specs.Fitting.{room_kept}
 use Rattle.row_verdict.specs.Judged.{a_cut}

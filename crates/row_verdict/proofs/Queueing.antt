@@ -7,10 +7,10 @@ use Rattle.std.proofs.lemmas.Bool.{ltb-true, ne_eqb}
 use Rattle.masked_bytes.specs.Masked.{gives_all}
 use Rattle.result_rows.specs.declared.Outcome.{Outcome}
 use Rattle.result_rows.specs.declared.Outcome.TheVariants as out
-use Rattle.row_laws.specs.declared.Row.{Row}
-use Rattle.row_laws.specs.Answers.{accepts, is_full, is_merged, is_queued, stored_after}
-use Rattle.row_laws.specs.Rows.{asks_write, accepted, accepted_of, write_of, line_of}
-use Rattle.row_laws.specs.Queueing.{stands, pending, waiting, cover, merges_at, merge_fits, next_store, is_first, is_refused, read_fits}
+use Rattle.row_rules.specs.declared.Row.{Row}
+use Rattle.row_rules.specs.Answers.{accepts, is_full, is_merged, is_queued, stored_after}
+use Rattle.row_rules.specs.Rows.{asks_write, accepted, accepted_of, write_of, line_of}
+use Rattle.row_rules.specs.Queueing.{stands, pending, waiting, cover, merges_at, merge_fits, next_store, is_first, is_refused, read_fits}
 use Rattle.row_judging.specs.Counting.{line_stores}
 use Rattle.row_judging.specs.Distances.{ends_behind}
 use Rattle.row_judging.specs.Heads.{end_of}

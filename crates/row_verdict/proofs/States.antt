@@ -5,13 +5,13 @@ use Rattle.std.specs.List.{list_all, list_any}
 use Rattle.std.proofs.lemmas.Bool.{le-leb, leb-true, ltb-true, and_from}
 use Rattle.result_rows.specs.declared.Outcome.{Outcome}
 use Rattle.result_rows.specs.declared.Outcome.TheVariants as out
-use Rattle.row_laws.specs.declared.Asks.TheVariants.{Reads, Writes, Cuts}
-use Rattle.row_laws.specs.declared.Row.{Row}
-use Rattle.row_laws.specs.Answers.{accepts, is_stored, is_answered, is_lost, is_merged, is_queued, is_worn, stored_after}
-use Rattle.row_laws.specs.declared.Rules.{Rules}
-use Rattle.row_laws.specs.Queueing.{stands, has_room}
-use Rattle.row_laws.specs.Serving.{may_have}
-use Rattle.row_laws.specs.Wearing.{worn_row}
+use Rattle.row_rules.specs.declared.Asks.TheVariants.{Reads, Writes, Cuts}
+use Rattle.row_rules.specs.declared.Row.{Row}
+use Rattle.row_rules.specs.Answers.{accepts, is_stored, is_answered, is_lost, is_merged, is_queued, is_worn, stored_after}
+use Rattle.row_rules.specs.declared.Rules.{Rules}
+use Rattle.row_rules.specs.Queueing.{stands, has_room}
+use Rattle.row_rules.specs.Serving.{may_have}
+use Rattle.row_rules.specs.Wearing.{worn_row}
 use Rattle.row_judging.specs.Coming.{came}
 use Rattle.row_judging.specs.Distances.{ends_behind}
 use Rattle.row_judging.specs.Keys.{reach}

@@ -6,13 +6,13 @@ use Rattle.std.specs.List.{list_all}
 use Rattle.std.proofs.lemmas.Bool.{lt-leb, lt-ltb, cases_lt}
 use Rattle.result_rows.specs.declared.Outcome.{Outcome}
 use Rattle.result_rows.specs.declared.Outcome.TheVariants as out
-use Rattle.row_laws.specs.declared.Asks.{Asks}
-use Rattle.row_laws.specs.declared.Asks.TheVariants.{Reads, Writes, Cuts}
-use Rattle.row_laws.specs.declared.Row.{Row}
-use Rattle.row_laws.specs.Answers.{is_stored, is_answered}
-use Rattle.row_laws.specs.declared.Rules.{Rules}
-use Rattle.row_laws.specs.Rows.{asks_read, asks_write}
-use Rattle.row_laws.specs.Ticking.{bound, read_in_time, store_in_time, asks_in_time, apart}
+use Rattle.row_rules.specs.declared.Asks.{Asks}
+use Rattle.row_rules.specs.declared.Asks.TheVariants.{Reads, Writes, Cuts}
+use Rattle.row_rules.specs.declared.Row.{Row}
+use Rattle.row_rules.specs.Answers.{is_stored, is_answered}
+use Rattle.row_rules.specs.declared.Rules.{Rules}
+use Rattle.row_rules.specs.Rows.{asks_read, asks_write}
+use Rattle.row_rules.specs.Ticking.{bound, read_in_time, store_in_time, asks_in_time, apart}
 use Rattle.row_judging.specs.Rising.{rising}
 use Rattle.row_judging.specs.Cutting.{cut_ticks, first_from, first_is}
 use Rattle.row_judging.specs.Keys.{is_short}

@@ -7,17 +7,17 @@ use Rattle.std.proofs.lemmas.Bool.{leb-true, lt-ltb, ltb-true, le-ltb, eq-eqb, e
 use Rattle.masked_bytes.specs.Masked.{gives_all, laid}
 use Rattle.result_rows.specs.declared.Outcome.{Outcome}
 use Rattle.result_rows.specs.declared.Outcome.TheVariants as out
-use Rattle.row_laws.specs.declared.Asks.{Asks}
-use Rattle.row_laws.specs.declared.Asks.TheVariants.{Reads, Writes, Cuts}
-use Rattle.row_laws.specs.declared.Row.{Row}
-use Rattle.row_laws.specs.Answers.{accepts, is_worn, is_answered, is_lost, stored_after, stored_by}
-use Rattle.row_laws.specs.declared.Rules.{Rules}
-use Rattle.row_laws.specs.Rows.{newest, asks_write, asks_read, asks_write_of, lay_row, bytes_of, given_of}
-use Rattle.row_laws.specs.Serving.{may_have}
-use Rattle.row_laws.specs.Table.{is_of, of_bank}
-use Rattle.row_laws.specs.Queueing.{waiting, cover, read_fits}
-use Rattle.row_laws.specs.Ticking.{bound, delay, longest, stores_in, reads_in, cuts_to}
-use Rattle.row_laws.specs.Wearing.{worn_row}
+use Rattle.row_rules.specs.declared.Asks.{Asks}
+use Rattle.row_rules.specs.declared.Asks.TheVariants.{Reads, Writes, Cuts}
+use Rattle.row_rules.specs.declared.Row.{Row}
+use Rattle.row_rules.specs.Answers.{accepts, is_worn, is_answered, is_lost, stored_after, stored_by}
+use Rattle.row_rules.specs.declared.Rules.{Rules}
+use Rattle.row_rules.specs.Rows.{newest, asks_write, asks_read, asks_write_of, lay_row, bytes_of, given_of}
+use Rattle.row_rules.specs.Serving.{may_have}
+use Rattle.row_rules.specs.Table.{is_of, of_bank}
+use Rattle.row_rules.specs.Queueing.{waiting, cover, read_fits}
+use Rattle.row_rules.specs.Ticking.{bound, delay, longest, stores_in, reads_in, cuts_to}
+use Rattle.row_rules.specs.Wearing.{worn_row}
 use Rattle.row_judging.specs.Coming.{came}
 use Rattle.row_judging.specs.Cutting.{cut_ticks}
 use Rattle.row_judging.specs.Keys.{reach, is_short, key, up_to}

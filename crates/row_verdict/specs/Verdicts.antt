@@ -5,16 +5,16 @@ use Rattle.trace_reader.specs.declared.event.Event.{Event}
 use Rattle.trace_reader.specs.declared.event.EventOp.{EventOp}
 use Rattle.trace_reader.specs.declared.event.EventOp.TheVariants.{Read, Write, Mask, Cut}
 use Rattle.result_rows.specs.declared.Outcome.{Outcome}
-use Rattle.row_laws.specs.declared.Asks.{Asks}
-use Rattle.row_laws.specs.declared.Asks.TheVariants.{Reads, Writes, Cuts}
-use Rattle.row_laws.specs.declared.Row.{Row}
-use Rattle.row_laws.specs.declared.Rules.{Rules}
-use Rattle.row_laws.specs.Rows.{RowTest, each_row}
-use Rattle.row_laws.specs.Table.{of_bank}
-use Rattle.row_laws.specs.Serving.{is_served}
-use Rattle.row_laws.specs.Queueing.{has_room, is_queue_fair}
-use Rattle.row_laws.specs.Wearing.{is_wear_final}
-use Rattle.row_laws.specs.Ticking.{is_in_time}
+use Rattle.row_rules.specs.declared.Asks.{Asks}
+use Rattle.row_rules.specs.declared.Asks.TheVariants.{Reads, Writes, Cuts}
+use Rattle.row_rules.specs.declared.Row.{Row}
+use Rattle.row_rules.specs.declared.Rules.{Rules}
+use Rattle.row_rules.specs.Rows.{RowTest, each_row}
+use Rattle.row_rules.specs.Table.{of_bank}
+use Rattle.row_rules.specs.Serving.{is_served}
+use Rattle.row_rules.specs.Queueing.{has_room, is_queue_fair}
+use Rattle.row_rules.specs.Wearing.{is_wear_final}
+use Rattle.row_rules.specs.Ticking.{is_in_time}
 use Rattle.row_verdict.specs.declared.Rule.{Rule}
 use Rattle.row_verdict.specs.declared.Rule.TheVariants as rule
 use Rattle.row_verdict.specs.declared.Verdict.{Verdict}

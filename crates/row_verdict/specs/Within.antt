@@ -1,6 +1,6 @@
 -- The numbers of the rules.
 use Rattle.std.specs.Prelude.{◌≤◌}
-use Rattle.row_laws.specs.declared.Rules.{Rules}
+use Rattle.row_rules.specs.declared.Rules.{Rules}
 
 -- they are those of a module
 pub record AreWithin (rules : Rules) : Type 0 where

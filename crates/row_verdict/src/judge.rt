@@ -3,9 +3,9 @@
 ghost use Rattle.std.specs.Prelude.{◌≡◌, ◌+◌, ◌<◌, ◌≤◌, ◌^◌, ◌==◌, ◌&&◌, ◌||◌, ◌-◌, not, true, length, IsTrue, IfSome};
 ghost use Rattle.std.specs.List.Sorted.{IsNonDecreasing};
 ghost use Rattle.masked_bytes.specs.Masked.{gives_all};
-ghost use Rattle.row_laws.specs.Answers.{is_worn};
-ghost use Rattle.row_laws.specs.Queueing as queueing;
-ghost use Rattle.row_laws.specs.Serving as serving;
+ghost use Rattle.row_rules.specs.Answers.{is_worn};
+ghost use Rattle.row_rules.specs.Queueing as queueing;
+ghost use Rattle.row_rules.specs.Serving as serving;
 ghost use Rattle.row_judging.specs.Keys as spec;
 ghost use Rattle.row_judging.specs.Keys.{reach, is_short};
 ghost use Rattle.row_verdict.specs.Ahead.{four_kept, bound_kept, latest_kept, at_store};
@@ -30,7 +30,7 @@ use crate::serving::may_have;
 use crate::timing::{bound, longest};
 use crate::wearing::keeps_worn;
 use crate::Rule;
-use row_laws::Rules;
+use row_rules::Rules;
 use result_rows::Outcome;
 use trace_reader::EventOp;
 

@@ -1,12 +1,12 @@
 //! How long a write may take, and a read.
 
 ghost use Rattle.std.specs.Prelude.{◌≡◌, ◌<◌, ◌≤◌, ◌^◌, ◌+◌, ◌*◌};
-ghost use Rattle.row_laws.specs.Ticking as ticking;
+ghost use Rattle.row_rules.specs.Ticking as ticking;
 ghost use Rattle.row_verdict.specs.Within.{AreWithin};
 ghost use Rattle.row_verdict.specs.Keeping.{delay_kept};
 
 use bank_shape::Policy;
-use row_laws::Rules;
+use row_rules::Rules;
 
 /// The product of two numbers.
 fn times(number: u64, other: u64) -> u64

@@ -6,7 +6,7 @@ use Rattle.masked_bytes.specs.Masked.{gives_all}
 use Rattle.pcm_cells.specs.Device.{ArrayState}
 use Rattle.bank_shape.specs.declared.BankShape.{BankShape}
 use Rattle.bank_shape.specs.declared.pace.Pace.{Pace}
-use Rattle.bank_model.specs.Timing.{Timed, core}
+use Rattle.bank_model.specs.Timing.{TimedEvent, core}
 use Rattle.bank_model.specs.Lawful.{Lawful, IsIdle}
 use Rattle.bank_laws.specs.Outcomes.{table_of}
 use Rattle.bank_laws.specs.Laws.{IsSized, LeavesArray, is_worn_at}
@@ -18,7 +18,7 @@ use Rattle.end_laws.specs.Ends.{EndsWith}
 use Rattle.end_laws.proofs.Ending.{excepted-whole}
 use Rattle.end_laws.specs.EndLaws.{IsHaltedWorn, IsEndOf, RemappedLaw, GapsLaw, KeptLaw, QueuedLaw, StillThereLaw, end_of, whole_head}
 
-module _ {n m e : ℕ} (xs : List (Timed n m)) (clock : ClockState n m e) (array : ArrayState n m) (leads : Leads xs clock array) where
+module _ {n m e : ℕ} (xs : List (TimedEvent n m)) (clock : ClockState n m e) (array : ArrayState n m) (leads : Leads xs clock array) where
   -- the end of a bank is that of what it keeps
   pub is_end : IsEndOf clock.bank.kept (end_of clock.bank.kept (core xs))
   is_end = record {

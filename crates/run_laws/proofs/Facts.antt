@@ -10,19 +10,19 @@ use Rattle.result_rows.specs.declared.Op.TheVariants as op
 use Rattle.result_rows.specs.declared.Outcome.{Outcome}
 use Rattle.result_rows.specs.declared.Outcome.TheVariants as out
 use Rattle.result_rows.specs.Outcomes.{op_of, place_of}
-use Rattle.row_laws.specs.declared.Asks.{Asks}
-use Rattle.row_laws.specs.declared.Asks.TheVariants.{Reads, Writes, Cuts}
-use Rattle.row_laws.specs.declared.Row.{Row}
-use Rattle.row_laws.specs.Answers.{accepts, is_queued, is_lost, is_busy, is_forwarded, is_answered}
-use Rattle.row_laws.specs.Rows.{each_row, asks_read, asks_cut, is_cut}
-use Rattle.row_laws.specs.Table.{is_of, of_bank}
+use Rattle.row_rules.specs.declared.Asks.{Asks}
+use Rattle.row_rules.specs.declared.Asks.TheVariants.{Reads, Writes, Cuts}
+use Rattle.row_rules.specs.declared.Row.{Row}
+use Rattle.row_rules.specs.Answers.{accepts, is_queued, is_lost, is_busy, is_forwarded, is_answered}
+use Rattle.row_rules.specs.Rows.{each_row, asks_read, asks_cut, is_cut}
+use Rattle.row_rules.specs.Table.{is_of, of_bank}
 use Rattle.masked_bytes.specs.Masked.{gives_all}
 use Rattle.result_summary.specs.Shortfall.{is_short}
 use Rattle.module_laws.specs.Asking.{asks_in, row_in, bank_table}
-use Rattle.row_laws.specs.declared.Rules.{Rules}
-use Rattle.row_laws.specs.Queueing.{waiting, queue_fits, cover, is_at_head}
-use Rattle.row_laws.specs.Serving.{may_have}
-use Rattle.row_laws.specs.Ticking.{first_cut_at, is_in_time, read_in_time, asks_in_time}
+use Rattle.row_rules.specs.declared.Rules.{Rules}
+use Rattle.row_rules.specs.Queueing.{waiting, queue_fits, cover, is_at_head}
+use Rattle.row_rules.specs.Serving.{may_have}
+use Rattle.row_rules.specs.Ticking.{first_cut_at, is_in_time, read_in_time, asks_in_time}
 use Rattle.bank_shape.specs.declared.BankShape.{BankShape}
 use Rattle.bank_shape.specs.Shape.{slots_of, slot_moved, lines_in}
 use Rattle.bank_laws.specs.Places.{is_place_after, is_place_about, outcome_placed}

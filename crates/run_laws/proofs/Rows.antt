@@ -9,13 +9,13 @@ use Rattle.pcm_cells.specs.Device.{ArrayState}
 use Rattle.result_rows.specs.declared.Op.TheVariants as op
 use Rattle.result_summary.specs.Shortfall.{is_short, any_short}
 use Rattle.result_rows.specs.Outcomes.{op_of, place_of}
-use Rattle.row_laws.specs.declared.Asks.{Asks}
-use Rattle.row_laws.specs.declared.Asks.TheVariants.{Reads, Writes, Cuts}
-use Rattle.row_laws.specs.declared.Row.{Row}
-use Rattle.row_laws.specs.Answers.{accepts, is_queued, is_lost}
-use Rattle.row_laws.specs.Rows.{line_of, is_cut}
-use Rattle.row_laws.specs.Queueing.{pending, has_room, is_queue_fair}
-use Rattle.row_laws.specs.Serving.{is_served, owed}
+use Rattle.row_rules.specs.declared.Asks.{Asks}
+use Rattle.row_rules.specs.declared.Asks.TheVariants.{Reads, Writes, Cuts}
+use Rattle.row_rules.specs.declared.Row.{Row}
+use Rattle.row_rules.specs.Answers.{accepts, is_queued, is_lost}
+use Rattle.row_rules.specs.Rows.{line_of, is_cut}
+use Rattle.row_rules.specs.Queueing.{pending, has_room, is_queue_fair}
+use Rattle.row_rules.specs.Serving.{is_served, owed}
 use Rattle.bank_laws.specs.Laws.{is_worn_at}
 use Rattle.bank_laws.specs.Places.{is_placed, is_taken, may_leave}
 use Rattle.bank_shape.specs.declared.Home.{Home}

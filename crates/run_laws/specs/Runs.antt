@@ -6,11 +6,11 @@ use Rattle.feistel_map.specs.Network.{network_of, feistel, unfeistel}
 use Rattle.pcm_cells.specs.Device.{ArrayState}
 use Rattle.pcm_cells.specs.declared.array.Sense.{Sense}
 use Rattle.line_writer.specs.Untouched.{HasUntouched}
-use Rattle.row_laws.specs.declared.Row.{Row}
-use Rattle.row_laws.specs.Rows.{each_row}
-use Rattle.row_laws.specs.declared.Rules.{Rules}
-use Rattle.row_laws.specs.Serving.{is_served}
-use Rattle.row_laws.specs.Table.{KeepsRows}
+use Rattle.row_rules.specs.declared.Row.{Row}
+use Rattle.row_rules.specs.Rows.{each_row}
+use Rattle.row_rules.specs.declared.Rules.{Rules}
+use Rattle.row_rules.specs.Serving.{is_served}
+use Rattle.row_rules.specs.Table.{KeepsRows}
 use Rattle.bank_shape.specs.declared.pace.Pace.{Pace}
 use Rattle.module_shape.specs.declared.raw.RawShape.{RawShape}
 use Rattle.module_shape.specs.Limits.{total_of}

@@ -5,8 +5,8 @@ use Rattle.std.specs.List.{list_all}
 use Rattle.std.proofs.lemmas.Bool.{cases_lt, and_from}
 use Rattle.result_rows.specs.declared.Outcome.{Outcome}
 use Rattle.result_rows.specs.declared.Outcome.TheVariants as out
-use Rattle.row_laws.specs.declared.Row.{Row}
-use Rattle.row_laws.specs.Ticking.{apart}
+use Rattle.row_rules.specs.declared.Row.{Row}
+use Rattle.row_rules.specs.Ticking.{apart}
 use Rattle.bank_shape.specs.declared.BankShape.{BankShape}
 use Rattle.bank_shape.specs.declared.answer.WriteAnswer.TheVariants as wrote
 use Rattle.bank_shape.specs.declared.answer.ReadAnswer.TheVariants as came
@@ -16,7 +16,7 @@ use Rattle.bank_shape.specs.declared.clock.Doing.TheVariants.{Serving, Beginning
 use Rattle.bank_model.specs.Events.{Write, Read, Serve, Begin, Iterate, Cut, RowsBelow}
 use Rattle.bank_model.specs.History.{Awaited, waits, in_progress}
 use Rattle.bank_shape.specs.declared.pace.Pace.{Pace}
-use Rattle.bank_model.specs.Timing.{Happens, Core, Regs, Timed, core, core_of}
+use Rattle.bank_model.specs.Timing.{Happens, Core, Regs, TimedEvent, core, core_of}
 use Rattle.bank_model.specs.Running.{left_by, running_at}
 use Rattle.bank_model.specs.Changes.{change_after}
 use Rattle.bank_model.specs.Lawful.{Lawful, MayCome}
@@ -44,15 +44,15 @@ module _ {n : ℕ} where
   plain_lost o tick false = inl refl
 
 module _ {n m : ℕ} (shape : BankShape) (pace : Pace) (e : ℕ) where
-  abbrev Spaced : List (Timed n m) → Type 0
+  abbrev Spaced : List (TimedEvent n m) → Type 0
   Spaced xs = AreSpaced pace.read (outcome_of shape xs) (since_of shape pace xs) (in_progress (core xs)) (waits shape (core xs))
 
-  abbrev SpacedBy : List (Timed n m) → Timed n m → Happens n → Type 0
+  abbrev SpacedBy : List (TimedEvent n m) → TimedEvent n m → Happens n → Type 0
   SpacedBy xs x h =
       AreSpaced pace.read (λ row. unwrap_or (outcome_with shape xs h x.tick row) (outcome_of shape xs row)) (since (left_by shape (core xs) (change_after shape xs) h (running_at shape pace xs x.tick)) x.tick)
       (in_progress (core_of h (core xs))) (waits shape (core_of h (core xs)))
 
-  module _ (xs : List (Timed n m)) (x : Timed n m) (some : 1 ≤ pace.read) (l : Lawful shape pace e xs) (s : Spaced xs) where
+  module _ (xs : List (TimedEvent n m)) (x : TimedEvent n m) (some : 1 ≤ pace.read) (l : Lawful shape pace e xs) (s : Spaced xs) where
     -- an event that ends nothing for a row, and leaves line write and reads as they were
     same : (h : Happens n) → since_of shape pace xs ≤ since (left_by shape (core xs) (change_after shape xs) h (running_at shape pace xs x.tick)) x.tick
         → Plain pace.read (outcome_of shape xs) (since_of shape pace xs) (in_progress (core xs)) (waits shape (core xs)) s (λ row. unwrap_or (outcome_with shape xs h x.tick row) (outcome_of shape xs row))
@@ -119,7 +119,7 @@ module _ {n m : ℕ} (shape : BankShape) (pace : Pace) (e : ℕ) where
     step i (Core (Cut tearing)) rises may =
         same (Core (Cut tearing)) rises (λ at. plain_lost (outcome_of shape xs at) x.tick (has_wait (waits shape (core xs)) at)) (λ is. absurd (cc)) (λ other there. absurd (cc))
 
-  spaced : (xs : List (Timed n m)) → 1 ≤ pace.read → 1 ≤ pace.iter → Lawful shape pace e xs → Spaced xs
+  spaced : (xs : List (TimedEvent n m)) → 1 ≤ pace.read → 1 ≤ pace.iter → Lawful shape pace e xs → Spaced xs
   spaced [] r i l = record {
     stores = λ row u p is. absurd (cc);
     writing = λ is row u p k. absurd (cc);
@@ -132,7 +132,7 @@ module _ {n m : ℕ} (shape : BankShape) (pace : Pace) (e : ℕ) where
       record { stores = s.stores; writing = s.writing; reads = s.reads; order = s.order; pairs = s.pairs }
 
   -- an outcome is apart from those of all rows before
-  apart_rows : (all zs : List (Timed n m)) (bound : ℕ) (o : Outcome n) → RowsBelow (core zs) bound → ((lower : ℕ) → lower < bound → apart pace.read o (outcome_of shape all lower) ≡ true)
+  apart_rows : (all zs : List (TimedEvent n m)) (bound : ℕ) (o : Outcome n) → RowsBelow (core zs) bound → ((lower : ℕ) → lower < bound → apart pace.read o (outcome_of shape all lower) ≡ true)
       → list_all (λ q. apart pace.read o q.outcome) (rows_from shape all zs) ≡ true
   apart_rows all [] bound o b far = refl
   apart_rows all (z ∷ zs) bound o b far = by z.happens z.cancels (λ bound b far. apart_rows all zs bound o b far) b
@@ -151,7 +151,7 @@ module _ {n m : ℕ} (shape : BankShape) (pace : Pace) (e : ℕ) where
       by (Core (Cut tearing)) false go b = and_from _ _ (apart-right pace.read o (out.Cut z.tick) refl) (go bound b far)
 
   -- the row of each event stands apart
-  pub apart_at : (all later : List (Timed n m)) (x : Timed n m) (ys : List (Timed n m)) → 1 ≤ pace.read → 1 ≤ pace.iter → Lawful shape pace e all → all ≡ later ++ x ∷ ys
+  pub apart_at : (all later : List (TimedEvent n m)) (x : TimedEvent n m) (ys : List (TimedEvent n m)) → 1 ≤ pace.read → 1 ≤ pace.iter → Lawful shape pace e all → all ≡ later ++ x ∷ ys
       → Passes (is_apart pace.read) (rows_from shape all ys) (row_with shape all x.happens x.tick x.cancels) (rows_after shape all later)
   apart_at all later x ys r i l split = by x.happens x.cancels (may_at shape pace e all later x ys l split)
     where
@@ -170,7 +170,7 @@ module _ {n m : ℕ} (shape : BankShape) (pace : Pace) (e : ℕ) where
       by (Core (Cut tearing)) true may = tt
       by (Core (Cut tearing)) false may = all_cut ys
         where
-          all_cut : (ys : List (Timed n m)) → list_all (λ q. apart pace.read (out.Cut x.tick) q.outcome) (rows_from shape all ys) ≡ true
+          all_cut : (ys : List (TimedEvent n m)) → list_all (λ q. apart pace.read (out.Cut x.tick) q.outcome) (rows_from shape all ys) ≡ true
           all_cut ys = each (rows_from shape all ys)
             where
               each : (rows : List (Row n)) → list_all (λ q. apart pace.read (out.Cut x.tick) q.outcome) rows ≡ true

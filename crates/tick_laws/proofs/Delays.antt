@@ -19,7 +19,7 @@ use Rattle.bank_model.specs.History.{awaited, queue, waits, has_exhausted, in_pr
 use Rattle.bank_model.specs.After.{work_after, is_store_of}
 use Rattle.bank_shape.specs.declared.pace.Pace.{Pace}
 use Rattle.bank_shape.specs.Acting.{lasts}
-use Rattle.bank_model.specs.Timing.{Happens, Core, Regs, KeepBegin, KeepIterate, KeepCut, Timed, ends, is_doing, is_writing, is_empty, core, core_of, last_tick}
+use Rattle.bank_model.specs.Timing.{Happens, Core, Regs, KeepBegin, KeepIterate, KeepCut, TimedEvent, ends, is_doing, is_writing, is_empty, core, core_of, last_tick}
 use Rattle.bank_shape.specs.Pausing.{gives_way}
 use Rattle.bank_shape.specs.Acting.{choice, chosen_by}
 use Rattle.bank_model.specs.Running.{busy_by, made_by, busy_after, made_after, ready_after, drops_begin, started, left_by, running, running_at, chosen_after, cancels_after}
@@ -103,17 +103,17 @@ writing_of true false c d h = absurd (cc)
 writing_of false b c d h = absurd (cc)
 
 module _ {n m : ℕ} (shape : BankShape) (pace : Pace) (e : ℕ) where
-  abbrev pub In : ℕ → List (Timed n m) → Option Action → ℕ → Type 0
+  abbrev pub In : ℕ → List (TimedEvent n m) → Option Action → ℕ → Type 0
   In base zs r top = InTime shape pace.read pace.iter base (change_after shape zs) (busy_after shape zs) (made_after shape zs) (core zs) r top
 
-  abbrev pub Delay : ℕ → List (Timed n m) → Type 0
+  abbrev pub Delay : ℕ → List (TimedEvent n m) → Type 0
   Delay base zs = In base zs (running shape pace zs) (since_of shape pace zs)
 
   -- the same at the tick of the next event, before that
-  abbrev pub DelayAt : ℕ → List (Timed n m) → ℕ → Type 0
+  abbrev pub DelayAt : ℕ → List (TimedEvent n m) → ℕ → Type 0
   DelayAt base zs tick = In base zs (running_at shape pace zs tick) (since (running_at shape pace zs tick) tick)
 
-  pub delay_at : (base : ℕ) (zs : List (Timed n m)) (tick row : ℕ) → last_tick zs ≤ tick → has_row (queue shape (core zs)) row ≡ true → has_exhausted (core zs) ≡ false → halted_after zs ≡ false → Delay base zs
+  pub delay_at : (base : ℕ) (zs : List (TimedEvent n m)) (tick row : ℕ) → last_tick zs ≤ tick → has_row (queue shape (core zs)) row ≡ true → has_exhausted (core zs) ≡ false → halted_after zs ≡ false → Delay base zs
       → DelayAt base zs tick
   delay_at base zs tick row rises there fine runs d = by d
     where
@@ -140,7 +140,7 @@ module _ {n m : ℕ} (shape : BankShape) (pace : Pace) (e : ℕ) where
               subst (λ d. is_doing Beginning (started (running shape pace zs) d (last_tick zs) tick) ≡ false) (sym chosen)
               (not_begun-next (gives_way pace.policy) (busy_after shape zs) (running shape pace zs) (last_tick zs) tick h.1)
 
-  module _ (base : ℕ) (zs : List (Timed n m)) (y : Timed n m) (l : Lawful shape pace e (y ∷ zs)) where
+  module _ (base : ℕ) (zs : List (TimedEvent n m)) (y : TimedEvent n m) (l : Lawful shape pace e (y ∷ zs)) where
     abbrev pub DelayBy : Happens n → Type 0
     DelayBy h =
         InTime shape pace.read pace.iter (gain pace.read (work_time pace e) h y.cancels + base) (change_by shape (core zs) h (change_after shape zs))

@@ -8,13 +8,13 @@ use Rattle.std.proofs.lemmas.Bool.{le-leb, and_from}
 use Rattle.std.proofs.lemmas.List.FromFn.{get_or-map-range_with_len}
 use Rattle.std.proofs.lemmas.Option.{unwrap_or-slice_get}
 use Rattle.pcm_cells.specs.Device.{ArrayState}
-use Rattle.row_laws.specs.declared.Row.{Row}
-use Rattle.row_laws.specs.Rows.{RowTest, each_row}
-use Rattle.row_laws.specs.declared.Rules.{Rules}
-use Rattle.row_laws.specs.Serving.{is_served}
-use Rattle.row_laws.specs.Queueing.{has_room, is_queue_fair}
-use Rattle.row_laws.specs.Wearing.{is_wear_final}
-use Rattle.row_laws.specs.Ticking.{is_in_time}
+use Rattle.row_rules.specs.declared.Row.{Row}
+use Rattle.row_rules.specs.Rows.{RowTest, each_row}
+use Rattle.row_rules.specs.declared.Rules.{Rules}
+use Rattle.row_rules.specs.Serving.{is_served}
+use Rattle.row_rules.specs.Queueing.{has_room, is_queue_fair}
+use Rattle.row_rules.specs.Wearing.{is_wear_final}
+use Rattle.row_rules.specs.Ticking.{is_in_time}
 use Rattle.row_verdict.specs.Judging.{VerdictLaw}
 use Rattle.row_verdict.specs.Verdicts.{bank_in, in_bank, all_have_room, keeps_all}
 use Rattle.module_shape.specs.declared.raw.RawShape.{RawShape}

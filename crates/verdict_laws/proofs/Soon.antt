@@ -14,16 +14,16 @@ use Rattle.bank_shape.specs.declared.pace.Policy.TheVariants.{Pause, Plain, Canc
 use Rattle.result_rows.specs.declared.Outcome.{Outcome}
 use Rattle.result_rows.specs.declared.Outcome.TheVariants as out
 use Rattle.result_rows.specs.Outcomes.{tick_of}
-use Rattle.row_laws.specs.declared.Asks.{Asks}
-use Rattle.row_laws.specs.declared.Asks.TheVariants.{Reads, Writes, Cuts}
-use Rattle.row_laws.specs.declared.Row.{Row}
-use Rattle.row_laws.specs.Answers.{is_full}
-use Rattle.row_laws.specs.Rows.{RowTest, each_row, is_cut, accepted_of, write_of}
-use Rattle.row_laws.specs.declared.Rules.{Rules}
-use Rattle.row_laws.specs.Serving.{is_served, may_have, owed}
-use Rattle.row_laws.specs.Queueing.{awaits, has_room, merges_at, pending, queue_fits, waiting}
-use Rattle.row_laws.specs.Ticking.{asks_in_time, attempt, bound, came_since, cuts_to, delay, first_cut_at, is_in_time, last_store, longest, reads_in, stores_in, tries, writings}
-use Rattle.row_laws.specs.Table.{of_bank, is_of}
+use Rattle.row_rules.specs.declared.Asks.{Asks}
+use Rattle.row_rules.specs.declared.Asks.TheVariants.{Reads, Writes, Cuts}
+use Rattle.row_rules.specs.declared.Row.{Row}
+use Rattle.row_rules.specs.Answers.{is_full}
+use Rattle.row_rules.specs.Rows.{RowTest, each_row, is_cut, accepted_of, write_of}
+use Rattle.row_rules.specs.declared.Rules.{Rules}
+use Rattle.row_rules.specs.Serving.{is_served, may_have, owed}
+use Rattle.row_rules.specs.Queueing.{awaits, has_room, merges_at, pending, queue_fits, waiting}
+use Rattle.row_rules.specs.Ticking.{asks_in_time, attempt, bound, came_since, cuts_to, delay, first_cut_at, is_in_time, last_store, longest, reads_in, stores_in, tries, writings}
+use Rattle.row_rules.specs.Table.{of_bank, is_of}
 use Rattle.row_verdict.specs.Verdicts.{all_have_room, bank_in, in_bank, keeps, keeps_all, RowsOk}
 use Rattle.row_verdict.specs.declared.Rule.TheVariants as rule
 use Rattle.verdict_laws.specs.Ticks.{longest_among, SoonLaw}

@@ -12,11 +12,11 @@ use Rattle.ecp_line.specs.Reading.{decode}
 use Rattle.ecp_line.specs.Layout as layout
 use Rattle.pcm_cells.specs.Rows as cells
 use Rattle.line_writer.specs.Untouched.{HasUntouched}
-use Rattle.row_laws.specs.declared.Row.{Row}
-use Rattle.row_laws.specs.Worked.{whole}
-use Rattle.row_laws.specs.Rows.{each_row}
-use Rattle.row_laws.specs.Serving.{is_served}
-use Rattle.row_laws.specs.Table.{KeepsRows}
+use Rattle.row_rules.specs.declared.Row.{Row}
+use Rattle.row_rules.specs.Worked.{whole}
+use Rattle.row_rules.specs.Rows.{each_row}
+use Rattle.row_rules.specs.Serving.{is_served}
+use Rattle.row_rules.specs.Table.{KeepsRows}
 use Rattle.module_shape.specs.Addresses.{module_of, bank_shape}
 use Rattle.module_laws.specs.Serves.{finds_room_in}
 use Rattle.bank_laws.specs.Laws.{KeepsPlaces, KeepsLog, is_worn_at}

@@ -1,9 +1,9 @@
 use Rattle.std.proofs.Common.{ℕ, ◌<◌, ◌==◌, List, ◌∷◌, ◌++◌, sym, ap, subst, ◌∙◌, arith}
 use Rattle.std.proofs.lemmas.Bool.{ne_eqb, or_from}
-use Rattle.row_laws.specs.declared.Asks.TheVariants.{Reads}
+use Rattle.row_rules.specs.declared.Asks.TheVariants.{Reads}
 use Rattle.bank_shape.specs.declared.BankShape.{BankShape}
 use Rattle.bank_model.specs.Events.{Read}
-use Rattle.bank_model.specs.Timing.{Timed}
+use Rattle.bank_model.specs.Timing.{TimedEvent}
 use Rattle.bank_invariant.specs.Serving.{read_from}
 use Rattle.power_recovery.specs.Slots.{bank_lines}
 use Rattle.clock_laws.specs.Arriving.{arrival}
@@ -55,8 +55,8 @@ returns-clause-step g c xs leads =
     let after = g.A.CellArray.state c.arrive_read.new.array in
     let clock = c.advance.new.self in
     let next = c.arrive_read.ensures.extends (run.0 ++ xs) run.1.leads in
-    let event : Timed g.row.B g.row.M = arrival clock.tick (Read c.args.row c.args.line (read_from clock.bank c.args.line)) in
-    let extra : List (Timed g.row.B g.row.M) = cancel_first (run.0 ++ xs) clock c.args.line in
+    let event : TimedEvent g.row.B g.row.M = arrival clock.tick (Read c.args.row c.args.line (read_from clock.bank c.args.line)) in
+    let extra : List (TimedEvent g.row.B g.row.M) = cancel_first (run.0 ++ xs) clock c.args.line in
     let a : Asked g.row.B = record { row = c.args.row; tick = c.args.tick; asks = Reads c.args.line } in (
       (event ∷ extra) ++ run.0,
       step_on xs run.0 c.args.timed.now clock c.arrive_read.new.self before between after c.args.results.now c.advance.new.results c.arrive_read.new.results leads run.2 run.1

@@ -1,5 +1,5 @@
 use Rattle.std.proofs.Common.{◌≡◌, ◌+◌, ◌-◌, ap, ◌∙◌}
-use Rattle.row_laws.specs.Ticking.{longest}
+use Rattle.row_rules.specs.Ticking.{longest}
 use Rattle.row_judging.specs.Keys.{key, up_to}
 use Rattle.row_verdict.proofs.judge.latest_store.Goals as goal
 

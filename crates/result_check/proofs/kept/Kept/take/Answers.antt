@@ -1,8 +1,8 @@
 use Rattle.std.proofs.Common.{◌≡◌, ◌<◌, ◌∙◌, length, sym, ap, subst, arith}
 use Rattle.std.specs.Prelude.{IfOk, true, replicate}
-use Rattle.row_laws.specs.declared.Asks.{Asks}
-use Rattle.row_laws.specs.declared.Asks.TheVariants.{Reads, Writes}
-use Rattle.row_laws.specs.Rows.{asks_cut}
+use Rattle.row_rules.specs.declared.Asks.{Asks}
+use Rattle.row_rules.specs.declared.Asks.TheVariants.{Reads, Writes}
+use Rattle.row_rules.specs.Rows.{asks_cut}
 use Rattle.row_verdict.specs.Verdicts.{asks_of, bank_in}
 use Rattle.result_check.specs.declared.ahead.Coming.{Coming}
 use Rattle.result_check.specs.Coming.{a_row, coming_at}
