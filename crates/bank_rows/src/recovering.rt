@@ -8,10 +8,9 @@ ghost use Rattle.clock_laws.specs.Leads.{Leads};
 
 use crate::rows::{end, powered, write_all};
 use bank_core::bank::Bank;
-use bank_shape::{BankShape, Home};
-use bank_timing::recover;
+use bank_shape::{BankShape, Home, Policy};
 use bank_timing::clocked::ClockedBank;
-use bank_shape::Policy;
+use bank_timing::recover;
 use pcm_cells::{CellArray, ScriptArray};
 use reg_lines::regs::RegLines;
 use result_rows::Results;

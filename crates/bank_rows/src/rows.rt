@@ -10,9 +10,8 @@ ghost use Rattle.bank_invariant.specs.State.{first_bank};
 ghost use Rattle.clock_laws.specs.Leads.{Leads};
 ghost use Rattle.bank_timing.specs.Extending.{AreOpen, IsOpen};
 
-use bank_shape::{BankShape, Home};
+use bank_shape::{BankShape, Home, Pace, Policy};
 use bank_timing::clocked::ClockedBank;
-use bank_shape::{Pace, Policy};
 use pcm_cells::{Act, CellArray, Script, ScriptArray, Wear};
 use result_rows::{Outcome, Results};
 use std::alloc::{AllocError, Global};

@@ -21,9 +21,9 @@ ghost use Rattle.bank_timing.specs.Queueing.{entry_has_row};
 ghost use Rattle.bank_timing.specs.Extending.{Extends, AreOpen, IsOpen, LeavesOthersThan};
 
 use crate::clocked::ClockedBank;
+use bank_shape::Work;
 use bank_shape::answer::{ReadAnswer, WriteAnswer};
 use bank_shape::clock::{Action, Doing};
-use bank_shape::Work;
 use masked_bytes::layers::has_all;
 use pcm_cells::CellArray;
 use power_recovery::kept::Kept;

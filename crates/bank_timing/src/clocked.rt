@@ -14,9 +14,8 @@ ghost use Rattle.bank_timing.specs.Extending.{Extends, AreOpen, IsQuiet, LeavesO
 
 use bank_core::bank::Bank;
 use bank_shape::clock::{Action, Doing, choose};
-use bank_shape::BankShape;
+use bank_shape::{BankShape, Pace};
 use circular_buffer::HeapCircularBuffer;
-use bank_shape::Pace;
 use pcm_cells::CellArray;
 use reg_lines::regs::RegLines;
 use result_rows::Results;
@@ -54,7 +53,11 @@ impl<const B: usize, const M: usize, const E: usize> Model for ClockedBank<B, M,
 
 impl<const B: usize, const M: usize, const E: usize> ClockedBank<B, M, E> {
     /// A bank with its clock at tick 0, for array lines that were just powered up.
-    pub fn new(alloc: Global, shape: BankShape, pace: Pace) -> Result<ClockedBank<B, M, E>, AllocError>
+    pub fn new(
+        alloc: Global,
+        shape: BankShape,
+        pace: Pace,
+    ) -> Result<ClockedBank<B, M, E>, AllocError>
         requires layout { IsLayout B M E }
         requires limits { IsBankShape shape }
         requires paced { IsPace pace }

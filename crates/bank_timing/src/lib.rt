@@ -3,9 +3,9 @@
 #![tactic(auto)]
 
 mod arriving;
+pub mod clocked;
 mod completing;
 mod cutting;
 mod draining;
-pub mod clocked;
 
 pub use register_recovery::recover;

@@ -50,11 +50,11 @@ module _ {n m : ℕ} (bounds : CellBounds) (old new : LineState n m) where
   ages-pulsed most next sticks one few room ages = record {
     live = λ none. let were = was-live sticks none in omega (arith, ages.live were, one, room were);
     stuck = λ c is. elim (cases_lt next bounds.endures) [
-        | inl less ↦
-            let were : (c : ℕ) → old.stuck c ≡ false = were-live less in
-            let late : bounds.endures ≤ new.pulses = sticks.late c (were c) is in
-            absurd (omega (arith, late, less, ages.live were, one, room were))
-        | inr most ↦ most
+      | inl less ↦
+          let were : (c : ℕ) → old.stuck c ≡ false = were-live less in
+          let late : bounds.endures ≤ new.pulses = sticks.late c (were c) is in
+          absurd (omega (arith, late, less, ages.live were, one, room were))
+      | inr most ↦ most
     ];
   }
     where
@@ -181,7 +181,7 @@ module _ {n m : ℕ} (shape : BankShape) (pace : Pace) (e at : ℕ) (low : at < 
 
 -- with a count below the greatest, one more pulse is no less
 counted-more : (k : ℕ) → k ≤ 2 ^ 64 - 1 → k ≤ counted k
-counted-more k few = elim (counted-cases k few) [ | inl same ↦ omega (arith, same) | inr more ↦ omega (arith, more) ]
+counted-more k few = elim (counted-cases k few) [ inl same ↦ omega (arith, same) | inr more ↦ omega (arith, more) ]
 
 module _ {n m : ℕ} (shape : BankShape) (pace : Pace) (e : ℕ) (xs : List (TimedEvent n m)) (x : TimedEvent n m) (sensed : List ℕ) (tearing : Bool) (old new : ArrayState n m)
     (past : MayAll shape (most_steps e) (core xs)) (are : ArePulses shape xs old) (touches : Touches x.tick sensed x.pulsed tearing old new)

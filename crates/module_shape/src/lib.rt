@@ -5,7 +5,6 @@
 mod raw;
 mod shape;
 
-pub use bank_shape::Home;
-pub use bank_shape::{Pace, Policy};
+pub use bank_shape::{Home, Pace, Policy};
 pub use raw::{BadShape, Field, RawShape};
 pub use shape::{BankLine, Shape};

@@ -7,9 +7,8 @@ ghost use Rattle.module_shape.specs.Limits.{IsShape, accepted, total_of};
 ghost use Rattle.module_shape.specs.Addresses.{module_of, pace_of, lines_of, array_lines_of, bank_shape, bank_of, bank_line_of};
 
 use crate::raw::{BadShape, RawShape, fault};
-use bank_shape::{BankShape, Home};
+use bank_shape::{BankShape, Home, Pace};
 use feistel_map::Address;
-use bank_shape::Pace;
 use std::marker::Model;
 
 /// The sizes of a module, all in range.

@@ -1,6 +1,6 @@
-use power_recovery::kept::Kept;
 use bank_shape::{BankShape, Home, Work};
 use masked_bytes::entry::Entry;
+use power_recovery::kept::Kept;
 use protected_queue::accept::Accept;
 use spare_pool::NoSpare;
 use start_gap::Move;

@@ -5,8 +5,8 @@ ghost use Rattle.std.specs.Prelude.{◌<◌};
 ghost use Rattle.pcm_cells.specs.Rows.{cell};
 ghost use Rattle.ecp_line.specs.Layout.{IsLayout, Sound};
 
-use line_writer::{Cause, LineWriter, Progress};
 use ecp_line::Ecp;
+use line_writer::{Cause, LineWriter, Progress};
 use pcm_cells::{Act, CellArray, Cells, Script, ScriptArray, Wear};
 use std::alloc::{AllocError, Global};
 use std::test::Fail;

@@ -1,8 +1,8 @@
 ghost use Rattle.std.specs.Prelude.{◌<◌};
 ghost use Rattle.pcm_cells.specs.Device.{IsShape};
 
-use program_verify::{Prog, Turn};
 use pcm_cells::{Act, CellArray, Cells, Script, ScriptArray, Wear};
+use program_verify::{Prog, Turn};
 use std::test::Fail;
 
 const WEAR: Wear = Wear {

@@ -1,7 +1,7 @@
-use protected_queue::accept::Accept;
-use protected_queue::queue::Queue;
 use masked_bytes::entry::Entry;
 use masked_bytes::layers::has_all;
+use protected_queue::accept::Accept;
+use protected_queue::queue::Queue;
 use std::test::*;
 
 #[test]

@@ -36,12 +36,12 @@ use crate::ahead::Coming;
 use crate::found::{Found, bank_of};
 use crate::watched::Watched;
 use result_rows::Outcome;
+use row_rules::Rules;
+use row_verdict::Rule;
 use row_verdict::judge::{Ahead, Keys, judge_read, judge_write};
 use row_verdict::lines::Line;
 use row_verdict::members::{Member, NEVER};
 use row_verdict::queue::has_room;
-use row_rules::Rules;
-use row_verdict::Rule;
 use std::alloc::{AllocError, Global};
 use trace_reader::{Event, EventOp};
 

@@ -19,6 +19,7 @@ ghost use Rattle.row_verdict.specs.Timely.{first_of_ticks};
 ghost use Rattle.row_verdict.specs.Verdicts.{asks_of};
 ghost use Rattle.row_verdict.specs.Within.{AreWithin};
 
+use crate::Rule;
 use crate::bank::Bank;
 use crate::judging::lies_apart;
 use crate::keys::{between, key, up_to};
@@ -29,9 +30,8 @@ use crate::reads::{read_fits, read_in_time};
 use crate::serving::may_have;
 use crate::timing::{bound, longest};
 use crate::wearing::keeps_worn;
-use crate::Rule;
-use row_rules::Rules;
 use result_rows::Outcome;
+use row_rules::Rules;
 use trace_reader::EventOp;
 
 /// The first rule that is broken, by whether a row is served, each bank has room, and its answer, wear and times are as they must be.

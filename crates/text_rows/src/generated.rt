@@ -1,10 +1,10 @@
 ghost use Rattle.std.specs.Prelude.{◌≤◌};
 ghost use Rattle.trace_gen.specs.Generated.{IsMix};
 
-use trace_gen::{Generator, Mix, generate, header, print_event};
 use pcm_io::Text;
 use std::alloc::{AllocError, Global};
 use std::test::Fail;
+use trace_gen::{Generator, Mix, generate, header, print_event};
 use trace_reader::{Event, EventOp, parse};
 
 // The text of events, of which there are few.

@@ -1,5 +1,5 @@
-use pcm_image::*;
 use pcm_cells::Cells;
+use pcm_image::*;
 use pcm_io::Text;
 use std::test::*;
 

@@ -50,9 +50,7 @@ fn a_larger_module_has_two_banks_of_eleven_array_lines(rt: HostRuntime) -> Resul
 }
 
 #[test]
-fn registers_in_the_array_take_four_lines_more_of_each_bank(
-    rt: HostRuntime,
-) -> Result<(), Fail> {
+fn registers_in_the_array_take_four_lines_more_of_each_bank(rt: HostRuntime) -> Result<(), Fail> {
     let mut text = Text::new(rt.alloc(), 192)?;
     let map = Map::new(MapOptions {
         banks: 2,

@@ -4,9 +4,11 @@ ghost use Rattle.pcm_io.specs.Giving.{AppendsPrefix};
 ghost use Rattle.pcm_io.specs.Reserved.{reserved};
 ghost use Rattle.wear_report.specs.WearText.{wear_text};
 
-use run_text::{ROW_ROOM, TEXT_ROOM, print_counts, print_rest, print_results, print_wear_header, print_wear_row};
 use pcm_io::{MemSink, Sink, Text, WriteFault};
 use result_rows::{Outcome, Results};
+use run_text::{
+    ROW_ROOM, TEXT_ROOM, print_counts, print_rest, print_results, print_wear_header, print_wear_row,
+};
 use std::alloc::{AllocError, Global};
 use std::test::Fail;
 use trace_reader::{Event, EventOp};

@@ -2,8 +2,8 @@ ghost use Rattle.std.specs.Prelude.{◌≡◌, ◌≤◌, Some};
 ghost use Rattle.std.specs.Option.{ForSome};
 ghost use Rattle.result_rows.specs.Outcomes.{op_of, place_of};
 
-use result_rows::{Op, Outcome, Results, header, print_row};
 use pcm_io::Text;
+use result_rows::{Op, Outcome, Results, header, print_row};
 use std::alloc::{AllocError, Global};
 use std::test::Fail;
 

@@ -1,4 +1,7 @@
-use pcm_io::{MemSink, MemSource, NeverFailSink, NeverFailSource, ReadAllFault, StdSink, StdSource, Text, WriteFault, read_all, write_all};
+use pcm_io::{
+    MemSink, MemSource, NeverFailSink, NeverFailSource, ReadAllFault, StdSink, StdSource, Text,
+    WriteFault, read_all, write_all,
+};
 use std::test::Fail;
 
 #[test]

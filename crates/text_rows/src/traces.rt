@@ -1,5 +1,5 @@
-use trace_reader::{Event, EventOp, Kind, MOST_ROWS, ParseFault, TraceFault, number, parse};
 use std::test::Fail;
+use trace_reader::{Event, EventOp, Kind, MOST_ROWS, ParseFault, TraceFault, number, parse};
 
 #[test]
 fn a_number_has_its_digits_and_its_bound(rt: HostRuntime) {

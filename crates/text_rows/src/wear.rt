@@ -1,6 +1,6 @@
 use pcm_io::Text;
-use wear_report::{Role, header, print_role};
 use std::test::Fail;
+use wear_report::{Role, header, print_role};
 
 #[test]
 fn a_row_of_each_role(rt: HostRuntime) -> Result<(), Fail> {
