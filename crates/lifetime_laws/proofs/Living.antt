@@ -1,5 +1,5 @@
 -- A bank whose hot lines are few, over cells that endure.
-use Rattle.std.proofs.Common.{◌≡◌, inl, inr, ℕ, ◌+◌, ◌*◌, ◌/◌, ◌%◌, ◌<◌, ◌≤◌, ◌==◌, ◌&&◌, ◌||◌, not, Bool, true, false, List, [], ◌∷◌, Option, Some, None, length, refl, sym, ap, ◌∙◌, subst, arith, cond}
+use Rattle.std.proofs.Common.{◌≡◌, inl, inr, ℕ, ◌+◌, ◌*◌, ◌/◌, ◌%◌, ◌<◌, ◌≤◌, ◌==◌, ◌&&◌, ◌||◌, not, Bool, true, false, List, [], ◌∷◌, Option, Some, None, length, refl, sym, ap, ◌∙◌, subst, arith}
 use Rattle.std.specs.Prelude.{count_by, is_some}
 use Rattle.std.specs.List.{list_any}
 use Rattle.std.proofs.lemmas.Bool.{eqb-true, eq-eqb, false_from_ne_true, cases_eq, ne_eqb}
@@ -16,12 +16,11 @@ use Rattle.row_laws.specs.Rows.{each_row, asks_write, asks_write_of, line_of}
 use Rattle.row_laws.specs.Rules.{Rules}
 use Rattle.row_laws.specs.Ticking.{is_in_time, tries}
 use Rattle.bank_shape.specs.declared.BankShape.{BankShape}
-use Rattle.bank_shape.specs.Shape.{slots_of, slot_moved}
+use Rattle.bank_shape.specs.Shape.{slots_of, slot_moved, control_line}
 use Rattle.bank_model.specs.Aging.{Endures}
 use Rattle.bank_model.specs.Timing.{Pacing, Timed, core}
 use Rattle.bank_model.specs.Lawful.{Lawful, IsIdle}
-use Rattle.bank_model.specs.History.{in_progress, iterated, waits}
-use Rattle.bank_model.specs.After.{target_after}
+use Rattle.bank_model.specs.History.{in_progress, waits}
 use Rattle.bank_model.specs.Changes.{change_after, keeping_after}
 use Rattle.bank_model.specs.Running.{busy_by, busy_after, gives_way, choice_after}
 use Rattle.bank_laws.proofs.Changing.{changed-idle}
