@@ -59,7 +59,7 @@ fresh_law {n} {m} {e} shape array some few limits fresh =
           worn = λ line below none. absurd (none line (omega (arith, below)) refl);
         };
         unused = λ line below. untouched-blank e (array.line (shape.base + line)) (fresh.blank line (omega (arith, below)));
-        orderly = λ line below. orderly-blank (array.line (shape.base + line)) (fresh.blank line (omega (arith, below)));
+        orderly = λ line below. orderly-blank array.bounds.misses (array.line (shape.base + line)) (fresh.blank line (omega (arith, below)));
         operation = tt;
         exhausted = λ mark. cc;
       };

@@ -1,8 +1,8 @@
-use Rattle.std.proofs.Common.{rules, ◌≡◌, ◌≤◌, None, false, refl, sym, ap, subst, ◌∙◌}
+use Rattle.std.proofs.Common.{rules, ◌≡◌, ◌≤◌, None, false, sym, ap, subst, ◌∙◌}
 use Rattle.pcm_cells.specs.Device.{ArrayState}
 use Rattle.bank_model.specs.Touching.{Touches}
 use Rattle.bank_model.specs.Changes.{all_controls}
-use Rattle.bank_invariant.proofs.Awaiting.{tied_sensed}
+use Rattle.bank_invariant.proofs.Awaiting.{StandsAs-touched, tied_sensed}
 use Rattle.power_recovery.specs.Kept.{KeptState}
 use Rattle.bank_invariant.specs.State.{BankState}
 use Rattle.bank_invariant.specs.Tied.{IsTied}
@@ -76,4 +76,4 @@ returns-clause-tied g c = λ kept readable tied.
     let after : ArrayState g.row.B g.row.M = g.A.CellArray.state c.recover_mark.new.array in
     let touches : Touches c.args.tick (all_controls c.args.bank.now.kept.shape) None false (g.A.CellArray.state c.args.array.now) after = returns-clause-touches g c in
     subst (λ (b : BankState g.row.B g.row.M g.row.E). IsTied b after) (sym (returns-clause-kept g c kept readable))
-    (tied_sensed g.row.E (g.A.CellArray.state c.args.array.now) after (λ line. touches.others line refl) kept c.args.bank.now.running c.args.bank.now.waiting touches.lines tied)
+    (tied_sensed g.row.E (g.A.CellArray.state c.args.array.now) after (StandsAs-touched c.args.tick _ (g.A.CellArray.state c.args.array.now) after touches) kept c.args.bank.now.running c.args.bank.now.waiting tied)
