@@ -252,6 +252,7 @@ pub lifetime_law : LifetimeLaw
 lifetime_law n m e shape array rules rows hot layout some each read keeps places lines few =
     let tells = sound_rows_law n m e shape array rules rows places unworn in
     record {
+      live = live;
       unworn = unworn;
       taken = tells.taken;
       finished = λ bears. tells.finished (unworn_controls bears);
@@ -261,12 +262,23 @@ lifetime_law n m e shape array rules rows hot layout some each read keeps places
     unworn_controls : BearsControls array.bounds shape rules rows → KeepsControls shape (is_worn_at e array)
     unworn_controls bears = controls_law n m e shape array rules rows layout lines bears
 
-    unworn : (slot : ℕ) → slot < slots_of shape → is_worn_at e array (shape.base + slot) ≡ false
-    unworn slot exists =
+    a_write : ℕ
+    a_write = fine_each array.bounds rules
+
+    -- what it has aged by is below what cells endure
+    few-works : (slot : ℕ) → slot < slots_of shape → a_write * most_works shape rows slot < array.bounds.endures
+    few-works slot exists =
         let r : ℕ = slot / (shape.lines + 1) in
         let there : r < shape.regions = div_below slot (shape.lines + 1) shape.regions (omega arith) exists in
         let stores = hot_lines_law n rules shape (is_worn_at e array) rows hot slot some each read exists keeps.ticks places.placed in
         let works : most_works shape rows slot ≤ most_hot_works shape r hot rows = omega (arith, stores) in
-        let each : ℕ = fine_each array.bounds rules in
-        let bound : each * most_works shape rows slot ≤ each * most_hot_works shape r hot rows = mul-le-mul_left each works in
-        unworn_law n m e array (each * most_works shape rows slot) (shape.base + slot) layout (lines.ages slot exists) (omega (arith, bound, few r there))
+        let bound : a_write * most_works shape rows slot ≤ a_write * most_hot_works shape r hot rows = mul-le-mul_left a_write works in
+        omega (arith, bound, few r there)
+
+    live : (slot c : ℕ) → slot < slots_of shape → (array.line (shape.base + slot)).stuck c ≡ false
+    live slot c exists =
+        false_from_ne_true ((array.line (shape.base + slot)).stuck c)
+        (λ is. let early : array.bounds.endures ≤ a_write * most_works shape rows slot = (lines.ages slot exists).stuck c is in absurd (omega (arith, early, few-works slot exists)))
+
+    unworn : (slot : ℕ) → slot < slots_of shape → is_worn_at e array (shape.base + slot) ≡ false
+    unworn slot exists = unworn_law n m e array (a_write * most_works shape rows slot) (shape.base + slot) layout (lines.ages slot exists) (few-works slot exists)
