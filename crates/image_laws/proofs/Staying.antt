@@ -39,13 +39,14 @@ sized raw bank is = record {
 
 -- but for its log the array is as it was
 but-log : {n m : ℕ} (before after : ArrayState n m) → SensedSince before after
-    → after ≡ record { line = before.line; lines = before.lines; tears = before.tears; log = after.log; wear = before.wear }
+    → after ≡ record { line = before.line; lines = before.lines; tears = before.tears; log = after.log; wear = before.wear; bounds = before.bounds }
 but-log before after since =
     let line : after.line ≡ before.line = fun_ext since.line in
-    ap (λ l. record { line = l; lines = after.lines; tears = after.tears; log = after.log; wear = after.wear }) line
-    ∙ ap (λ k. record { line = before.line; lines = k; tears = after.tears; log = after.log; wear = after.wear }) since.lines
-    ∙ ap (λ k. record { line = before.line; lines = before.lines; tears = k; log = after.log; wear = after.wear }) since.tears
-    ∙ ap (λ k. record { line = before.line; lines = before.lines; tears = before.tears; log = after.log; wear = k }) since.wear
+    ap (λ l. record { line = l; lines = after.lines; tears = after.tears; log = after.log; wear = after.wear; bounds = after.bounds }) line
+    ∙ ap (λ k. record { line = before.line; lines = k; tears = after.tears; log = after.log; wear = after.wear; bounds = after.bounds }) since.lines
+    ∙ ap (λ k. record { line = before.line; lines = before.lines; tears = k; log = after.log; wear = after.wear; bounds = after.bounds }) since.tears
+    ∙ ap (λ k. record { line = before.line; lines = before.lines; tears = before.tears; log = after.log; wear = k; bounds = after.bounds }) since.wear
+    ∙ ap (λ k. record { line = before.line; lines = before.lines; tears = before.tears; log = after.log; wear = before.wear; bounds = k }) since.bounds
 
 -- the senses that were added to the log show the pulses
 pulses-shown : {n m : ℕ} (before : ArrayState n m) (extra : List (Sense n m)) → All (λ s. s ≡ sense_of s.line 0 (before.line s.line)) extra
@@ -59,7 +60,7 @@ module _ (logs : WholeLogLaw) (leaving : LeavingLaw) (by_bank : BankTableLaw) {n
     (s : Saved n m) (left : IsLeft e raw seed rows array s) (is : IsShape raw) (was : RunsRight e raw seed rows left.before ends) where
   -- the array as it was, with the log as it is now
   abbrev now : ArrayState n m
-  now = record { line = left.before.line; lines = left.before.lines; tears = left.before.tears; log = array.log; wear = left.before.wear }
+  now = record { line = left.before.line; lines = left.before.lines; tears = left.before.tears; log = array.log; wear = left.before.wear; bounds = left.before.bounds }
 
   module _ (bank : ℕ) (exists : bank < raw.banks) where
     abbrev shape : BankShape

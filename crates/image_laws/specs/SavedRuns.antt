@@ -29,6 +29,7 @@ pub record SensedSince {n m : ℕ} (before after : ArrayState n m) : Type 0 wher
   pub lines : after.lines ≡ before.lines
   pub tears : after.tears ≡ before.tears
   pub wear : after.wear ≡ before.wear
+  pub bounds : after.bounds ≡ before.bounds
   pub log : (log : List (Sense n m)) → after.log ≡ Some log
       → (old : List (Sense n m)) × (extra : List (Sense n m)) × (before.log ≡ Some old) × (log ≡ old ++ extra)
       × All (λ s. s ≡ sense_of s.line 0 (before.line s.line)) extra
