@@ -1,16 +1,17 @@
 //! Worked bounds, and wrong statements that a table refutes. Each clause is computed from the definitions; there is nothing to
 //! run.
 
-ghost use Rattle.std.specs.Prelude.{◌≡◌, ◌+◌, ◌*◌, ◌/◌, true, []};
+ghost use Rattle.std.specs.Prelude.{◌≡◌, ◌+◌, ◌*◌, ◌/◌, true, [], ◌∷◌};
 ghost use Rattle.row_laws.specs.Rows.{each_row};
 ghost use Rattle.row_laws.specs.Answers.{is_stored};
 ghost use Rattle.row_laws.specs.Ticking.{is_in_time};
 ghost use Rattle.row_laws.specs.Worked.{small};
-ghost use Rattle.bank_shape.specs.Pausing.{Pause};
+ghost use Rattle.bank_shape.specs.Pausing.{Pause, Cancel};
 ghost use Rattle.bank_laws.specs.Places.{is_placed, region_stores};
 ghost use Rattle.lifetime_laws.specs.Spread.{most_at, most_moves, stores_on};
-ghost use Rattle.lifetime_laws.specs.Works.{stores_at};
-ghost use Rattle.lifetime_laws.specs.Worked.{two_lines, none_worn, storing, always, waiting_for_slot_0, stores_of};
+ghost use Rattle.lifetime_laws.specs.Works.{stores_at, fine_each};
+ghost use Rattle.lifetime_laws.specs.Lifetime.{most_hot_works};
+ghost use Rattle.lifetime_laws.specs.Worked.{three_misses, two_lines, none_worn, storing, always, waiting_for_slot_0, stores_of};
 
 /// Sixteen lines, a gap move for each ten stores: of 20,000 and of 50,000 stores of one line at most 1,280 and 3,040 are on one
 /// array line, and 118 and 295 moves go into one place. Without moves all 50,000 are.
@@ -23,12 +24,20 @@ fn worked_bounds_are_computed()
     ensures slower { most_at 16 100 50000 ≡ 3200 }
 {}
 
-/// A table of 24 stores of line 0 alone meets the bound.
+/// Where cells miss at most three times, a line write is counted with four pulses, and with twenty where reads cancel.
+fn worked_line_writes_are_counted()
+    ensures missing { fine_each three_misses (small Pause) ≡ 4 }
+    ensures cancelling { fine_each three_misses (small Cancel) ≡ 20 }
+{}
+
+/// A table of 24 stores of line 0 alone meets the bound; with the 8 moves into its place, and one that would give it up, it is
+/// counted with 17 line writes.
 fn worked_table_meets_the_bound()
     ensures in_time { each_row (is_in_time (small Pause)) (storing always 24) [] ≡ true }
     ensures placed { each_row (is_placed two_lines none_worn) (storing always 24) [] ≡ true }
     ensures most { most_at 2 1 24 ≡ 8 }
     ensures on { stores_on 0 0 (storing always 24) ≡ 8 }
+    ensures works { most_hot_works two_lines 0 (0 ∷ []) (storing always 24) ≡ 17 }
 {}
 
 /// Line 0 is stored while it is at slot 0, and else line 1: the table is placed and in time, and all 8 stores of line 0 are on one
@@ -48,6 +57,7 @@ fn worked_table_refutes_stronger_bounds()
 #[test]
 fn worked_bounds_hold() {
     worked_bounds_are_computed();
+    worked_line_writes_are_counted();
     worked_table_meets_the_bound();
     worked_table_refutes_stronger_bounds();
 }
