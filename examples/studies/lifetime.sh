@@ -1,66 +1,56 @@
 #!/bin/sh
-# What the theorem of a module's life promises, beside what a module does, over psi (stores before a gap moves; 65535: no moves at this
-# size): all writes go to line 0 of one region, and each changes every cell of its array line.
-# bound, most: after 16,384 stores, the most line writes that any slot's array line may have by the theorem, and the most that one has
-# (one pulse each, since no cell misses).
-# promised, life: how many stores the theorem promises over cells that stick at their 20,000th change, and how many are made until a
-# line is worn and no spare is there. The theorem takes each line write for 160 pulses, the most that one may take.
-# The last column is the promise for cells of 100,000,000 changes, which no run wears out.
+# What the theorem of a module's life promises a hot line, beside how long it lives: all writes go to line 0 of one region, and each
+# changes every cell of its array line. Cells stick at their last change; no spare stands by.
+# promised: the most stores after which, by the theorem, no cell is stuck; pulses: the most that an array line has had by then, which
+# the theorem bounds by what a cell endures; life: how many stores are made until a line is worn; percent: the promised ones of these.
+# stays: how many stays at one place (lines * psi stores) bring a line as many pulses as a cell endures changes. Where cells miss, a
+# store takes misses + 1 pulses, so a stay as many times lines * psi.
+# Rows: psi (stores before a gap moves; 65535: no moves at this size), then the sizes of regions, then misses. From psi 16 on and with
+# 20 stays or more the promise is within 10% of the life, where cells never miss. Where they do, a cell still changes once a store: so
+# it lives as long, and the theorem, which counts pulses, promises a share of misses + 1.
 #
-# Scaled down: 16 lines in the place of a memory's millions (Qureshi et al., MICRO 2009). With --full 64 lines, and 5,000 changes.
+# Scaled down: regions of 4 to 64 lines, and 5,120 to 20,480 changes in the place of 10^8 (Qureshi et al., MICRO 2009). With --full
+# twice as many lines, and half the changes.
 # usage: lifetime.sh [PROGRAM [--full]]
 pcm=${1:-./pcm}
-lines=16
-changes=20000
-[ "$2" = --full ] && lines=64 changes=5000
+here=$(dirname "$0")
+full=
+[ "$2" = --full ] && full=yes
 room=$(mktemp -d) && trap 'rm -rf "$room"' EXIT
+awk 'BEGIN {
+    print "tick,op,arg,data"
+    for (k = 0; k < 64; k++) { ones = ones "ff"; zeros = zeros "00" }
+    for (i = 0; i < 400000; i++) printf "%d,W,0,%s\n", i * 200, i % 2 ? zeros : ones
+}' >"$room/trace"
 
-# trace ROWS: writes of line 0 that change every bit each time
-trace() {
-    awk -v rows="$1" 'BEGIN {
-        print "tick,op,arg,data"
-        for (k = 0; k < 64; k++) { ones = ones "ff"; zeros = zeros "00" }
-        for (i = 0; i < rows; i++) printf "%d,W,0,%s\n", i * 60, i % 2 ? zeros : ones
-    }' >"$room/trace"
-}
-
-# replay PSI PRINT [OPTION..]: the run of the trace over one region
+# replay ROWS PRINT LINES PSI CHANGES MISSES: the run of the first so many rows
 replay() {
-    psi=$1 print=$2
-    shift 2
-    "$pcm" run --banks 1 --regions 1 --lines $lines --spares 0 --psi "$psi" --print "$print" "$@" <"$room/trace"
+    head -n $(($1 + 1)) "$room/trace" |
+        "$pcm" run --banks 1 --regions 1 --spares 0 --print "$2" --lines "$3" --psi "$4" --lo "$5" --hi "$5" --misses "$6"
 }
 
-# rule WHAT PSI NUMBER: the theorem's bound on line writes after so many stores, or the most stores for which 160 times the bound is
-# below so many changes
-rule() {
-    awk -v what="$1" -v n=$lines -v psi="$2" -v number="$3" '
-        function div(a, b) { return int(a / b) }
-        function at(stores,    stay, turn, rest) {
-            stay = n * psi; turn = stay * (n + 1); rest = stores % turn
-            return stay * div(stores, turn) + (rest < stay ? rest : stay)
-        }
-        function works(stores,    moves) { moves = div(stores, psi); return at(stores) + div(moves + n, n + 1) + 1 }
-        BEGIN {
-            if (what == "works") { print works(number); exit }
-            least = 0; most = number * n * 2
-            while (least < most) {
-                middle = div(least + most + 1, 2)
-                if (160 * works(middle) < number) least = middle; else most = middle - 1
-            }
-            printf "%.0f\n", least
-        }'
-}
-
-psis="1 4 16 64 256 65535"
-printf 'psi,bound,most,promised,life,promised_large\n'
-trace 16384
-for psi in $psis; do
-    most=$(replay "$psi" wear | awk -F, 'NR > 1 && $3 > most { most = $3 } END { print most }')
-    echo "$psi,$(rule works "$psi" 16384),$most"
-done >"$room/most"
-trace 400000
-while IFS=, read -r psi bound most; do
-    life=$(replay "$psi" summary --lo $changes --hi $changes | awk '$1 == "stored" { print $2 }')
-    echo "$psi,$bound,$most,$(rule stores "$psi" $changes),$life,$(rule stores "$psi" 100000000)"
-done <"$room/most"
+printf 'lines,psi,changes,misses,stays,promised,pulses,life,percent\n'
+while read -r lines psi changes misses; do
+    [ $full ] && lines=$((2 * lines)) changes=$((changes / 2))
+    promised=$(awk -v lines="$lines" -v psi="$psi" -v lo="$changes" -v misses="$misses" -f "$here/promise.awk")
+    pulses=$(replay "$promised" wear "$lines" "$psi" "$changes" "$misses" | awk -F, 'NR > 1 && $3 > most { most = $3 } END { print most }')
+    life=$(replay 400000 summary "$lines" "$psi" "$changes" "$misses" | awk '$1 == "stored" { print $2 }')
+    awk -v OFS=, -v lines="$lines" -v psi="$psi" -v changes="$changes" -v misses="$misses" -v promised="$promised" -v pulses="$pulses" -v life="$life" 'BEGIN {
+        print lines, psi, changes, misses, sprintf("%.1f", changes / (lines * psi * (misses + 1))), promised, pulses, life, sprintf("%.1f", 100 * promised / life)
+    }'
+done <<SHAPES
+16 1 20000 0
+16 4 20000 0
+16 16 20000 0
+16 64 20480 0
+16 256 20000 0
+16 65535 20000 0
+4 256 20480 0
+8 64 10240 0
+32 16 10240 0
+64 16 5120 0
+4 32 20480 0
+4 32 20480 1
+4 32 20480 3
+4 32 20480 7
+SHAPES

@@ -46,7 +46,7 @@ module _ {n m e : ℕ} where
 
   still-leads : (xs : List (TimedEvent n m)) (clock : ClockState n m e) (array : ArrayState n m) → Leads xs clock array → Leads xs (drained clock) array
   still-leads xs clock array leads =
-      record { lawful = leads.lawful; holds = leads.holds; told = leads.told; regs = leads.regs; control = leads.control; pulses = leads.pulses; copying = leads.copying; taken = leads.taken }
+      record { lawful = leads.lawful; holds = leads.holds; told = leads.told; regs = leads.regs; control = leads.control; pulses = leads.pulses; aged = leads.aged; copying = leads.copying; taken = leads.taken }
 
   ticks-are : (xs : List (TimedEvent n m)) (clock : ClockState n m e) (array : ArrayState n m) → Leads xs clock array
       → clock.arrivals ≡ map (λ (entry : Entry n). tick_of_row entry.row xs) clock.bank.kept.entries

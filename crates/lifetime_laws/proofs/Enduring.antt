@@ -6,17 +6,10 @@ use Rattle.pcm_cells.specs.declared.row.Cells.{Cells}
 use Rattle.pcm_cells.specs.Rows.{cell, members}
 use Rattle.ecp_line.specs.Layout.{IsLayout, width, some_below, full_cell, activity_cell}
 use Rattle.ecp_line.specs.Reading.{is_worn_line}
-use Rattle.lifetime_laws.proofs.Counting.{one}
+use Rattle.line_writer.proofs.Orderly.{members-none}
 use Rattle.lifetime_laws.specs.Endurance.{UnwornLaw}
 use Rattle.lifetime_laws.specs.Lifetime.{ControlsLaw}
 use Rattle.bank_shape.specs.Shape.{control_line}
-
-pub members-none : (has : ℕ → Bool) (n : ℕ) → ((k : ℕ) → k < n → has k ≡ false) → members has n ≡ 0
-unfolding members
-members-none has zero none = refl
-members-none has (suc n) none =
-    let here : one (has n) ≡ 0 = ap one (none n (omega arith)) in
-    omega (arith, here, members-none has n (λ k lt. none k (omega (arith, lt))))
 
 none-below : (p : ℕ → Bool) (j : ℕ) → ((k : ℕ) → k < j → p k ≡ false) → some_below p j ≡ false
 unfolding some_below

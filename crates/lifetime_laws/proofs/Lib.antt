@@ -2,7 +2,7 @@ mod Counting
 mod Stays
 mod Ranks
 mod Spreading
-pub mod Enduring
+mod Enduring
 mod Sound
 mod Writing
 mod Landing

@@ -1,5 +1,5 @@
 -- A bank whose hot lines are few, over cells that endure.
-use Rattle.std.proofs.Common.{◌≡◌, inl, inr, ℕ, ◌+◌, ◌*◌, ◌/◌, ◌%◌, ◌<◌, ◌≤◌, ◌==◌, ◌&&◌, ◌||◌, not, Bool, true, false, List, [], ◌∷◌, Option, Some, None, length, refl, sym, ap, ◌∙◌, subst, arith, cond}
+use Rattle.std.proofs.Common.{◌≡◌, inl, inr, ℕ, ◌+◌, ◌*◌, ◌/◌, ◌%◌, ◌<◌, ◌≤◌, ◌==◌, ◌&&◌, ◌||◌, not, Bool, true, false, List, [], ◌∷◌, Option, Some, None, length, refl, sym, ap, ◌∙◌, subst, arith}
 use Rattle.std.specs.Prelude.{count_by, is_some}
 use Rattle.std.specs.List.{list_any}
 use Rattle.std.proofs.lemmas.Bool.{eqb-true, eq-eqb, false_from_ne_true, cases_eq, ne_eqb}
@@ -16,13 +16,12 @@ use Rattle.row_rules.specs.Rows.{each_row, asks_write, asks_write_of, line_of}
 use Rattle.row_rules.specs.declared.Rules.{Rules}
 use Rattle.row_rules.specs.Ticking.{is_in_time, tries}
 use Rattle.bank_shape.specs.declared.BankShape.{BankShape}
-use Rattle.bank_shape.specs.Shape.{slots_of, slot_moved}
+use Rattle.bank_shape.specs.Shape.{slots_of, slot_moved, control_line}
 use Rattle.bank_model.specs.Aging.{Endures}
 use Rattle.bank_shape.specs.declared.pace.Pace.{Pace}
 use Rattle.bank_model.specs.Timing.{TimedEvent, core}
 use Rattle.bank_model.specs.Lawful.{Lawful, IsIdle}
-use Rattle.bank_model.specs.History.{in_progress, iterated, waits}
-use Rattle.bank_model.specs.After.{target_after}
+use Rattle.bank_model.specs.History.{in_progress, waits}
 use Rattle.bank_model.specs.Changes.{change_after, keeping_after}
 use Rattle.bank_shape.specs.Pausing.{gives_way}
 use Rattle.bank_model.specs.Running.{busy_by, busy_after, choice_after}
@@ -255,6 +254,7 @@ pub lifetime_law : LifetimeLaw
 lifetime_law n m e shape array rules rows hot layout some each read keeps places lines few =
     let tells = sound_rows_law n m e shape array rules rows places unworn in
     record {
+      live = live;
       unworn = unworn;
       taken = tells.taken;
       finished = λ bears. tells.finished (unworn_controls bears);
@@ -264,12 +264,23 @@ lifetime_law n m e shape array rules rows hot layout some each read keeps places
     unworn_controls : BearsControls array.bounds shape rules rows → KeepsControls shape (is_worn_at e array)
     unworn_controls bears = controls_law n m e shape array rules rows layout lines bears
 
-    unworn : (slot : ℕ) → slot < slots_of shape → is_worn_at e array (shape.base + slot) ≡ false
-    unworn slot exists =
+    a_write : ℕ
+    a_write = fine_each array.bounds rules
+
+    -- what it has aged by is below what cells endure
+    few-works : (slot : ℕ) → slot < slots_of shape → a_write * most_works shape rows slot < array.bounds.endures
+    few-works slot exists =
         let r : ℕ = slot / (shape.lines + 1) in
         let there : r < shape.regions = div_below slot (shape.lines + 1) shape.regions (omega arith) exists in
         let stores = hot_lines_law n rules shape (is_worn_at e array) rows hot slot some each read exists keeps.ticks places.placed in
         let works : most_works shape rows slot ≤ most_hot_works shape r hot rows = omega (arith, stores) in
-        let each : ℕ = fine_each array.bounds rules in
-        let bound : each * most_works shape rows slot ≤ each * most_hot_works shape r hot rows = mul-le-mul_left each works in
-        unworn_law n m e array (each * most_works shape rows slot) (shape.base + slot) layout (lines.ages slot exists) (omega (arith, bound, few r there))
+        let bound : a_write * most_works shape rows slot ≤ a_write * most_hot_works shape r hot rows = mul-le-mul_left a_write works in
+        omega (arith, bound, few r there)
+
+    live : (slot c : ℕ) → slot < slots_of shape → (array.line (shape.base + slot)).stuck c ≡ false
+    live slot c exists =
+        false_from_ne_true ((array.line (shape.base + slot)).stuck c)
+        (λ is. let early : array.bounds.endures ≤ a_write * most_works shape rows slot = (lines.ages slot exists).stuck c is in absurd (omega (arith, early, few-works slot exists)))
+
+    unworn : (slot : ℕ) → slot < slots_of shape → is_worn_at e array (shape.base + slot) ≡ false
+    unworn slot exists = unworn_law n m e array (a_write * most_works shape rows slot) (shape.base + slot) layout (lines.ages slot exists) (few-works slot exists)

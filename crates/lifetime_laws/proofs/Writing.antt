@@ -1,22 +1,16 @@
 -- The pulses of one array line, by the line writes that end on it.
-use Rattle.std.proofs.Common.{◌≡◌, ℕ, zero, ◌+◌, ◌*◌, ◌<◌, ◌≤◌, ◌==◌, ◌&&◌, ◌||◌, not, Bool, true, false, List, [], ◌∷◌, Option, Some, None, refl, sym, ap, ◌∙◌, subst, arith, cond}
-use Rattle.std.proofs.Math.Nat.{min-le_left}
+use Rattle.std.proofs.Common.{◌≡◌, ℕ, ◌+◌, ◌*◌, ◌<◌, ◌≤◌, ◌==◌, ◌&&◌, not, Bool, true, false, List, [], ◌∷◌, Option, None, refl, ap, subst, arith, cond}
 use Rattle.pcm_cells.specs.Device.{counted}
-use Rattle.std.proofs.lemmas.Bool.{ne_eqb}
 use Rattle.bank_shape.specs.declared.BankShape.{BankShape}
-use Rattle.bank_shape.specs.Shape.{controls_from, control_line}
-use Rattle.bank_shape.specs.declared.answer.Step.{Step}
-use Rattle.bank_shape.specs.declared.answer.Step.TheVariants as did
+use Rattle.bank_shape.specs.Shape.{controls_from}
 use Rattle.bank_model.specs.Events.{Event, Write, Read, Serve, Begin, Iterate, Cut}
 use Rattle.bank_model.specs.History.{goes_on, in_progress, iterated}
 use Rattle.bank_model.specs.After.{target_after}
-use Rattle.bank_model.specs.Sensing.{is_at, most_steps, pulses_of, pulsed_by, torn_control, kept_pulsed}
-use Rattle.bank_model.specs.Changes.{change_after, line_of_change}
+use Rattle.bank_model.specs.Sensing.{is_at, most_steps, pulses_of, pulsed_by, torn_control}
+use Rattle.bank_model.specs.Changes.{change_after}
 use Rattle.bank_model.specs.Running.{running_at}
-use Rattle.bank_shape.specs.declared.clock.Action.{Action}
-use Rattle.bank_shape.specs.declared.clock.Doing.TheVariants.{Iterating}
 use Rattle.bank_shape.specs.declared.pace.Pace.{Pace}
-use Rattle.bank_model.specs.Timing.{Happens, Core, Regs, Keeping, KeepBegin, KeepIterate, KeepCut, TimedEvent, core, core_of, is_doing}
+use Rattle.bank_model.specs.Timing.{Happens, Core, Regs, TimedEvent, core, core_of}
 use Rattle.bank_model.specs.Lawful.{Lawful, MayCome}
 use Rattle.bank_laws.proofs.Waiting.{may_all}
 use Rattle.place_laws.proofs.Pulsing.{begins-idle}

@@ -113,15 +113,16 @@ ControlsLaw =
     → IsLayout n m e → KeepsLines shape array rules rows → BearsControls array.bounds shape rules rows
     → KeepsControls shape (is_worn_at e array)
 
--- what a bank shows in which no slot's own line is worn: no row is refused for want of a spare; and where cells bear its control lines
--- too, none is left in the queue, nor has the bank a reason to leave one
+-- what a bank shows in which no cell of a slot's own line is stuck, and so no such line is worn: no row is refused for want of a spare;
+-- and where cells bear its control lines too, none is left in the queue, nor has the bank a reason to leave one
 pub record LivesOn {n m : ℕ} (e : ℕ) (shape : BankShape) (array : ArrayState n m) (rules : Rules) (rows : List (Row n)) : Type 0 where
+  pub live : (slot c : ℕ) → slot < slots_of shape → IsFalse ((array.line (shape.base + slot)).stuck c)
   pub unworn : (slot : ℕ) → slot < slots_of shape → IsFalse (is_worn_at e array (shape.base + slot))
   pub taken : IsTrue (each_row is_unrefused rows [])
   pub finished : BearsControls array.bounds shape rules rows → IsTrue (each_row is_unqueued rows [])
   pub leaves : BearsControls array.bounds shape rules rows → IsFalse (may_leave shape (is_worn_at e array))
 
--- over cells that endure more pulses than a slot's own line may take while none of its cells is stuck, no such line wears out
+-- over cells that endure more pulses than a slot's own line may take while none of its cells is stuck, none of them sticks
 abbrev pub LifetimeLaw : Type 0
 LifetimeLaw =
     (n m e : ℕ) (shape : BankShape) (array : ArrayState n m) (rules : Rules) (rows : List (Row n)) (hot : List ℕ)

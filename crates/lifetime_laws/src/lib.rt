@@ -117,7 +117,7 @@ pub fn asked_writes_bound_stores()
 {}
 
 /// Over cells that endure more pulses than a slot's own line may take by its hot lines, k + 1 a line write where cells miss at most
-/// k times, no line of a slot wears out.
+/// k times, no cell of such a line sticks.
 pub fn hot_lines_leave_banks_alive()
     ensures { LifetimeLaw }
 {}
