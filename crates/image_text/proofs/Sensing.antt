@@ -16,6 +16,7 @@ sensed-none {n} {m} array = record {
   lines = refl;
   tears = refl;
   wear = refl;
+  bounds = refl;
   log = λ log told. (log, [], told, sym (append-nil log), All-nil (λ (s : Sense n m). s ≡ sense_of s.line 0 (array.line s.line)));
 }
 
@@ -25,6 +26,7 @@ sensed-more {n} {m} first old new line since senses = record {
   lines = senses.lines ∙ since.lines;
   tears = senses.tears ∙ since.tears;
   wear = senses.wear ∙ since.wear;
+  bounds = senses.bounds ∙ since.bounds;
   log = λ log told.
       let last = senses.log log told in
       let had = since.log last.0 last.1 in

@@ -31,6 +31,7 @@ sensed-none {n} {m} array = record {
   lines = refl;
   tears = refl;
   wear = refl;
+  bounds = refl;
   log = λ log told. (log, [], told, sym (append-nil log), All-nil (λ (s : Sense n m). s ≡ sense_of s.line 0 (array.line s.line)));
 }
 
