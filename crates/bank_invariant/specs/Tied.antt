@@ -15,7 +15,7 @@ use Rattle.line_writer.specs.Writing.{Writes}
 use Rattle.line_writer.specs.Untouched.{AreUntouched}
 use Rattle.line_writer.specs.Orderly.{AreOrderly}
 use Rattle.power_recovery.specs.Kept.{KeptState, array_line, due_region, due_work, next_work}
-use Rattle.bank_invariant.specs.declared.Waiting.{Waiting}
+use Rattle.bank_shape.specs.declared.waiting.Waiting.{Waiting}
 use Rattle.bank_invariant.specs.State.{BankState, Operation, target_of}
 
 -- an array stands as it was: it has as many lines, each of them is as it was, and its cells keep to the same bounds

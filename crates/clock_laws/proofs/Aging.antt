@@ -4,7 +4,7 @@ use Rattle.std.proofs.lemmas.Bool.{cases_lt, eqb-true}
 use Rattle.pcm_cells.specs.Device.{CellBounds, LineState, ArrayState, IsBlank, counted}
 use Rattle.bank_shape.specs.declared.BankShape.{BankShape}
 use Rattle.bank_shape.specs.Shape.{slots_of, lines_in, controls_from}
-use Rattle.bank_model.specs.declared.answer.Step.{Step}
+use Rattle.bank_shape.specs.declared.answer.Step.{Step}
 use Rattle.bank_model.specs.Events.{Event, Write, Read, Serve, Begin, Iterate, Cut}
 use Rattle.bank_model.specs.History.{goes_on, in_progress, iterated}
 use Rattle.bank_model.specs.After.{target_after}
@@ -14,7 +14,8 @@ use Rattle.bank_model.specs.Changes.{change_after}
 use Rattle.bank_model.specs.Lawful.{MayCome}
 use Rattle.bank_model.specs.Running.{running_at}
 use Rattle.bank_model.specs.Sensing.{is_at, most_steps, pulsed_by, torn_control}
-use Rattle.bank_model.specs.Timing.{Pacing, Timed, Happens, Core, Regs, core, core_of}
+use Rattle.bank_shape.specs.declared.pace.Pace.{Pace}
+use Rattle.bank_model.specs.Timing.{TimedEvent, Happens, Core, Regs, core, core_of}
 use Rattle.bank_model.specs.Touching.{Sticks, Touches}
 use Rattle.bank_model.specs.Works.{works_on, held_on}
 use Rattle.bank_laws.proofs.Counted.{counted-cases, pulses-few}
@@ -89,7 +90,7 @@ ended-aged w works held false = omega (arith, same-work w works)
 
 -- One event
 
-module _ {n m : ℕ} (shape : BankShape) (pace : Pacing) (e at : ℕ) (low : at < controls_from shape) (xs : List (Timed n m)) (x : Timed n m) (bounds : CellBounds) (old new : LineState n m)
+module _ {n m : ℕ} (shape : BankShape) (pace : Pace) (e at : ℕ) (low : at < controls_from shape) (xs : List (TimedEvent n m)) (x : TimedEvent n m) (bounds : CellBounds) (old new : LineState n m)
     (past : MayAll shape (most_steps e) (core xs)) (same : is_at x.pulsed at ≡ false → new ≡ old)
     (sticks : is_at x.pulsed at ≡ true → Sticks bounds old new) (one : is_at x.pulsed at ≡ true → new.pulses ≤ old.pulses + 1)
     (fine : in_progress (core xs) ≡ true → (target_after shape (core xs) == at) ≡ true → ((c : ℕ) → old.stuck c ≡ false) → iterated (core xs) ≤ bounds.misses)
@@ -182,7 +183,7 @@ module _ {n m : ℕ} (shape : BankShape) (pace : Pacing) (e at : ℕ) (low : at 
 counted-more : (k : ℕ) → k ≤ 2 ^ 64 - 1 → k ≤ counted k
 counted-more k few = elim (counted-cases k few) [ | inl same ↦ omega (arith, same) | inr more ↦ omega (arith, more) ]
 
-module _ {n m : ℕ} (shape : BankShape) (pace : Pacing) (e : ℕ) (xs : List (Timed n m)) (x : Timed n m) (sensed : List ℕ) (tearing : Bool) (old new : ArrayState n m)
+module _ {n m : ℕ} (shape : BankShape) (pace : Pace) (e : ℕ) (xs : List (TimedEvent n m)) (x : TimedEvent n m) (sensed : List ℕ) (tearing : Bool) (old new : ArrayState n m)
     (past : MayAll shape (most_steps e) (core xs)) (are : ArePulses shape xs old) (touches : Touches x.tick sensed x.pulsed tearing old new)
     (comes : MayCome shape pace e xs x x.happens)
     (fine : in_progress (core xs) ≡ true → ((c : ℕ) → (old.line (target_after shape (core xs))).stuck c ≡ false) → iterated (core xs) ≤ old.bounds.misses)

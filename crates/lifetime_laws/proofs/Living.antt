@@ -8,21 +8,23 @@ use Rattle.std.proofs.Math.Nat.{mul-le-mul_left}
 use Rattle.result_rows.specs.declared.Outcome.{Outcome}
 use Rattle.result_rows.specs.declared.Outcome.TheVariants as out
 use Rattle.start_gap.specs.Rotation.{place_after}
-use Rattle.row_laws.specs.declared.Asks.{Asks}
-use Rattle.row_laws.specs.declared.Asks.TheVariants.{Reads, Writes, Cuts}
-use Rattle.row_laws.specs.declared.Row.{Row}
-use Rattle.row_laws.specs.Answers.{is_stored, stored_before}
-use Rattle.row_laws.specs.Rows.{each_row, asks_write, asks_write_of, line_of}
-use Rattle.row_laws.specs.Rules.{Rules}
-use Rattle.row_laws.specs.Ticking.{is_in_time, tries}
+use Rattle.row_rules.specs.declared.Asks.{Asks}
+use Rattle.row_rules.specs.declared.Asks.TheVariants.{Reads, Writes, Cuts}
+use Rattle.row_rules.specs.declared.Row.{Row}
+use Rattle.row_rules.specs.Answers.{is_stored, stored_before}
+use Rattle.row_rules.specs.Rows.{each_row, asks_write, asks_write_of, line_of}
+use Rattle.row_rules.specs.declared.Rules.{Rules}
+use Rattle.row_rules.specs.Ticking.{is_in_time, tries}
 use Rattle.bank_shape.specs.declared.BankShape.{BankShape}
 use Rattle.bank_shape.specs.Shape.{slots_of, slot_moved, control_line}
 use Rattle.bank_model.specs.Aging.{Endures}
-use Rattle.bank_model.specs.Timing.{Pacing, Timed, core}
+use Rattle.bank_shape.specs.declared.pace.Pace.{Pace}
+use Rattle.bank_model.specs.Timing.{TimedEvent, core}
 use Rattle.bank_model.specs.Lawful.{Lawful, IsIdle}
 use Rattle.bank_model.specs.History.{in_progress, waits}
 use Rattle.bank_model.specs.Changes.{change_after, keeping_after}
-use Rattle.bank_model.specs.Running.{busy_by, busy_after, gives_way, choice_after}
+use Rattle.bank_shape.specs.Pausing.{gives_way}
+use Rattle.bank_model.specs.Running.{busy_by, busy_after, choice_after}
 use Rattle.bank_laws.proofs.Changing.{changed-idle}
 use Rattle.bank_model.specs.Timing.{is_empty}
 use Rattle.bank_laws.specs.Places.{region_stores, is_place_after, is_placed}
@@ -52,7 +54,7 @@ core-rests None keeping busy changed rests = rests
 core-rests (Some item) keeping busy changed rests = changed refl
 
 -- so no line has had an iteration of one
-rests-held : {n m : ℕ} (e : ℕ) (shape : BankShape) (pace : Pacing) (xs : List (Timed n m)) (at : ℕ) → Lawful shape pace e xs → IsIdle shape pace xs → held_on shape at (core xs) ≡ 0
+rests-held : {n m : ℕ} (e : ℕ) (shape : BankShape) (pace : Pace) (xs : List (TimedEvent n m)) (at : ℕ) → Lawful shape pace e xs → IsIdle shape pace xs → held_on shape at (core xs) ≡ 0
 rests-held e shape pace xs at l idle =
     let resting : busy_after shape xs ≡ false = (none-ready (gives_way pace.policy) (not (is_empty (waits shape (core xs)))) (choice_after shape pace xs) idle.chosen).0 in
     let stopped : in_progress (core xs) ≡ false = core-rests (change_after shape xs) (keeping_after xs) (in_progress (core xs)) (changed-idle shape pace e xs l) resting in

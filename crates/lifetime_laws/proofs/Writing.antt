@@ -9,7 +9,8 @@ use Rattle.bank_model.specs.After.{target_after}
 use Rattle.bank_model.specs.Sensing.{is_at, most_steps, pulses_of, pulsed_by, torn_control}
 use Rattle.bank_model.specs.Changes.{change_after}
 use Rattle.bank_model.specs.Running.{running_at}
-use Rattle.bank_model.specs.Timing.{Pacing, Happens, Core, Regs, Timed, core, core_of}
+use Rattle.bank_shape.specs.declared.pace.Pace.{Pace}
+use Rattle.bank_model.specs.Timing.{Happens, Core, Regs, TimedEvent, core, core_of}
 use Rattle.bank_model.specs.Lawful.{Lawful, MayCome}
 use Rattle.bank_laws.proofs.Waiting.{may_all}
 use Rattle.place_laws.proofs.Pulsing.{begins-idle}
@@ -56,11 +57,11 @@ module _ (w works pulses new : ℕ) where
   cut-step false false true k few more room tears = let same : w * (0 + works) ≡ w * works = omega arith in omega (arith, few, more, same)
   cut-step false false false k few more room tears = let same : w * (0 + works) ≡ w * works = omega arith in omega (arith, few, more, same)
 
-module _ {n m : ℕ} (shape : BankShape) (pace : Pacing) (e at : ℕ) (low : at < controls_from shape) where
-  abbrev Few : List (Timed n m) → Type 0
+module _ {n m : ℕ} (shape : BankShape) (pace : Pace) (e at : ℕ) (low : at < controls_from shape) where
+  abbrev Few : List (TimedEvent n m) → Type 0
   Few xs = pulses_of xs at ≤ most_steps e * works_on shape at (core xs) + held_on shape at (core xs)
 
-  room : (xs : List (Timed n m)) → Lawful shape pace e xs → Room (most_steps e) (core xs)
+  room : (xs : List (TimedEvent n m)) → Lawful shape pace e xs → Room (most_steps e) (core xs)
   room [] l = λ is. absurd (cc (is))
   room (x ∷ xs) l = by x.happens l.0 (room xs l.1)
     where
@@ -73,7 +74,7 @@ module _ {n m : ℕ} (shape : BankShape) (pace : Pacing) (e at : ℕ) (low : at 
       by (Core (Cut tearing)) may r = λ is. absurd (cc (is))
       by (Regs event) may r = r
 
-  pub pulses-few : (xs : List (Timed n m)) → Lawful shape pace e xs → Few xs
+  pub pulses-few : (xs : List (TimedEvent n m)) → Lawful shape pace e xs → Few xs
   pulses-few [] l = omega arith
   pulses-few (x ∷ xs) l = by x.happens l.0 (pulses-few xs l.1)
     where

@@ -2,17 +2,18 @@
 -- line writes of its own.
 use Rattle.std.specs.Prelude.{ℕ, ◌+◌, ◌*◌, ◌/◌, ◌<◌, ◌≤◌, ◌&&◌, nat_lt, if◌then◌else◌, List, count_by}
 use Rattle.pcm_cells.specs.Device.{CellBounds, ArrayState}
-use Rattle.row_laws.specs.declared.Row.{Row}
-use Rattle.row_laws.specs.Answers.{is_stored}
-use Rattle.row_laws.specs.Rows.{asks_write, is_cut}
-use Rattle.row_laws.specs.Rules.{Rules}
-use Rattle.row_laws.specs.Ticking.{tries}
+use Rattle.row_rules.specs.declared.Row.{Row}
+use Rattle.row_rules.specs.Answers.{is_stored}
+use Rattle.row_rules.specs.Rows.{asks_write, is_cut}
+use Rattle.row_rules.specs.declared.Rules.{Rules}
+use Rattle.row_rules.specs.Ticking.{tries}
 use Rattle.bank_shape.specs.declared.BankShape.{BankShape}
 use Rattle.bank_shape.specs.Shape.{slots_of, controls_from, controls_of, control_line}
 use Rattle.bank_model.specs.Aging.{Ages, AreAged}
 use Rattle.bank_model.specs.Works.{works_on, held_on}
 use Rattle.bank_model.specs.Sensing.{most_steps, pulses_of}
-use Rattle.bank_model.specs.Timing.{Pacing, Timed, core}
+use Rattle.bank_shape.specs.declared.pace.Pace.{Pace}
+use Rattle.bank_model.specs.Timing.{TimedEvent, core}
 use Rattle.bank_model.specs.Lawful.{Lawful, IsIdle}
 use Rattle.bank_laws.specs.Laws.{IsSized, LeavesArray, rules_of}
 use Rattle.bank_laws.specs.Outcomes.{table_of}
@@ -42,27 +43,27 @@ fine_each bounds rules = tries rules.policy * (bounds.misses + 1)
 -- each array line but the control lines has at most so many pulses for each line write that ended on it, and those of the one in progress
 abbrev pub PulsesOnLaw : Type 0
 PulsesOnLaw =
-    (n m e : ℕ) (shape : BankShape) (pace : Pacing) (xs : List (Timed n m)) (at : ℕ) → Lawful shape pace e xs → at < controls_from shape
+    (n m e : ℕ) (shape : BankShape) (pace : Pace) (xs : List (TimedEvent n m)) (at : ℕ) → Lawful shape pace e xs → at < controls_from shape
     → pulses_of xs at ≤ most_steps e * works_on shape at (core xs) + held_on shape at (core xs)
 
 -- the line writes of a slot's own array line, by the rows
 abbrev pub WorksLaw : Type 0
 WorksLaw =
-    (n m e : ℕ) (shape : BankShape) (pace : Pacing) (xs : List (Timed n m)) (slot : ℕ)
+    (n m e : ℕ) (shape : BankShape) (pace : Pace) (xs : List (TimedEvent n m)) (slot : ℕ)
     → IsSized shape pace → Lawful shape pace e xs → slot < slots_of shape
     → works_on shape (shape.base + slot) (core xs) ≤ tries pace.policy * most_works shape (table_of shape xs) slot
 
 -- so the pulses of a slot's own array line, whichever of its cells are stuck
 abbrev pub LinePulsesLaw : Type 0
 LinePulsesLaw =
-    (n m e : ℕ) (shape : BankShape) (pace : Pacing) (xs : List (Timed n m)) (array : ArrayState n m) (slot : ℕ)
+    (n m e : ℕ) (shape : BankShape) (pace : Pace) (xs : List (TimedEvent n m)) (array : ArrayState n m) (slot : ℕ)
     → IsSized shape pace → Lawful shape pace e xs → IsIdle shape pace xs → LeavesArray e shape xs array → slot < slots_of shape
     → (array.line (shape.base + slot)).pulses ≤ most_each (rules_of e shape pace) * most_works shape (table_of shape xs) slot
 
 -- and how it ages, in an array that has aged by the bank's events: as its first cell stuck, each line write had brought it few pulses
 abbrev pub LineAgesLaw : Type 0
 LineAgesLaw =
-    (n m e : ℕ) (shape : BankShape) (pace : Pacing) (xs : List (Timed n m)) (array : ArrayState n m) (slot : ℕ)
+    (n m e : ℕ) (shape : BankShape) (pace : Pace) (xs : List (TimedEvent n m)) (array : ArrayState n m) (slot : ℕ)
     → IsSized shape pace → Lawful shape pace e xs → IsIdle shape pace xs → AreAged shape (core xs) array → slot < slots_of shape
     → Ages array.bounds (fine_each array.bounds (rules_of e shape pace) * most_works shape (table_of shape xs) slot) (array.line (shape.base + slot))
 
@@ -82,6 +83,6 @@ most_kept shape rows item = most_changes shape rows item + count_by is_cut rows
 -- the pulses of a control line
 abbrev pub ControlPulsesLaw : Type 0
 ControlPulsesLaw =
-    (n m e : ℕ) (shape : BankShape) (pace : Pacing) (xs : List (Timed n m)) (array : ArrayState n m) (item : ℕ)
+    (n m e : ℕ) (shape : BankShape) (pace : Pace) (xs : List (TimedEvent n m)) (array : ArrayState n m) (item : ℕ)
     → IsSized shape pace → Lawful shape pace e xs → IsIdle shape pace xs → LeavesArray e shape xs array → item < controls_of shape
     → (array.line (control_line shape item)).pulses ≤ most_each (rules_of e shape pace) * most_kept shape (table_of shape xs) item
