@@ -10,4 +10,3 @@ mod Taking
 mod Meeting
 mod Going
 mod Checking
-mod Timing

@@ -1,6 +1,5 @@
 pub mod Checkable
 pub mod Watching
-pub mod Worked
 pub mod Finding
 pub mod Coming
 pub mod Tables

@@ -107,6 +107,3 @@ pub fn check<const B: usize>(
     let mut kept = Kept::new(alloc, banks)?;
     pass_rows(events, results, banks, rules, &found, &coming, &mut kept)
 }
-
-#[cfg(test)]
-mod tests;

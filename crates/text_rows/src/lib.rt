@@ -21,6 +21,8 @@ mod summaries;
 #[cfg(test)]
 mod traces;
 #[cfg(test)]
+mod verdicts;
+#[cfg(test)]
 mod wear;
 #[cfg(test)]
 mod words;

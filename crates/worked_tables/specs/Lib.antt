@@ -1,4 +1,5 @@
 pub mod Ends
+pub mod Judged
 pub mod Lifetimes
 pub mod Runs
 pub mod Verdicts

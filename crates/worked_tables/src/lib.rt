@@ -4,6 +4,7 @@
 
 pub mod ends;
 pub mod histories;
+pub mod judged;
 pub mod left_tables;
 pub mod lifetimes;
 pub mod runs;

@@ -1,8 +1,6 @@
 -- Worked tables of lines of two bytes, beside those of row_rules.
-use Rattle.std.specs.Prelude.{ℕ, List, [], ◌∷◌, Bool, true, false, if◌then◌else◌, Option, Some, None, nat_lt, ◌^◌}
-use Rattle.result_rows.specs.declared.Outcome.{Outcome}
+use Rattle.std.specs.Prelude.{ℕ, List, [], ◌∷◌, true}
 use Rattle.result_rows.specs.declared.Outcome.TheVariants as out
-use Rattle.result_rows.specs.Outcomes.{tick_of}
 use Rattle.bank_shape.specs.declared.pace.Policy.{Policy}
 use Rattle.row_rules.specs.declared.Row.{Row}
 use Rattle.row_rules.specs.declared.Rules.{Rules}
@@ -45,11 +43,3 @@ pair_that_left =
 -- the later row's store lies too near the earlier row's
 abbrev pub too_near : List (Row 2)
 too_near = W 0 0 0xff (out.Stored 19 3) ∷ W 0 1 0x11 (out.Stored 15 1) ∷ []
-
--- an outcome is set, and its tick has at most 15 digits
-abbrev pub is_below : Option ℕ → Bool
-is_below None = false
-is_below (Some tick) = nat_lt tick (10 ^ 15)
-
-abbrev pub is_timed : {n : ℕ} → Outcome n → Bool
-is_timed outcome = is_below (tick_of outcome)

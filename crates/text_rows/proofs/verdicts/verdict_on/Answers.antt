@@ -1,7 +1,7 @@
 use Rattle.std.proofs.Common.{◌≡◌, ◌∙◌, ◌≤◌, ap, refl, replicate, arith}
 use Rattle.result_rows.specs.Table.{with_outcome}
-use Rattle.result_check.proofs.Timing.{two_checkable}
-use Rattle.result_check.proofs.tests.verdict_on.Goals as goal
+use Rattle.text_rows.proofs.Timing.{two_checkable}
+use Rattle.text_rows.proofs.verdicts.verdict_on.Goals as goal
 
 pub check-requires : goal.check-requires
 check-requires c = (
