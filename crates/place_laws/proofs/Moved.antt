@@ -1,10 +1,12 @@
 -- The moves of a region in the end, by the rows.
-use Rattle.std.proofs.Common.{◌≡◌, ℕ, ◌+◌, ◌*◌, ◌/◌, ◌%◌, ◌≤◌, ◌==◌, inl, inr, Option, Some, None, refl, sym, ap, ◌∙◌, arith, true}
+use Rattle.std.proofs.Common.{◌≡◌, ℕ, ◌+◌, ◌*◌, ◌/◌, ◌%◌, ◌≤◌, ◌==◌, inl, inr, List, Option, Some, None, refl, sym, ap, ◌∙◌, arith, true}
 use Rattle.std.proofs.lemmas.Bool.{eq-eqb, cases_lt}
 use Rattle.row_laws.specs.Answers.{is_stored}
+use Rattle.bank_shape.specs.declared.BankShape.{BankShape}
 use Rattle.bank_model.specs.History.{moved_in, stored_in, due_after}
 use Rattle.bank_model.specs.Sensing.{most_steps}
-use Rattle.bank_model.specs.Timing.{core}
+use Rattle.bank_model.specs.Timing.{Pacing, Timed, core}
+use Rattle.bank_model.specs.Lawful.{Lawful}
 use Rattle.bank_laws.specs.Laws.{is_worn_at}
 use Rattle.bank_laws.specs.Outcomes.{table_of}
 use Rattle.bank_laws.specs.Places.{region_stores, may_leave}
@@ -17,6 +19,12 @@ use Rattle.place_laws.proofs.Tables.{region-all}
 use Rattle.place_laws.proofs.WornOut.{idle-due}
 use Rattle.place_laws.proofs.Taken.{leaves_work}
 use Rattle.place_laws.proofs.Placed.{or_one, or_other, between_products, at_product}
+
+-- the stores of a region by the rows are those by the events
+pub region_stores-counted : {n m : ℕ} (shape : BankShape) (pace : Pacing) (e : ℕ) (xs : List (Timed n m)) (region : ℕ) → Lawful shape pace e xs
+    → region_stores is_stored shape region (table_of shape xs) ≡ stored_in shape.lines (core xs) region
+region_stores-counted shape pace e xs region l =
+    region-all shape xs region ∙ stored-counted shape pace e (λ line. line / shape.lines == region) xs l ∙ region-stored shape.lines (core xs) region
 
 pub moved_law : MovedLaw
 moved_law n m e shape pace xs array region sized l idle leaves =
@@ -36,7 +44,7 @@ moved_law n m e shape pace xs array region sized l idle leaves =
     moves = keeps shape (most_steps e) (core xs) sized.psi (may_all shape pace e xs l)
 
     count : region_stores is_stored shape region (table_of shape xs) ≡ stored_in shape.lines (core xs) region
-    count = region-all shape xs region ∙ stored-counted shape pace e (λ line. line / shape.lines == region) xs l ∙ region-stored shape.lines (core xs) region
+    count = region_stores-counted shape pace e xs region l
 
     due : (d : Option ℕ) → due_after shape (core xs) ≡ d → shape.psi * (moved_in shape.lines (core xs) region + 1) ≤ stored_in shape.lines (core xs) region → may_leave shape (is_worn_at e array) ≡ true
     due None is ge = absurd (omega (arith, none-due shape (core xs) moves is region, ge))

@@ -16,7 +16,7 @@ use Rattle.queue_laws.specs.EntryLaws.{last_write, LastWriteLaw}
 
 module _ {n : ℕ} where
   -- the entry that a write is merged into is the newest of its line
-  candidate-newest : (busy : Bool) (es : List (Entry n)) (line old : ℕ) → candidate busy es line ≡ Some old → newest_row es line ≡ Some old
+  pub candidate-newest : (busy : Bool) (es : List (Entry n)) (line old : ℕ) → candidate busy es line ≡ Some old → newest_row es line ≡ Some old
   candidate-newest busy [] line old is = cc
   candidate-newest busy (e ∷ es) line old is = by (newest_row es line) busy (e.line == line) is
     where

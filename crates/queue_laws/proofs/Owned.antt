@@ -24,7 +24,7 @@ use Rattle.queue_laws.specs.EntryLaws.{line_written, given_by, is_head_begun, Gi
 -- Bytes
 
 -- bytes that are laid over others change nothing of them when they are laid over them again
-laid-again : (bytes : List ℕ) (given : List Bool) (under : List ℕ) → laid bytes given (laid bytes given under) ≡ laid bytes given under
+pub laid-again : (bytes : List ℕ) (given : List Bool) (under : List ℕ) → laid bytes given (laid bytes given under) ≡ laid bytes given under
 laid-again [] given under = refl
 laid-again (b ∷ bytes) [] under = refl
 laid-again (b ∷ bytes) (g ∷ given) [] = refl
@@ -32,7 +32,7 @@ laid-again (b ∷ bytes) (true ∷ given) (u ∷ under) = ap (λ xs. b ∷ xs) (
 laid-again (b ∷ bytes) (false ∷ given) (u ∷ under) = ap (λ xs. u ∷ xs) (laid-again bytes given under)
 
 -- nor do those that changed nothing of them before
-laid-between : (bytes : List ℕ) (given : List Bool) (own : List ℕ) (also : List Bool) (under : List ℕ) → laid own also under ≡ under
+pub laid-between : (bytes : List ℕ) (given : List Bool) (own : List ℕ) (also : List Bool) (under : List ℕ) → laid own also under ≡ under
     → laid bytes given (laid own also (laid bytes given under)) ≡ laid bytes given under
 laid-between [] given own also under still = still
 laid-between (b ∷ bytes) [] own also under still = still
@@ -52,7 +52,7 @@ length-laid_if : (b : Bool) (bytes : List ℕ) (given : List Bool) (under : List
 length-laid_if true bytes given under n len = length-laid bytes given under ∙ len
 length-laid_if false bytes given under n len = len
 
-length-newest : {n : ℕ} (h : List (Event n)) (line : ℕ) → length (newest h line) ≡ n
+pub length-newest : {n : ℕ} (h : List (Event n)) (line : ℕ) → length (newest h line) ≡ n
 length-newest {n = n} [] line = length-replicate n 0
 length-newest {n = n} (Write row at bytes given wrote.Accepted ∷ h) line = length-laid_if (at == line) bytes given (newest h line) n (length-newest h line)
 length-newest {n = n} (Write row at bytes given (wrote.Merged old) ∷ h) line = length-laid_if (at == line) bytes given (newest h line) n (length-newest h line)
