@@ -26,7 +26,8 @@ use Rattle.run_laws.specs.Runs.{RunsRight, bank_of_line, line_in_bank, pacing_in
 use Rattle.pcm_image.specs.Saved.{Saved}
 use Rattle.image_laws.specs.SavedRuns.{IsLeft, SensedSince, StaysRightLaw}
 
-sized : (raw : RawShape) (bank : ℕ) → IsShape raw → IsSized (bank_shape (module_of raw) bank) (pacing_in raw)
+-- the sizes of a bank of a module
+pub sized : (raw : RawShape) (bank : ℕ) → IsShape raw → IsSized (bank_shape (module_of raw) bank) (pacing_in raw)
 sized raw bank is = record {
   regions = is.some_regions;
   lines = omega (arith, is.some_lines);
