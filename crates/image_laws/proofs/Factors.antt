@@ -1,5 +1,5 @@
 -- A factor of a power of two is one.
-use Rattle.std.proofs.Common.{◌≡◌, ℕ, zero, suc, ◌+◌, ◌*◌, ◌/◌, ◌%◌, ◌^◌, ◌<◌, ◌≤◌, ◌==◌, inl, inr, true, refl, sym, ap, ◌∙◌, arith, count_ones}
+use Rattle.std.proofs.Common.{◌≡◌, ℕ, zero, suc, ◌+◌, ◌*◌, ◌/◌, ◌%◌, ◌^◌, ◌≤◌, ◌==◌, inl, inr, true, refl, sym, ap, ◌∙◌, arith, count_ones}
 use Rattle.std.specs.Int.Count.{ones_step}
 use Rattle.std.specs.Int.{is_power_of_two}
 use Rattle.std.proofs.lemmas.Bool.{cases_eq}

@@ -1,7 +1,7 @@
--- What is saved of a bank is in range, and is what its end says.
-use Rattle.std.proofs.Common.{◌≡◌, ℕ, zero, suc, ◌+◌, ◌*◌, ◌^◌, ◌<◌, ◌≤◌, ◌&&◌, Bool, true, false, nat_le, List, [], ◌∷◌, length, get_or, refl, sym, ap, subst, ◌∙◌, arith}
+-- What is saved of a bank is in range, and has the registers and the table of its end.
+use Rattle.std.proofs.Common.{◌≡◌, ℕ, ◌+◌, ◌*◌, ◌^◌, ◌<◌, ◌≤◌, ◌&&◌, Bool, true, false, nat_le, List, [], ◌∷◌, length, get_or, refl, sym, ap, subst, ◌∙◌, arith}
 use Rattle.std.proofs.lemmas.Bool.{and_from}
-use Rattle.std.specs.Prelude.{All, IsTrue, map, if◌then◌else◌}
+use Rattle.std.specs.Prelude.{All, map, if◌then◌else◌}
 use Rattle.std.proofs.lemmas.List.{length-map}
 use Rattle.std.proofs.lemmas.List.Elements.{All-nil, All-cons, All-from_get_or}
 use Rattle.std.proofs.Math.ListN.{get_or-map}
@@ -10,9 +10,8 @@ use Rattle.std.proofs.lemmas.Bool.Decides.{nat_tests}
 use Rattle.feistel_map.specs.Log2.{log2}
 use Rattle.masked_bytes.specs.Entries.{AllMasked}
 use Rattle.masked_bytes.specs.declared.entry.Entry.{Entry}
-use Rattle.start_gap.specs.Rotation.{Rotation, StandsFor}
-use Rattle.spare_pool.specs.Table.{line_from}
-use Rattle.region_regs.specs.Region.{RegionState}
+use Rattle.start_gap.specs.Rotation.{StandsFor}
+use Rattle.spare_pool.specs.Table.{line_by, line_from}
 use Rattle.bank_shape.specs.declared.Home.{Home}
 use Rattle.bank_shape.specs.declared.Home.TheVariants as home
 use Rattle.bank_shape.specs.declared.BankShape.{BankShape}
@@ -23,10 +22,9 @@ use Rattle.module_shape.specs.Limits.{IsShape, is_power_between, total_of}
 use Rattle.module_shape.specs.Addresses.{module_of, bank_shape}
 use Rattle.end_laws.specs.Ends.{BankEnd}
 use Rattle.end_laws.specs.EndLaws.{IsEndOf}
-use Rattle.pcm_image.specs.Saved.{Head, IsHead, IsSavedBank, IsSavedEntry, IsSavedRegion, is_lines, lines_in, slots_in}
-use Rattle.pcm_image.specs.Standing.{rotation_of, no_region}
+use Rattle.pcm_image.specs.Saved.{Head, IsHead, IsSavedBank, IsSavedEntry, IsSavedRegion, lines_in, slots_in}
+use Rattle.pcm_image.specs.Standing.{rotation_of, table_of, no_region}
 use Rattle.image_laws.specs.Saving.{head_of, home_number, saved_bank, saved_entry, saved_region}
-use Rattle.image_laws.specs.SavedRuns.{SavesEnd}
 use Rattle.image_laws.proofs.Factors.{first-test, second-test, third-test}
 
 le-test : (a b : ℕ) → a ≤ b → nat_le a b ≡ true
@@ -99,17 +97,21 @@ module _ {n : ℕ} (raw : RawShape) (seed bank : ℕ) (kept : KeptState n) (is :
     entries = entries-right (head_of raw seed) kept.entries _ (ap (λ (s : BankShape). s.regions * s.lines) shape) is.masked is.known;
   }
 
-  pub saved-end : (end : BankEnd) → IsEndOf kept end → SavesEnd raw seed bank end (saved_bank kept)
-  saved-end end ends = record {
-    registers = λ region lt.
-        let some : region < kept.shape.regions = omega (arith, lt, regions-same) in
-        let lines : (region_at kept region).rotation.lines ≡ raw.lines = (is.regions region some).rotates ∙ lines-same in
-        let same = ap (λ r. rotation_of (head_of raw seed) r) (get_or-map saved_region kept.regions region no_kept)
-        ∙ ap (λ (l : ℕ). record { lines = l; start = (region_at kept region).rotation.start; gap = (region_at kept region).rotation.gap }) (sym lines) in
-        subst (λ q. StandsFor q (end.moves region)) (sym same) (ends.moves region some);
-    slots = λ slot lt.
-        let some : slot < slots_of kept.shape = subst (λ (k : ℕ). slot < k) (sym (ap slots_of shape)) lt in
-        let base : (bank_shape (module_of raw) bank).base ≡ kept.shape.base = sym (ap (λ (s : BankShape). s.base) shape) in
-        ap (λ b. b + line_from (raw.regions * (raw.lines + 1)) slot kept.table.replaced slot) base
-        ∙ ap (λ k. kept.shape.base + line_from k slot kept.table.replaced slot) (sym slots-same) ∙ sym (ends.table slot some);
-  }
+  -- its registers, by its end
+  pub registers-saved : (end : BankEnd) → IsEndOf kept end → (region : ℕ) → region < raw.regions
+      → StandsFor (rotation_of (head_of raw seed) (get_or (map saved_region kept.regions) region no_region)) (end.moves region)
+  registers-saved end ends region lt =
+      let some : region < kept.shape.regions = omega (arith, lt, regions-same) in
+      let lines : (region_at kept region).rotation.lines ≡ raw.lines = (is.regions region some).rotates ∙ lines-same in
+      let same = ap (λ r. rotation_of (head_of raw seed) r) (get_or-map saved_region kept.regions region no_kept)
+      ∙ ap (λ (l : ℕ). record { lines = l; start = (region_at kept region).rotation.start; gap = (region_at kept region).rotation.gap }) (sym lines) in
+      subst (λ q. StandsFor q (end.moves region)) (sym same) (ends.moves region some)
+
+  -- and its table
+  pub slots-saved : (end : BankEnd) → IsEndOf kept end → (slot : ℕ) → slot < slots_of (bank_shape (module_of raw) bank)
+      → (bank_shape (module_of raw) bank).base + line_by (table_of (head_of raw seed) (saved_bank kept)) slot ≡ end.table slot
+  slots-saved end ends slot lt =
+      let some : slot < slots_of kept.shape = subst (λ (k : ℕ). slot < k) (sym (ap slots_of shape)) lt in
+      let base : (bank_shape (module_of raw) bank).base ≡ kept.shape.base = sym (ap (λ (s : BankShape). s.base) shape) in
+      ap (λ b. b + line_from (raw.regions * (raw.lines + 1)) slot kept.table.replaced slot) base
+      ∙ ap (λ k. kept.shape.base + line_from k slot kept.table.replaced slot) (sym slots-same) ∙ sym (ends.table slot some)

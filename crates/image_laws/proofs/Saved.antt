@@ -1,44 +1,60 @@
 -- What a finished run leaves is saved as that of the run.
-use Rattle.std.proofs.Common.{◌≡◌, ℕ, ◌+◌, ◌*◌, ◌/◌, ◌%◌, ◌^◌, ◌<◌, ◌≤◌, List, [], ◌∷◌, ◌++◌, length, get_or, refl, sym, ap, subst, ◌∙◌, arith}
-use Rattle.std.specs.Prelude.{All, map}
-use Rattle.std.specs.List.{range_with_len}
+use Rattle.std.proofs.Common.{◌≡◌, true, ℕ, ◌*◌, ◌^◌, ◌<◌, List, [], get_or, refl, sym, ap, subst, ◌∙◌, arith}
+use Rattle.std.specs.Prelude.{Bool, map}
+use Rattle.std.proofs.Math.Path.{fun_ext}
 use Rattle.std.proofs.lemmas.Nat.{mul-le}
 use Rattle.std.proofs.Math.Nat.{mod-lt}
 use Rattle.std.proofs.lemmas.List.Elements.{All-map, All-from_get_or}
 use Rattle.std.proofs.lemmas.List.FromFn.{get_or-map-range_with_len, length-map-range_with_len}
 use Rattle.pcm_cells.specs.Rows.{zero_row}
-use Rattle.pcm_cells.specs.Device.{ArrayState}
-use Rattle.pcm_cells.specs.declared.row.Cells.{Cells}
+use Rattle.pcm_cells.specs.Device.{ArrayState, LineState}
+use Rattle.ecp_line.specs.Reading.{is_worn_line}
 use Rattle.row_rules.specs.declared.Row.{Row}
 use Rattle.row_rules.specs.Rows.{newest}
 use Rattle.bank_shape.specs.declared.BankShape.{BankShape}
-use Rattle.power_recovery.specs.Kept.{KeptState, IsKept}
+use Rattle.power_recovery.specs.Kept.{KeptState}
+use Rattle.bank_shape.specs.declared.pace.Pace.{Pace}
 use Rattle.bank_model.specs.Timing.{TimedEvent, core}
+use Rattle.bank_laws.specs.Laws.{IsSized, LeavesArray, is_worn_at}
+use Rattle.bank_laws.specs.Places.{is_moved}
+use Rattle.bank_model.specs.Lawful.{IsIdle}
+use Rattle.bank_invariant.specs.Bridge.{AgreeLaw, AgreesWith}
 use Rattle.bank_invariant.specs.Holds.{stands_for as kept_for}
 use Rattle.bank_laws.specs.Outcomes.{table_of}
 use Rattle.bank_laws.proofs.Serves.{newest_same}
 use Rattle.bank_laws.proofs.Settling.{opens}
 use Rattle.module_shape.specs.declared.raw.RawShape.{RawShape}
 use Rattle.module_shape.specs.Limits.{IsShape, total_of}
-use Rattle.module_shape.specs.Addresses.{module_of, bank_shape, lines_of, array_lines_of}
+use Rattle.module_shape.specs.Addresses.{module_of, bank_shape}
 use Rattle.module_laws.specs.Asking.{row_with}
-use Rattle.module_laws.specs.Serves.{AreLines, BankTableLaw, IsOfLines}
+use Rattle.module_laws.specs.Serves.{BankTableLaw, IsOfLines}
 use Rattle.module_laws.proofs.Serving.{newest_in_bank}
+use Rattle.clock_laws.specs.Ending.{LeavingLaw}
 use Rattle.clock_laws.specs.Leads.{Leads}
 use Rattle.clock_laws.specs.State.{ClockState}
 use Rattle.end_laws.specs.Ends.{BankEnd}
 use Rattle.end_laws.specs.EndLaws.{IsEndOf}
 use Rattle.run_laws.specs.FinishedLaws.{LinesLaw}
-use Rattle.run_laws.specs.Runs.{bank_of_line, line_in_bank}
-use Rattle.pcm_image.specs.Saved.{Saved, SavedBank, IsSaved, IsSavedBank, IsSavedRow, array_lines_in}
+use Rattle.run_laws.specs.Runs.{RunsRight, bank_of_line, line_in_bank, table_in}
+use Rattle.pcm_image.specs.Saved.{Saved, SavedBank, IsSaved, IsSavedBank, IsSavedRow}
 use Rattle.pcm_image.specs.Standing.{no_bank, own_bytes, stands_for}
 use Rattle.image_laws.specs.Saving.{head_of, saved_bank, saved_banks, saved_cells, saved_of}
-use Rattle.image_laws.specs.SavedRuns.{AreRows, IsLeft, SavedLaw, SavesEnd, SavesRun}
-use Rattle.image_laws.proofs.Keeping.{bank-right, head-right, saved-end}
+use Rattle.image_laws.specs.SavedRuns.{AreRows, IsLeft, SavedLaw, SavesEnd, SavesMark, SavesQueue, SavesRun}
+use Rattle.image_laws.proofs.Ended.{saves-end}
+use Rattle.image_laws.proofs.Keeping.{bank-right, head-right}
+use Rattle.image_laws.proofs.Marking.{saves-mark, saves-queue}
+use Rattle.run_laws.proofs.Finished.{sized}
 use Rattle.image_laws.proofs.Standing.{lines-same, own-saved}
 
-module _ (by_bank : BankTableLaw) (lines_law : LinesLaw) {n m : ℕ} (e : ℕ) (raw : RawShape) (seed : ℕ) (rows : List (Row n)) (array : ArrayState n m) (ends : ℕ → BankEnd)
-    (s : Saved n m) (left : IsLeft e raw seed rows array s) (is : IsShape raw) (low : seed < 2 ^ 64)
+-- what the image of a run follows from
+pub record ImageLaws : Type 0 where
+  pub by_bank : BankTableLaw
+  pub lines : LinesLaw
+  pub agree : AgreeLaw
+  pub leaving : LeavingLaw
+
+module _ (laws : ImageLaws) {n m : ℕ} (e : ℕ) (raw : RawShape) (seed : ℕ) (rows : List (Row n)) (array : ArrayState n m) (ends : ℕ → BankEnd)
+    (s : Saved n m) (left : IsLeft e raw seed rows array s) (is : IsShape raw) (low : seed < 2 ^ 64) (right_run : RunsRight e raw seed rows array ends)
     (of_ends : (bank : ℕ) → bank < raw.banks → IsEndOf (left.banks bank).bank.kept (ends bank)) where
   abbrev kept : ℕ → KeptState n
   kept bank = (left.banks bank).bank.kept
@@ -76,9 +92,80 @@ module _ (by_bank : BankTableLaw) (lines_law : LinesLaw) {n m : ℕ} (e : ℕ) (
   cells : (line : ℕ) → line < array.lines → get_or saved.cells line (zero_row n m) ≡ (array.line line).held
   cells line lt = cells-at line (omega (arith, lt, left.since.lines)) ∙ sym (ap (λ l. l.held) (left.since.line line))
 
-  saved-ends : (bank : ℕ) → bank < raw.banks → SavesEnd raw seed bank (ends bank) (get_or saved.parts bank (no_bank n))
-  saved-ends bank lt =
-      rw (part-at bank lt) (saved-end raw seed bank (kept bank) (left.finished.leads bank lt).holds.kept (left.finished.shapes bank lt) (ends bank) (of_ends bank lt))
+  -- a line is worn now where it was
+  worn-same : is_worn_at e left.before ≡ is_worn_at e array
+  worn-same = ap (λ (line : ℕ → LineState n m). λ (at : ℕ). is_worn_line e (line at).held (line at).stuck) (sym (fun_ext left.since.line))
+
+  -- of a bank
+  module _ (bank : ℕ) (exists : bank < raw.banks) where
+    abbrev shape : BankShape
+    shape = bank_shape (module_of raw) bank
+
+    abbrev clock : ClockState n m e
+    clock = left.banks bank
+
+    abbrev xs : List (TimedEvent n m)
+    xs = left.history bank
+
+    leads : Leads xs clock left.before
+    leads = left.finished.leads bank exists
+
+    same : (kept bank).shape ≡ shape
+    same = left.finished.shapes bank exists
+
+    rows-of : table_in raw seed bank rows ≡ table_of (kept bank).shape xs
+    rows-of =
+        ap (λ rs. table_in raw seed bank rs) left.rows_are
+        ∙ laws.by_bank n m shape (bank_of_line raw seed) (line_in_bank raw seed) bank xs left.trace left.outcome (left.finished.asked bank exists) (left.finished.recorded bank exists)
+        ∙ ap (λ (s : BankShape). table_of s xs) (sym same)
+
+    sized-bank : IsSized (kept bank).shape clock.pace
+    sized-bank =
+        subst (λ (s : BankShape). IsSized s clock.pace) (sym same) (subst (λ (p : Pace). IsSized shape p) (sym (left.finished.paces bank exists)) (sized raw bank is))
+
+    idle : IsIdle (kept bank).shape clock.pace xs
+    idle =
+        subst (λ (s : BankShape). IsIdle s clock.pace xs) (sym same) (subst (λ (p : Pace). IsIdle shape p xs) (sym (left.finished.paces bank exists)) (left.finished.idle bank exists))
+
+    leaves : LeavesArray e (kept bank).shape xs left.before
+    leaves = laws.leaving n m e xs clock left.before leads
+
+    agrees : AgreesWith (core xs) clock.bank
+    agrees = laws.agree n m e (core xs) clock.bank left.before leads.holds
+
+    -- its moves, by the rows
+    moved : (region : ℕ) → region < raw.regions
+        → is_moved (kept bank).shape (is_worn_at e left.before) (table_of (kept bank).shape xs) region ((ends bank).moves region) ≡ true
+    moved region lt =
+        subst (λ (rs : List (Row n)). is_moved (kept bank).shape (is_worn_at e left.before) rs region ((ends bank).moves region) ≡ true) rows-of
+        (subst (λ (s : BankShape). is_moved s (is_worn_at e left.before) (table_in raw seed bank rows) region ((ends bank).moves region) ≡ true) (sym same)
+        (subst (λ (worn : ℕ → Bool). is_moved shape worn (table_in raw seed bank rows) region ((ends bank).moves region) ≡ true) (sym worn-same)
+        ((right_run.end bank exists).moved region lt)))
+
+    abbrev part : SavedBank n
+    part = get_or saved.parts bank (no_bank n)
+
+    saved-end : SavesEnd raw seed bank (is_worn_at e array) (table_in raw seed bank rows) (ends bank) part
+    saved-end =
+        rw (part-at bank exists)
+        (subst (λ (worn : ℕ → Bool). SavesEnd raw seed bank worn (table_in raw seed bank rows) (ends bank) (saved_bank (kept bank))) worn-same
+        (subst (λ (rs : List (Row n)). SavesEnd raw seed bank (is_worn_at e left.before) rs (ends bank) (saved_bank (kept bank))) (sym rows-of)
+        (saves-end raw seed bank clock.pace xs clock.bank left.before (ends bank) same is.some_psi leads.lawful leads.holds (of_ends bank exists) moved)))
+
+    saved-queue : SavesQueue raw.psi (table_in raw seed bank rows) part
+    saved-queue =
+        rw (part-at bank exists)
+        (subst (λ (s : BankShape). SavesQueue s.psi (table_in raw seed bank rows) (saved_bank (kept bank))) same
+        (subst (λ (rs : List (Row n)). SavesQueue (kept bank).shape.psi rs (saved_bank (kept bank))) (sym rows-of)
+        (saves-queue clock.pace xs clock.bank left.before sized-bank leads.lawful idle leads.holds agrees leaves)))
+
+    saved-mark : SavesMark shape (is_worn_at e array) (table_in raw seed bank rows) part
+    saved-mark =
+        rw (part-at bank exists)
+        (subst (λ (worn : ℕ → Bool). SavesMark shape worn (table_in raw seed bank rows) (saved_bank (kept bank))) worn-same
+        (subst (λ (s : BankShape). SavesMark s (is_worn_at e left.before) (table_in raw seed bank rows) (saved_bank (kept bank))) same
+        (subst (λ (rs : List (Row n)). SavesMark (kept bank).shape (is_worn_at e left.before) rs (saved_bank (kept bank))) (sym rows-of)
+        (saves-mark clock.pace xs clock.bank left.before sized-bank leads.lawful idle leads.holds agrees leaves))))
 
   -- of a line
   module _ (line : ℕ) (exists : line < total_of raw) where
@@ -89,41 +176,36 @@ module _ (by_bank : BankTableLaw) (lines_law : LinesLaw) {n m : ℕ} (e : ℕ) (
     own = line_in_bank raw seed line
 
     bank-there : bank < raw.banks
-    bank-there = (lines_law raw seed is).exists line exists
+    bank-there = (laws.lines raw seed is).exists line exists
 
     own-there : own < raw.regions * raw.lines
     own-there = let some = mul-le 1 4 raw.regions raw.lines is.some_regions is.some_lines in mod-lt _ (omega (arith, some))
 
-    abbrev leads : Leads (left.history bank) (left.banks bank) left.before
-    leads = left.finished.leads bank bank-there
-
     by-history : kept_for e (kept bank) left.before own ≡ newest (table_of (kept bank).shape (left.history bank)) own
     by-history =
-        leads.holds.newest own (rw (left.finished.shapes bank bank-there) own-there)
-        ∙ sym (newest_same (kept bank).shape (left.banks bank).pace e (left.history bank) [] (left.history bank) own leads.lawful
-        (opens (kept bank).shape (left.banks bank).pace e (left.history bank) leads.lawful) refl)
+        let its = leads bank bank-there in
+        its.holds.newest own (rw (same bank bank-there) own-there)
+        ∙ sym (newest_same (kept bank).shape (left.banks bank).pace e (left.history bank) [] (left.history bank) own its.lawful
+        (opens (kept bank).shape (left.banks bank).pace e (left.history bank) its.lawful) refl)
 
     by-rows : newest (table_of (kept bank).shape (left.history bank)) own ≡ newest rows line
     by-rows =
-        let table = by_bank n m (bank_shape (module_of raw) bank) (bank_of_line raw seed) (line_in_bank raw seed) bank (left.history bank) left.trace left.outcome
-        (left.finished.asked bank bank-there) (left.finished.recorded bank bank-there) in
         let exist = All-map (λ (r : Row n). IsOfLines (total_of raw) r.asks) (row_with left.outcome) left.trace left.finished.exist in
-        ap (λ shape. newest (table_of shape (left.history bank)) own) (left.finished.shapes bank bank-there)
-        ∙ ap (λ t. newest t own) (sym table)
-        ∙ newest_in_bank raw.banks (total_of raw) (bank_of_line raw seed) (line_in_bank raw seed) (lines_law raw seed is) line exists (map (row_with left.outcome) left.trace) exist
+        ap (λ t. newest t own) (sym (rows-of bank bank-there)) ∙ ap (λ rs. newest (table_in raw seed bank rs) own) left.rows_are
+        ∙ newest_in_bank raw.banks (total_of raw) (bank_of_line raw seed) (line_in_bank raw seed) (laws.lines raw seed is) line exists (map (row_with left.outcome) left.trace) exist
         ∙ ap (λ rs. newest rs line) (sym left.rows_are)
 
     line-stands : stands_for e saved line ≡ newest rows line
     unfolding stands_for
     line-stands =
         ap (λ b. own_bytes e saved b bank own) (part-at bank bank-there)
-        ∙ own-saved e raw seed kept left.before is left.finished.size bank bank-there leads.holds.kept (left.finished.shapes bank bank-there) own own-there
+        ∙ own-saved e raw seed kept left.before is left.finished.size bank bank-there (leads bank bank-there).holds.kept (same bank bank-there) own own-there
         ∙ by-history ∙ by-rows
 
   pub saves : SavesRun e raw seed rows array ends s
   saves =
       subst (λ t. SavesRun e raw seed rows array ends t) (sym left.saved)
-      (record { head = refl; right = right; cells = cells; banks = saved-ends; stands = line-stands })
+      (record { head = refl; right = right; cells = cells; banks = saved-end; queues = saved-queue; marks = saved-mark; stands = line-stands })
 
-pub saved_law : BankTableLaw → LinesLaw → SavedLaw
-saved_law by_bank lines n m e raw seed rows array ends s left is low of_ends = saves by_bank lines e raw seed rows array ends s left is low of_ends
+pub saved_law : ImageLaws → SavedLaw
+saved_law laws n m e raw seed rows array ends s left is low right of_ends = saves laws e raw seed rows array ends s left is low right of_ends

@@ -1,8 +1,6 @@
 -- Each line's newest bytes, by what is saved.
-use Rattle.std.proofs.Common.{◌≡◌, ℕ, ◌+◌, ◌*◌, ◌/◌, ◌%◌, ◌<◌, ◌≤◌, cond, Bool, true, false, ◌==◌, List, [], ◌∷◌, ◌++◌, length, get_or, refl, sym, ap, subst, ◌∙◌, arith}
-use Rattle.std.specs.Prelude.{All, map}
-use Rattle.std.specs.List.{range_with_len}
-use Rattle.std.proofs.lemmas.List.Elements.{All-map}
+use Rattle.std.proofs.Common.{◌≡◌, ℕ, ◌+◌, ◌*◌, ◌/◌, ◌%◌, ◌<◌, ◌≤◌, Bool, true, false, ◌==◌, List, [], ◌∷◌, get_or, refl, sym, ap, ◌∙◌, arith}
+use Rattle.std.specs.Prelude.{map}
 use Rattle.std.proofs.lemmas.List.FromFn.{get_or-map-range_with_len}
 use Rattle.std.proofs.Math.ListN.{get_or-map}
 use Rattle.masked_bytes.specs.Masked.{laid}
@@ -19,11 +17,11 @@ use Rattle.power_recovery.specs.Kept.{KeptState, IsKept, region_at, slot_of as k
 use Rattle.module_shape.specs.declared.raw.RawShape.{RawShape}
 use Rattle.module_shape.specs.Addresses.{module_of, bank_shape, array_lines_of}
 use Rattle.bank_invariant.specs.Holds.{stands_for as kept_for}
-use Rattle.pcm_image.specs.Saved.{Saved, array_lines_in}
-use Rattle.pcm_image.specs.Standing.{entry_of, no_region, own_bytes, slot_of, stands_at}
+use Rattle.pcm_image.specs.Saved.{array_lines_in}
+use Rattle.pcm_image.specs.Standing.{entry_of, own_bytes, slot_of, stands_at}
 use Rattle.image_laws.specs.Saving.{head_of, home_number, saved_bank, saved_cells, saved_entry, saved_of, saved_region}
 use Rattle.std.specs.Prelude.{nat_lt, if◌then◌else◌}
-use Rattle.std.proofs.lemmas.Nat.{div_below, mul-le}
+use Rattle.std.proofs.lemmas.Nat.{div_below}
 use Rattle.std.proofs.Math.Nat.{mod-lt}
 use Rattle.start_gap.specs.Rotation.{Rotation, IsRotation}
 use Rattle.spare_pool.specs.Table.{line_by, used_by}

@@ -1,5 +1,6 @@
 -- What the image of a finished run says.
-use Rattle.std.specs.Prelude.{◌≡◌, ℕ, ◌+◌, ◌^◌, ◌<◌, List, ◌++◌, All, Some, map, slice_index_or}
+use Rattle.std.specs.Prelude.{◌≡◌, ◌≢◌, ◌⊎◌, ℕ, ◌+◌, ◌*◌, ◌^◌, ◌<◌, ◌==◌, ◌&&◌, ◌||◌, Bool, IsTrue, IsFalse, List, ◌++◌, length, All, Some, map, slice_index_or}
+use Rattle.std.specs.List.{list_any}
 use Rattle.start_gap.specs.Rotation.{StandsFor}
 use Rattle.spare_pool.specs.Table.{line_by}
 use Rattle.pcm_cells.specs.Rows.{zero_row}
@@ -7,8 +8,13 @@ use Rattle.pcm_cells.specs.Device.{ArrayState, sense_of}
 use Rattle.pcm_cells.specs.declared.array.Sense.{Sense}
 use Rattle.result_rows.specs.declared.Outcome.{Outcome}
 use Rattle.row_rules.specs.declared.Row.{Row}
-use Rattle.row_rules.specs.Rows.{newest}
-use Rattle.bank_shape.specs.Shape.{slots_of}
+use Rattle.row_rules.specs.Answers.{is_stored, is_queued}
+use Rattle.row_rules.specs.Rows.{asks_write, newest}
+use Rattle.row_rules.specs.Wearing.{worn_row}
+use Rattle.bank_shape.specs.declared.BankShape.{BankShape}
+use Rattle.bank_shape.specs.Shape.{slots_of, controls_from, controls_of}
+use Rattle.bank_laws.specs.Laws.{is_worn_at}
+use Rattle.bank_laws.specs.Places.{region_stores, worn_among, is_worn_out}
 use Rattle.bank_model.specs.Timing.{TimedEvent}
 use Rattle.module_shape.specs.declared.raw.RawShape.{RawShape}
 use Rattle.module_shape.specs.Limits.{IsShape, total_of}
@@ -17,11 +23,13 @@ use Rattle.module_laws.specs.Asking.{Asked, row_with}
 use Rattle.clock_laws.specs.State.{ClockState}
 use Rattle.end_laws.specs.Ends.{BankEnd}
 use Rattle.end_laws.specs.EndLaws.{IsEndOf}
-use Rattle.run_laws.specs.Runs.{RunsRight}
+use Rattle.end_laws.specs.Roles.{used_spares}
+use Rattle.run_laws.specs.Runs.{RunsRight, table_in}
 use Rattle.run_laws.specs.Finishing.{IsFinished}
 use Rattle.pcm_image.specs.Saved.{Saved, SavedBank, IsSaved, IsSavedRow}
 use Rattle.pcm_image.specs.Standing.{rotation_of, table_of, no_bank, no_region, stands_for}
 use Rattle.image_laws.specs.Saving.{head_of, saved_of}
+use Rattle.image_laws.specs.Queued.{entries_by, first_again, queued_writes}
 
 -- an array that was sensed since, and nothing else: it is as it was, and a log that is told has gained senses of that
 pub record SensedSince {n m : ℕ} (before after : ArrayState n m) : Type 0 where
@@ -47,31 +55,75 @@ pub record IsLeft {n m : ℕ} (e : ℕ) (raw : RawShape) (seed : ℕ) (rows : Li
   pub saved : s ≡ saved_of raw seed (λ bank. (banks bank).bank.kept) before
   pub since : SensedSince before array
 
--- a saved bank's registers stand for the moves of its regions, and its remap list gives its table
-pub record SavesEnd {n : ℕ} (raw : RawShape) (seed bank : ℕ) (end : BankEnd) (b : SavedBank n) : Type 0 where
+-- a saved bank's registers stand for the moves of its regions, and their counters have the stores since; its remap list gives its table,
+-- and has as many spares as that uses. Each of its lines and used spares that no slot has any more is worn
+pub record SavesEnd {n : ℕ} (raw : RawShape) (seed bank : ℕ) (worn : ℕ → Bool) (rows : List (Row n)) (end : BankEnd) (b : SavedBank n) : Type 0 where
   pub registers : (region : ℕ) → region < raw.regions
       → StandsFor (rotation_of (head_of raw seed) (slice_index_or b.regions region no_region)) (end.moves region)
+  pub counters : (region : ℕ) → region < raw.regions
+      → (slice_index_or b.regions region no_region).counter + raw.psi * end.moves region
+      ≡ region_stores is_stored (bank_shape (module_of raw) bank) region rows
   pub slots : (slot : ℕ) → slot < slots_of (bank_shape (module_of raw) bank)
       → (bank_shape (module_of raw) bank).base + line_by (table_of (head_of raw seed) b) slot ≡ end.table slot
+  pub used : length b.replaced ≡ used_spares (bank_shape (module_of raw) bank) end.table
+  pub retired : (line : ℕ) → line < slots_of (bank_shape (module_of raw) bank) + length b.replaced
+      → ((slot : ℕ) → slot < slots_of (bank_shape (module_of raw) bank) → end.table slot ≢ (bank_shape (module_of raw) bank).base + line)
+      → IsTrue (worn ((bank_shape (module_of raw) bank).base + line))
+
+-- whether a gap move is due: the counter of a region stands at psi
+abbrev pub is_due : {n : ℕ} → ℕ → SavedBank n → Bool
+is_due psi b = list_any (λ region. region.counter == psi) b.regions
+
+-- a saved bank has an entry for each write that is queued by its rows, in the queue's order. A store of the first of them was begun or
+-- not: never where a gap move is due; always where another of them is of its line, or where the bank is marked and no move is due
+pub record SavesQueue {n : ℕ} (psi : ℕ) (rows : List (Row n)) (b : SavedBank n) : Type 0 where
+  pub begun : Bool
+  pub entries : b.entries ≡ entries_by begun (queued_writes rows)
+  pub before : IsTrue begun → IsFalse (is_due psi b)
+  pub again : IsTrue (first_again (queued_writes rows)) → IsTrue begun
+  pub marked : b.mark ≡ 1 → IsFalse (is_due psi b) → IsTrue begun
+
+-- a write that is queued in the end
+abbrev pub queued_row : {n : ℕ} → Row n → Bool
+queued_row r = asks_write r.asks && is_queued r.outcome
+
+-- whether something is left to do: a write is queued, or a gap move is due
+abbrev pub has_work : {n : ℕ} → ℕ → List (Row n) → SavedBank n → Bool
+has_work psi rows b = list_any queued_row rows || is_due psi b
+
+-- a saved bank is marked where a write of it was refused as worn, and only where something is left to do, no spare is free, and more of
+-- its lines are worn than it has spares. Where something is left to do, it is marked or has a worn control line
+pub record SavesMark {n : ℕ} (shape : BankShape) (worn : ℕ → Bool) (rows : List (Row n)) (b : SavedBank n) : Type 0 where
+  pub refused : IsTrue (list_any worn_row rows) → b.mark ≡ 1
+  pub left : b.mark ≡ 1 → IsTrue (has_work shape.psi rows b)
+  pub works : IsTrue (has_work shape.psi rows b) → (b.mark ≡ 1) ⊎ (0 < worn_among worn (controls_from shape) (controls_of shape))
+  pub full : b.mark ≡ 1 → length b.replaced ≡ shape.spares
+  pub worn_out : b.mark ≡ 1 → IsTrue (is_worn_out shape worn)
 
 -- each row of an array has the bytes of a line
 abbrev pub AreRows : {n m : ℕ} → ArrayState n m → Type 0
 AreRows {n} {m} array = (line : ℕ) → line < array.lines → IsSavedRow n m (array.line line).held
 
 -- a saved module is that of this run: it says how the module is built, what its cells hold, by which registers and tables the banks
--- end, and each line's newest bytes; what it says is in range, so that it can be read from its bytes, where each row of the array is one
+-- end, by the rows which writes their queues hold and which banks are marked, and each line's newest bytes; what it says is in range, so
+-- that it can be read from its bytes, where each row of the array is one
 pub record SavesRun {n m : ℕ} (e : ℕ) (raw : RawShape) (seed : ℕ) (rows : List (Row n)) (array : ArrayState n m) (ends : ℕ → BankEnd) (s : Saved n m) : Type 0 where
   pub head : s.head ≡ head_of raw seed
   pub right : AreRows array → IsSaved s
   pub cells : (line : ℕ) → line < array.lines → slice_index_or s.cells line (zero_row n m) ≡ (array.line line).held
-  pub banks : (bank : ℕ) → bank < raw.banks → SavesEnd raw seed bank (ends bank) (slice_index_or s.parts bank (no_bank n))
+  pub banks : (bank : ℕ) → bank < raw.banks
+      → SavesEnd raw seed bank (is_worn_at e array) (table_in raw seed bank rows) (ends bank) (slice_index_or s.parts bank (no_bank n))
+  pub queues : (bank : ℕ) → bank < raw.banks → SavesQueue raw.psi (table_in raw seed bank rows) (slice_index_or s.parts bank (no_bank n))
+  pub marks : (bank : ℕ) → bank < raw.banks
+      → SavesMark (bank_shape (module_of raw) bank) (is_worn_at e array) (table_in raw seed bank rows) (slice_index_or s.parts bank (no_bank n))
   pub stands : (line : ℕ) → line < total_of raw → stands_for e s line ≡ newest rows line
 
--- what a finished run leaves is saved as that of the run, by whichever ends its banks have
+-- what a finished run leaves is saved as that of the run, by whichever ends of its banks the run is right
 abbrev pub SavedLaw : Type 0
 SavedLaw =
     (n m e : ℕ) (raw : RawShape) (seed : ℕ) (rows : List (Row n)) (array : ArrayState n m) (ends : ℕ → BankEnd) (s : Saved n m) (left : IsLeft e raw seed rows array s)
-    → IsShape raw → seed < 2 ^ 64 → ((bank : ℕ) → bank < raw.banks → IsEndOf (left.banks bank).bank.kept (ends bank))
+    → IsShape raw → seed < 2 ^ 64 → RunsRight e raw seed rows array ends
+    → ((bank : ℕ) → bank < raw.banks → IsEndOf (left.banks bank).bank.kept (ends bank))
     → SavesRun e raw seed rows array ends s
 
 -- a right run stays right where its array is only sensed

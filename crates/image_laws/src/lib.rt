@@ -4,17 +4,21 @@
 
 ghost use Rattle.image_laws.specs.SavedRuns.{SavedLaw, StaysRightLaw};
 
+use bank_invariant::bridge::kept_state_is_that_of_the_history;
 use clock_laws::events::histories_leave_the_array;
 use module_laws::bank_tables_are_those_of_histories;
 use run_laws::lines_have_their_banks;
 use table_laws::logs_keep_their_laws;
 
-/// What a finished run leaves is saved as that of the run, and says each line's newest bytes.
+/// What a finished run leaves is saved as that of the run: by its rows it says which writes its queues hold and what these give,
+/// how many stores each region had since its last move, and which banks are marked; and it says each line's newest bytes.
 pub fn images_are_of_their_runs()
     ensures { SavedLaw }
 {
     bank_tables_are_those_of_histories();
     lines_have_their_banks();
+    kept_state_is_that_of_the_history();
+    histories_leave_the_array();
 }
 
 /// A right run stays right where its array is only sensed.

@@ -1,0 +1,154 @@
+-- What is saved of a bank is that of its end: its counters are those of its stores by the rows, and its spares those of its table.
+use Rattle.std.proofs.Common.{◌≡◌, ℕ, ◌+◌, ◌*◌, ◌/◌, ◌%◌, ◌<◌, ◌≤◌, ◌==◌, ◌&&◌, ◌||◌, ◌⊎◌, inl, inr, Bool, true, false, List, map, length, get_or, refl, sym, ap, ◌∙◌, subst, arith, eqb-true}
+use Rattle.std.proofs.lemmas.Bool.{cases_lt}
+use Rattle.std.proofs.lemmas.Nat.{mul-le}
+use Rattle.std.proofs.Math.Nat.{div-add-mod}
+use Rattle.std.proofs.Math.ListN.{get_or-map}
+use Rattle.pcm_cells.specs.Device.{ArrayState}
+use Rattle.start_gap.specs.Rotation.{Rotation, StandsFor, turn}
+use Rattle.row_rules.specs.declared.Row.{Row}
+use Rattle.row_rules.specs.Answers.{is_stored}
+use Rattle.bank_shape.specs.declared.BankShape.{BankShape}
+use Rattle.bank_shape.specs.Shape.{slots_of}
+use Rattle.power_recovery.specs.Kept.{KeptState, region_at, no_region as no_kept}
+use Rattle.bank_model.specs.History.{moved_in, stored_in}
+use Rattle.bank_model.specs.Sensing.{most_steps}
+use Rattle.bank_shape.specs.declared.pace.Pace.{Pace}
+use Rattle.bank_model.specs.Timing.{TimedEvent, core}
+use Rattle.bank_model.specs.Lawful.{Lawful}
+use Rattle.bank_invariant.specs.State.{BankState}
+use Rattle.bank_invariant.specs.Holds.{Holds}
+use Rattle.bank_laws.specs.Laws.{is_worn_at}
+use Rattle.bank_laws.specs.Outcomes.{table_of}
+use Rattle.bank_laws.specs.Places.{region_stores, is_moved, may_leave}
+use Rattle.bank_laws.proofs.Waiting.{may_all}
+use Rattle.place_laws.proofs.Moves.{keeps}
+use Rattle.place_laws.proofs.Moved.{region_stores-counted}
+use Rattle.place_laws.proofs.Placed.{between_products, at_product}
+use Rattle.module_shape.specs.declared.raw.RawShape.{RawShape}
+use Rattle.module_shape.specs.Addresses.{module_of, bank_shape}
+use Rattle.end_laws.specs.Ends.{BankEnd}
+use Rattle.end_laws.specs.EndLaws.{IsEndOf}
+use Rattle.end_laws.specs.Roles.{used_spares}
+use Rattle.end_laws.proofs.Used.{used-same}
+use Rattle.pcm_image.specs.Standing.{no_region}
+use Rattle.image_laws.specs.Saving.{saved_bank, saved_region}
+use Rattle.image_laws.specs.SavedRuns.{SavesEnd}
+use Rattle.image_laws.proofs.Keeping.{registers-saved, slots-saved}
+
+-- two successive numbers leave different rests
+next-rest : (a k : ℕ) → 2 ≤ k → (a + 1) % k ≡ a % k → ⊥
+next-rest a k some same =
+    let here : k * (a / k) + a % k ≡ a = div-add-mod a k in
+    let next : k * ((a + 1) / k) + (a + 1) % k ≡ a + 1 = div-add-mod (a + 1) k in
+    elim (cases_lt (a / k) ((a + 1) / k)) [
+      | inl lt ↦
+          let more : k * (a / k + 1) ≤ k * ((a + 1) / k) = mul-le k (a / k + 1) k ((a + 1) / k) (omega arith) (omega (arith, lt)) in
+          let step : k * (a / k + 1) ≡ k * (a / k) + k = grind arith in
+          omega (arith, here, next, same, more, step, some)
+      | inr ge ↦
+          let less : k * ((a + 1) / k) ≤ k * (a / k) = mul-le k ((a + 1) / k) k (a / k) (omega arith) (omega (arith, ge)) in
+          omega (arith, here, next, same, less)
+    ]
+
+-- registers stand for one of two successive numbers of moves
+one-count : (r : Rotation) (a b : ℕ) → 1 ≤ r.lines → StandsFor r a → StandsFor r b → (a ≡ b) ⊎ ((a + 1 ≡ b) ⊎ (b + 1 ≡ a)) → a ≡ b
+one-count r a b some sa sb near = by near
+  where
+    long : 2 ≤ turn r.lines
+    long =
+        let product : 1 * 2 ≤ r.lines * (r.lines + 1) = mul-le 1 2 r.lines (r.lines + 1) (omega (arith, some)) (omega (arith, some)) in
+        omega (arith, product)
+
+    by : (a ≡ b) ⊎ ((a + 1 ≡ b) ⊎ (b + 1 ≡ a)) → a ≡ b
+    by (inl same) = same
+    by (inr (inl next)) = absurd (next-rest a (turn r.lines) long (ap (λ k. k % turn r.lines) next ∙ sb.moves ∙ sym sa.moves))
+    by (inr (inr next)) = absurd (next-rest b (turn r.lines) long (ap (λ k. k % turn r.lines) next ∙ sa.moves ∙ sym sb.moves))
+
+-- the number of moves by the rows is that of the history, or one off
+moves-near : {n : ℕ} (shape : BankShape) (worn : ℕ → Bool) (rows : List (Row n)) (region moves own : ℕ) → 1 ≤ shape.psi → is_moved shape worn rows region moves ≡ true
+    → shape.psi * own ≤ region_stores is_stored shape region rows → region_stores is_stored shape region rows ≤ shape.psi * (own + 1)
+    → (moves ≡ own) ⊎ ((moves + 1 ≡ own) ⊎ (own + 1 ≡ moves))
+moves-near shape worn rows region moves own psi is few near = by moved counted
+  where
+    count : ℕ
+    count = region_stores is_stored shape region rows
+
+    or-of : (a b : Bool) → (a || b) ≡ true → (a ≡ true) ⊎ (b ≡ true)
+    or-of true b is = inl refl
+    or-of false b is = inr is
+
+    and-first : (a b : Bool) → (a && b) ≡ true → a ≡ true
+    and-first true b is = refl
+    and-first false b is = absurd (cc)
+
+    moved : (moves ≡ count / shape.psi) ⊎ (moves + 1 ≡ count / shape.psi)
+    moved =
+        elim (or-of (moves == count / shape.psi) (moves + 1 == count / shape.psi && (count % shape.psi == 0 && may_leave shape worn)) is) [
+          | inl all ↦ inl (eqb-true moves (count / shape.psi) all)
+          | inr less ↦ inr (eqb-true (moves + 1) (count / shape.psi) (and-first _ _ less))
+        ]
+
+    counted : (own ≡ count / shape.psi) ⊎ (own + 1 ≡ count / shape.psi)
+    counted =
+        elim (cases_lt count (shape.psi * (own + 1))) [
+          | inl lt ↦ inl (sym (between_products shape.psi own count few lt))
+          | inr ge ↦ inr (sym (ap (λ k. k / shape.psi) (le-both count (shape.psi * (own + 1)) near ge) ∙ (at_product shape.psi own psi).1))
+        ]
+      where
+        le-both : (a b : ℕ) → a ≤ b → b ≤ a → a ≡ b
+        le-both a b p q = omega (arith, p, q)
+
+    by : (moves ≡ count / shape.psi) ⊎ (moves + 1 ≡ count / shape.psi) → (own ≡ count / shape.psi) ⊎ (own + 1 ≡ count / shape.psi)
+        → (moves ≡ own) ⊎ ((moves + 1 ≡ own) ⊎ (own + 1 ≡ moves))
+    by (inl a) (inl b) = inl (omega (arith, a, b))
+    by (inl a) (inr b) = inr (inr (omega (arith, a, b)))
+    by (inr a) (inl b) = inr (inl (omega (arith, a, b)))
+    by (inr a) (inr b) = inl (omega (arith, a, b))
+
+module _ {n m e : ℕ} (raw : RawShape) (seed bank : ℕ) (pace : Pace) (xs : List (TimedEvent n m)) (state : BankState n m e) (array : ArrayState n m) (end : BankEnd)
+    (shape : state.kept.shape ≡ bank_shape (module_of raw) bank) (psi : 1 ≤ raw.psi) (l : Lawful state.kept.shape pace e xs) (holds : Holds (core xs) state array) (ends : IsEndOf state.kept end)
+    (moved : (region : ℕ) → region < raw.regions → is_moved state.kept.shape (is_worn_at e array) (table_of state.kept.shape xs) region (end.moves region) ≡ true) where
+  abbrev kept : KeptState n
+  kept = state.kept
+
+  psi-same : kept.shape.psi ≡ raw.psi
+  psi-same = ap (λ (s : BankShape). s.psi) shape
+
+  count : (region : ℕ) → region_stores is_stored kept.shape region (table_of kept.shape xs) ≡ stored_in kept.shape.lines (core xs) region
+  count region = region_stores-counted kept.shape pace e xs region l
+
+  -- the moves of its end are those of its history
+  moves-same : (region : ℕ) → region < raw.regions → end.moves region ≡ moved_in kept.shape.lines (core xs) region
+  moves-same region lt =
+      let some : region < kept.shape.regions = omega (arith, lt, ap (λ (s : BankShape). s.regions) shape) in
+      let own = holds.kept.regions region some in
+      let m = keeps kept.shape (most_steps e) (core xs) (omega (arith, psi, psi-same)) (may_all kept.shape pace e xs l) in
+      one-count (region_at kept region).rotation (end.moves region) (moved_in kept.shape.lines (core xs) region) own.in_range.rotates.some_lines
+      (ends.moves region some) (holds.regions region some).registers
+      (moves-near kept.shape (is_worn_at e array) (table_of kept.shape xs) region (end.moves region) (moved_in kept.shape.lines (core xs) region) (omega (arith, psi, psi-same)) (moved region lt)
+      (omega (arith, count region, m.few region)) (omega (arith, count region, m.near region)))
+
+  counters : (region : ℕ) → region < raw.regions
+      → (get_or (map saved_region kept.regions) region no_region).counter + raw.psi * end.moves region ≡ region_stores is_stored (bank_shape (module_of raw) bank) region (table_of kept.shape xs)
+  counters region lt =
+      let some : region < kept.shape.regions = omega (arith, lt, ap (λ (s : BankShape). s.regions) shape) in
+      ap (λ r. r.counter + raw.psi * end.moves region) (get_or-map saved_region kept.regions region no_kept)
+      ∙ ap (λ k. (region_at kept region).counter + raw.psi * k) (moves-same region lt)
+      ∙ ap (λ p. (region_at kept region).counter + p * moved_in kept.shape.lines (core xs) region) (sym psi-same)
+      ∙ (holds.regions region some).counter ∙ sym (count region) ∙ ap (λ (s : BankShape). region_stores is_stored s region (table_of kept.shape xs)) shape
+
+  retired : (line : ℕ) → line < slots_of kept.shape + length kept.table.replaced → ((slot : ℕ) → slot < slots_of kept.shape → end.table slot ≡ kept.shape.base + line → ⊥)
+      → is_worn_at e array (kept.shape.base + line) ≡ true
+  retired line lt none = holds.tied.sound.worn line lt (λ slot some same. none slot some (ends.table slot some ∙ ap (λ k. kept.shape.base + k) same))
+
+  pub saves-end : SavesEnd raw seed bank (is_worn_at e array) (table_of kept.shape xs) end (saved_bank kept)
+  saves-end = record {
+    registers = registers-saved raw seed bank kept holds.kept shape end ends;
+    counters = counters;
+    slots = slots-saved raw seed bank kept holds.kept shape end ends;
+    used = used-same kept holds.kept end.table ends.table ∙ ap (λ (s : BankShape). used_spares s end.table) shape;
+    retired = λ line lt none.
+        subst (λ (s : BankShape). (line < slots_of s + length kept.table.replaced → ((slot : ℕ) → slot < slots_of s → end.table slot ≡ s.base + line → ⊥) → is_worn_at e array (s.base + line) ≡ true)) shape
+        (retired line) lt none;
+  }
