@@ -3,5 +3,8 @@
 #![tactic(auto)]
 
 pub mod playing;
+
+#[cfg(test)]
+mod bank_roles;
 #[cfg(test)]
 mod two_banks;

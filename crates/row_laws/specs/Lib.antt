@@ -5,6 +5,7 @@ pub mod Room
 pub mod Rows
 pub mod Rules
 pub mod Serving
+pub mod Shortfall
 pub mod Table
 pub mod Ticking
 pub mod Wearing

@@ -16,7 +16,7 @@ use Rattle.row_laws.specs.Answers.{accepts, is_queued, is_lost, is_busy, is_forw
 use Rattle.row_laws.specs.Rows.{each_row, asks_read, asks_cut, is_cut}
 use Rattle.row_laws.specs.Table.{is_of, of_bank}
 use Rattle.masked_bytes.specs.Masked.{gives_all}
-use Rattle.result_summary.specs.Shortfall.{is_short}
+use Rattle.row_laws.specs.Shortfall.{is_short}
 use Rattle.module_laws.specs.Asking.{asks_in, row_in, bank_table}
 use Rattle.row_laws.specs.Rules.{Rules}
 use Rattle.row_laws.specs.Queueing.{waiting, queue_fits, cover, is_at_head}

@@ -6,7 +6,7 @@ use Rattle.std.proofs.lemmas.Bool.{lt-ltb}
 use Rattle.std.proofs.lemmas.List.Elements.{All-nil, All-head, All-tail}
 use Rattle.pcm_cells.specs.Device.{ArrayState}
 use Rattle.result_rows.specs.declared.Op.TheVariants as op
-use Rattle.result_summary.specs.Shortfall.{is_short, any_short}
+use Rattle.row_laws.specs.Shortfall.{is_short, any_short}
 use Rattle.result_rows.specs.Outcomes.{op_of, place_of}
 use Rattle.row_laws.specs.declared.Asks.{Asks}
 use Rattle.row_laws.specs.declared.Asks.TheVariants.{Reads, Writes, Cuts}

@@ -1,0 +1,61 @@
+// The roles of all array lines of a small bank.
+use bank_shape::{BankShape, Home};
+use masked_bytes::entry::Entry;
+use pcm_module::{role_in, used_in};
+use power_recovery::kept::Kept;
+use std::test::*;
+use wear_report::Role;
+
+// Two regions of two lines, so that slots 0 to 2 and 3 to 5 are theirs, and three spares.
+const SHAPE: BankShape = BankShape {
+    base: 20,
+    regions: 2,
+    lines: 2,
+    spares: 3,
+    writes: 1,
+    reads: 4,
+    psi: 1,
+    home: Home::Guarded,
+};
+
+#[test]
+fn each_array_line_has_its_role(rt: HostRuntime) -> Result<(), Fail> {
+    let mut kept = Kept::new(rt.alloc(), SHAPE)?;
+    assert_eq!(rt; role_in(&kept, 24), Role::Line(3));
+    assert_eq!(rt; used_in(&kept), 0);
+    let _ = kept.accept(Entry::whole(1, 2, &[7; 8]), false);
+    assert_eq!(rt; kept.stored(), 1);
+    kept.moved();
+    assert_eq!(rt; kept.retire(0), Ok(6));
+    assert_eq!(rt; kept.retire(0), Ok(7));
+    let wanted = [
+        Role::Retired,
+        Role::Line(1),
+        Role::Gap,
+        Role::Line(2),
+        Role::Gap,
+        Role::Line(3),
+        Role::Retired,
+        Role::Line(0),
+        Role::Free,
+    ];
+    for (i, role) in wanted.iter().enumerate() {
+        assert_eq!(rt; role_in(&kept, 20 + i as u32), *role);
+    }
+    assert_eq!(rt; used_in(&kept), 2);
+    Ok(())
+}
+
+/// Behind the six slots and three spares come the control lines of two regions, three spares and the mark.
+#[test]
+fn control_lines_are_behind_the_spares(rt: HostRuntime) -> Result<(), Fail> {
+    let shape = BankShape {
+        home: Home::Array,
+        ..SHAPE
+    };
+    let kept: Kept<8> = Kept::new(rt.alloc(), shape)?;
+    assert_eq!(rt; role_in(&kept, 28), Role::Free);
+    assert_eq!(rt; role_in(&kept, 29), Role::Control);
+    assert_eq!(rt; role_in(&kept, 34), Role::Control);
+    Ok(())
+}
