@@ -3,7 +3,6 @@ use Rattle.std.proofs.Common.{◌≡◌, ◌≢◌, ℕ, ◌<◌, ◌≤◌, ◌
 use Rattle.std.specs.Prelude.{Result, Ok, Err}
 use Rattle.std.specs.Io.KnownBytes.{Consumes, IsAtEnd}
 use Rattle.std.proofs.lemmas.List.{append-nil, length-append}
-use Rattle.pcm_cells.specs.Device.{ArrayState}
 use Rattle.trace_reader.specs.Trace.{trace_of}
 use Rattle.trace_reader.specs.declared.event.Event.{Event}
 use Rattle.trace_reader.specs.declared.fault.ParseFault.{ParseFault}
@@ -15,8 +14,6 @@ use Rattle.command_line.specs.declared.job.Job.TheVariants.{Run, Gen, Map, Moves
 use Rattle.command_line.specs.declared.job.RunJob.{RunJob}
 use Rattle.command_line.specs.declared.job.Input.{Input}
 use Rattle.command_line.specs.declared.job.Input.TheVariants.{Source, Drawn}
-use Rattle.command_line.specs.declared.job.LineSize.{LineSize}
-use Rattle.command_line.specs.declared.job.LineSize.TheVariants.{Bytes64, Bytes128}
 use Rattle.command_line.specs.declared.job.Refusal.{Refusal}
 use Rattle.pcm_top.specs.Jobs.{bytes_in}
 use Rattle.pcm_top.specs.Reading.{IsReadFault, ReadsWhole, SourceChange, SourceFails, TakesNothing, TakesOver, TakesSome, trace_room}
@@ -26,7 +23,7 @@ use Rattle.text_check.specs.declared.fault.TextFault.TheVariants as text
 use Rattle.pcm_top.specs.Checking.{IsCheckFault, TellsVerdict, pointers_in, room_line}
 use Rattle.pcm_top.specs.FaultLines.{status_of}
 use Rattle.pcm_top.specs.Running.{Runs}
-use Rattle.pcm_top.specs.Doing.{Deed, Does, DoesJob, HasCause, WritesRun, reads_source}
+use Rattle.pcm_top.specs.Doing.{Deed, Does, DoesJob, HasCause, reads_source}
 use Rattle.pcm_top.specs.Showing.{IsShowFault, shown_of}
 use Rattle.pcm_top.specs.Statuses.{IsImageStatus, IsInputStatus, IsRunStatus, IsShowStatus, IsSourceStatus, IsStatusFor, IsTraceStatus, IsCheckStatus, IsTextStatus, status_done}
 use Rattle.pcm_top.specs.declared.run.Done.{Done}
@@ -158,26 +155,20 @@ run-status Whole = inl refl
 run-status Short = inr refl
 
 -- where the events of a run come from decides that it is made
-come-status : (n : ℕ) (job : RunJob) (input : Input) (s : SourceChange) (events : List (Event n)) (bytes : List ℕ) (done : Done) → n ≡ bytes_in job.line → (is_source input ≡ true → s.left_before ≡ Some bytes)
-    → ComeFrom n job input s events → IsInputStatus job bytes (status_done done) input
-come-status n job Source s events bytes done size told come =
-    let With : ℕ → Type 0 = λ b. IsSourceStatus b (total_of job.shape) bytes (status_done done) in
-    subst With size
-    (by-trace n (total_of job.shape) bytes come.bytes (status_done done) (Ok events) (reads-told n s bytes come.bytes (told refl) come.whole) come.whole.within come.trace (run-status done))
-come-status n job (Drawn mix) s events bytes done size told come = run-status done
+come-status : (job : RunJob) (input : Input) (s : SourceChange) (events : List (Event (bytes_in job.line))) (bytes : List ℕ) (done : Done)
+    → (is_source input ≡ true → s.left_before ≡ Some bytes) → ComeFrom (bytes_in job.line) job input s events → IsInputStatus job bytes (status_done done) input
+come-status job Source s events bytes done told come =
+    by-trace (bytes_in job.line) (total_of job.shape) bytes come.bytes (status_done done) (Ok events)
+    (reads-told (bytes_in job.line) s bytes come.bytes (told refl) come.whole) come.whole.within come.trace (run-status done)
+come-status job (Drawn mix) s events bytes done told come = run-status done
 
 module _ (deed : Deed) where
-  written-status : (job : RunJob) (size : LineSize) (bytes : List ℕ) (done : Done)
-      → size ≡ job.line → (is_source job.input ≡ true → deed.source.left_before ≡ Some bytes) → WritesRun deed job size done
-      → IsInputStatus job bytes (status_done done) job.input
-  written-status job Bytes64 bytes done of told run = come-status 64 job job.input deed.source run.run.events bytes done (ap bytes_in of) told run.run.come
-  written-status job Bytes128 bytes done of told run = come-status 128 job job.input deed.source run.run.events bytes done (ap bytes_in of) told run.run.come
-
   -- the status of a job that was done
   does-status : (asked : Result Job Refusal) (bytes : List ℕ) (done : Done)
       → (reads_source asked ≡ true → deed.source.left_before ≡ Some bytes) → DoesJob deed asked done → IsStatusFor asked bytes (status_done done)
   does-status (Err e) bytes done told does = absurd does
-  does-status (Ok (Run job)) bytes done told does = written-status job job.line bytes done refl told does
+  does-status (Ok (Run job)) bytes done told does =
+      come-status job job.input deed.source does.run.events bytes done told does.run.come
   does-status (Ok (Gen job)) bytes done told does = ap status_done does.1
   does-status (Ok (Map job)) bytes done told does = ap status_done does.1
   does-status (Ok (Moves job)) bytes done told does = ap status_done does.1

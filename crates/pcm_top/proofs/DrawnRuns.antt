@@ -17,12 +17,13 @@ use Rattle.command_line.specs.declared.job.Input.{Input}
 use Rattle.command_line.specs.declared.job.Input.TheVariants.{Drawn}
 use Rattle.command_line.specs.declared.job.LineSize.{LineSize}
 use Rattle.command_line.specs.declared.job.LineSize.TheVariants.{Bytes64, Bytes128}
-use Rattle.pcm_top.specs.Jobs.{bytes_in}
+use Rattle.pcm_top.specs.Jobs.{bytes_in, checks_in}
 use Rattle.pcm_top.specs.Reading.{ReadsTrace, SourceChange, TakesBytes, trace_room}
 use Rattle.pcm_top.specs.Inputs.{ComeFrom}
 use Rattle.pcm_top.specs.Writing.{SinkChange}
+use Rattle.pcm_top.specs.Checking.{pointers_in}
 use Rattle.pcm_top.specs.Running.{RunIsWritten, RunIsWrittenInPart, Runs}
-use Rattle.pcm_top.specs.Doing.{Deed, Does, DoesInPart, DoesJob, DoesJobInPart, WritesRun, WritesRunInPart}
+use Rattle.pcm_top.specs.Doing.{Deed, DoesJob, DoesJobInPart, WritesRun, WritesRunInPart, array_for}
 use Rattle.pcm_top.specs.Laws.{DrawnLaw, read_as, run_of_source}
 use Rattle.pcm_top.specs.declared.run.Done.{Done}
 
@@ -56,14 +57,12 @@ module _ (texts : GeneratedTextLaw) (sizes : GeneratedSizeLaw) (job : RunJob) (m
         trace = rw is (texts n job.seed (total_of job.shape) mix (some-lines job run.shape) run.shape.few_in_all mixed);
       }
 
-  short-64 : length (text_of 64) ≤ trace_room 64
-  short-64 =
+  short : (size : LineSize) → length (text_of (bytes_in size)) ≤ trace_room (bytes_in size)
+  short Bytes64 =
       let size = sizes 64 job.seed (total_of job.shape) mix (some-lines job run.shape) run.shape.few_in_all mixed in
       let few = mixed.few_rows in
       omega arith
-
-  short-128 : length (text_of 128) ≤ trace_room 128
-  short-128 =
+  short Bytes128 =
       let size = sizes 128 job.seed (total_of job.shape) mix (some-lines job run.shape) run.shape.few_in_all mixed in
       let few = mixed.few_rows in
       omega arith
@@ -103,27 +102,21 @@ module _ (texts : GeneratedTextLaw) (sizes : GeneratedSizeLaw) (job : RunJob) (m
     written = is.written;
   }
 
-  -- at either size of lines
-  takes-of : (size : LineSize) → size ≡ job.line → TakesBytes read (text_of (bytes_in job.line)) → TakesBytes read (text_of (bytes_in size))
-  takes-of size of takes =
-      let Of : LineSize → Type 0 = λ l. TakesBytes read (text_of (bytes_in l)) in
-      subst Of (sym of) takes
-
   -- a deed for which the run was drawn, as one for which it was read
-  pub whole-run : (deed : Deed) (size : LineSize) (done : Done) → size ≡ job.line → TakesBytes read (text_of (bytes_in job.line))
-      → WritesRun deed job size done → WritesRun (read_as deed job read) (run_of_source job) size done
-  whole-run deed Bytes64 done of takes is = same-written 64 8 6 deed.source deed.array deed.out done (takes-of Bytes64 of takes) short-64 is
-  whole-run deed Bytes128 done of takes is = same-written 128 16 8 deed.source deed.wide deed.out done (takes-of Bytes128 of takes) short-128 is
+  pub whole-run : (deed : Deed) (done : Done) → TakesBytes read (text_of (bytes_in job.line))
+      → WritesRun deed job done → WritesRun (read_as deed job read) (run_of_source job) done
+  whole-run deed done takes is =
+      same-written (bytes_in job.line) (checks_in job.line) (pointers_in job.line) deed.source (array_for deed job.line) deed.out done takes (short job.line) is
 
-  pub part-run : (deed : Deed) (size : LineSize) → size ≡ job.line → TakesBytes read (text_of (bytes_in job.line))
-      → WritesRunInPart deed job size → WritesRunInPart (read_as deed job read) (run_of_source job) size
-  part-run deed Bytes64 of takes is = same-part 64 8 6 deed.source deed.array deed.out (takes-of Bytes64 of takes) short-64 is
-  part-run deed Bytes128 of takes is = same-part 128 16 8 deed.source deed.wide deed.out (takes-of Bytes128 of takes) short-128 is
+  pub part-run : (deed : Deed) → TakesBytes read (text_of (bytes_in job.line))
+      → WritesRunInPart deed job → WritesRunInPart (read_as deed job read) (run_of_source job)
+  part-run deed takes is =
+      same-part (bytes_in job.line) (checks_in job.line) (pointers_in job.line) deed.source (array_for deed job.line) deed.out takes (short job.line) is
 
 pub drawn-law : GeneratedTextLaw → GeneratedSizeLaw → DrawnLaw
 drawn-law texts sizes deed job mix read asks run draws takes ended = (
   (λ done is.
       let For : Result Job Refusal → Type 0 = λ asked. DoesJob deed asked done in
-      whole-run texts sizes job mix run draws read ended deed job.line done refl takes (subst For asks is)),
-  (λ is. part-run texts sizes job mix run draws read ended deed job.line refl takes (subst (λ asked. DoesJobInPart deed asked) asks is)),
+      whole-run texts sizes job mix run draws read ended deed done takes (subst For asks is)),
+  (λ is. part-run texts sizes job mix run draws read ended deed takes (subst (λ asked. DoesJobInPart deed asked) asks is)),
 )

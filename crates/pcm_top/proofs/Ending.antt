@@ -1,6 +1,7 @@
 -- How the work on words ends: it is done, in part or not at all, and then for which cause.
 use Rattle.std.proofs.Common.{◌≡◌, ◌≢◌, ℕ, ◌+◌, ◌-◌, ◌^◌, ◌<◌, ◌≤◌, ◌↔◌, inl, inr, List, [], length, true, false, Option, Some, None, refl, sym, ap, ◌∙◌, subst, arith}
-use Rattle.std.specs.Prelude.{Result, Ok, Err, IfOk, IfErr}
+use Rattle.std.specs.Prelude.{Result, Ok, Err, IfOk, IsErrAnd}
+use Rattle.std.proofs.lemmas.Result.{err_from_is_err_and}
 use Rattle.pcm_io.specs.declared.fault.ReadAllFault.{ReadAllFault}
 use Rattle.pcm_io.specs.declared.fault.ReadAllFault.TheVariants as read
 use Rattle.pcm_io.proofs.ByteLemmas.{Takes-nothing}
@@ -12,6 +13,7 @@ use Rattle.trace_reader.specs.declared.fault.ParseFault.TheVariants as parsing
 use Rattle.module_shape.specs.Limits.{total_of}
 use Rattle.pcm_image.specs.Giving.{Fails}
 use Rattle.pcm_image.specs.Reading.{image_of}
+use Rattle.pcm_image.specs.declared.ImageFault.{ImageFault}
 use Rattle.pcm_image.specs.declared.fields.ReadImage.{ReadImage}
 use Rattle.pcm_image.specs.declared.fields.ReadImage.TheVariants as image
 use Rattle.text_check.specs.Checked.{IsTextFault}
@@ -43,13 +45,32 @@ use Rattle.pcm_top.proofs.Deciding.{is_write}
 
 module _ {does : Done → Type 0} {in_part : Type 0} {stops : Fault → Type 0} (out : SinkChange) (grows : out.faults_before ≤ out.faults_now) where
   pub ends-done : (done : Done) → does done → Ends does in_part stops out (Ok done)
-  ends-done done is = record { done = is; write = λ e. cc e; cause = tt; never_falls = grows }
+  ends-done done is = record { done = is; write = λ e. absurd (cc e); cause = tt; never_falls = grows }
 
   pub ends-part : in_part → SinkFails out → Ends does in_part stops out (Err Write)
   ends-part part failed = record { done = tt; write = λ _. (part, failed); cause = λ other. absurd (other refl); never_falls = grows }
 
   pub ends-stopped : (fault : Fault) → fault ≢ Write → stops fault → Ends does in_part stops out (Err fault)
   ends-stopped fault other cause = record { done = tt; write = λ e. absurd (other (cc e)); cause = λ _. cause; never_falls = grows }
+
+module _ {does : Done → Type 0} {in_part : Type 0} {stops : Fault → Type 0} {Q : Fault → Type 0} (r : Result Done Fault) (is : IsErrAnd r Q)
+    (out : SinkChange) (grows : out.faults_before ≤ out.faults_now) where
+  -- a `?` that hands on a fault of another kind than writing
+  pub ends-err : ((fault : Fault) → Q fault → (fault ≢ Write) × stops fault) → Ends does in_part stops out r
+  ends-err why =
+      let gives = err_from_is_err_and r is in
+      let cause = why gives.0 gives.2 in
+      rw gives.1 (ends-stopped out grows gives.0 cause.0 cause.1)
+
+  -- a `?` that hands on a fault of writing
+  pub ends-broken : ((fault : Fault) → Q fault → fault ≡ Write) → in_part → SinkFails out → Ends does in_part stops out r
+  ends-broken why part failed =
+      let gives = err_from_is_err_and r is in
+      rw (gives.1, why gives.0 gives.2) (ends-part out grows part failed)
+
+-- what a fault is that isn't one of writing
+pub memory-not_write : (fault : Fault) → fault ≡ NoMemory → fault ≢ Write
+memory-not_write fault is = λ e. cc (sym is ∙ e)
 
 -- ---- a source that wasn't read to its end
 
@@ -60,7 +81,7 @@ IsUnread n read.TooLong s = NeverFails s × TakesMore n s
 IsUnread n read.NoMemory s = NeverFails s × TakesSome n s
 
 pub unread-by : (n limit : ℕ) (e : ReadAllFault) (s : SourceChange) → limit ≡ trace_room n
-    → (bytes : List ℕ) × TakesBytes s bytes × ((e ≡ read.TooLong) ↔ (limit < length bytes))
+    → ((bytes : List ℕ) × TakesBytes s bytes × ((e ≡ read.TooLong) ↔ (limit < length bytes)))
     → (e ≡ read.Read → SourceFails s) → (e ≢ read.Read → NeverFails s) → IsUnread n e s
 unread-by n limit read.Read s room took failed calm =
     let within : limit < length took.0 → ⊥ = λ over. cc (took.2.1 over) in
@@ -85,12 +106,6 @@ unread-check n job read.Read s is = is
 unread-check n job read.TooLong s is = inl is
 unread-check n job read.NoMemory s is = is
 
--- no fault of a part that wasn't writing is one of writing
-pub unread-not_write : (e : ReadAllFault) → source_fault e ≢ Write
-unread-not_write read.Read = λ e. cc e
-unread-not_write read.TooLong = λ e. cc e
-unread-not_write read.NoMemory = λ e. cc e
-
 -- ---- bytes that were read and are of no use
 
 -- bytes that were read to the end are some bytes
@@ -113,6 +128,23 @@ no-verdict n job text.NoMemory s bytes whole calm is = (calm, some-whole room_li
 pub no-image : (n m e : ℕ) (bytes : List ℕ) (f : ReadImage) → Fails f (image_of n m bytes) → IsImageFault (image_fault f) (shown_as n m e bytes)
 no-image n m e bytes image.NoMemory is = tt
 no-image n m e bytes (image.Bad f) is = rw is refl
+
+-- a fault that has one of these causes isn't one of writing
+pub read-not_write : (n lines : ℕ) (fault : Fault) (s : SourceChange) → IsReadFault n lines fault s → fault ≢ Write
+read-not_write n lines fault s cause = λ e. subst (λ f. IsReadFault n lines f s) e cause
+
+pub input-not_write : (n : ℕ) (job : RunJob) (input : Input) (fault : Fault) (s : SourceChange) → IsFaultOf n job input fault s → fault ≢ Write
+input-not_write n job Source fault s cause = read-not_write n (total_of job.shape) fault s cause
+input-not_write n job (Drawn mix) fault s cause = memory-not_write fault cause
+
+pub show-not_write : (fault : Fault) (s : SourceChange) → IsShowFault fault s → fault ≢ Write
+show-not_write fault s cause = λ e. subst (λ f. IsShowFault f s) e cause
+
+pub check-not_write : (n : ℕ) (job : CheckJob) (fault : Fault) (s : SourceChange) → IsCheckFault n job fault s → fault ≢ Write
+check-not_write n job fault s cause = λ e. subst (λ f. IsCheckFault n job f s) e cause
+
+pub image-not_write : (fault : Fault) (shown : Result (List ℕ) ImageFault) → IsImageFault fault shown → fault ≢ Write
+image-not_write fault shown cause = λ e. subst (λ f. IsImageFault f shown) e cause
 
 -- ---- words that were refused
 

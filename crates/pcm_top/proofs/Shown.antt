@@ -14,6 +14,7 @@ use Rattle.pcm_image.specs.Standing.{stands_for}
 use Rattle.pcm_image.proofs.Whole.{image_again, size-is}
 use Rattle.image_laws.specs.SavedRuns.{AreRows, SavesRun}
 use Rattle.command_line.specs.declared.job.RunJob.{RunJob}
+use Rattle.command_line.specs.declared.job.LineSize.TheVariants.{Bytes64, Bytes128}
 use Rattle.command_line.specs.declared.job.Print.{Print}
 use Rattle.command_line.specs.declared.job.Print.TheVariants.{Image}
 use Rattle.pcm_top.specs.Reading.{SourceChange}
@@ -66,4 +67,5 @@ wide job s array out done written is =
     ap shown_of image.is ∙ shown-wide job.shape job.seed (rows_of written.run.events written.run.outcomes) array written.run.ends image.saved (written.rows is) image.saves
 
 pub shown-law : ShownLaw
-shown-law = (narrow, wide)
+shown-law Bytes64 = narrow
+shown-law Bytes128 = wide

@@ -12,29 +12,29 @@ use Rattle.text_check.specs.declared.fault.TextFault.TheVariants as text
 use Rattle.pcm_top.specs.declared.fault.Fault.{Fault}
 use Rattle.pcm_top.specs.declared.fault.Fault.TheVariants as of
 
--- of words that ask for no job
+-- words that ask for no job
 abbrev pub words_fault : Refusal → Fault
 words_fault refusal.Usage = of.Usage
 words_fault refusal.NoMemory = of.NoMemory
 
--- of a source that wasn't read to its end
+-- a source that wasn't read to its end
 abbrev pub source_fault : ReadAllFault → Fault
 source_fault read.Read = of.Read
 source_fault read.TooLong = of.TooLong
 source_fault read.NoMemory = of.NoMemory
 
--- of bytes that are no trace
+-- bytes that are no trace
 abbrev pub trace_fault : ParseFault → Fault
 trace_fault (parsing.Trace f) = of.Trace f
 trace_fault parsing.TooMany = of.TooLong
 trace_fault parsing.NoMemory = of.NoMemory
 
--- of bytes that are no image
+-- bytes that are no image
 abbrev pub image_fault : ReadImage → Fault
 image_fault (image.Bad f) = of.Image f
 image_fault image.NoMemory = of.NoMemory
 
--- of a text that has no verdict
+-- a text that has no verdict
 abbrev pub text_fault : TextFault → Fault
 text_fault (text.Trace f) = of.Trace f
 text_fault text.TooMany = of.TooLong

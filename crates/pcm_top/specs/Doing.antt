@@ -13,7 +13,7 @@ use Rattle.command_line.specs.declared.job.Refusal.{Refusal}
 use Rattle.row_verdict.specs.declared.Verdict.{Verdict}
 use Rattle.text_check.specs.VerdictText.{verdict_text}
 use Rattle.pcm_image.specs.declared.ImageFault.{ImageFault}
-use Rattle.pcm_top.specs.Jobs.{bytes_in, gen_text, map_options}
+use Rattle.pcm_top.specs.Jobs.{bytes_in, checks_in, gen_text, map_options}
 use Rattle.pcm_top.specs.Reading.{SourceChange, trace_room}
 use Rattle.pcm_top.specs.Writing.{Gets, GetsPart, SinkChange, SinkFails}
 use Rattle.pcm_top.specs.Inputs.{IsFaultOf, is_source}
@@ -73,21 +73,30 @@ pub record Deed : Type 0 where
   pub out : SinkChange
 
 module _ (deed : Deed) where
-  -- a run was made on the array of its lines, and its text was written, or first bytes of it
-  abbrev pub WritesRun : RunJob → LineSize → Done → Type 0
-  WritesRun job Bytes64 done = RunIsWritten 64 8 6 job deed.source deed.array deed.out done
-  WritesRun job Bytes128 done = RunIsWritten 128 16 8 job deed.source deed.wide deed.out done
+  -- the array on which a run over lines of this size is made
+  abbrev pub array_for : (size : LineSize) → ArrayState (bytes_in size) (checks_in size)
+  array_for Bytes64 = deed.array
+  array_for Bytes128 = deed.wide
 
-  abbrev pub WritesRunInPart : RunJob → LineSize → Type 0
-  WritesRunInPart job Bytes64 = RunIsWrittenInPart 64 8 6 job deed.source deed.array deed.out
-  WritesRunInPart job Bytes128 = RunIsWrittenInPart 128 16 8 job deed.source deed.wide deed.out
+  -- a run was made on the array of its lines, and its text was written
+  abbrev pub WritesRun : RunJob → Done → Type 0
+  WritesRun job done =
+      RunIsWritten (bytes_in job.line) (checks_in job.line) (pointers_in job.line) job deed.source
+      (array_for job.line) deed.out done
 
-  -- the verdict on a trace and its results was written, or first bytes of it
+  -- a run was made on the array of its lines, and first bytes of its text were written
+  abbrev pub WritesRunInPart : RunJob → Type 0
+  WritesRunInPart job =
+      RunIsWrittenInPart (bytes_in job.line) (checks_in job.line) (pointers_in job.line) job deed.source
+      (array_for job.line) deed.out
+
+  -- the verdict on a trace and its results was written
   abbrev pub WritesVerdict : CheckJob → Done → Type 0
   WritesVerdict job done =
       TellsVerdict (bytes_in job.line) (pointers_in job.line) job deed.source
       deed.out.written_before deed.out.written_now done
 
+  -- first bytes of the verdict on a trace and its results were written
   abbrev pub WritesVerdictInPart : CheckJob → Type 0
   WritesVerdictInPart job =
       TellsVerdictInPart (bytes_in job.line) (pointers_in job.line) job deed.source
@@ -97,7 +106,7 @@ module _ (deed : Deed) where
   -- is read and shown; results are checked
   abbrev pub DoesJob : Result Job Refusal → Done → Type 0
   DoesJob (Err e) done = ⊥
-  DoesJob (Ok (Run job)) done = WritesRun job job.line done
+  DoesJob (Ok (Run job)) done = WritesRun job done
   DoesJob (Ok (Gen job)) done = Gets deed.out (gen_text job) × (done ≡ Whole)
   DoesJob (Ok (Map job)) done = Gets deed.out (map_text (map_options job)) × (done ≡ Whole)
   DoesJob (Ok (Moves job)) done = Gets deed.out (moves_text job.lines job.from) × (done ≡ Whole)
@@ -111,7 +120,7 @@ module _ (deed : Deed) where
   -- a job is done but for its text, of which first bytes are written
   abbrev pub DoesJobInPart : Result Job Refusal → Type 0
   DoesJobInPart (Err e) = ⊥
-  DoesJobInPart (Ok (Run job)) = WritesRunInPart job job.line
+  DoesJobInPart (Ok (Run job)) = WritesRunInPart job
   DoesJobInPart (Ok (Gen job)) = GetsPart deed.out (gen_text job)
   DoesJobInPart (Ok (Map job)) = GetsPart deed.out (map_text (map_options job))
   DoesJobInPart (Ok (Moves job)) = GetsPart deed.out (moves_text job.lines job.from)

@@ -67,11 +67,11 @@ CompletenessLaw =
 abbrev pub gen_with : RunJob → Mix → GenJob
 gen_with job mix = record { line = job.line; shape = job.shape; seed = job.seed; mix = mix }
 
--- the same run of a trace that is read
+-- a run as of a trace that is read from the source
 abbrev pub run_of_source : RunJob → RunJob
 run_of_source job = record job { input = Source }
 
--- the same deed, but for a run of a trace that is read from a source
+-- a deed as of a run whose trace is read from this source
 abbrev pub read_as : Deed → RunJob → SourceChange → Deed
 read_as deed job read = record deed { asked = Ok (Run (run_of_source job)); source = read }
 

@@ -1,5 +1,5 @@
 -- What every call of the program keeps.
-use Rattle.std.specs.Prelude.{◌≡◌, ◌≢◌, ◌⊎◌, ℕ, ◌<◌, ◌≤◌, true, false, List, Some, Result, Err}
+use Rattle.std.specs.Prelude.{◌≡◌, ◌≢◌, ◌⊎◌, ℕ, ◌<◌, ◌≤◌, true, false, List, Option, Some, Result, Err}
 use Rattle.pcm_cells.specs.Device.{ArrayState}
 use Rattle.command_line.specs.declared.job.Job.{Job}
 use Rattle.command_line.specs.declared.job.LineSize.TheVariants.{Bytes64, Bytes128}
@@ -20,7 +20,7 @@ pub record Given (X Tells : Type 0) : Type 0 where
   pub after : X
   pub tells : Tells
 
--- an array, as it is left; a source; and a sink
+-- an array that a call is given, which tells its state as it is left
 abbrev pub array_of : {A : Type 0} {B M : ℕ} → (A → ArrayState B M) → A → A → Given A (ArrayState B M)
 array_of state old new = record {
   before = old;
@@ -28,6 +28,7 @@ array_of state old new = record {
   tells = state new;
 }
 
+-- a source that a call is given
 abbrev pub source_of : {S : Type 0} → (S → Option (List ℕ)) → (S → ℕ) → (S → ℕ) → S → S → Given S SourceChange
 source_of left taken faults old new = record {
   before = old;
@@ -35,6 +36,7 @@ source_of left taken faults old new = record {
   tells = source_change left taken faults old new;
 }
 
+-- a sink that a call is given
 abbrev pub sink_of : {K : Type 0} → (K → Option (List ℕ)) → (K → ℕ) → K → K → Given K SinkChange
 sink_of written faults old new = record {
   before = old;
@@ -42,7 +44,7 @@ sink_of written faults old new = record {
   tells = sink_change written faults old new;
 }
 
--- the call leaves it as it is
+-- a call leaves something as it is
 abbrev pub Stays : {X Tells : Type 0} → Given X Tells → Type 0
 Stays given = given.after ≡ given.before
 
@@ -79,7 +81,7 @@ module _ {A V S K F : Type 0} (call : Call A V S K F) where
     pub answered : call.status ≡ status_of fault
     pub line : Gets call.err.tells (fault_line fault)
 
-  -- both arrays are as they were
+  -- both arrays stay as they are
   abbrev pub ArraysStay : Type 0
   ArraysStay = Stays call.array × Stays call.wide
 
@@ -110,7 +112,7 @@ module _ {A V S K F : Type 0} (call : Call A V S K F) where
   abbrev pub RefusesWords : Type 0
   RefusesWords = (Answers Usage ⊎ Answers NoMemory) × Stays call.out
 
-  -- by its count, which isn't near its end, the source gave more bytes than there may be
+  -- the source gave more bytes than there may be, by its count of taken bytes, which isn't near its end
   abbrev pub TakesTooMany : Type 0
   TakesTooMany = TakesOver (room_of call.asked) call.source.tells
 

@@ -34,11 +34,11 @@ source_change left taken faults old new = record {
 abbrev pub trace_room : ℕ → ℕ
 trace_room n = n * 1048576
 
--- these bytes were taken
+-- a source gave these bytes
 abbrev pub TakesBytes : SourceChange → List ℕ → Type 0
 TakesBytes s bytes = Takes s.left_before s.left_now s.taken_before s.taken_now bytes
 
--- nothing was taken, and no call failed
+-- a source gave nothing, and no call of it failed
 pub record TakesNothing (s : SourceChange) : Type 0 where
   pub left : s.left_now ≡ s.left_before
   pub taken : s.taken_now ≡ s.taken_before
@@ -52,7 +52,7 @@ SourceFails s = Rose s.faults_before s.faults_now
 abbrev pub NeverFails : SourceChange → Type 0
 NeverFails s = s.faults_now ≡ s.faults_before
 
--- by the count of taken bytes, which isn't near its end, more were taken than so many
+-- a source gave more bytes than so many, by its count of taken bytes, which isn't near its end
 pub record TakesOver (room : ℕ) (s : SourceChange) : Type 0 where
   pub counts : s.taken_before + room < 2 ^ 64 - 1
   pub over : s.taken_before + room < s.taken_now
@@ -73,7 +73,7 @@ module _ (n : ℕ) where
   abbrev pub TakesMore : SourceChange → Type 0
   TakesMore s = (bytes : List ℕ) × TakesBytes s bytes × (trace_room n < length bytes)
 
--- one for so many lines
+-- a trace for so many lines of n bytes
 module _ (n lines : ℕ) where
   -- why a trace gave no events: the source was read to its end and the bytes have this fault, or too many
   -- rows; or it failed; or it gave too many bytes; or memory ran out, and no call failed

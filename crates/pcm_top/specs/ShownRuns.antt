@@ -8,8 +8,11 @@ use Rattle.module_shape.specs.declared.raw.RawShape.{RawShape}
 use Rattle.module_shape.specs.Limits.{total_of}
 use Rattle.command_line.specs.declared.job.RunJob.{RunJob}
 use Rattle.command_line.specs.declared.job.Print.TheVariants.{Image}
+use Rattle.command_line.specs.declared.job.LineSize.{LineSize}
+use Rattle.pcm_top.specs.Jobs.{bytes_in, checks_in}
 use Rattle.pcm_top.specs.Reading.{SourceChange}
 use Rattle.pcm_top.specs.Writing.{SinkChange}
+use Rattle.pcm_top.specs.Checking.{pointers_in}
 use Rattle.pcm_top.specs.Rows.{rows_of}
 use Rattle.pcm_top.specs.Running.{RunIsWritten}
 use Rattle.pcm_top.specs.Showing.{shown_header, shown_of, shown_row}
@@ -26,6 +29,6 @@ IsShown n m e =
     → (written : RunIsWritten n m e job s array out done) → job.print ≡ Image
     → shown_of written.text ≡ Ok (newest_text job.shape (rows_of written.run.events written.run.outcomes))
 
--- at both sizes of lines
+-- what is shown of the bytes that a run wrote as its image is each line's newest bytes, at each size of lines
 abbrev pub ShownLaw : Type 0
-ShownLaw = IsShown 64 8 6 × IsShown 128 16 8
+ShownLaw = (size : LineSize) → IsShown (bytes_in size) (checks_in size) (pointers_in size)

@@ -2,11 +2,11 @@
 use Rattle.std.specs.Prelude.{ℕ, List, [], ◌∷◌, ◌++◌, codes, decimal}
 use Rattle.run_text.specs.declared.counts.Counts.{Counts}
 
--- one line: a word, a space, a number in decimal, and LF
+-- a line of a summary: a word, a space, a number in decimal, and LF
 abbrev pub line_text : List ℕ → ℕ → List ℕ
 line_text word number = word ++ codes " " ++ decimal number ++ codes "\n"
 
--- these lines, one behind the other
+-- lines of a summary, one behind the other
 abbrev pub lines_text : List (List ℕ × ℕ) → List ℕ
 lines_text [] = []
 lines_text ((word, number) ∷ rest) = line_text word number ++ lines_text rest
