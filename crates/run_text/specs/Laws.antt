@@ -5,7 +5,7 @@ use Rattle.result_rows.specs.declared.Outcome.{Outcome}
 use Rattle.result_rows.specs.declared.Outcome.TheVariants as out
 use Rattle.run_text.specs.declared.counts.Counts.{Counts}
 use Rattle.run_text.specs.Counting.{counts_of}
-use Rattle.row_laws.specs.Shortfall.{any_short}
+use Rattle.row_rules.specs.Shortfall.{any_short}
 
 -- a row that was never set
 abbrev pub is_unset : {n : ℕ} → Outcome n → Bool

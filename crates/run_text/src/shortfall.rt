@@ -1,6 +1,6 @@
 // Whether a run fell short of what its trace asked for.
 ghost use Rattle.std.specs.Prelude.{◌≡◌, ◌≤◌};
-ghost use Rattle.row_laws.specs.Shortfall as short;
+ghost use Rattle.row_rules.specs.Shortfall as short;
 
 use result_rows::{Outcome, Results};
 

@@ -1,5 +1,5 @@
 use Rattle.std.proofs.Common.{◌||◌, ◌∙◌, ◌<◌, length, sym, ap, arith}
-use Rattle.row_laws.specs.Shortfall.{is_short}
+use Rattle.row_rules.specs.Shortfall.{is_short}
 use Rattle.run_text.proofs.Counted.{any-more, any-here}
 use Rattle.run_text.proofs.shortfall.any_short.Goals as goal
 

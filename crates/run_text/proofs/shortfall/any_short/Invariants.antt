@@ -1,5 +1,5 @@
 use Rattle.std.proofs.Common.{◌≡◌, take, false}
-use Rattle.row_laws.specs.Shortfall.{any_short}
+use Rattle.row_rules.specs.Shortfall.{any_short}
 use Rattle.run_text.proofs.shortfall.any_short.Given as goal
 
 -- no row so far falls short
