@@ -9,7 +9,8 @@ use Rattle.command_line.specs.Table.{leaf_app, pcm_app}
 use Rattle.command_line.specs.Jobs.{answer_of, command_at, faults_at, job_at, job_met, job_of, or_usage}
 use Rattle.command_line.specs.declared.job.Job.{Job}
 use Rattle.command_line.specs.declared.job.Refusal.{Refusal}
-use Rattle.command_line.specs.declared.job.Refusal.TheVariants.{Usage}
+use Rattle.command_line.specs.declared.job.Refusal.TheVariants.{Usage, NoMemory}
+use Rattle.command_line.specs.Refusals.{refusal_by}
 
 -- clap gives the matches and the faults of the program's command
 simple : is_simple pcm_app ≡ true
@@ -74,3 +75,11 @@ ok-of (Err f) j e = tt
 pub err-of : (r j : Result Job Refusal) → j ≡ r → (P : Refusal → Type 0) → IfErr r (λ e. P e → j ≡ Err e)
 err-of (Ok job) j e P = tt
 err-of (Err f) j e P = λ _. e
+
+-- words are refused for want of memory, or as a faulty command line
+pub told-by : (kind : ErrorKind) → refusal_by kind ≢ NoMemory → kind ≢ OutOfMemory
+told-by kind other = λ is. other (ap refusal_by is)
+
+pub usage-by : (kind : ErrorKind) → refusal_by kind ≢ NoMemory → refusal_by kind ≡ Usage
+usage-by OutOfMemory other = absurd (other refl)
+usage-by _ other = refl

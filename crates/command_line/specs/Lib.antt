@@ -1,3 +1,4 @@
 pub mod Table
 pub mod Options
 pub mod Jobs
+pub mod Refusals

@@ -47,7 +47,7 @@ top_app = record (new_app (codes "pcm")) {
   top = record (new_app (codes "pcm")).top { disable_help_flag = true; disable_help_subcommand = true };
 }
 
--- with its six commands; `show` has no option
+-- the program with its six commands; `show` has no option
 unfoldable pub pcm_app : App
 pcm_app =
     with_subcommand (with_subcommand (with_subcommand (with_subcommand (with_subcommand (with_subcommand top_app

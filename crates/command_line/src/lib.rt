@@ -5,6 +5,7 @@
 mod job;
 mod options;
 mod read;
+mod refusal;
 mod table;
 
 pub use job::{CheckJob, GenJob, Input, Job, LineSize, MapJob, MovesJob, Print, Refusal, RunJob};

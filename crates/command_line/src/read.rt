@@ -1,13 +1,12 @@
 // The job that the words ask for.
 ghost use Rattle.std.specs.Prelude.{◌≡◌, ◌≢◌, ◌≤◌, ◌∷◌, IfOk, IfErr, IfSome, Ok, Err, Some, map, string_bytes, codes};
-ghost use Rattle.clap.specs.Words.{found_of, kind_of, rows_of, subcommand_rows_of};
+ghost use Rattle.clap.specs.Words.{found_of, rows_of, subcommand_rows_of};
 ghost use Rattle.command_line.specs.Jobs.{IsJob, run_of, gen_of, map_of, moves_of, check_of, job_named, job_met, or_usage, job_of};
 
 use crate::job::{CheckJob, GenJob, Job, MapJob, MovesJob, Refusal, RunJob};
 use crate::options::{from, input, line, mix, number_of, print, seed, shape, wear};
 use crate::table::pcm_command;
-use clap::error::ErrorKind;
-use clap::{ArgMatches, Error};
+use clap::ArgMatches;
 use std::alloc::{AllocError, Global};
 
 #[tactic(auto, unfolding(crate::specs::Jobs::run_of))]
@@ -116,34 +115,16 @@ fn with_program_name<'a>(alloc: Global, words: &'a [String]) -> Result<Vec<&'a s
     Ok(all)
 }
 
-// Why clap refused the words.
-fn refusal(error: &Error) -> Refusal
-    ensures told { result ≢ Refusal.NoMemory → kind_of error.now ≢ ErrorKind.OutOfMemory }
-    ensures memory { result ≡ Refusal.NoMemory → kind_of error.now ≡ ErrorKind.OutOfMemory }
-    ensures usage { result ≢ Refusal.NoMemory → result ≡ Refusal.Usage }
-{
-    match error.kind() {
-        ErrorKind::OutOfMemory => Refusal::NoMemory,
-        _ => Refusal::Usage,
-    }
-}
-
 /// What the words behind the program's name ask for.
 pub fn read_job(alloc: Global, words: &[String]) -> Result<Job, Refusal>
     ensures ok { IfOk result (λ job. job_of (map string_bytes words.now) ≡ Ok job) }
     ensures err { IfErr result (λ e. e ≢ Refusal.NoMemory → job_of (map string_bytes words.now) ≡ Err e) }
     ensures in_range { IfOk result IsJob }
 {
-    let Ok(all) = with_program_name(alloc, words) else {
-        return Err(Refusal::NoMemory);
-    };
-    let Ok(command) = pcm_command(alloc) else {
-        return Err(Refusal::NoMemory);
-    };
-    match command.try_get_matches_from(all.as_slice()) {
-        Ok(matches) => job(&matches),
-        Err(error) => Err(refusal(&error)),
-    }
+    let all = with_program_name(alloc, words)?;
+    let command = pcm_command(alloc)?;
+    let matches = command.try_get_matches_from(all.as_slice())?;
+    job(&matches)
 }
 
 // The job of what clap found.

@@ -16,7 +16,7 @@ use crate::bank::print_bank;
 use crate::pieces::{print_cells, print_head};
 use pcm_cells::CellArray;
 use pcm_io::{Sink, Text, WriteFault};
-use pcm_module::module::Module;
+use pcm_module::Module;
 use run_text::{ROW_ROOM, TEXT_ROOM, print_rest};
 
 // What the banks of a module keep, in order.

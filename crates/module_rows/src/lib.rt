@@ -3,6 +3,7 @@
 #![tactic(auto)]
 
 pub mod playing;
+
 #[cfg(test)]
 mod roles;
 #[cfg(test)]

@@ -9,7 +9,7 @@ ghost use Rattle.pcm_module.specs.Replaying.{IsReplayed};
 
 use module_shape::Shape;
 use pcm_cells::{CellArray, Wear};
-use pcm_module::module::Module;
+use pcm_module::Module;
 use result_rows::{Outcome, Results};
 use std::alloc::{AllocError, Global};
 use trace_reader::{Event, EventOp};

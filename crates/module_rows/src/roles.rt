@@ -1,7 +1,7 @@
-// What the array lines of a bank are used for.
+// The roles of all array lines of a small bank.
 use bank_shape::{BankShape, Home};
-use line_roles::{role_in, used_in};
 use masked_bytes::entry::Entry;
+use pcm_module::{role_in, used_in};
 use power_recovery::kept::Kept;
 use std::test::*;
 use wear_report::Role;

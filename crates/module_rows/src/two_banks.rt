@@ -4,7 +4,7 @@
 use crate::playing::{Call, Saw, played};
 use module_shape::{Home, Policy, RawShape, Shape};
 use pcm_cells::{Act, MemArray, Script, ScriptArray};
-use pcm_module::module::Module;
+use pcm_module::Module;
 use std::alloc::{AllocError, Global};
 use std::test::Fail;
 use wear_report::Role;

@@ -18,3 +18,4 @@ mod Events
 mod Making
 mod Translating
 mod EndRoles
+mod Placed

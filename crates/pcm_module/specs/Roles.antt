@@ -5,10 +5,11 @@ use Rattle.module_shape.specs.Addresses.{module_of, bank_shape}
 use Rattle.end_laws.specs.Ends.{BankEnd}
 use Rattle.end_laws.specs.Roles.{used_spares}
 
--- those of the first so many banks, and of all
+-- how many spares of the first so many banks are used
 abbrev pub spares_used_in : RawShape → (ℕ → BankEnd) → ℕ → ℕ
 spares_used_in raw ends zero = 0
 spares_used_in raw ends (suc banks) = spares_used_in raw ends banks + used_spares (bank_shape (module_of raw) banks) (ends banks).table
 
+-- how many spares of all banks are used
 abbrev pub spares_used : RawShape → (ℕ → BankEnd) → ℕ
 spares_used raw ends = spares_used_in raw ends raw.banks

@@ -16,8 +16,8 @@ pub record IsBankOf {n m e : ℕ} (shape : BankShape) (clock : ClockState n m e)
   pub shaped : clock.bank.kept.shape ≡ shape
   pub kept : IsKept clock.bank.kept
 
--- its lines are laid out, its sizes are in range, its randomiser is that of its seed over its lines, it has a bank of the right shape for
--- each number, and its last row is in time
+-- a module is right: its lines are laid out, its sizes are in range, its randomiser is that of its seed over its lines, it has a bank of
+-- the right shape for each number, and its last row is in time
 pub record IsModule {n m e : ℕ} (raw : RawShape) (seed : ℕ) (network : Network) (banks : List (ClockState n m e)) (tick : ℕ) : Type 0 where
   pub layout : IsLayout n m e
   pub in_range : IsShape raw

@@ -11,8 +11,8 @@ use Rattle.end_laws.specs.Ends.{BankEnd}
 use Rattle.end_laws.specs.EndLaws.{IsEndOf}
 use Rattle.run_laws.specs.Runs.{pacing_in, bank_of_line, line_in_bank}
 
--- its sizes, the seed of its randomiser, its banks in order, the tick of the last row and a bound above the rows that were handed in, and
--- whether it was finished, so that nothing comes any more
+-- a module: its sizes, the seed of its randomiser, its banks in order, the tick of the last row and a bound above the rows that were
+-- handed in, and whether it was finished, so that nothing comes any more
 pub record ModuleState (n m e : ℕ) : Type 0 where
   pub shape : RawShape
   pub seed : ℕ
@@ -21,10 +21,11 @@ pub record ModuleState (n m e : ℕ) : Type 0 where
   pub rows_below : ℕ
   pub finished : Bool
 
--- a bank that was just made, and so many from this one on
+-- the bank of this number, just made
 abbrev pub first_bank : {n m e : ℕ} → RawShape → ℕ → ClockState n m e
 first_bank raw bank = first_clock (bank_shape (module_of raw) bank) (pacing_in raw)
 
+-- so many banks that were just made, from the one of this number on
 abbrev pub banks_from : {n m e : ℕ} → RawShape → ℕ → ℕ → List (ClockState n m e)
 banks_from raw zero bank = []
 banks_from raw (suc banks) bank = first_bank raw bank ∷ banks_from raw banks (suc bank)

@@ -14,7 +14,7 @@ ghost use Rattle.pcm_module.specs.Replaying.{Replays};
 ghost use Rattle.pcm_module.specs.Taking.{StaysBeyond};
 ghost use Rattle.pcm_module.specs.Draining.{MayFinish, AreDrained};
 
-use crate::module::Module;
+use crate::side_by_side::Module;
 use bank_timing::clocked::ClockedBank;
 use pcm_cells::CellArray;
 use result_rows::Results;

@@ -2,7 +2,11 @@
 #![tactic(auto)]
 
 mod bank;
+mod bank_roles;
 mod finishing;
-pub mod module;
 mod roles;
+mod side_by_side;
 mod taking;
+
+pub use bank_roles::{role_in, used_in};
+pub use side_by_side::Module;

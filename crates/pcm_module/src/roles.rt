@@ -7,8 +7,8 @@ ghost use Rattle.run_laws.specs.Runs.{line_named};
 ghost use Rattle.pcm_module.specs.State.{AreEndsOf};
 ghost use Rattle.pcm_module.specs.Roles.{spares_used};
 
-use crate::module::Module;
-use line_roles::{role_in, used_in};
+use crate::bank_roles::{role_in, used_in};
+use crate::side_by_side::Module;
 use module_shape::Shape;
 use wear_report::Role;
 

@@ -15,7 +15,7 @@ ghost use Rattle.pcm_module.specs.Replaying.{Replays, IsReplayed};
 ghost use Rattle.pcm_module.specs.Taking.{Takes, StaysBeyond};
 
 use crate::bank::{cut_at, read_at, write_at};
-use crate::module::Module;
+use crate::side_by_side::Module;
 use pcm_cells::CellArray;
 use result_rows::{Outcome, Results};
 use trace_reader::{Event, EventOp};

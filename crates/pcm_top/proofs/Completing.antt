@@ -13,7 +13,7 @@ use Rattle.trace_reader.proofs.Lawful.{trace_of-lawful}
 use Rattle.trace_gen.specs.Laws.{GeneratedLaw}
 use Rattle.result_rows.specs.declared.Outcome.{Outcome}
 use Rattle.result_rows.specs.declared.Outcome.TheVariants.{Unset}
-use Rattle.result_summary.specs.Shortfall.{any_short, is_short}
+use Rattle.run_text.specs.Shortfall.{any_short, is_short}
 use Rattle.row_rules.specs.declared.Row.{Row}
 use Rattle.module_shape.specs.Limits.{IsShape, total_of}
 use Rattle.run_laws.specs.RowsOfRuns.{NoneLostLaw, NoneShortLaw, RoomIsTakenLaw}

@@ -11,7 +11,7 @@ ghost use Rattle.pcm_top.specs.Rows.{rows_of};
 ghost use Rattle.pcm_top.specs.Played.{IsPlayed};
 
 use pcm_cells::CellArray;
-use pcm_module::module::Module;
+use pcm_module::Module;
 use result_rows::Results;
 use trace_reader::{Event, MOST_ROWS};
 
@@ -23,7 +23,8 @@ pub fn replay<const B: usize, const M: usize, const E: usize, A: CellArray<B, M>
     results: &mut Results<B>,
 )
     requires layout { IsLayout B M E }
-    requires ready { IsReady pcm.old.shape pcm.old.seed (length events.now) pcm.old (A.state array.old) results.old }
+    requires ready { IsReady pcm.old.shape pcm.old.seed (length events.now) pcm.old
+        (A.state array.old) results.old }
     requires events { AreEventsFor (total_of pcm.old.shape) 0 events.now }
     requires rows { length events.now ≤ MOST_ROWS }
     ensures shape { pcm.new.shape ≡ pcm.old.shape }

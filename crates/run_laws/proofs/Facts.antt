@@ -17,7 +17,7 @@ use Rattle.row_rules.specs.Answers.{accepts, is_queued, is_lost, is_busy, is_for
 use Rattle.row_rules.specs.Rows.{each_row, asks_read, asks_cut, is_cut}
 use Rattle.row_rules.specs.Table.{is_of, of_bank}
 use Rattle.masked_bytes.specs.Masked.{gives_all}
-use Rattle.result_summary.specs.Shortfall.{is_short}
+use Rattle.run_text.specs.Shortfall.{is_short}
 use Rattle.module_laws.specs.Asking.{asks_in, row_in, bank_table}
 use Rattle.row_rules.specs.declared.Rules.{Rules}
 use Rattle.row_rules.specs.Queueing.{waiting, queue_fits, cover, is_at_head}

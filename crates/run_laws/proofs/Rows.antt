@@ -7,7 +7,7 @@ use Rattle.std.proofs.lemmas.Bool.{lt-ltb}
 use Rattle.std.proofs.lemmas.List.Elements.{All-nil, All-head, All-tail}
 use Rattle.pcm_cells.specs.Device.{ArrayState}
 use Rattle.result_rows.specs.declared.Op.TheVariants as op
-use Rattle.result_summary.specs.Shortfall.{is_short, any_short}
+use Rattle.run_text.specs.Shortfall.{is_short, any_short}
 use Rattle.result_rows.specs.Outcomes.{op_of, place_of}
 use Rattle.row_rules.specs.declared.Asks.{Asks}
 use Rattle.row_rules.specs.declared.Asks.TheVariants.{Reads, Writes, Cuts}

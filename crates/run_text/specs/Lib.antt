@@ -1,3 +1,8 @@
 -- What the contracts of printing a run cite.
 pub mod Gathering
 pub mod ResultText
+pub mod Counting
+pub mod Pulses
+pub mod SummaryText
+pub mod Laws
+pub mod Shortfall

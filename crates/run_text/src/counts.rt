@@ -1,36 +1,68 @@
-// The summary of a run.
-ghost use Rattle.std.specs.Prelude.{◌≡◌, ◌≤◌, length, OnOk, OnErr};
-ghost use Rattle.std.specs.Io.KnownBytes.{Appends};
-ghost use Rattle.pcm_io.specs.Faults.{Rose};
-ghost use Rattle.pcm_io.specs.Giving.{AppendsPrefix};
-ghost use Rattle.pcm_io.specs.Reserved.{reserved};
-ghost use Rattle.result_summary.specs.Counting.{counts_of};
-ghost use Rattle.result_summary.specs.SummaryText.{summary_text};
+// How many rows had each outcome.
+ghost use Rattle.std.specs.Prelude.{◌≡◌, ◌-◌, ◌≤◌, take};
+ghost use Rattle.result_rows.specs.Table.{HasRow};
+ghost use Rattle.run_text.specs.Counting.{counts_of};
 
-use crate::room::{TEXT_ROOM, print_rest};
-use pcm_io::{Sink, Text, WriteFault};
-use result_rows::Results;
-use result_summary::{Counts, print_summary};
+use result_rows::{Outcome, Results};
 
-/// Writes the summary of a run: how many rows it has and how many had each outcome, how many spares are used, and how many
-/// pulses the array had. The text is empty at first.
-pub fn print_counts<const B: usize, K: Sink>(
-    results: &Results<B>,
-    retired: u32,
-    pulses: u64,
-    text: &mut Text,
-    out: &mut K,
-) -> Result<(), WriteFault>
-    requires size { B ≤ 128 }
-    requires room { text.old ≡ reserved TEXT_ROOM }
-    ensures ok { OnOk result (Appends (K.written out.old) (K.written out.new)
-        (summary_text (length results.now) (counts_of results.now) retired pulses)) }
-    ensures prefix { OnErr result (AppendsPrefix (K.written out.old) (K.written out.new)
-        (summary_text (length results.now) (counts_of results.now) retired pulses)) }
-    ensures fault { OnErr result (Rose (K.faults out.old) (K.faults out.new)) }
-    ensures never_falls { K.faults out.old ≤ K.faults out.new }
-{
-    let counts = Counts::of(results);
-    print_summary(results.rows(), &counts, retired, pulses, text);
-    print_rest(text, out)
+/// The number of rows that had each outcome.
+#[derive(Clone, Copy, Debug, PartialEq, Eq)]
+pub struct Counts {
+    pub stored: u32,
+    pub merged: u32,
+    pub queued: u32,
+    pub full: u32,
+    pub worn: u32,
+    pub read: u32,
+    pub forwarded: u32,
+    pub busy: u32,
+    pub lost: u32,
+    pub cut: u32,
+}
+
+impl Counts {
+    /// The counts of a table. A row that isn't set is counted nowhere.
+    pub fn of<const B: usize>(results: &Results<B>) -> Counts
+        requires { B ≤ 128 }
+        ensures { result ≡ counts_of results.now }
+    {
+        let mut counts = Counts {
+            stored: 0,
+            merged: 0,
+            queued: 0,
+            full: 0,
+            worn: 0,
+            read: 0,
+            forwarded: 0,
+            busy: 0,
+            lost: 0,
+            cut: 0,
+        };
+        for before in 0..results.rows() {
+            counts.count_row(results, before + 1);
+        }
+        counts
+    }
+
+    // Counts a row, once all rows before it are counted.
+    fn count_row<const B: usize>(&mut self, results: &Results<B>, row: u32)
+        requires size { B ≤ 128 }
+        requires exists { HasRow results.now row }
+        requires before { self.old ≡ counts_of (take (row - 1) results.now) }
+        ensures { self.new ≡ counts_of (take row results.now) }
+    {
+        match results.get(row) {
+            Outcome::Unset => {}
+            Outcome::Stored { .. } => self.stored += 1,
+            Outcome::Merged { .. } => self.merged += 1,
+            Outcome::Queued { .. } => self.queued += 1,
+            Outcome::Full { .. } => self.full += 1,
+            Outcome::Worn { .. } => self.worn += 1,
+            Outcome::Read { .. } => self.read += 1,
+            Outcome::Forwarded { .. } => self.forwarded += 1,
+            Outcome::Busy { .. } => self.busy += 1,
+            Outcome::Lost { .. } => self.lost += 1,
+            Outcome::Cut { .. } => self.cut += 1,
+        }
+    }
 }

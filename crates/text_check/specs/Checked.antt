@@ -24,7 +24,7 @@ use Rattle.text_check.specs.declared.fault.TextFault.TheVariants as fault
 abbrev pub ask_of : {n : ℕ} → EventOp n → Op × ℕ
 ask_of op = (asked op, named_line op)
 
--- those of all rows
+-- the operation and the line that each row of results has for its event
 abbrev pub asks_in : {n : ℕ} → List (Event n) → List (Op × ℕ)
 asks_in events = map (λ event. ask_of event.op) events
 
@@ -36,13 +36,14 @@ banks_of raw seed = map (bank_of_line raw seed) (range_with_len 0 (total_of raw)
 abbrev pub verdict_on : {n : ℕ} → ℕ → RawShape → ℕ → List (Event n) → List (Outcome n) → Verdict
 verdict_on e raw seed events outcomes = verdict_of (rules_in e raw 0) (banks_of raw seed) (rows_with events outcomes)
 
--- why a trace that means this has no events, and why bytes are no results of these rows
+-- why a trace that means this has no events
 abbrev pub IsTraceFault : {n : ℕ} → Result (List (Event n)) ParseFault → TextFault → Type 0
 IsTraceFault trace (fault.Trace f) = trace ≡ Err (parsing.Trace f)
 IsTraceFault trace fault.TooMany = trace ≡ Err parsing.TooMany
 IsTraceFault trace (fault.Results row) = ⊥
 IsTraceFault trace fault.NoMemory = Unit {0}
 
+-- why bytes are no results of these rows
 abbrev pub IsResultsFault : ℕ → List (Op × ℕ) → List ℕ → TextFault → Type 0
 IsResultsFault n asks bytes (fault.Trace f) = ⊥
 IsResultsFault n asks bytes fault.TooMany = ⊥

@@ -1,6 +1,11 @@
 //! Why a text has no verdict.
+ghost use Rattle.std.specs.Prelude.{◌≡◌};
+ghost use Rattle.text_check.specs.Causes.{no_results, no_trace};
+ghost use Rattle.text_check.specs.declared.fault.TextFault.TheVariants as of;
 
-use trace_reader::TraceFault;
+use result_reader::ResultFault;
+use std::alloc::AllocError;
+use trace_reader::{ParseFault, TraceFault};
 
 /// Why `check_text` gave no verdict.
 #[derive(Clone, Copy, Debug, PartialEq)]
@@ -13,4 +18,35 @@ pub enum TextFault {
     Results(u32),
     /// Memory ran out.
     NoMemory,
+}
+
+impl From<AllocError> for TextFault {
+    ghost from_gives = { λ _ fault. fault ≡ of.NoMemory };
+
+    fn from(_: AllocError) -> TextFault {
+        TextFault::NoMemory
+    }
+}
+
+impl From<ParseFault> for TextFault {
+    ghost from_gives = { λ parse fault. fault ≡ no_trace parse };
+
+    fn from(parse: ParseFault) -> TextFault {
+        match parse {
+            ParseFault::Trace(fault) => TextFault::Trace(fault),
+            ParseFault::TooMany => TextFault::TooMany,
+            ParseFault::NoMemory => TextFault::NoMemory,
+        }
+    }
+}
+
+impl From<ResultFault> for TextFault {
+    ghost from_gives = { λ results fault. fault ≡ no_results results };
+
+    fn from(results: ResultFault) -> TextFault {
+        match results {
+            ResultFault::Row(row) => TextFault::Results(row),
+            ResultFault::NoMemory => TextFault::NoMemory,
+        }
+    }
 }

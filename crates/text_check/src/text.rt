@@ -12,10 +12,10 @@ use crate::fault::TextFault;
 use crate::rules::rules;
 use module_shape::Shape;
 use result_check::{Verdict, check};
-use result_reader::{ResultFault, find_results, parse_results};
+use result_reader::{find_results, parse_results};
 use result_rows::Results;
 use std::alloc::Global;
-use trace_reader::{Event, MOST_ROWS, ParseFault, parse};
+use trace_reader::{Event, MOST_ROWS, parse};
 
 // The trace of a text, up to its results.
 fn trace<const B: usize>(
@@ -30,12 +30,7 @@ fn trace<const B: usize>(
     ensures rows { IfOk result (λ events. vec_len events ≤ MOST_ROWS) }
     ensures fault { IfErr result (IsTraceFault (trace_of B lines bytes.now)) }
 {
-    match parse(alloc, bytes, lines) {
-        Ok(events) => Ok(events),
-        Err(ParseFault::Trace(fault)) => Err(TextFault::Trace(fault)),
-        Err(ParseFault::TooMany) => Err(TextFault::TooMany),
-        Err(ParseFault::NoMemory) => Err(TextFault::NoMemory),
-    }
+    Ok(parse(alloc, bytes, lines)?)
 }
 
 // The results of these events.
@@ -51,14 +46,8 @@ fn results<const B: usize>(
     ensures rows { IfOk result (λ results. length results ≡ length events.now) }
     ensures fault { IfErr result (IsResultsFault B (asks_in events.now) bytes.now) }
 {
-    let Ok(asks) = asks(alloc, events) else {
-        return Err(TextFault::NoMemory);
-    };
-    match parse_results(alloc, bytes, asks.as_slice()) {
-        Ok(results) => Ok(results),
-        Err(ResultFault::Row(row)) => Err(TextFault::Results(row)),
-        Err(ResultFault::NoMemory) => Err(TextFault::NoMemory),
-    }
+    let asks = asks(alloc, events)?;
+    Ok(parse_results(alloc, bytes, asks.as_slice())?)
 }
 
 // The verdict on these events and results.
@@ -78,14 +67,9 @@ fn judge<const B: usize, const E: usize>(
     ensures exact { IfOk result (λ verdict. verdict ≡ verdict_on E shape.now seed events.now results.now) }
     ensures memory { IfErr result (λ fault. fault ≡ TextFault.NoMemory) }
 {
-    let Ok(banks) = banks(alloc, shape, seed) else {
-        return Err(TextFault::NoMemory);
-    };
+    let banks = banks(alloc, shape, seed)?;
     let rules = rules::<E>(shape);
-    match check(alloc, events, results, banks.as_slice(), &rules) {
-        Ok(verdict) => Ok(verdict),
-        Err(_) => Err(TextFault::NoMemory),
-    }
+    Ok(check(alloc, events, results, banks.as_slice(), &rules)?)
 }
 
 /// Whether the results that stand behind a trace are ones that a module of this shape may give of it, whose randomiser has this

@@ -4,7 +4,7 @@ ghost use Rattle.pcm_cells.specs.Device.{IsShape};
 use pcm_cells::{CellArray, Cells, MemArray, ScriptArray, Wear};
 use pcm_io::Text;
 use result_rows::{Outcome, Results};
-use result_summary::{Counts, add_pulses, any_short, is_short, print_summary, sum_pulses};
+use run_text::{Counts, add_pulses, any_short, is_short, print_summary, sum_pulses};
 use std::test::Fail;
 
 // Pulses the cells of the line that differ, if any do.

@@ -1,2 +1,0 @@
--- That a slot's role is what the registers give.
-mod Placed

@@ -1,0 +1,8 @@
+use Rattle.pcm_module.proofs.Cuts.{IsCutting}
+use Rattle.pcm_module.proofs.side_by_side.Module.cut.Given as goal
+
+abbrev pub invariant-loop-bank : goal.invariant-loop-bank
+invariant-loop-bank g l =
+    let s = l.self-inside in
+    IsCutting l.row l.tick l.bank s.shape s.seed s.feistel s.banks.items s.tick s.rows_below s.finished l.fn.self
+    (g.A.CellArray.state l.fn.array) (g.A.CellArray.state l.array) l.fn.results l.results

@@ -1,7 +1,0 @@
-use Rattle.std.proofs.Common.{◌≡◌}
-use Rattle.result_summary.specs.Pulses.{at_most_u64, pulses_of_first}
-use Rattle.result_summary.proofs.pulses.sum_pulses.Given as goal
-
--- the lines so far are summed
-abbrev pub invariant-loop-line : goal.invariant-loop-line
-invariant-loop-line g l = l.sum ≡ at_most_u64 (pulses_of_first (g.A.CellArray.state l.array) l.line)
