@@ -3,7 +3,6 @@
 #![tactic(auto)]
 
 pub mod playing;
-
 #[cfg(test)]
 mod roles;
 #[cfg(test)]

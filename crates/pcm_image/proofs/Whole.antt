@@ -22,7 +22,8 @@ use Rattle.module_shape.specs.Limits.{is_power_between}
 use Rattle.pcm_image.specs.Spelling.{u8, u16, u32, u64, magic, packed, head_bytes, region_bytes, entry_bytes, bank_bytes, cells_bytes, image_bytes}
 use Rattle.pcm_image.specs.Reading.{Cursor, ◌>>=◌, fault, field, any, byte_at, number_at, times, is_size, size_at, size_of, head_at, region_at, given_from, is_given, entry_at, bank_at, row_of, cells_at, image_of}
 use Rattle.pcm_image.specs.Giving.{Gives}
-use Rattle.pcm_image.proofs.Bits.{length-bytes_from, length-given_from, packed-given, given-packed}
+use Rattle.ecp_line.proofs.Bytes.{length-bytes_from}
+use Rattle.pcm_image.proofs.Bits.{length-given_from, packed-given, given-packed}
 use Rattle.pcm_image.proofs.Heads.{HeadFits, head-fits}
 use Rattle.pcm_image.proofs.Pairs.{IsBytes, bind_ok, ok_is, passed, Takes, Takes-then, IsPair, IsField, field_pair, Passes, number_pair, byte_pair, wide16, wide32, wide64, times_takes, times_again}
 

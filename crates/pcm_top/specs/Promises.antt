@@ -137,24 +137,19 @@ pub record KeepsPromises {A V S K F : Type 0} (call : Call A V S K F) : Type 0 w
   -- where some row falls short, and that of a check where the verdict isn't ok.
   pub done : SaysDone call.status → IsDone call
   pub silent : SaysDone call.status → Stays call.err
-
   -- With any other, but that of a fault of writing, a fault was told.
   pub told : SaysFault call.status → TellsFault call
   pub unwritten : SaysFault call.status → Stays call.out
   pub untouched : SaysFault call.status → call.status ≢ status_of NoMemory → ArraysStay call
-
   -- With that of a fault of writing, writing failed: that of a text, or that of a fault's line.
   pub broken : call.status ≡ status_of Write → BreaksOff call ⊎ CannotTell call
-
   -- Only a run of a trace that is read, `show` and a check touch the source, and only a run over lines of its
   -- size touches an array.
   pub unread : reads_source call.asked ≡ false → Stays call.source
   pub narrow : runs_on Bytes64 call.asked ≡ false → Stays call.array
   pub wide : runs_on Bytes128 call.asked ≡ false → Stays call.wide
-
   -- Words that ask for no job are refused, and more bytes than there may be are always answered so.
   pub usage : call.asked ≡ Err refusal.Usage → RefusesWords call
   pub too_long : TakesTooMany call → Answers call TooLong
-
   -- Where nothing fails, words and bytes decide the status.
   pub exact : (bytes : List ℕ) → HasBytes call bytes → NothingFails call → IsDecidedBy call bytes

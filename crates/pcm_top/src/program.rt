@@ -41,11 +41,11 @@ fn run_on<A: CellArray<64, 8>, V: CellArray<128, 16>, S: Source, K: Sink>(
 ) -> Result<Done, Fault>
     requires { IsRun job.now }
     ensures ends { EndsDeed (record {
-        asked = Ok (Run job.now);
-        source = source_change S.left S.taken S.faults source.old source.new;
-        array = A.state array.new;
-        wide = V.state wide.new;
-        out = sink_change K.written K.faults out.old out.new;
+      asked = Ok (Run job.now);
+      source = source_change S.left S.taken S.faults source.old source.new;
+      array = A.state array.new;
+      wide = V.state wide.new;
+      out = sink_change K.written K.faults out.old out.new;
     }) result }
     ensures out { IfStopped result (λ _. out.new ≡ out.old) }
     ensures arrays { IfStopped result (λ fault. fault ≢ Fault.NoMemory
@@ -74,11 +74,11 @@ fn carry_out<A: CellArray<64, 8>, V: CellArray<128, 16>, S: Source, K: Sink>(
 ) -> Result<Done, Fault>
     requires { IsJob job }
     ensures ends { EndsDeed (record {
-        asked = Ok job;
-        source = source_change S.left S.taken S.faults source.old source.new;
-        array = A.state array.new;
-        wide = V.state wide.new;
-        out = sink_change K.written K.faults out.old out.new;
+      asked = Ok job;
+      source = source_change S.left S.taken S.faults source.old source.new;
+      array = A.state array.new;
+      wide = V.state wide.new;
+      out = sink_change K.written K.faults out.old out.new;
     }) result }
     ensures out { IfStopped result (λ _. out.new ≡ out.old) }
     ensures arrays { IfStopped result (λ fault. fault ≢ Fault.NoMemory
@@ -110,11 +110,11 @@ fn work<A: CellArray<64, 8>, V: CellArray<128, 16>, S: Source, K: Sink>(
     out: &mut K,
 ) -> Result<Done, Fault>
     ensures ends { EndsDeed (record {
-        asked = job_of (map string_bytes words.now);
-        source = source_change S.left S.taken S.faults source.old source.new;
-        array = A.state array.new;
-        wide = V.state wide.new;
-        out = sink_change K.written K.faults out.old out.new;
+      asked = job_of (map string_bytes words.now);
+      source = source_change S.left S.taken S.faults source.old source.new;
+      array = A.state array.new;
+      wide = V.state wide.new;
+      out = sink_change K.written K.faults out.old out.new;
     }) result }
     ensures out { IfStopped result (λ _. out.new ≡ out.old) }
     ensures arrays { IfStopped result (λ fault. fault ≢ Fault.NoMemory
@@ -146,13 +146,13 @@ pub fn pcm_run<A: CellArray<64, 8>, V: CellArray<128, 16>, S: Source, K: Sink, F
     err: &mut F,
 ) -> u8
     ensures { KeepsPromises (record {
-        asked = job_of (map string_bytes words.now);
-        array = array_of A.state array.old array.new;
-        wide = array_of V.state wide.old wide.new;
-        source = source_of S.left S.taken S.faults source.old source.new;
-        out = sink_of K.written K.faults out.old out.new;
-        err = sink_of F.written F.faults err.old err.new;
-        status = result;
+      asked = job_of (map string_bytes words.now);
+      array = array_of A.state array.old array.new;
+      wide = array_of V.state wide.old wide.new;
+      source = source_of S.left S.taken S.faults source.old source.new;
+      out = sink_of K.written K.faults out.old out.new;
+      err = sink_of F.written F.faults err.old err.new;
+      status = result;
     }) }
 {
     match work(alloc, words, array, wide, source, out) {
