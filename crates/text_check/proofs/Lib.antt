@@ -1,2 +1,7 @@
 mod Judged
 mod Printed
+mod Plain
+mod Breaking
+mod Behind
+mod Standing
+mod JudgedRuns

@@ -2,3 +2,5 @@
 pub mod Checked
 pub mod VerdictText
 pub mod PrintedLaw
+pub mod SplitLaw
+pub mod JudgedRuns
