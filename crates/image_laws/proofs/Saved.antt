@@ -9,11 +9,11 @@ use Rattle.std.proofs.lemmas.List.FromFn.{get_or-map-range_with_len, length-map-
 use Rattle.pcm_cells.specs.Rows.{zero_row}
 use Rattle.pcm_cells.specs.Device.{ArrayState}
 use Rattle.pcm_cells.specs.declared.row.Cells.{Cells}
-use Rattle.row_laws.specs.declared.Row.{Row}
-use Rattle.row_laws.specs.Rows.{newest}
+use Rattle.row_rules.specs.declared.Row.{Row}
+use Rattle.row_rules.specs.Rows.{newest}
 use Rattle.bank_shape.specs.declared.BankShape.{BankShape}
 use Rattle.power_recovery.specs.Kept.{KeptState, IsKept}
-use Rattle.bank_model.specs.Timing.{Timed, core}
+use Rattle.bank_model.specs.Timing.{TimedEvent, core}
 use Rattle.bank_invariant.specs.Holds.{stands_for as kept_for}
 use Rattle.bank_laws.specs.Outcomes.{table_of}
 use Rattle.bank_laws.proofs.Serves.{newest_same}

@@ -1,5 +1,6 @@
 -- Behind the end of a line of a trace a record begins.
 use Rattle.std.proofs.Common.{◌≡◌, ℕ, zero, suc, ◌+◌, ◌≤◌, ◌==◌, ◌&&◌, ◌||◌, Bool, true, false, inl, inr, List, [], ◌∷◌, ◌++◌, length, Option, Some, None, refl, sym, ap, ◌∙◌, subst, cond, arith}
+use Rattle.std.proofs.lemmas.Bool.{or_left, or_right}
 use Rattle.std.specs.Prelude.{◌⊎◌, codes}
 use Rattle.std.specs.List.{list_any}
 use Rattle.std.proofs.lemmas.List.{length-append}
@@ -123,17 +124,9 @@ any-append test (x ∷ xs) ys = ap (λ (b : Bool). test x || b) (any-append test
     turn true b c = refl
     turn false b c = refl
 
-or-first : (a b : Bool) → a ≡ true → (a || b) ≡ true
-or-first true b h = refl
-or-first false b h = absurd (cc)
-
 or-cases : (a b : Bool) → (a || b) ≡ true → (a ≡ true) ⊎ (b ≡ true)
 or-cases true b h = inl refl
 or-cases false b h = inr h
-
-or-right : (a b : Bool) → b ≡ true → (a || b) ≡ true
-or-right true b h = refl
-or-right false b h = h
 
 or-none : (a : Bool) → (a || false) ≡ a
 or-none true = refl
@@ -147,11 +140,11 @@ still-breaks : (a : Action) (c : ℕ) (fields : List (List ℕ)) (field : List �
     → breaks (fields_after a fields field) (field_after a c field) ≡ true
 still-breaks act.EndRecord c fields field on h = cc on
 still-breaks act.Skip c fields field on h = h
-still-breaks act.EndField c fields field on h = or-first (any_broken (fields ++ field ∷ [])) false (ended-breaks fields field h)
+still-breaks act.EndField c fields field on h = or_left (any_broken (fields ++ field ∷ [])) false (ended-breaks fields field h)
 still-breaks act.Copy c fields field on h =
     elim (or-cases (any_broken fields) (is_broken field) h) [
-      | inl one ↦ or-first (any_broken fields) (is_broken (field ++ c ∷ [])) one
-      | inr here ↦ or-right (any_broken fields) (is_broken (field ++ c ∷ [])) (any-append is_break field (c ∷ []) ∙ or-first (is_broken field) (is_broken (c ∷ [])) here)
+      | inl one ↦ or_left (any_broken fields) (is_broken (field ++ c ∷ [])) one
+      | inr here ↦ or_right (any_broken fields) (is_broken (field ++ c ∷ [])) (any-append is_break field (c ∷ []) ∙ or_left (is_broken field) (is_broken (c ∷ [])) here)
     ]
 
 -- ---- records
@@ -291,8 +284,8 @@ break-within most s fields field text c break (inr copied) enough plain =
     goes-on most s fields field c text (ap is_end copied.0)
     ∙ ap (λ (a : Action). left most (step default_config s c).0 (fields_after a fields field) (field_after a c field) text) copied.0 in
     let broken : breaks fields (field ++ c ∷ []) ≡ true =
-    or-right (any_broken fields) (is_broken (field ++ c ∷ []))
-    (any-append is_break field (c ∷ []) ∙ or-right (is_broken field) (is_broken (c ∷ [])) (or-first (is_break c) false break)) in
+    or_right (any_broken fields) (is_broken (field ++ c ∷ []))
+    (any-append is_break field (c ∷ []) ∙ or_right (is_broken field) (is_broken (c ∷ [])) (or_left (is_break c) false break)) in
     absurd (never-plain most (step default_config s c).0 fields (field ++ c ∷ []) text copied.1 broken (subst ArePlain joins plain))
 
 break-between : (most : ℕ) (s : State) (text : List ℕ) (c : ℕ) → Skips (step default_config s c) → length (c ∷ text) ≤ most → ArePlain (left most s [] [] (c ∷ text)) → Restarts text

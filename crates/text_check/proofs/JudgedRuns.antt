@@ -23,7 +23,7 @@ use Rattle.run_text.specs.ResultText.{asked, named_line, results_text, rows_text
 use Rattle.end_laws.specs.Ends.{BankEnd}
 use Rattle.module_shape.specs.declared.raw.RawShape.{RawShape}
 use Rattle.module_shape.specs.Limits.{IsShape, total_of}
-use Rattle.row_laws.specs.declared.Row.{Row}
+use Rattle.row_rules.specs.declared.Row.{Row}
 use Rattle.run_laws.specs.Runs.{rules_in}
 use Rattle.run_laws.specs.RowsOfRuns.{FewArrayLinesLaw, OwnOutcomesLaw, PlacesExistLaw}
 use Rattle.row_verdict.specs.declared.Verdict.{Verdict}

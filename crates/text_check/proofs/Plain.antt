@@ -1,5 +1,7 @@
 -- Each record of a trace has four fields, and no field has an end of a line in it.
 use Rattle.std.proofs.Common.{◌≡◌, ℕ, zero, suc, ◌+◌, ◌*◌, ◌<◌, ◌≤◌, ◌==◌, eqb-true, lit<, ◌&&◌, ◌||◌, Bool, true, false, List, [], ◌∷◌, length, map, Option, Some, None, refl, sym, ap, ◌∙◌, subst, cond, arith, nat_lt, nat_le, unwrap_or, is_some}
+use Rattle.std.proofs.lemmas.Bool.{or_from}
+use Rattle.masked_bytes.proofs.Truth.{and_first, and_second}
 use Rattle.std.specs.Prelude.{codes, if◌then◌else◌, not, option_map, Result, Ok, Err}
 use Rattle.std.specs.Char.{is_ascii_digit}
 use Rattle.std.specs.List.{list_all, list_any, AllPass}
@@ -50,24 +52,12 @@ ArePlain (fields ∷ rows) = IsPlain fields × ArePlain rows
 
 -- ---- texts without one
 
-first_of_both : (a b : Bool) → (a && b) ≡ true → a ≡ true
-first_of_both true b h = refl
-first_of_both false b h = h
-
-second_of_both : (a b : Bool) → (a && b) ≡ true → b ≡ true
-second_of_both true b h = h
-second_of_both false b h = absurd (cc)
-
-neither : (a b : Bool) → a ≡ false → b ≡ false → (a || b) ≡ false
-neither false b h k = k
-neither true b h k = h
-
 digit-whole : (c : ℕ) → is_ascii_digit c ≡ true → is_break c ≡ false
 digit-whole c h = grind (arith, nat_tests)
 
 digits-whole : (text : List ℕ) → list_all is_ascii_digit text ≡ true → is_broken text ≡ false
 digits-whole [] h = refl
-digits-whole (c ∷ text) h = neither (is_break c) (is_broken text) (digit-whole c (first_of_both _ _ h)) (digits-whole text (second_of_both (is_ascii_digit c) _ h))
+digits-whole (c ∷ text) h = or_from (is_break c) (is_broken text) (digit-whole c (and_first _ _ h)) (digits-whole text (and_second (is_ascii_digit c) _ h))
 
 word-whole : (text word : List ℕ) → bytes_eq text word ≡ true → is_broken word ≡ false → is_broken text ≡ false
 word-whole text word h whole = ap is_broken ((bytes_eq-Decides text word).0 h) ∙ whole
@@ -82,7 +72,7 @@ hex-whole c h = grind (arith, nat_tests)
 hexes-whole : (text : List ℕ) → AllPass is_hex_digit text → is_broken text ≡ false
 hexes-whole [] all = refl
 hexes-whole (c ∷ text) all =
-    neither (is_break c) (is_broken text) (hex-whole c (All-head (λ c. is_hex_digit c ≡ true) c text all)) (hexes-whole text (All-tail (λ c. is_hex_digit c ≡ true) c text all))
+    or_from (is_break c) (is_broken text) (hex-whole c (All-head (λ c. is_hex_digit c ≡ true) c text all)) (hexes-whole text (All-tail (λ c. is_hex_digit c ≡ true) c text all))
 
 -- ---- fields
 
@@ -98,8 +88,8 @@ number-whole width most value text h = by (is_number width text && nat_le (digit
     by : (b : Bool) → (is_number width text && nat_le (digits_value 10 text) most) ≡ b → (if b then Some (digits_value 10 text) else None) ≡ Some value → is_broken text ≡ false
     by false is q = cc q
     by true is q =
-        let number : is_number width text ≡ true = first_of_both (is_number width text) (nat_le (digits_value 10 text) most) is in
-        digits-whole text (second_of_both (nat_lt 0 (length text) && nat_le (length text) width) (list_all is_ascii_digit text) number)
+        let number : is_number width text ≡ true = and_first (is_number width text) (nat_le (digits_value 10 text) most) is in
+        digits-whole text (and_second (nat_lt 0 (length text) && nat_le (length text) width) (list_all is_ascii_digit text) number)
 
 -- the bytes that hexadecimal digits write, and the digits
 payload-ok : (n : ℕ) (text bytes : List ℕ) (r : Result (List ℕ) FromHexError) → decode_sized text n ≡ r → result_ok r ≡ Some bytes
@@ -153,8 +143,8 @@ pair-ok high low pair h = by ((high == 46) && (low == 46)) refl h
     by : (b : Bool) → ((high == 46) && (low == 46)) ≡ b → (if b then Some None else option_map (λ byte. Some byte) (result_ok (pair_value high low 0))) ≡ Some pair → PairOk high low pair
     by true is q =
         let same : None ≡ pair = cc in
-        let one : high ≡ 46 = eqb-true high 46 (first_of_both _ _ is) in
-        let other : low ≡ 46 = eqb-true low 46 (second_of_both (high == 46) _ is) in
+        let one : high ≡ 46 = eqb-true high 46 (and_first _ _ is) in
+        let other : low ≡ 46 = eqb-true low 46 (and_second (high == 46) _ is) in
         rw (one, other, ← same) record { first = refl; second = refl; byte = lit< tt }
     by false is q = digits (hex_digit_value high) (hex_digit_value low) refl refl q
 
@@ -181,7 +171,7 @@ pairs-ok (high ∷ low ∷ rest) pairs h = by (pair_of high low) refl (pairs_of 
         let here = pair-ok high low pair is in
         let behind = ih more also in
         rw (← same) record {
-          whole = neither (is_break high) (is_broken (low ∷ rest)) here.first (neither (is_break low) (is_broken rest) here.second behind.whole);
+          whole = or_from (is_break high) (is_broken (low ∷ rest)) here.first (or_from (is_break low) (is_broken rest) here.second behind.whole);
           bytes = IsBytes-cons (unwrap_or pair 0) (map (λ pair. unwrap_or pair 0) more) here.byte behind.bytes;
         }
 
@@ -194,7 +184,7 @@ masked-ok n text m h = by (pairs_of text) refl h
     made pairs ok false is q = cc q
     made pairs ok true is q =
         let same : masked_by pairs ≡ m = cc in
-        let size : length pairs ≡ n = eqb-true (length pairs) n (first_of_both _ _ is) in
+        let size : length pairs ≡ n = eqb-true (length pairs) n (and_first _ _ is) in
         rw (← same) (ok.whole, (length-map pairs _ ∙ size, ok.bytes), length-map pairs _ ∙ size)
 
     by : (found : Option (List (Option ℕ))) → pairs_of text ≡ found
@@ -307,9 +297,9 @@ event-ok n lines before fields event h = four fields (length fields == 4) refl h
           record {
             four = refl;
             unbroken =
-                neither (is_broken a) (any_broken (b ∷ c ∷ d ∷ [])) (number-whole 13 latest_tick s.0 a s.1)
-                (neither (is_broken b) (any_broken (c ∷ d ∷ [])) rest.0
-                (neither (is_broken c) (any_broken (d ∷ [])) rest.1.line_whole (neither (is_broken d) false rest.1.payload_whole refl)));
+                or_from (is_broken a) (any_broken (b ∷ c ∷ d ∷ [])) (number-whole 13 latest_tick s.0 a s.1)
+                (or_from (is_broken b) (any_broken (c ∷ d ∷ [])) rest.0
+                (or_from (is_broken c) (any_broken (d ∷ [])) rest.1.line_whole (or_from (is_broken d) false rest.1.payload_whole refl)));
           },
           rest.1.gives,
         )
@@ -367,18 +357,18 @@ header-plain (a ∷ b ∷ c ∷ d ∷ []) h =
     let op : Bool = bytes_eq b (codes "op") in
     let arg : Bool = bytes_eq c (codes "arg") in
     let payload : Bool = bytes_eq d (codes "data") in
-    let three : (tick && op && arg) ≡ true = first_of_both (tick && op && arg) payload h in
-    let two : (tick && op) ≡ true = first_of_both (tick && op) arg three in
-    let first : tick ≡ true = first_of_both tick op two in
-    let second : op ≡ true = second_of_both tick op two in
-    let third : arg ≡ true = second_of_both (tick && op) arg three in
-    let last : payload ≡ true = second_of_both (tick && op && arg) payload h in
+    let three : (tick && op && arg) ≡ true = and_first (tick && op && arg) payload h in
+    let two : (tick && op) ≡ true = and_first (tick && op) arg three in
+    let first : tick ≡ true = and_first tick op two in
+    let second : op ≡ true = and_second tick op two in
+    let third : arg ≡ true = and_second (tick && op) arg three in
+    let last : payload ≡ true = and_second (tick && op && arg) payload h in
     record {
       four = refl;
       unbroken =
-          neither (is_broken a) (any_broken (b ∷ c ∷ d ∷ [])) (word-whole a (codes "tick") first refl)
-          (neither (is_broken b) (any_broken (c ∷ d ∷ [])) (word-whole b (codes "op") second refl)
-          (neither (is_broken c) (any_broken (d ∷ [])) (word-whole c (codes "arg") third refl) (neither (is_broken d) false (word-whole d (codes "data") last refl) refl)));
+          or_from (is_broken a) (any_broken (b ∷ c ∷ d ∷ [])) (word-whole a (codes "tick") first refl)
+          (or_from (is_broken b) (any_broken (c ∷ d ∷ [])) (word-whole b (codes "op") second refl)
+          (or_from (is_broken c) (any_broken (d ∷ [])) (word-whole c (codes "arg") third refl) (or_from (is_broken d) false (word-whole d (codes "data") last refl) refl)));
     }
 header-plain (a ∷ b ∷ c ∷ d ∷ e ∷ more) h =
     absurd (omega (

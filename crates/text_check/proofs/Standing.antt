@@ -1,5 +1,6 @@
 -- The outcomes of a right run may stand in results.
 use Rattle.std.proofs.Common.{◌≡◌, ℕ, zero, suc, ◌+◌, ◌*◌, ◌^◌, ◌<◌, ◌≤◌, ◌==◌, ◌&&◌, Bool, true, false, inl, inr, List, [], ◌∷◌, ◌++◌, length, replicate, Option, Some, None, refl, sym, ap, ◌∙◌, subst, cond, arith, eqb-true, lit<}
+use Rattle.masked_bytes.proofs.Truth.{and_first, and_second}
 use Rattle.std.specs.Prelude.{All, if◌then◌else◌, max, reverse}
 use Rattle.std.specs.Option.{ForSome}
 use Rattle.std.proofs.lemmas.Bool.{cases_lt}
@@ -10,7 +11,8 @@ use Rattle.hex.specs.Hex.{IsBytes}
 use Rattle.masked_bytes.specs.Masked.{laid}
 use Rattle.masked_bytes.proofs.Layering.{length-laid}
 use Rattle.pcm_cells.specs.Device.{ArrayState}
-use Rattle.bank_shape.specs.Pausing.{Pausing, Pause, Plain, Cancel}
+use Rattle.bank_shape.specs.declared.pace.Policy.{Policy}
+use Rattle.bank_shape.specs.declared.pace.Policy.TheVariants.{Pause, Plain, Cancel}
 use Rattle.trace_reader.specs.Events.{AreEventsFor, IsOpFor}
 use Rattle.trace_reader.specs.Rows.{latest_tick}
 use Rattle.trace_reader.specs.Trace.{most_rows}
@@ -21,14 +23,14 @@ use Rattle.result_rows.specs.declared.Outcome.{Outcome}
 use Rattle.result_rows.specs.declared.Outcome.TheVariants as out
 use Rattle.result_rows.specs.Outcomes.{bytes_of, op_of, place_of, tick_of}
 use Rattle.result_reader.specs.ResultRows.{AreBytes, EachMayStand, MayStand}
-use Rattle.row_laws.specs.declared.Asks.{Asks}
-use Rattle.row_laws.specs.declared.Asks.TheVariants.{Reads, Writes, Cuts}
-use Rattle.row_laws.specs.declared.Row.{Row}
-use Rattle.row_laws.specs.Answers.{accepts}
-use Rattle.row_laws.specs.Rows.{each_row, newest}
-use Rattle.row_laws.specs.Rules.{Rules}
-use Rattle.row_laws.specs.Serving.{is_served, may_have, owed, same_bytes}
-use Rattle.row_laws.specs.Ticking.{attempt, longest, tries, writings}
+use Rattle.row_rules.specs.declared.Asks.{Asks}
+use Rattle.row_rules.specs.declared.Asks.TheVariants.{Reads, Writes, Cuts}
+use Rattle.row_rules.specs.declared.Row.{Row}
+use Rattle.row_rules.specs.Answers.{accepts}
+use Rattle.row_rules.specs.Rows.{each_row, newest}
+use Rattle.row_rules.specs.declared.Rules.{Rules}
+use Rattle.row_rules.specs.Serving.{is_served, may_have, owed, same_bytes}
+use Rattle.row_rules.specs.Ticking.{attempt, longest, tries, writings}
 use Rattle.row_verdict.specs.Verdicts.{RowsOk, asks_of, rows_with}
 use Rattle.run_text.specs.ResultText.{asked}
 use Rattle.module_shape.specs.declared.raw.RawShape.{RawShape}
@@ -69,19 +71,11 @@ zeros-bytes n = (length-replicate {A = ℕ} n 0, small)
           | inr past ↦ subst (λ (b : ℕ). b < 256) (sym (get_or_past (replicate {A = ℕ} n 0) i 0 (omega (arith, past, length-replicate {A = ℕ} n 0)))) (lit< tt)
         ]
 
-first_of_both : (a b : Bool) → (a && b) ≡ true → a ≡ true
-first_of_both true b h = refl
-first_of_both false b h = h
-
-second_of_both : (a b : Bool) → (a && b) ≡ true → b ≡ true
-second_of_both true b h = h
-second_of_both false b h = absurd (cc)
-
 same-bytes : (xs ys : List ℕ) → same_bytes xs ys ≡ true → xs ≡ ys
 same-bytes [] [] h = refl
 same-bytes [] (y ∷ ys) h = cc h
 same-bytes (x ∷ xs) [] h = cc h
-same-bytes (x ∷ xs) (y ∷ ys) h = ap (λ (b : ℕ). b ∷ xs) (eqb-true x y (first_of_both _ _ h)) ∙ ap (λ (rest : List ℕ). y ∷ rest) (same-bytes xs ys (second_of_both (x == y) _ h))
+same-bytes (x ∷ xs) (y ∷ ys) h = ap (λ (b : ℕ). b ∷ xs) (eqb-true x y (and_first _ _ h)) ∙ ap (λ (rest : List ℕ). y ∷ rest) (same-bytes xs ys (and_second (x == y) _ h))
 
 module _ {n : ℕ} where
   -- each write gives n bytes
@@ -128,7 +122,7 @@ module _ {n : ℕ} where
       subst (AreBytes n) (sym (same-bytes bytes (newest before line) h) ∙ same) (newest-bytes before line all)
   answered before tick (Reads line) (out.Forwarded at bytes) all h =
       λ some is. let same : bytes ≡ some = cc in
-      subst (AreBytes n) (sym (same-bytes bytes (newest before line) (second_of_both (at == tick) _ h)) ∙ same) (newest-bytes before line all)
+      subst (AreBytes n) (sym (same-bytes bytes (newest before line) (and_second (at == tick) _ h)) ∙ same) (newest-bytes before line all)
   answered before tick (Writes line given some) (out.Read at place bytes) all h = absurd (cc h)
   answered before tick (Writes line given some) (out.Forwarded at bytes) all h = absurd (cc h)
   answered before tick Cuts (out.Read at place bytes) all h = absurd (cc h)
@@ -138,7 +132,7 @@ module _ {n : ℕ} where
   served-bytes : (before after : List (Row n)) → AllGive before → each_row is_served before after ≡ true → All HasBytes before
   served-bytes [] after all h = All-nil HasBytes
   served-bytes (r ∷ before) after all h =
-      All-cons HasBytes r before (answered before r.tick r.asks r.outcome all.1 (first_of_both _ _ h)) (served-bytes before (r ∷ after) all.1 (second_of_both (is_served before r after) _ h))
+      All-cons HasBytes r before (answered before r.tick r.asks r.outcome all.1 (and_first _ _ h)) (served-bytes before (r ∷ after) all.1 (and_second (is_served before r after) _ h))
 
 -- ---- the rows of events
 
@@ -228,7 +222,7 @@ twice-few : (b : Bool) → writings b ≤ 2
 twice-few true = omega arith
 twice-few false = omega arith
 
-tries-few : (policy : Pausing) → tries policy ≤ 5
+tries-few : (policy : Policy) → tries policy ≤ 5
 tries-few Pause = omega arith
 tries-few Plain = omega arith
 tries-few Cancel = omega arith

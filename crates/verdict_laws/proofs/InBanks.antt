@@ -1,33 +1,22 @@
 -- What each row of each bank's table keeps, the row of the module keeps in the table of its bank.
 use Rattle.std.proofs.Common.{◌≡◌, ℕ, ◌<◌, ◌==◌, ◌&&◌, Bool, true, false, List, [], ◌∷◌, map, refl, sym, ap, ◌∙◌, subst, cond, eqb-true, eq-eqb}
+use Rattle.masked_bytes.proofs.Truth.{and_first, and_second}
 use Rattle.std.specs.Prelude.{All}
 use Rattle.std.specs.List.{list_all}
-use Rattle.std.proofs.lemmas.Bool.{ne_eqb}
+use Rattle.std.proofs.lemmas.Bool.{ne_eqb, and_from}
 use Rattle.std.proofs.lemmas.List.Elements.{All-head, All-tail}
 use Rattle.result_rows.specs.declared.Outcome.{Outcome}
-use Rattle.row_laws.specs.declared.Asks.{Asks}
-use Rattle.row_laws.specs.declared.Asks.TheVariants.{Reads, Writes, Cuts}
-use Rattle.row_laws.specs.declared.Row.{Row}
-use Rattle.row_laws.specs.Rows.{RowTest, each_row}
-use Rattle.row_laws.specs.Rules.{Rules}
-use Rattle.row_laws.specs.Queueing.{has_room}
-use Rattle.row_laws.specs.Table.{is_of, of_bank}
+use Rattle.row_rules.specs.declared.Asks.{Asks}
+use Rattle.row_rules.specs.declared.Asks.TheVariants.{Reads, Writes, Cuts}
+use Rattle.row_rules.specs.declared.Row.{Row}
+use Rattle.row_rules.specs.Rows.{RowTest, each_row}
+use Rattle.row_rules.specs.declared.Rules.{Rules}
+use Rattle.row_rules.specs.Queueing.{has_room}
+use Rattle.row_rules.specs.Table.{is_of, of_bank}
 use Rattle.row_verdict.specs.Verdicts.{bank_in, mates, in_bank, all_have_room}
 use Rattle.module_laws.specs.Asking.{asks_in, row_in, bank_table}
 use Rattle.module_laws.specs.Serves.{AreLines, IsOfLines, finds_room_in}
 use Rattle.verdict_laws.proofs.Renaming.{IsIn, AreIn, room-named}
-
-pub both : (a b : Bool) → a ≡ true → b ≡ true → (a && b) ≡ true
-both true b h k = k
-both false b h k = h
-
-pub first_of_both : (a b : Bool) → (a && b) ≡ true → a ≡ true
-first_of_both true b h = refl
-first_of_both false b h = h
-
-pub second_of_both : (a b : Bool) → (a && b) ≡ true → b ≡ true
-second_of_both true b h = h
-second_of_both false b h = absurd (cc)
 
 -- a line of a bank
 abbrev pub IsOfBank : ℕ → (ℕ → ℕ) → ℕ → ℕ → Type 0
@@ -116,15 +105,15 @@ module _ {n : ℕ} (banks lines : ℕ) (bank_of line_in : ℕ → ℕ) (known : 
         → list_all (λ bank. has_room rules r.tick (of_bank (bank_in list) bank before)) some ≡ true
     rooms_here before r after exist h [] are = refl
     rooms_here before r after exist h (bank ∷ some) are =
-        both _ _ (room_here before r after exist bank (h bank are.0)) (rooms_here before r after exist h some are.1)
+        and_from _ _ (room_here before r after exist bank (h bank are.0)) (rooms_here before r after exist h some are.1)
 
     -- each row finds room in all banks, where it does in each
     pub all_rooms : AreBanks banks list → (rows after : List (Row n)) → Exist lines rows
         → ((bank : ℕ) → bank < banks → each_row (finds_room_in bank_of line_in rules bank) rows after ≡ true) → each_row (all_have_room list rules) rows after ≡ true
     all_rooms are [] after exist h = refl
     all_rooms are (r ∷ before) after exist h =
-        both _ _ (rooms_here before r after exist.1 (λ bank few. first_of_both _ _ (h bank few)) list are)
-        (all_rooms are before (r ∷ after) exist.1 (λ bank few. second_of_both (finds_room_in bank_of line_in rules bank before r after) _ (h bank few)))
+        and_from _ _ (rooms_here before r after exist.1 (λ bank few. and_first _ _ (h bank few)) list are)
+        (all_rooms are before (r ∷ after) exist.1 (λ bank few. and_second (finds_room_in bank_of line_in rules bank before r after) _ (h bank few)))
 
   -- ---- tests of a bank's table
 
@@ -142,14 +131,14 @@ module _ {n : ℕ} (banks lines : ℕ) (bank_of line_in : ℕ → ℕ) (known : 
     in_table : (bank : ℕ) (r : Row n) (before after : List (Row n)) → is_of bank_of bank r.asks ≡ true → each_row test (table bank (r ∷ before)) (table bank after) ≡ true
         → test (table bank before) (row_in bank_of line_in r) (table bank after) ≡ true
     in_table bank r before after own h =
-        first_of_both _ _
+        and_first _ _
         (subst (λ (b : Bool). each_row test (map (row_in bank_of line_in) (cond b (r ∷ of_bank bank_of bank before) (of_bank bank_of bank before))) (table bank after) ≡ true) own h)
 
     -- so does each older one
     rest_in_table : (bank : ℕ) (r : Row n) (before after : List (Row n)) (own : Bool) → is_of bank_of bank r.asks ≡ own
         → each_row test (map (row_in bank_of line_in) (cond own (r ∷ of_bank bank_of bank before) (of_bank bank_of bank before))) (table bank after) ≡ true
         → each_row test (table bank before) (map (row_in bank_of line_in) (cond own (r ∷ of_bank bank_of bank after) (of_bank bank_of bank after))) ≡ true
-    rest_in_table bank r before after true own h = second_of_both (test (table bank before) (row_in bank_of line_in r) (table bank after)) _ h
+    rest_in_table bank r before after true own h = and_second (test (table bank before) (row_in bank_of line_in r) (table bank after)) _ h
     rest_in_table bank r before after false own h = h
 
     -- by the module's numbers of lines and the list of banks
@@ -185,5 +174,5 @@ module _ {n : ℕ} (banks lines : ℕ) (bank_of line_in : ℕ → ℕ) (known : 
         → ((bank : ℕ) → bank < banks → each_row test (table bank rows) (table bank after) ≡ true) → each_row (in_bank list test) rows after ≡ true
     in_tables [] after exist later h = refl
     in_tables (r ∷ before) after exist later h =
-        both _ _ (row_here r before after exist.0 exist.1 later h)
+        and_from _ _ (row_here r before after exist.0 exist.1 later h)
         (in_tables before (r ∷ after) exist.1 (exist.0, later) (λ bank few. rest_in_table bank r before after (is_of bank_of bank r.asks) refl (h bank few)))

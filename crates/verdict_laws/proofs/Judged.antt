@@ -1,19 +1,20 @@
 -- Each row of a right run keeps each rule.
 use Rattle.std.proofs.Common.{◌≡◌, ℕ, zero, suc, ◌+◌, ◌<◌, ◌&&◌, Bool, true, List, [], ◌∷◌, map, refl, sym, ap, ◌∙◌, subst, arith}
+use Rattle.masked_bytes.proofs.Truth.{and_first, and_second}
 use Rattle.std.specs.Prelude.{nat_le, reverse}
 use Rattle.std.specs.List.{range_with_len}
 use Rattle.std.proofs.lemmas.List.{reverse-reverse}
-use Rattle.std.proofs.lemmas.Bool.{le-leb}
+use Rattle.std.proofs.lemmas.Bool.{le-leb, and_from}
 use Rattle.std.proofs.lemmas.List.FromFn.{get_or-map-range_with_len}
 use Rattle.std.proofs.lemmas.Option.{unwrap_or-slice_get}
 use Rattle.pcm_cells.specs.Device.{ArrayState}
-use Rattle.row_laws.specs.declared.Row.{Row}
-use Rattle.row_laws.specs.Rows.{RowTest, each_row}
-use Rattle.row_laws.specs.Rules.{Rules}
-use Rattle.row_laws.specs.Serving.{is_served}
-use Rattle.row_laws.specs.Queueing.{has_room, is_queue_fair}
-use Rattle.row_laws.specs.Wearing.{is_wear_final}
-use Rattle.row_laws.specs.Ticking.{is_in_time}
+use Rattle.row_rules.specs.declared.Row.{Row}
+use Rattle.row_rules.specs.Rows.{RowTest, each_row}
+use Rattle.row_rules.specs.declared.Rules.{Rules}
+use Rattle.row_rules.specs.Serving.{is_served}
+use Rattle.row_rules.specs.Queueing.{has_room, is_queue_fair}
+use Rattle.row_rules.specs.Wearing.{is_wear_final}
+use Rattle.row_rules.specs.Ticking.{is_in_time}
 use Rattle.row_verdict.specs.Judging.{VerdictLaw}
 use Rattle.row_verdict.specs.Verdicts.{bank_in, in_bank, all_have_room, keeps_all}
 use Rattle.module_shape.specs.declared.raw.RawShape.{RawShape}
@@ -26,17 +27,17 @@ use Rattle.run_laws.specs.RowsOfRuns.{LinesExist}
 use Rattle.verdict_laws.specs.Verdicts.{banks_of, RulesKeptLaw, YesLaw}
 use Rattle.verdict_laws.proofs.Renaming.{queue-named}
 use Rattle.verdict_laws.proofs.Timing.{wear-named, ticks-named}
-use Rattle.verdict_laws.proofs.InBanks.{Exist, exist-all, AreBanks, IsOfBank, apart, IsOfTables, all_rooms, in_tables, both, first_of_both, second_of_both}
+use Rattle.verdict_laws.proofs.InBanks.{Exist, exist-all, AreBanks, IsOfBank, apart, IsOfTables, all_rooms, in_tables}
 
 module _ {n : ℕ} where
-  -- a row that passes two tests passes both
+  -- a row that passes two tests passes and_from
   passes_both : (test other : RowTest n) (rows after : List (Row n)) → each_row test rows after ≡ true → each_row other rows after ≡ true
       → each_row (λ before r after. test before r after && other before r after) rows after ≡ true
   passes_both test other [] after h k = refl
   passes_both test other (r ∷ before) after h k =
-      both (test before r after && other before r after) _
-      (both (test before r after) (other before r after) (first_of_both (test before r after) (each_row test before (r ∷ after)) h) (first_of_both (other before r after) (each_row other before (r ∷ after)) k))
-      (passes_both test other before (r ∷ after) (second_of_both (test before r after) _ h) (second_of_both (other before r after) _ k))
+      and_from (test before r after && other before r after) _
+      (and_from (test before r after) (other before r after) (and_first (test before r after) (each_row test before (r ∷ after)) h) (and_first (other before r after) (each_row other before (r ∷ after)) k))
+      (passes_both test other before (r ∷ after) (and_second (test before r after) _ h) (and_second (other before r after) _ k))
 
   -- the test that is always passed
   passes_any : (rows after : List (Row n)) → each_row (λ before r after. true) rows after ≡ true
@@ -46,7 +47,7 @@ module _ {n : ℕ} where
 -- a bank without rows has room
 empty-room : (n : ℕ) (rules : Rules) (tick : ℕ) → has_room {n = n} rules tick [] ≡ true
 empty-room n rules tick =
-    both (nat_le 0 rules.writes) (nat_le 0 rules.reads && true) (le-leb 0 rules.writes (omega arith)) (both (nat_le 0 rules.reads) true (le-leb 0 rules.reads (omega arith)) refl)
+    and_from (nat_le 0 rules.writes) (nat_le 0 rules.reads && true) (le-leb 0 rules.writes (omega arith)) (and_from (nat_le 0 rules.reads) true (le-leb 0 rules.reads (omega arith)) refl)
 
 -- what each of so many numbers from one on is, each of a list is
 banks_in : (raw : RawShape) (seed : ℕ) → ((line : ℕ) → line < total_of raw → bank_of_line raw seed line < raw.banks) → (count from : ℕ) → from + count ≡ total_of raw
@@ -76,7 +77,7 @@ module _ (raw : RawShape) (seed : ℕ) (known : AreLines raw.banks (total_of raw
       named = λ bank before r after earlier of later.
           queue-named (bank_of_line raw seed) (line_in_bank raw seed) (IsOfBank (total_of raw) (bank_of_line raw seed) bank)
           (apart raw.banks (total_of raw) (bank_of_line raw seed) (line_in_bank raw seed) known bank) rules before r after earlier of later;
-      cut = λ tick o. both (has_room {n = n} rules tick []) true (empty-room n rules tick) refl;
+      cut = λ tick o. and_from (has_room {n = n} rules tick []) true (empty-room n rules tick) refl;
     }
 
     wear_is : IsOf is_wear_final

@@ -6,14 +6,14 @@ use Rattle.std.proofs.lemmas.List.{length-map, map-append}
 use Rattle.masked_bytes.specs.Masked.{joined, none_given, gives_all}
 use Rattle.result_rows.specs.declared.Outcome.{Outcome}
 use Rattle.result_rows.specs.declared.Outcome.TheVariants as out
-use Rattle.row_laws.specs.declared.Asks.{Asks}
-use Rattle.row_laws.specs.declared.Asks.TheVariants.{Reads, Writes, Cuts}
-use Rattle.row_laws.specs.declared.Row.{Row}
-use Rattle.row_laws.specs.Answers.{accepts, is_merged, is_queued, is_stored, is_full, is_lost, stored_after, stored_by, stored_before, read_after}
-use Rattle.row_laws.specs.Rules.{Rules}
-use Rattle.row_laws.specs.Rows.{asks_read, asks_write, asks_cut, asks_write_of, line_of, given_of, accepted_of, write_of, is_cut}
-use Rattle.row_laws.specs.Queueing as queue
-use Rattle.row_laws.specs.Queueing.{stands, pending, awaits, waiting, unstored, cover, none_before, is_older, has_few, pairs_few, is_refused, merges_at, store_of, next_store, is_first, is_at_head, read_fits, merge_fits, queue_fits, has_room, is_queue_fair}
+use Rattle.row_rules.specs.declared.Asks.{Asks}
+use Rattle.row_rules.specs.declared.Asks.TheVariants.{Reads, Writes, Cuts}
+use Rattle.row_rules.specs.declared.Row.{Row}
+use Rattle.row_rules.specs.Answers.{accepts, is_merged, is_queued, is_stored, is_full, is_lost, stored_after, stored_by, stored_before, read_after}
+use Rattle.row_rules.specs.declared.Rules.{Rules}
+use Rattle.row_rules.specs.Rows.{asks_read, asks_write, asks_cut, asks_write_of, line_of, given_of, accepted_of, write_of, is_cut}
+use Rattle.row_rules.specs.Queueing as queue
+use Rattle.row_rules.specs.Queueing.{stands, pending, awaits, waiting, unstored, cover, none_before, is_older, has_few, pairs_few, is_refused, merges_at, store_of, next_store, is_first, is_at_head, read_fits, merge_fits, queue_fits, has_room, is_queue_fair}
 use Rattle.module_laws.specs.Asking.{asks_in, row_in}
 
 module _ {n : ℕ} where

@@ -1,5 +1,6 @@
 -- By when the outcomes of rows that keep the rules have come.
 use Rattle.std.proofs.Common.{◌≡◌, ℕ, ◌+◌, ◌*◌, ◌<◌, ◌≤◌, ◌==◌, ◌&&◌, ◌||◌, Bool, true, false, List, [], ◌∷◌, ◌++◌, Some, length, refl, sym, ap, ◌∙◌, subst, cond, arith, eqb-true}
+use Rattle.masked_bytes.proofs.Truth.{and_first, and_second}
 use Rattle.std.specs.Prelude.{All, count_by, filter, max, nat_le, nat_lt, not, reverse}
 use Rattle.std.specs.Option.{ForSome}
 use Rattle.std.specs.List.{list_all, list_any}
@@ -8,24 +9,24 @@ use Rattle.std.proofs.lemmas.Nat.{mul-le}
 use Rattle.std.proofs.lemmas.List.{length-append, length-reverse, reverse-append, reverse-reverse}
 use Rattle.std.proofs.lemmas.List.Elements.{All-nil, All-cons, All-head, All-tail, All-push, All-same}
 use Rattle.std.proofs.lemmas.List.Sums.{count_by-le-length}
-use Rattle.bank_shape.specs.Pausing.{Pausing, Pause, Plain, Cancel}
+use Rattle.bank_shape.specs.declared.pace.Policy.{Policy}
+use Rattle.bank_shape.specs.declared.pace.Policy.TheVariants.{Pause, Plain, Cancel}
 use Rattle.result_rows.specs.declared.Outcome.{Outcome}
 use Rattle.result_rows.specs.declared.Outcome.TheVariants as out
 use Rattle.result_rows.specs.Outcomes.{tick_of}
-use Rattle.row_laws.specs.declared.Asks.{Asks}
-use Rattle.row_laws.specs.declared.Asks.TheVariants.{Reads, Writes, Cuts}
-use Rattle.row_laws.specs.declared.Row.{Row}
-use Rattle.row_laws.specs.Answers.{is_full}
-use Rattle.row_laws.specs.Rows.{RowTest, each_row, is_cut, accepted_of, write_of}
-use Rattle.row_laws.specs.Rules.{Rules}
-use Rattle.row_laws.specs.Serving.{is_served, may_have, owed}
-use Rattle.row_laws.specs.Queueing.{awaits, has_room, merges_at, pending, queue_fits, waiting}
-use Rattle.row_laws.specs.Ticking.{asks_in_time, attempt, bound, came_since, cuts_to, delay, first_cut_at, is_in_time, last_store, longest, reads_in, stores_in, tries, writings}
-use Rattle.row_laws.specs.Table.{of_bank, is_of}
+use Rattle.row_rules.specs.declared.Asks.{Asks}
+use Rattle.row_rules.specs.declared.Asks.TheVariants.{Reads, Writes, Cuts}
+use Rattle.row_rules.specs.declared.Row.{Row}
+use Rattle.row_rules.specs.Answers.{is_full}
+use Rattle.row_rules.specs.Rows.{RowTest, each_row, is_cut, accepted_of, write_of}
+use Rattle.row_rules.specs.declared.Rules.{Rules}
+use Rattle.row_rules.specs.Serving.{is_served, may_have, owed}
+use Rattle.row_rules.specs.Queueing.{awaits, has_room, merges_at, pending, queue_fits, waiting}
+use Rattle.row_rules.specs.Ticking.{asks_in_time, attempt, bound, came_since, cuts_to, delay, first_cut_at, is_in_time, last_store, longest, reads_in, stores_in, tries, writings}
+use Rattle.row_rules.specs.Table.{of_bank, is_of}
 use Rattle.row_verdict.specs.Verdicts.{all_have_room, bank_in, in_bank, keeps, keeps_all, RowsOk}
 use Rattle.row_verdict.specs.declared.Rule.TheVariants as rule
 use Rattle.verdict_laws.specs.Ticks.{longest_among, SoonLaw}
-use Rattle.verdict_laws.proofs.InBanks.{first_of_both, second_of_both}
 
 -- ---- numbers
 
@@ -93,7 +94,7 @@ module _ {n : ℕ} where
 
   -- ---- one row
 
-  delay-short : (rules : Rules) (policy : Pausing) (a : ℕ) (before after : List (Row n)) → delay rules policy a before after ≤ attempt rules + max rules.read rules.iter
+  delay-short : (rules : Rules) (policy : Policy) (a : ℕ) (before after : List (Row n)) → delay rules policy a before after ≤ attempt rules + max rules.read rules.iter
   delay-short rules Pause a before after = omega arith
   delay-short rules Plain a before after = omega arith
   delay-short rules Cancel a before after = by (nat_lt (came_since (last_store a (before ++ after)) before) 4)
@@ -143,16 +144,16 @@ module _ {n : ℕ} where
         → ForSome (tick_of o) (λ u. u ≤ latest)
     soon bank (Reads line) (out.Read u place some) bytes served queue ticks =
         λ v at. let same : u ≡ v = cc in
-        subst (λ (v : ℕ). v ≤ latest) same (read-soon bank u (first_of_both _ _ (second_of_both (nat_le (tick + rules.read) u) _ ticks)))
+        subst (λ (v : ℕ). v ≤ latest) same (read-soon bank u (and_first _ _ (and_second (nat_le (tick + rules.read) u) _ ticks)))
     soon bank (Reads line) (out.Forwarded u some) bytes served queue ticks =
         λ v at. let same : u ≡ v = cc in
-        subst (λ (v : ℕ). v ≤ latest) same (own-soon u (first_of_both _ _ served))
+        subst (λ (v : ℕ). v ≤ latest) same (own-soon u (and_first _ _ served))
     soon bank (Reads line) (out.Busy u) bytes served queue ticks =
         λ v at. let same : u ≡ v = cc in
         subst (λ (v : ℕ). v ≤ latest) same (own-soon u served)
     soon bank (Reads line) (out.Lost u) bytes served queue ticks =
         λ v at. let same : u ≡ v = cc in
-        let lost : u ≤ last = lost-early last u (of bank after) (early-of last (λ r. is_of (bank_in banks) bank r.asks) after early) (first_of_both _ _ ticks) in
+        let lost : u ≤ last = lost-early last u (of bank after) (early-of last (λ r. is_of (bank_in banks) bank r.asks) after early) (and_first _ _ ticks) in
         omega (arith, lost, same)
     soon bank (Writes line given some) (out.Stored u place) bytes served queue ticks =
         λ v at. let same : u ≡ v = cc in
@@ -161,7 +162,7 @@ module _ {n : ℕ} where
         let all : List (Row n) = of bank before ++ row asks o ∷ of bank after in
         subst (λ (v : ℕ). v ≤ latest) same
         (stored-soon bank u o asks (stores_in tick u all) (reads_in tick u all) (cuts_to u (of bank after))
-        (count_by-le-length _ all) (count_by-le-length _ all) (count_by-le-length _ (of bank after)) (second_of_both (nat_lt tick u) _ ticks))
+        (count_by-le-length _ all) (count_by-le-length _ all) (count_by-le-length _ (of bank after)) (and_second (nat_lt tick u) _ ticks))
     soon bank (Writes line given some) (out.Merged u) bytes served queue ticks =
         λ v at. let same : u ≡ v = cc in
         let ps : List (Row n) = pending tick [] (of bank before) in
@@ -186,20 +187,20 @@ module _ {n : ℕ} where
     -- a row that keeps all rules
     row_soon : (asks : Asks n) (o : Outcome n) → keeps_all rules banks before (row asks o) after ≡ true → ForSome (tick_of o) (λ u. u ≤ latest)
     row_soon (Reads line) o h =
-        let rest = second_of_both (is_served before (row (Reads line) o) after) _ h in
-        let queue = second_of_both (all_have_room banks rules before (row (Reads line) o) after) _ (first_of_both _ _ rest) in
-        let later = second_of_both (keeps banks rules rule.Queue before (row (Reads line) o) after) _ rest in
-        let ticks = second_of_both (keeps banks rules rule.Worn before (row (Reads line) o) after) _ later in
-        soon (bank_in banks line) (Reads line) o (owed before (Reads line)) (first_of_both _ _ h)
-        (second_of_both (has_room rules tick (of (bank_in banks line) before)) _ queue) (first_of_both _ _ (first_of_both _ _ ticks))
+        let rest = and_second (is_served before (row (Reads line) o) after) _ h in
+        let queue = and_second (all_have_room banks rules before (row (Reads line) o) after) _ (and_first _ _ rest) in
+        let later = and_second (keeps banks rules rule.Queue before (row (Reads line) o) after) _ rest in
+        let ticks = and_second (keeps banks rules rule.Worn before (row (Reads line) o) after) _ later in
+        soon (bank_in banks line) (Reads line) o (owed before (Reads line)) (and_first _ _ h)
+        (and_second (has_room rules tick (of (bank_in banks line) before)) _ queue) (and_first _ _ (and_first _ _ ticks))
     row_soon (Writes line given some) o h =
-        let rest = second_of_both (is_served before (row (Writes line given some) o) after) _ h in
-        let queue = second_of_both (all_have_room banks rules before (row (Writes line given some) o) after) _ (first_of_both _ _ rest) in
-        let later = second_of_both (keeps banks rules rule.Queue before (row (Writes line given some) o) after) _ rest in
-        let ticks = second_of_both (keeps banks rules rule.Worn before (row (Writes line given some) o) after) _ later in
-        soon (bank_in banks line) (Writes line given some) o (owed before (Writes line given some)) (first_of_both _ _ h)
-        (second_of_both (has_room rules tick (of (bank_in banks line) before)) _ queue) (first_of_both _ _ (first_of_both _ _ ticks))
-    row_soon Cuts o h = soon 0 Cuts o [] (first_of_both _ _ h) refl refl
+        let rest = and_second (is_served before (row (Writes line given some) o) after) _ h in
+        let queue = and_second (all_have_room banks rules before (row (Writes line given some) o) after) _ (and_first _ _ rest) in
+        let later = and_second (keeps banks rules rule.Queue before (row (Writes line given some) o) after) _ rest in
+        let ticks = and_second (keeps banks rules rule.Worn before (row (Writes line given some) o) after) _ later in
+        soon (bank_in banks line) (Writes line given some) o (owed before (Writes line given some)) (and_first _ _ h)
+        (and_second (has_room rules tick (of (bank_in banks line) before)) _ queue) (and_first _ _ (and_first _ _ ticks))
+    row_soon Cuts o h = soon 0 Cuts o [] (and_first _ _ h) refl refl
 
 module _ {n : ℕ} (rules : Rules) (banks : List ℕ) (last count : ℕ) where
   rows_soon : (rows after : List (Row n)) → length rows + length after ≤ count → AreEarly last rows → AreEarly last after → each_row (keeps_all rules banks) rows after ≡ true
@@ -207,8 +208,8 @@ module _ {n : ℕ} (rules : Rules) (banks : List ℕ) (last count : ℕ) where
   rows_soon [] after few early later h = All-nil (λ (r : Row n). ForSome (tick_of r.outcome) (λ tick. tick ≤ last + longest_among rules count))
   rows_soon (r ∷ before) after few early later h =
       All-cons (λ (r : Row n). ForSome (tick_of r.outcome) (λ tick. tick ≤ last + longest_among rules count)) r before
-      (row_soon rules banks last count before r.tick after (omega (arith, few)) later early.0 r.asks r.outcome (first_of_both _ _ h))
-      (rows_soon before (r ∷ after) (omega (arith, few)) early.1 (early.0, later) (second_of_both (keeps_all rules banks before r after) _ h))
+      (row_soon rules banks last count before r.tick after (omega (arith, few)) later early.0 r.asks r.outcome (and_first _ _ h))
+      (rows_soon before (r ∷ after) (omega (arith, few)) early.1 (early.0, later) (and_second (keeps_all rules banks before r after) _ h))
 
 All-reverse : {X : Type 0} (P : X → Type 0) (xs : List X) → All P xs → All P (reverse xs)
 All-reverse P [] all = all

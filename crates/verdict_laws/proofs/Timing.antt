@@ -4,18 +4,19 @@ use Rattle.std.specs.Prelude.{count_by, max, nat_lt, nat_le, not}
 use Rattle.std.specs.List.{list_all, list_any}
 use Rattle.std.proofs.lemmas.List.{length-map, map-append}
 use Rattle.std.proofs.lemmas.List.Sums.{sum_by-cons}
-use Rattle.bank_shape.specs.Pausing.{Pausing, Pause, Plain, Cancel}
+use Rattle.bank_shape.specs.declared.pace.Policy.{Policy}
+use Rattle.bank_shape.specs.declared.pace.Policy.TheVariants.{Pause, Plain, Cancel}
 use Rattle.result_rows.specs.declared.Outcome.{Outcome}
 use Rattle.result_rows.specs.declared.Outcome.TheVariants as out
-use Rattle.row_laws.specs.declared.Asks.{Asks}
-use Rattle.row_laws.specs.declared.Asks.TheVariants.{Reads, Writes, Cuts}
-use Rattle.row_laws.specs.declared.Row.{Row}
-use Rattle.row_laws.specs.Answers.{is_answered, is_lost, is_worn, stored_after, stored_by, read_after, read_by}
-use Rattle.row_laws.specs.Rules.{Rules}
-use Rattle.row_laws.specs.Rows.{asks_read, asks_write, asks_cut, is_cut}
-use Rattle.row_laws.specs.Queueing.{waiting}
-use Rattle.row_laws.specs.Ticking.{attempt, longest, store_up_to, last_store, came_since, delay, bound, no_cut_below, first_cut_at, read_in_time, stores_in, reads_in, cuts_to, store_in_time, apart, asks_in_time, is_in_time}
-use Rattle.row_laws.specs.Wearing.{worn_row, worn_by, store_fits, is_wear_final}
+use Rattle.row_rules.specs.declared.Asks.{Asks}
+use Rattle.row_rules.specs.declared.Asks.TheVariants.{Reads, Writes, Cuts}
+use Rattle.row_rules.specs.declared.Row.{Row}
+use Rattle.row_rules.specs.Answers.{is_answered, is_lost, is_worn, stored_after, stored_by, read_after, read_by}
+use Rattle.row_rules.specs.declared.Rules.{Rules}
+use Rattle.row_rules.specs.Rows.{asks_read, asks_write, asks_cut, is_cut}
+use Rattle.row_rules.specs.Queueing.{waiting}
+use Rattle.row_rules.specs.Ticking.{attempt, longest, store_up_to, last_store, came_since, delay, bound, no_cut_below, first_cut_at, read_in_time, stores_in, reads_in, cuts_to, store_in_time, apart, asks_in_time, is_in_time}
+use Rattle.row_rules.specs.Wearing.{worn_row, worn_by, store_fits, is_wear_final}
 use Rattle.module_laws.specs.Asking.{asks_in, row_in}
 use Rattle.verdict_laws.proofs.Renaming.{any-same, all-same, reads-named, writes-named, cuts-named, waiting-named}
 
@@ -66,7 +67,7 @@ module _ {n : ℕ} (bank_of line_in : ℕ → ℕ) where
       count-same to _ (λ q. asks_read q.asks && (nat_le v q.tick && (is_answered q.outcome || is_lost q.outcome)))
       (λ q. ap (λ (b : Bool). b && (nat_le v q.tick && (is_answered q.outcome || is_lost q.outcome))) (reads-named bank_of line_in q.asks)) rows
 
-  delay-named : (rules : Rules) (policy : Pausing) (a : ℕ) (before after : List (Row n)) → delay rules policy a (map to before) (map to after) ≡ delay rules policy a before after
+  delay-named : (rules : Rules) (policy : Policy) (a : ℕ) (before after : List (Row n)) → delay rules policy a (map to before) (map to after) ≡ delay rules policy a before after
   delay-named rules Pause a before after = refl
   delay-named rules Plain a before after = refl
   delay-named rules Cancel a before after =

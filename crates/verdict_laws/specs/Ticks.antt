@@ -2,9 +2,9 @@
 use Rattle.std.specs.Prelude.{◌≡◌, ℕ, ◌+◌, ◌*◌, ◌≤◌, List, All, length, max}
 use Rattle.std.specs.Option.{ForSome}
 use Rattle.result_rows.specs.Outcomes.{tick_of}
-use Rattle.row_laws.specs.declared.Row.{Row}
-use Rattle.row_laws.specs.Rules.{Rules}
-use Rattle.row_laws.specs.Ticking.{attempt, longest}
+use Rattle.row_rules.specs.declared.Row.{Row}
+use Rattle.row_rules.specs.declared.Rules.{Rules}
+use Rattle.row_rules.specs.Ticking.{attempt, longest}
 use Rattle.row_verdict.specs.Verdicts.{RowsOk}
 
 -- the longest time until the row of a table of so many is read, stored or lost

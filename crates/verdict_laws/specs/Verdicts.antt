@@ -2,7 +2,7 @@
 use Rattle.std.specs.Prelude.{◌≡◌, ℕ, List, map, reverse}
 use Rattle.std.specs.List.{range_with_len}
 use Rattle.pcm_cells.specs.Device.{ArrayState}
-use Rattle.row_laws.specs.declared.Row.{Row}
+use Rattle.row_rules.specs.declared.Row.{Row}
 use Rattle.row_verdict.specs.declared.Verdict.TheVariants.{Yes}
 use Rattle.row_verdict.specs.Verdicts.{verdict_of, RowsOk}
 use Rattle.module_shape.specs.declared.raw.RawShape.{RawShape}

@@ -1,8 +1,8 @@
 -- Tables beside the worked run of run_laws, the newest row first.
 use Rattle.std.specs.Prelude.{ℕ, List, [], ◌∷◌, reverse}
 use Rattle.result_rows.specs.declared.Outcome.TheVariants as out
-use Rattle.row_laws.specs.declared.Row.{Row}
-use Rattle.row_laws.specs.Worked.{W, R, whole}
+use Rattle.row_rules.specs.declared.Row.{Row}
+use Rattle.row_rules.specs.Worked.{W, R, whole}
 use Rattle.row_verdict.specs.declared.Verdict.{Verdict}
 use Rattle.row_verdict.specs.Verdicts.{verdict_of}
 use Rattle.run_laws.specs.Runs.{rules_in}
