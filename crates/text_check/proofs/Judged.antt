@@ -16,7 +16,8 @@ use Rattle.run_laws.specs.Runs.{bank_of_line}
 use Rattle.row_rules.specs.declared.Rules.{Rules}
 use Rattle.row_verdict.specs.Within.{AreWithin}
 use Rattle.result_check.specs.Checkable.{IsCheckable, IsTimed}
-use Rattle.text_check.specs.Checked.{asks_in, banks_of}
+use Rattle.verdict_laws.specs.Verdicts.{banks_of}
+use Rattle.text_check.specs.Checked.{asks_in}
 
 timed : {n : ℕ} (asked : Op) (outcome : Outcome n) → MayStand asked outcome → IsTimed outcome
 timed asked out.Unset may = cc may.belongs

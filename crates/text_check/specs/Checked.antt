@@ -1,6 +1,5 @@
 -- The verdict on a text that has a trace and then its results.
 use Rattle.std.specs.Prelude.{◌≡◌, ◌⊎◌, ℕ, List, map, take, drop, Result, Ok, Err}
-use Rattle.std.specs.List.{range_with_len}
 use Rattle.trace_reader.specs.Trace.{trace_of}
 use Rattle.trace_reader.specs.declared.event.Event.{Event}
 use Rattle.trace_reader.specs.declared.event.EventOp.{EventOp}
@@ -14,9 +13,10 @@ use Rattle.result_reader.specs.declared.fault.ResultFault.TheVariants as reading
 use Rattle.run_text.specs.ResultText.{asked, named_line}
 use Rattle.module_shape.specs.declared.raw.RawShape.{RawShape}
 use Rattle.module_shape.specs.Limits.{total_of}
-use Rattle.run_laws.specs.Runs.{bank_of_line, rules_in}
+use Rattle.run_laws.specs.Runs.{rules_in}
 use Rattle.row_verdict.specs.declared.Verdict.{Verdict}
 use Rattle.row_verdict.specs.Verdicts.{rows_with, verdict_of}
+use Rattle.verdict_laws.specs.Verdicts.{banks_of}
 use Rattle.text_check.specs.declared.fault.TextFault.{TextFault}
 use Rattle.text_check.specs.declared.fault.TextFault.TheVariants as fault
 
@@ -27,10 +27,6 @@ ask_of op = (asked op, named_line op)
 -- the operation and the line that each row of results has for its event
 abbrev pub asks_in : {n : ℕ} → List (Event n) → List (Op × ℕ)
 asks_in events = map (λ event. ask_of event.op) events
-
--- the bank of each line of a module
-abbrev pub banks_of : RawShape → ℕ → List ℕ
-banks_of raw seed = map (bank_of_line raw seed) (range_with_len 0 (total_of raw))
 
 -- the verdict on these events and outcomes, by the rules that the banks of a run keep
 abbrev pub verdict_on : {n : ℕ} → ℕ → RawShape → ℕ → List (Event n) → List (Outcome n) → Verdict

@@ -3,3 +3,5 @@ pub mod Checked
 pub mod Causes
 pub mod VerdictText
 pub mod PrintedLaw
+pub mod SplitLaw
+pub mod JudgedRuns

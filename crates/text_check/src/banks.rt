@@ -1,6 +1,6 @@
 //! The bank of each line of a module.
 ghost use Rattle.std.specs.Prelude.{◌≡◌, IfOk};
-ghost use Rattle.text_check.specs.Checked.{banks_of};
+ghost use Rattle.verdict_laws.specs.Verdicts.{banks_of};
 
 use feistel_map::Feistel;
 use module_shape::Shape;

@@ -2,7 +2,9 @@
 //! says so.
 #![tactic(auto)]
 
+ghost use Rattle.text_check.specs.JudgedRuns.{JudgedRunsLaw, MayStandLaw, ShortLaw};
 ghost use Rattle.text_check.specs.PrintedLaw.{PrintedLaw};
+ghost use Rattle.text_check.specs.SplitLaw.{SplitLaw};
 
 mod asks;
 mod banks;
@@ -13,10 +15,47 @@ mod verdict;
 
 pub use fault::TextFault;
 pub use result_check::{Rule, Verdict};
+use result_reader::results_are_read_once;
+use run_laws::{array_lines_are_few, places_are_array_lines, rows_have_their_own_outcomes};
 pub use text::check_text;
 pub use verdict::print_verdict;
+use verdict_laws::{outcomes_come_soon, right_runs_get_yes, right_runs_keep_the_rules};
 
 /// What a run prints of its results is read as these.
 pub fn printed_results_are_read()
     ensures { PrintedLaw }
 {}
+
+/// Behind a trace whose last line is ended, results begin at their own first byte.
+pub fn results_begin_behind_their_trace()
+    ensures { SplitLaw }
+{}
+
+/// The outcomes of a right run of a trace may stand in results.
+pub fn outcomes_of_runs_may_stand()
+    ensures { MayStandLaw }
+{
+    rows_have_their_own_outcomes();
+    places_are_array_lines();
+    array_lines_are_few();
+    outcomes_come_soon();
+    right_runs_keep_the_rules();
+}
+
+/// The results that are printed of a right run take few bytes.
+pub fn printed_results_are_short()
+    ensures { ShortLaw }
+{
+    outcomes_of_runs_may_stand();
+}
+
+/// A trace whose last line is ended, with the results of a right run of it behind it, is judged ok.
+pub fn right_runs_are_judged_ok()
+    ensures { JudgedRunsLaw }
+{
+    right_runs_get_yes();
+    outcomes_of_runs_may_stand();
+    results_begin_behind_their_trace();
+    printed_results_are_read();
+    results_are_read_once();
+}
