@@ -40,11 +40,11 @@ whole-go (Some xs) (Some ys) bytes found is took ended =
     let e : xs ≡ found ++ [] = rw ended at took in
     sym (append-nil found) ∙ sym e ∙ same
 
-reads-told : (n : ℕ) (s : SourceChange) (bytes found : List ℕ) → s.left_before ≡ Some bytes → ReadsWhole n s found → found ≡ bytes
+pub reads-told : (n : ℕ) (s : SourceChange) (bytes found : List ℕ) → s.left_before ≡ Some bytes → ReadsWhole n s found → found ≡ bytes
 reads-told n s bytes found is whole = whole-go s.left_before s.left_now bytes found is whole.takes.first whole.ended
 
 -- it has at least the bytes that were taken
-more-go : (before now : Option (List ℕ)) (bytes found : List ℕ) → before ≡ Some bytes → Consumes before now found → length found ≤ length bytes
+pub more-go : (before now : Option (List ℕ)) (bytes found : List ℕ) → before ≡ Some bytes → Consumes before now found → length found ≤ length bytes
 more-go None now bytes found is took = cc is
 more-go (Some xs) None bytes found is took = absurd took
 more-go (Some xs) (Some ys) bytes found is took =

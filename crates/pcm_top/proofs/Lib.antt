@@ -14,3 +14,4 @@ mod Shown
 mod DrawnRuns
 mod Making
 mod Completing
+mod CheckedRuns

@@ -17,3 +17,4 @@ pub mod Promises
 pub mod Laws
 pub mod Lasting
 pub mod ShownRuns
+pub mod CheckedRuns

@@ -1,4 +1,5 @@
 //! The laws of the program. A law is what a function here ensures; the functions do nothing when they run.
+ghost use Rattle.pcm_top.specs.CheckedRuns.{CheckedLaw};
 ghost use Rattle.pcm_top.specs.Lasting.{LastingLaw, LastingTraceLaw, SeededLastingLaw, SeededTraceLaw};
 ghost use Rattle.pcm_top.specs.Laws.{CompletenessLaw, DrawnLaw, PrintableLaw};
 ghost use Rattle.pcm_top.specs.ShownRuns.{ShownLaw};
@@ -8,6 +9,7 @@ use run_laws::{
     places_are_array_lines, reads_are_not_lost_without_cuts, room_is_taken,
     rows_have_their_own_outcomes, runs_live_on,
 };
+use text_check::{printed_results_are_short, right_runs_are_judged_ok};
 use trace_gen::laws::{gen_text_is_short, gen_text_reads_back, generated_events_are_lawful};
 
 /// Each row of a right run can be printed, and each array line has one role.
@@ -70,3 +72,13 @@ pub fn seeded_runs_last()
 pub fn images_show_the_newest()
     ensures { ShownLaw }
 {}
+
+/// What a run wrote as its results, given to `check` behind its trace with the same options, is ok.
+pub fn printed_results_are_ok()
+    ensures { CheckedLaw }
+{
+    gen_text_reads_back();
+    gen_text_is_short();
+    printed_results_are_short();
+    right_runs_are_judged_ok();
+}

@@ -1,0 +1,285 @@
+-- What a run printed, checked behind its trace, is ok.
+use Rattle.std.proofs.Common.{◌≡◌, ℕ, zero, suc, ◌+◌, ◌-◌, ◌*◌, ◌<◌, ◌≤◌, inl, inr, List, [], ◌∷◌, ◌++◌, length, map, Option, Some, None, refl, sym, ap, ◌∙◌, subst, arith, append_assoc, append-nil, length-append}
+use Rattle.std.specs.Prelude.{◌⊎◌, codes, reverse, slice_get, slice_index, unwrap_or, Ok}
+use Rattle.std.specs.Io.KnownBytes.{Appends}
+use Rattle.std.specs.List.{join_with_byte}
+use Rattle.std.proofs.lemmas.List.{append_cancel_left, get_or_at, length_push, reverse-append}
+use Rattle.pcm_cells.specs.Device.{ArrayState}
+use Rattle.trace_reader.specs.Trace.{most_rows, trace_of}
+use Rattle.trace_reader.specs.declared.event.Event.{Event}
+use Rattle.trace_reader.proofs.Lawful.{trace_of-lawful}
+use Rattle.trace_gen.specs.EventText.{event_fields, event_row, event_rows, trace_header, trace_text}
+use Rattle.trace_gen.specs.Generated.{IsMix, generated}
+use Rattle.trace_gen.specs.Laws.{GeneratedSizeLaw, GeneratedTextLaw}
+use Rattle.trace_gen.specs.declared.mix.Mix.{Mix}
+use Rattle.result_rows.specs.declared.Outcome.{Outcome}
+use Rattle.result_rows.specs.declared.Outcome.TheVariants.{Unset}
+use Rattle.row_rules.specs.declared.Row.{Row}
+use Rattle.row_verdict.specs.Verdicts.{rows_with}
+use Rattle.row_verdict.specs.declared.Verdict.{Verdict}
+use Rattle.row_verdict.specs.declared.Verdict.TheVariants.{Yes}
+use Rattle.module_shape.specs.Limits.{IsShape, total_of}
+use Rattle.module_laws.specs.Asking.{Asked, row_with}
+use Rattle.run_laws.specs.Runs.{RunsRight}
+use Rattle.run_text.specs.ResultText.{results_text}
+use Rattle.bank_timing.specs.Extending.{outcome_in}
+use Rattle.pcm_module.specs.Asking.{asked_by, asked_for}
+use Rattle.text_check.specs.Checked.{HasVerdict, IsTextFault}
+use Rattle.text_check.specs.JudgedRuns.{IsJudgedOk, IsRunOf, JudgedRunsLaw, ShortLaw}
+use Rattle.text_check.specs.SplitLaw.{EndsItsLine}
+use Rattle.text_check.specs.VerdictText.{verdict_text}
+use Rattle.text_check.specs.declared.fault.TextFault.{TextFault}
+use Rattle.text_check.specs.declared.fault.TextFault.TheVariants as text
+use Rattle.command_line.specs.Jobs.{IsInput, IsRun}
+use Rattle.command_line.specs.declared.job.CheckJob.{CheckJob}
+use Rattle.command_line.specs.declared.job.Input.{Input}
+use Rattle.command_line.specs.declared.job.Input.TheVariants.{Source, Drawn}
+use Rattle.command_line.specs.declared.job.LineSize.{LineSize}
+use Rattle.command_line.specs.declared.job.LineSize.TheVariants.{Bytes64, Bytes128}
+use Rattle.command_line.specs.declared.job.Print.{Print}
+use Rattle.command_line.specs.declared.job.Print.TheVariants.{Results}
+use Rattle.command_line.specs.declared.job.RunJob.{RunJob}
+use Rattle.pcm_top.specs.CheckedRuns.{CheckedLaw, IsTraceOf, SaysOk, check_with}
+use Rattle.pcm_top.specs.Checking.{IsCheckFault, done_on, pointers_in, room_line}
+use Rattle.pcm_top.specs.Inputs.{ComeFrom}
+use Rattle.pcm_top.specs.Jobs.{bytes_in, checks_in}
+use Rattle.pcm_top.specs.Reading.{SourceChange, trace_room}
+use Rattle.pcm_top.specs.Rows.{rows_of}
+use Rattle.pcm_top.specs.RunText.{IsRunText}
+use Rattle.pcm_top.specs.Running.{RunIsWritten}
+use Rattle.pcm_top.specs.Writing.{Gets, GetsPart, SinkChange}
+use Rattle.pcm_top.specs.Doing.{Deed, DoesJob, WritesVerdict, WritesVerdictInPart, array_for}
+use Rattle.pcm_top.specs.Causes.{text_fault}
+use Rattle.pcm_top.specs.FaultLines.{status_of}
+use Rattle.pcm_top.specs.Statuses.{IsCheckStatus, status_done}
+use Rattle.pcm_top.specs.declared.fault.Fault.{Fault}
+use Rattle.pcm_top.specs.declared.fault.Fault.TheVariants as fault
+use Rattle.pcm_top.specs.declared.run.Done.{Done}
+use Rattle.pcm_top.specs.declared.run.Done.TheVariants.{Whole}
+use Rattle.pcm_top.proofs.Deciding.{more-go, reads-told}
+use Rattle.pcm_top.proofs.DrawnRuns.{some-lines}
+
+-- ---- the rows of a run, the oldest first
+
+turned : {A : Type 0} (x : A) (xs ys : List A) → reverse (x ∷ xs) ++ ys ≡ reverse xs ++ x ∷ ys
+turned x xs ys = ap (λ rows. rows ++ ys) (reverse-append (x ∷ []) xs) ∙ append_assoc (reverse xs) (x ∷ []) ys
+
+map-reverse : {A B : Type 0} (f : A → B) (xs ys : List A) → map f (reverse xs ++ ys) ≡ reverse (map f xs) ++ map f ys
+map-reverse f [] ys = refl
+map-reverse f (x ∷ xs) ys = ap (map f) (turned x xs ys) ∙ map-reverse f xs (x ∷ ys) ∙ sym (turned (f x) (map f xs) (map f ys))
+
+module _ {n : ℕ} where
+  -- what events ask, numbered from this row on
+  abbrev numbered : ℕ → List (Event n) → List (Asked n)
+  numbered row [] = []
+  numbered row (event ∷ events) = asked_by row event ∷ numbered (row + 1) events
+
+  asked-forwards : (events below : List (Event n)) → asked_for (reverse events ++ below) ≡ reverse (numbered (length below + 1) events) ++ asked_for below
+  asked-forwards [] below = refl
+  asked-forwards (event ∷ events) below =
+      let next : length (event ∷ below) + 1 ≡ length below + 1 + 1 = omega arith in
+      ap asked_for (turned event events below) ∙ asked-forwards events (event ∷ below)
+      ∙ ap (λ (row : ℕ). reverse (numbered row events) ++ asked_for (event ∷ below)) next
+      ∙ sym (turned (asked_by (length below + 1) event) (numbered (length below + 1 + 1) events) (asked_for below))
+
+  own-outcome : (before : List (Outcome n)) (outcome : Outcome n) (rest : List (Outcome n)) → outcome_in (before ++ outcome ∷ rest) (length before + 1) ≡ outcome
+  own-outcome before outcome rest =
+      let back : length before + 1 - 1 ≡ length before = omega arith in
+      ap (λ (i : ℕ). unwrap_or (slice_get (before ++ outcome ∷ rest) i) Unset) back ∙ at before
+    where
+      at : (before : List (Outcome n)) → unwrap_or (slice_get (before ++ outcome ∷ rest) (length before)) Unset ≡ outcome
+      at [] = refl
+      at (first ∷ before) = at before
+
+  with-outcomes : (before : List (Outcome n)) (events : List (Event n)) (outcomes : List (Outcome n)) → length outcomes ≡ length events
+      → map (row_with (outcome_in (before ++ outcomes))) (numbered (length before + 1) events) ≡ rows_with events outcomes
+  with-outcomes before [] [] size = refl
+  with-outcomes before [] (outcome ∷ outcomes) size = absurd (omega (arith, size))
+  with-outcomes before (event ∷ events) [] size = absurd (omega (arith, size))
+  with-outcomes before (event ∷ events) (outcome ∷ outcomes) size =
+      let all : List (Outcome n) = before ++ outcome ∷ outcomes in
+      let next : (before ++ outcome ∷ []) ++ outcomes ≡ all = append_assoc before (outcome ∷ []) outcomes in
+      ap (λ (o : Outcome n). record { tick = event.tick; asks = (asked_by 0 event).asks; outcome = o } ∷ map (row_with (outcome_in all)) (numbered (length before + 1 + 1) events)) (own-outcome before outcome outcomes)
+      ∙ ap (λ (rest : List (Row n)). record { tick = event.tick; asks = (asked_by 0 event).asks; outcome = outcome } ∷ rest)
+      (ap (λ (row : ℕ). map (row_with (outcome_in all)) (numbered (row + 1) events)) (sym (length_push before outcome))
+      ∙ ap (λ (all : List (Outcome n)). map (row_with (outcome_in all)) (numbered (length (before ++ outcome ∷ []) + 1) events)) (sym next)
+      ∙ with-outcomes (before ++ outcome ∷ []) events outcomes (omega (arith, size)))
+
+  -- the table of a run is that of its events and outcomes, the newest row first
+  rows-are : (events : List (Event n)) (outcomes : List (Outcome n)) → length outcomes ≡ length events → rows_of events outcomes ≡ reverse (rows_with events outcomes)
+  rows-are events outcomes size =
+      ap (λ (es : List (Event n)). map (row_with (outcome_in outcomes)) (asked_for es)) (sym (append-nil (reverse events)))
+      ∙ ap (map (row_with (outcome_in outcomes))) (asked-forwards events [])
+      ∙ map-reverse (row_with (outcome_in outcomes)) (numbered 1 events) []
+      ∙ append-nil (reverse (map (row_with (outcome_in outcomes)) (numbered 1 events)))
+      ∙ ap reverse (with-outcomes [] events outcomes size)
+
+-- ---- the trace of a run
+
+-- a text that ends with an LF ends its line
+ends-line : (front : List ℕ) → EndsItsLine (front ++ 10 ∷ [])
+ends-line front =
+    let size : length (front ++ 10 ∷ []) - 1 ≡ length front = omega (arith, length-append front (10 ∷ [])) in
+    inr (inl (ap (slice_index (front ++ 10 ∷ [])) size ∙ get_or_at front 10 [] 0 (length front) refl))
+
+rows-end : {n : ℕ} (front : List ℕ) (events : List (Event n)) → EndsItsLine ((front ++ 10 ∷ []) ++ event_rows events)
+unfolding event_rows
+rows-end front [] = subst EndsItsLine (sym (append-nil (front ++ 10 ∷ []))) (ends-line front)
+rows-end front (event ∷ events) =
+    let row : List ℕ = (front ++ 10 ∷ []) ++ join_with_byte 44 (event_fields event) in
+    subst EndsItsLine
+    (ap (λ (text : List ℕ). text ++ event_rows events) (append_assoc (front ++ 10 ∷ []) (join_with_byte 44 (event_fields event)) (10 ∷ []))
+    ∙ append_assoc (front ++ 10 ∷ []) (event_row event) (event_rows events))
+    (rows-end row events)
+
+-- a generated trace does
+text-ends : {n : ℕ} (events : List (Event n)) → EndsItsLine (trace_text events)
+text-ends events = rows-end (codes "tick,op,arg,data") events
+
+-- the trace of events of a run over lines of n bytes
+record IsTrace (n : ℕ) (job : RunJob) (events : List (Event n)) (trace : List ℕ) : Type 0 where
+  reads : trace_of n (total_of job.shape) trace ≡ Ok events
+  ended : EndsItsLine trace
+  short : length trace ≤ trace_room n
+
+module _ (texts : GeneratedTextLaw) (sizes : GeneratedSizeLaw) (job : RunJob) (run : IsRun job) where
+  drawn-trace : (size : LineSize) → size ≡ job.line → (mix : Mix) → IsMix mix → (events : List (Event (bytes_in size))) (trace : List ℕ)
+      → length (trace_text (generated (bytes_in size) job.seed (total_of job.shape) mix)) ≤ trace_room (bytes_in size)
+      → events ≡ generated (bytes_in size) job.seed (total_of job.shape) mix → trace ≡ trace_text (generated (bytes_in job.line) job.seed (total_of job.shape) mix)
+      → IsTrace (bytes_in size) job events trace
+  drawn-trace size of mix mixed events trace fits drawn is =
+      let own : trace ≡ trace_text (generated (bytes_in size) job.seed (total_of job.shape) mix) =
+      is ∙ ap (λ (line : LineSize). trace_text (generated (bytes_in line) job.seed (total_of job.shape) mix)) (sym of) in
+      record {
+        reads =
+            ap (trace_of (bytes_in size) (total_of job.shape)) own ∙ texts (bytes_in size) job.seed (total_of job.shape) mix (some-lines job run.shape) run.shape.few_in_all mixed
+            ∙ ap (λ (events : List (Event (bytes_in size))). Ok events) (sym drawn);
+        ended = subst EndsItsLine (sym own) (text-ends (generated (bytes_in size) job.seed (total_of job.shape) mix));
+        short = omega (arith, ap length own, fits);
+      }
+
+  fits-64 : (mix : Mix) → IsMix mix → length (trace_text (generated 64 job.seed (total_of job.shape) mix)) ≤ trace_room 64
+  fits-64 mix mixed =
+      let size = sizes 64 job.seed (total_of job.shape) mix (some-lines job run.shape) run.shape.few_in_all mixed in
+      let few = mixed.few_rows in
+      omega arith
+
+  fits-128 : (mix : Mix) → IsMix mix → length (trace_text (generated 128 job.seed (total_of job.shape) mix)) ≤ trace_room 128
+  fits-128 mix mixed =
+      let size = sizes 128 job.seed (total_of job.shape) mix (some-lines job run.shape) run.shape.few_in_all mixed in
+      let few = mixed.few_rows in
+      omega arith
+
+  is-trace : (size : LineSize) → size ≡ job.line → (input : Input) → IsInput input → (s : SourceChange) (events : List (Event (bytes_in size))) (trace : List ℕ)
+      → ComeFrom (bytes_in size) job input s events → IsTraceOf job input s trace → IsTrace (bytes_in size) job events trace
+  is-trace size of Source has s events trace come is =
+      let same = reads-told (bytes_in size) s trace come.bytes is.0 come.whole in
+      record {
+        reads = ap (trace_of (bytes_in size) (total_of job.shape)) (sym same) ∙ come.trace;
+        ended = is.1;
+        short = omega (arith, ap length same, come.whole.within);
+      }
+  is-trace Bytes64 of (Drawn mix) mixed s events trace come is = drawn-trace Bytes64 of mix mixed events trace (fits-64 mix mixed) come.1 is
+  is-trace Bytes128 of (Drawn mix) mixed s events trace come is = drawn-trace Bytes128 of mix mixed events trace (fits-128 mix mixed) come.1 is
+
+-- ---- the check
+
+-- a text that is judged ok, of which a check may read every byte
+record IsOkText (n e : ℕ) (job : RunJob) (bytes : List ℕ) : Type 0 where
+  judged : IsJudgedOk n e job.shape job.seed bytes
+  fits : length bytes ≤ trace_room room_line
+
+-- a check of such a text says ok
+says-ok : (job : RunJob) (bytes : List ℕ) → IsOkText (bytes_in job.line) (pointers_in job.line) job bytes → SaysOk (check_with job) bytes
+says-ok job bytes ok = record { done = did; part = did_part; cause = caused; status = status_is }
+  where
+    -- the verdict on what was read
+    verdict-is : (s : SourceChange) (verdict : Verdict) (found : List ℕ) → found ≡ bytes → HasVerdict (bytes_in job.line) (pointers_in job.line) job.shape job.seed found verdict → verdict ≡ Yes
+    verdict-is s verdict found same has = ok.judged.only verdict (subst (λ (text : List ℕ). HasVerdict (bytes_in job.line) (pointers_in job.line) job.shape job.seed text verdict) same has)
+
+    did : (deed : Deed) (done : Done) → deed.source.left_before ≡ Some bytes → WritesVerdict deed (check_with job) done
+        → Gets deed.out (codes "ok\n") × (done ≡ Whole)
+    did deed done told tells =
+        let read = reads-told room_line deed.source bytes tells.reads.bytes told tells.reads.whole in
+        let yes = verdict-is deed.source tells.verdict tells.reads.bytes read tells.reads.has in
+        (subst (λ (verdict : Verdict). Gets deed.out (verdict_text verdict)) yes tells.written, tells.ending ∙ ap done_on yes)
+
+    did_part : (deed : Deed) → deed.source.left_before ≡ Some bytes → WritesVerdictInPart deed (check_with job)
+        → GetsPart deed.out (codes "ok\n")
+    did_part deed told tells =
+        let read = reads-told room_line deed.source bytes tells.reads.bytes told tells.reads.whole in
+        let yes = verdict-is deed.source tells.verdict tells.reads.bytes read tells.reads.has in
+        subst (λ (verdict : Verdict). GetsPart deed.out (verdict_text verdict)) yes tells.written
+
+    -- no fault of the text
+    none : (found : List ℕ) (one : TextFault) → found ≡ bytes → IsTextFault (bytes_in job.line) job.shape found one → one ≡ text.NoMemory
+    none found one same has = ok.judged.faultless one (subst (λ (bytes : List ℕ). IsTextFault (bytes_in job.line) job.shape bytes one) same has)
+
+    caused : (s : SourceChange) (one : Fault) → s.left_before ≡ Some bytes → IsCheckFault (bytes_in job.line) (check_with job) one s → (one ≡ fault.Read) ⊎ (one ≡ fault.NoMemory)
+    caused s fault.Read told cause = inl refl
+    caused s fault.NoMemory told cause = inr refl
+    caused s fault.Usage told cause = absurd cause
+    caused s fault.Write told cause = absurd cause
+    caused s (fault.Image f) told cause = absurd cause
+    caused s (fault.Trace f) told cause = cc (none cause.0 (text.Trace f) (reads-told room_line s bytes cause.0 told cause.1) cause.2)
+    caused s (fault.Results row) told cause = cc (none cause.0 (text.Results row) (reads-told room_line s bytes cause.0 told cause.1) cause.2)
+    caused s fault.TooLong told (inl more) =
+        let size = more-go s.left_before s.left_now bytes more.1.0 told more.1.1.first in
+        absurd (omega (arith, size, more.1.2, ok.fits))
+    caused s fault.TooLong told (inr many) = cc (none many.0 text.TooMany (reads-told room_line s bytes many.0 told many.1) many.2)
+
+    status_is : (status : ℕ) → IsCheckStatus (bytes_in job.line) (pointers_in job.line) (check_with job) bytes status → (status ≡ 0) ⊎ (status ≡ 7)
+    status_is status (inl over) = absurd (omega (arith, over.0, ok.fits))
+    status_is status (inr within) =
+        elim (within.1) [
+          | inl has ↦ inl (has.2 ∙ ap (λ (verdict : Verdict). status_done (done_on verdict)) (ok.judged.only has.0 has.1))
+          | inr has ↦ inr (has.2 ∙ ap (λ (one : TextFault). status_of (text_fault one)) (ok.judged.faultless has.0 has.1))
+        ]
+
+-- what was added to what was written
+added-is : (told results text : List ℕ) (before now : Option (List ℕ)) → before ≡ Some told → now ≡ Some (told ++ results) → Appends before now text
+    → told ++ results ≡ told ++ text
+added-is told results text (Some xs) (Some ys) before now appends = cc (before, now, appends)
+added-is told results text None now before is appends = cc before
+added-is told results text (Some xs) None before now appends = cc now
+
+module _ (texts : GeneratedTextLaw) (sizes : GeneratedSizeLaw) (judges : JudgedRunsLaw) (short : ShortLaw) (job : RunJob) (run : IsRun job) (prints : job.print ≡ Results)
+    (s : SourceChange) (out : SinkChange) (trace told results : List ℕ) (is : IsTraceOf job job.input s trace)
+    (before : out.written_before ≡ Some told) (now : out.written_now ≡ Some (told ++ results)) where
+  -- what a run over lines of n bytes wrote
+  ok-text : (n m e : ℕ) (array : ArrayState n m) (done : Done) (made : RunIsWritten n m e job s array out done) → 1 ≤ n → e ≤ 8
+      → IsTrace n job made.run.events trace
+      → ((rows : ℕ) → rows ≤ most_rows → trace_room n + (36 + rows * (64 + 2 * n)) ≤ trace_room room_line) → IsOkText n e job (trace ++ results)
+  ok-text n m e array done made some few whole room =
+      let events : List (Event n) = made.run.events in
+      let outcomes : List (Outcome n) = made.run.outcomes in
+      let one : IsRunOf e job.shape job.seed trace events outcomes array made.run.ends = record {
+        shape = run.shape;
+        few = few;
+        reads = whole.reads;
+        one_each = made.run.one_each;
+        right = subst (λ (rows : List (Row n)). RunsRight e job.shape job.seed rows array made.run.ends) (rows-are events outcomes made.run.one_each) made.run.right;
+      } in
+      let Of : Print → Type 0 = λ p. IsRunText job.shape job.seed e events outcomes made.run.ends array p made.text in
+      let printed : made.text ≡ results_text events outcomes = subst Of prints made.is_text in
+      let added : told ++ results ≡ told ++ made.text = added-is told results made.text out.written_before out.written_now before now made.written in
+      let same : results ≡ results_text events outcomes = append_cancel_left told results made.text added ∙ printed in
+      let few_rows = (trace_of-lawful n (total_of job.shape) trace events (some-lines job run.shape) whole.reads).1 in
+      let size = short n m e job.shape job.seed trace events outcomes array made.run.ends one in
+      record {
+        judged = subst (λ (results : List ℕ). IsJudgedOk n e job.shape job.seed (trace ++ results)) (sym same) (judges n m e job.shape job.seed trace events outcomes array made.run.ends some one whole.ended);
+        fits = omega (arith, length-append trace results, ap length same, size, whole.short, room (length events) few_rows);
+      }
+
+  ok-written : (size : LineSize) → size ≡ job.line → (array : ArrayState (bytes_in size) (checks_in size)) (done : Done)
+      → RunIsWritten (bytes_in size) (checks_in size) (pointers_in size) job s array out done
+      → IsOkText (bytes_in size) (pointers_in size) job (trace ++ results)
+  ok-written Bytes64 of array done made =
+      ok-text 64 8 6 array done made (omega arith) (omega arith) (is-trace texts sizes job run Bytes64 of job.input run.input s made.run.events trace made.run.come is) (λ rows few. omega (arith, few))
+  ok-written Bytes128 of array done made =
+      ok-text 128 16 8 array done made (omega arith) (omega arith) (is-trace texts sizes job run Bytes128 of job.input run.input s made.run.events trace made.run.come is) (λ rows few. omega (arith, few))
+
+pub checked-law : GeneratedTextLaw → GeneratedSizeLaw → JudgedRunsLaw → ShortLaw → CheckedLaw
+checked-law texts sizes judges short job deed trace told results done run prints is before now does =
+    says-ok job (trace ++ results)
+    (ok-written texts sizes judges short job run prints deed.source deed.out trace told results is before now job.line refl (array_for deed job.line) done does)

@@ -1,0 +1,49 @@
+-- What `check` makes of the results that a run printed.
+use Rattle.std.specs.Prelude.{◌≡◌, ◌⊎◌, ℕ, List, ◌++◌, codes, Option, Some, Ok}
+use Rattle.text_check.specs.SplitLaw.{EndsItsLine}
+use Rattle.command_line.specs.Jobs.{IsRun}
+use Rattle.command_line.specs.declared.job.CheckJob.{CheckJob}
+use Rattle.command_line.specs.declared.job.Input.{Input}
+use Rattle.command_line.specs.declared.job.Input.TheVariants.{Source, Drawn}
+use Rattle.command_line.specs.declared.job.Job.TheVariants.{Run, Check}
+use Rattle.command_line.specs.declared.job.Print.TheVariants.{Results}
+use Rattle.command_line.specs.declared.job.RunJob.{RunJob}
+use Rattle.pcm_top.specs.Jobs.{gen_text}
+use Rattle.pcm_top.specs.Laws.{gen_with}
+use Rattle.pcm_top.specs.Reading.{SourceChange}
+use Rattle.pcm_top.specs.Writing.{Gets, GetsPart}
+use Rattle.pcm_top.specs.Doing.{Deed, DoesJob, DoesJobInPart, HasCause}
+use Rattle.pcm_top.specs.Statuses.{IsStatusFor}
+use Rattle.pcm_top.specs.declared.fault.Fault.{Fault}
+use Rattle.pcm_top.specs.declared.fault.Fault.TheVariants.{NoMemory, Read}
+use Rattle.pcm_top.specs.declared.run.Done.{Done}
+use Rattle.pcm_top.specs.declared.run.Done.TheVariants.{Whole}
+
+-- the job of `check` with the options of a run
+abbrev pub check_with : RunJob → CheckJob
+check_with job = record { line = job.line; shape = job.shape; seed = job.seed }
+
+-- the trace of a run: what its source held, where its last line is ended, since results behind it would else go on with
+-- that line; or the text that `gen` writes with the same options
+abbrev pub IsTraceOf : RunJob → Input → SourceChange → List ℕ → Type 0
+IsTraceOf job Source s trace = (s.left_before ≡ Some trace) × EndsItsLine trace
+IsTraceOf job (Drawn mix) s trace = trace ≡ gen_text (gen_with job mix)
+
+-- what a check of these bytes says is `ok`: that is what it writes, or tries to; where it isn't done the source failed
+-- or memory ran out; and where nothing fails and memory suffices its status is 0
+pub record SaysOk (job : CheckJob) (bytes : List ℕ) : Type 0 where
+  pub done : (deed : Deed) (done : Done) → deed.source.left_before ≡ Some bytes → DoesJob deed (Ok (Check job)) done
+      → Gets deed.out (codes "ok\n") × (done ≡ Whole)
+  pub part : (deed : Deed) → deed.source.left_before ≡ Some bytes → DoesJobInPart deed (Ok (Check job))
+      → GetsPart deed.out (codes "ok\n")
+  pub cause : (s : SourceChange) (fault : Fault) → s.left_before ≡ Some bytes → HasCause (Ok (Check job)) s fault
+      → (fault ≡ Read) ⊎ (fault ≡ NoMemory)
+  pub status : (status : ℕ) → IsStatusFor (Ok (Check job)) bytes status → (status ≡ 0) ⊎ (status ≡ 7)
+
+-- so it is of the results that a run has written behind its trace, with the same options
+abbrev pub CheckedLaw : Type 0
+CheckedLaw =
+    (job : RunJob) (deed : Deed) (trace told results : List ℕ) (done : Done)
+    → IsRun job → job.print ≡ Results → IsTraceOf job job.input deed.source trace
+    → deed.out.written_before ≡ Some told → deed.out.written_now ≡ Some (told ++ results)
+    → DoesJob deed (Ok (Run job)) done → SaysOk (check_with job) (trace ++ results)
