@@ -11,12 +11,12 @@ use Rattle.line_writer.specs.Writing.{most_steps}
 use Rattle.power_recovery.specs.Kept.{KeptState, IsKept, stands_at}
 use Rattle.power_recovery.specs.Events.{completed_kept}
 use Rattle.power_recovery.specs.Slots.{bank_lines}
-use Rattle.bank_model.specs.declared.answer.ReadAnswer.{ReadAnswer}
-use Rattle.bank_model.specs.declared.answer.ReadAnswer.TheVariants as came
-use Rattle.bank_model.specs.declared.answer.Served.{Served}
+use Rattle.bank_shape.specs.declared.answer.ReadAnswer.{ReadAnswer}
+use Rattle.bank_shape.specs.declared.answer.ReadAnswer.TheVariants as came
+use Rattle.bank_shape.specs.declared.answer.Served.{Served}
 use Rattle.bank_model.specs.Events.{Event, Read, Serve}
 use Rattle.bank_model.specs.Answers.{MayHappen}
-use Rattle.bank_invariant.specs.declared.Waiting.{Waiting}
+use Rattle.bank_shape.specs.declared.waiting.Waiting.{Waiting}
 use Rattle.bank_invariant.specs.State.{BankState}
 use Rattle.bank_invariant.specs.Tied.{IsTied}
 use Rattle.bank_invariant.specs.Holds.{Holds}

@@ -1,5 +1,6 @@
 -- That the begin of a line write keeps the tie and the invariant.
 use Rattle.std.proofs.Common.{◌≡◌, ℕ, ◌<◌, ◌≤◌, ◌&&◌, not, refl, sym, ap, subst, ◌∙◌, arith, Bool, true, false, List, [], ◌∷◌, length, slice_get, Option, Some, None, is_some}
+use Rattle.std.proofs.lemmas.Bool.{and_parts}
 use Rattle.std.specs.Prelude.{IsSomeAnd, IfSome, IsTrue}
 use Rattle.masked_bytes.specs.Masked.{laid}
 use Rattle.masked_bytes.specs.Entries.{completed, head_line, head_row}
@@ -22,10 +23,10 @@ use Rattle.power_recovery.specs.Events.{is_store, is_copy, completed_kept, store
 use Rattle.power_recovery.proofs.Bundle.{next_work-store, next_work-copy, head-known}
 use Rattle.power_recovery.proofs.Placing.{slot_of-within}
 use Rattle.power_recovery.proofs.Frames.{next_work-completed}
-use Rattle.bank_model.specs.declared.answer.Step.{Step}
-use Rattle.bank_model.specs.declared.answer.Step.TheVariants as did
+use Rattle.bank_shape.specs.declared.answer.Step.{Step}
+use Rattle.bank_shape.specs.declared.answer.Step.TheVariants as did
 use Rattle.bank_model.specs.Events.{Event, Begin}
-use Rattle.bank_invariant.specs.declared.Waiting.{Waiting}
+use Rattle.bank_shape.specs.declared.waiting.Waiting.{Waiting}
 use Rattle.bank_invariant.specs.State.{BankState, Operation, target_of, is_free, may_begin}
 use Rattle.bank_invariant.specs.Tied.{decoded, AreSound, IsOf, IsTied, IsSoundLine}
 use Rattle.bank_invariant.specs.Holds.{Holds}
@@ -39,11 +40,6 @@ use Rattle.bank_invariant.proofs.Finishing.{begun_stored_law, next_store-line}
 use Rattle.bank_invariant.proofs.Turned.{moved_at_once_law}
 use Rattle.bank_core.specs.Stepping.{with_kept, step_from, left_by, done_from, done_kept}
 use Rattle.bank_core.specs.Beginning.{head_over, bytes_for, begun_kept, IsBegin}
-
-both : (a b : Bool) → (a && b) ≡ true → (a ≡ true) × (b ≡ true)
-both true true h = (refl, refl)
-both true false h = cc
-both false b h = cc
 
 isn't-some : {A : Type 0} (x : Option A) → not (is_some x) ≡ true → x ≡ None
 isn't-some None h = refl
@@ -88,10 +84,10 @@ module _ {n m e : ℕ} (bank : BankState n m e) (op : Operation n m e) (before a
     pub same : (at : ℕ) → after.line at ≡ before.line at
 
   free-for : (work : Work) → IsFor work → is_free bank.waiting work ≡ true
-  free-for work is = ap (λ w. is_free bank.waiting w) (sym is.next) ∙ (both (not (is_some bank.running)) (is_free bank.waiting (next_work bank.kept)) is.may).1
+  free-for work is = ap (λ w. is_free bank.waiting w) (sym is.next) ∙ (and_parts (not (is_some bank.running)) (is_free bank.waiting (next_work bank.kept)) is.may).1
 
   idle-for : (work : Work) → IsFor work → bank.running ≡ None
-  idle-for work is = isn't-some bank.running (both (not (is_some bank.running)) (is_free bank.waiting (next_work bank.kept)) is.may).0
+  idle-for work is = isn't-some bank.running (and_parts (not (is_some bank.running)) (is_free bank.waiting (next_work bank.kept)) is.may).0
 
   -- a write that is done as it begins finds its line read as its bytes
   read-so : (work : Work) → IsFor work → op.writer.progress ≡ progress.Stored → decoded e before (target_of bank.kept work) ≡ bytes_for e bank.kept before work

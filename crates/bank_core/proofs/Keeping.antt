@@ -13,8 +13,8 @@ use Rattle.bank_shape.specs.declared.Work.TheVariants.{Nothing, Store, Copy}
 use Rattle.bank_shape.specs.Shape.{slots_of, lines_in}
 use Rattle.power_recovery.specs.Kept.{KeptState, IsKept, target_slot, due_region, due_work, next_work}
 use Rattle.power_recovery.specs.Events.{retired_kept, exhausted_kept}
-use Rattle.bank_model.specs.declared.answer.Step.{Step}
-use Rattle.bank_model.specs.declared.answer.Step.TheVariants as did
+use Rattle.bank_shape.specs.declared.answer.Step.{Step}
+use Rattle.bank_shape.specs.declared.answer.Step.TheVariants as did
 use Rattle.bank_model.specs.Events.{Event, Iterate}
 use Rattle.bank_invariant.specs.State.{BankState, Operation, target_of}
 use Rattle.bank_invariant.specs.Tied.{AreSound, IsOf, IsRunning, IsUnderWay, IsTied, IsWornLine}
@@ -30,7 +30,7 @@ use Rattle.bank_invariant.proofs.Tearing.{running_of, in_progress_of}
 use Rattle.bank_invariant.proofs.Agreeing.{agree_law}
 use Rattle.bank_invariant.proofs.Retiring.{exhausted_law, retired_law, may_iterate, retired-count, unmarked, marked-target, AreSound-retired}
 use Rattle.bank_model.specs.After.{work_after, slot_of_work}
-use Rattle.bank_invariant.specs.declared.Waiting.{Waiting}
+use Rattle.bank_shape.specs.declared.waiting.Waiting.{Waiting}
 use Rattle.bank_core.specs.Steps.{is_some_work}
 use Rattle.bank_core.specs.Stepping.{done_from, done_kept, step_from, left_by, IsWriterStep, IsIteration}
 

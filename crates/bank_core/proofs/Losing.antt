@@ -1,6 +1,6 @@
 -- That the reads that wait are lost one at a time, in order.
 use Rattle.std.proofs.Common.{◌≡◌, ℕ, ◌+◌, ◌<◌, ◌≤◌, refl, sym, ap, ◌∙◌, arith, List, [], ◌∷◌, ◌++◌, drop, map, length, slice_get, Some, None}
-use Rattle.bank_invariant.specs.declared.Waiting.{Waiting}
+use Rattle.bank_shape.specs.declared.waiting.Waiting.{Waiting}
 
 one-more : (lost : List ℕ) (row : ℕ) (rest : List ℕ) → (lost ++ row ∷ []) ++ rest ≡ lost ++ row ∷ rest
 one-more [] row rest = refl

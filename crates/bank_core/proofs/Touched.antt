@@ -6,7 +6,7 @@ use Rattle.pcm_cells.specs.declared.array.Sense.{Sense}
 use Rattle.pcm_cells.specs.Device.{ArrayState, LineState, Senses, counted, sense_of}
 use Rattle.program_verify.specs.declared.prog.Prog.{Prog}
 use Rattle.program_verify.specs.Programming.{IsRound, IsTear}
-use Rattle.bank_model.specs.declared.answer.Step.{Step}
+use Rattle.bank_shape.specs.declared.answer.Step.{Step}
 use Rattle.bank_model.specs.Touching.{Touches}
 use Rattle.bank_invariant.specs.State.{BankState, Operation}
 use Rattle.bank_core.specs.Stepping.{IsIteration}

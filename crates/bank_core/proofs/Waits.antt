@@ -4,7 +4,7 @@ use Rattle.std.specs.List.{list_any}
 use Rattle.std.proofs.lemmas.Bool.{ne_eqb}
 use Rattle.std.proofs.lemmas.Option.{slice_get_within, get_or_from_slice_get}
 use Rattle.std.proofs.lemmas.List.Folds.{list_any_at, list_any_more}
-use Rattle.bank_invariant.specs.declared.Waiting.{Waiting}
+use Rattle.bank_shape.specs.declared.waiting.Waiting.{Waiting}
 
 module _ {n : ℕ} (line : ℕ) (ws : List (Waiting n)) (place : ℕ) where
   pub found_one : (w : Waiting n) → Some w ≡ slice_get ws place → w.line ≡ line → true ≡ list_any (λ w. w.line == line) ws

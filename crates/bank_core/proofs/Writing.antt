@@ -9,8 +9,8 @@ use Rattle.pcm_cells.specs.Device.{ArrayState}
 use Rattle.line_writer.specs.Writing.{most_steps}
 use Rattle.power_recovery.specs.Kept.{KeptState}
 use Rattle.power_recovery.specs.Slots.{bank_lines}
-use Rattle.bank_model.specs.declared.answer.WriteAnswer.{WriteAnswer}
-use Rattle.bank_model.specs.declared.answer.WriteAnswer.TheVariants as wrote
+use Rattle.bank_shape.specs.declared.answer.WriteAnswer.{WriteAnswer}
+use Rattle.bank_shape.specs.declared.answer.WriteAnswer.TheVariants as wrote
 use Rattle.bank_model.specs.Events.{Event, Write}
 use Rattle.bank_model.specs.Answers.{MayHappen, write_answer}
 use Rattle.bank_invariant.specs.State.{BankState, is_storing}

@@ -3,7 +3,7 @@ use Rattle.std.specs.Prelude.{◌≡◌, ℕ, ◌<◌, ◌≤◌, List, length, 
 use Rattle.ecp_line.specs.Layout.{IsLayout}
 use Rattle.power_recovery.specs.Kept.{KeptState, IsKept}
 use Rattle.power_recovery.specs.Slots.{bank_lines}
-use Rattle.bank_invariant.specs.declared.Waiting.{Waiting}
+use Rattle.bank_shape.specs.declared.waiting.Waiting.{Waiting}
 
 -- what a bank keeps is in range, and its rings have room for as many reads as may wait
 pub record IsBank {n : ℕ} (m e : ℕ) (kept : KeptState n) (waiting : List (Waiting n)) (places lost_places : ℕ) : Type 0 where

@@ -10,7 +10,7 @@ use Rattle.bank_shape.specs.Shape.{slot_at}
 use Rattle.line_writer.specs.Writing.{Writes, HasBegun, steps_left, most_steps}
 use Rattle.power_recovery.specs.Kept.{KeptState, array_line, next_work}
 use Rattle.power_recovery.specs.Events.{completed_kept}
-use Rattle.bank_model.specs.declared.answer.Step.{Step}
+use Rattle.bank_shape.specs.declared.answer.Step.{Step}
 use Rattle.bank_invariant.specs.State.{BankState, Operation, target_of}
 use Rattle.bank_invariant.specs.Tied.{decoded, IsSoundLine}
 use Rattle.bank_core.specs.Stepping.{with_kept, step_from, left_by}

@@ -14,8 +14,8 @@ use Rattle.line_writer.specs.Writing.{Writes, IsWorn, steps_left}
 use Rattle.line_writer.specs.Untouched.{LeavesUnused}
 use Rattle.power_recovery.specs.Kept.{KeptState, target_slot}
 use Rattle.power_recovery.specs.Events.{stored_kept, moved_kept, retired_kept, exhausted_kept}
-use Rattle.bank_model.specs.declared.answer.Step.{Step}
-use Rattle.bank_model.specs.declared.answer.Step.TheVariants as did
+use Rattle.bank_shape.specs.declared.answer.Step.{Step}
+use Rattle.bank_shape.specs.declared.answer.Step.TheVariants as did
 use Rattle.bank_invariant.specs.State.{BankState, Operation}
 use Rattle.bank_invariant.specs.Tied.{IsSoundLine, IsWornLine}
 use Rattle.bank_invariant.specs.Iterating.{going_on}

@@ -11,7 +11,7 @@ ghost use Rattle.bank_invariant.specs.WriteAnswers.{written};
 ghost use Rattle.bank_core.specs.Steps.{write_from, after_write};
 
 use crate::bank::Bank;
-use bank_model::answer::WriteAnswer;
+use bank_shape::answer::WriteAnswer;
 use bank_shape::Work;
 use masked_bytes::entry::Entry;
 use protected_queue::accept::Accept;

@@ -12,8 +12,8 @@ ghost use Rattle.bank_invariant.specs.Holds.{Holds};
 ghost use Rattle.bank_invariant.specs.Serving.{read_from};
 ghost use Rattle.bank_core.specs.Steps.{IsFreshFor, has_work, after_read, lost_taken};
 
-use bank_invariant::Waiting;
-use bank_model::answer::ReadAnswer;
+use bank_shape::waiting::Waiting;
+use bank_shape::answer::ReadAnswer;
 use bank_shape::{BankShape, Work};
 use circular_buffer::HeapCircularBuffer;
 use line_writer::LineWriter;

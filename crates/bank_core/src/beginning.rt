@@ -19,7 +19,7 @@ ghost use Rattle.bank_core.specs.Stepping.{step_from, left_by};
 ghost use Rattle.bank_core.specs.Beginning.{IsBegin, IsOfSoundLine};
 
 use crate::bank::{Bank, Running};
-use bank_model::answer::Step;
+use bank_shape::answer::Step;
 use bank_shape::Work;
 use ecp_line::Ecp;
 use line_writer::{LineWriter, Progress};

@@ -8,7 +8,7 @@ ghost use Rattle.bank_invariant.specs.Serving.{served, served_from};
 
 use crate::bank::Bank;
 use crate::sensing::read_as;
-use bank_model::answer::Served;
+use bank_shape::answer::Served;
 use masked_bytes::layers::lay_over;
 use pcm_cells::CellArray;
 

@@ -14,7 +14,7 @@ ghost use Rattle.bank_core.specs.Steps.{is_some_work};
 ghost use Rattle.bank_core.specs.Stepping.{done_from, done_kept, worn_from, worn_kept, with_kept, IsWriterStep, IsIteration};
 
 use crate::bank::{Bank, Running};
-use bank_model::answer::Step;
+use bank_shape::answer::Step;
 use bank_shape::Work;
 use line_writer::Progress;
 use pcm_cells::CellArray;

@@ -16,7 +16,7 @@ use Rattle.power_recovery.specs.Kept.{AllBelow, region_at, slot_of, array_line, 
 use Rattle.power_recovery.specs.Events.{is_store}
 use Rattle.power_recovery.proofs.Placing.{region-exists, slot_of-after}
 use Rattle.power_recovery.proofs.Bundle.{due_region-Some, due_region-is, due_region-None}
-use Rattle.bank_model.specs.declared.answer.Step.TheVariants as did
+use Rattle.bank_shape.specs.declared.answer.Step.TheVariants as did
 use Rattle.bank_model.specs.Events.{Event, Write, Read, Serve, Begin, Iterate, Cut, line_of_row}
 use Rattle.bank_model.specs.History.{Awaited, queue, waits, in_progress, stores, moved_in, stored_in, due_after, has_exhausted, first_or}
 use Rattle.bank_model.specs.After as after

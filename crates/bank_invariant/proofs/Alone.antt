@@ -1,14 +1,15 @@
 -- A head that isn't complete is the only entry of its line: entries of one line merge, except into a head that is being stored, and
 -- such a head is complete.
 use Rattle.std.proofs.Common.{◌≡◌, ℕ, ◌==◌, ◌&&◌, not, if◌then◌else◌, inl, inr, ◌⊎◌, Bool, true, false, List, [], ◌∷◌, ◌++◌, drop, Option, Some, None, refl, sym, ap, ◌∙◌, eqb-true, eq-eqb}
+use Rattle.masked_bytes.proofs.Truth.{and_first, and_second}
 use Rattle.std.specs.Prelude.{IsTrue}
 use Rattle.masked_bytes.specs.Masked.{joined, gives_all, all_given, IsMasked}
 use Rattle.masked_bytes.specs.Entries.{or_this, newest_row, candidate, laid_on, merged, no_layer, layer_of}
 use Rattle.masked_bytes.specs.declared.entry.Entry.{Entry}
 use Rattle.masked_bytes.proofs.Layering.{joined-all_given, gives_all-all_given}
 use Rattle.bank_shape.specs.declared.BankShape.{BankShape}
-use Rattle.bank_model.specs.declared.answer.WriteAnswer.TheVariants as wrote
-use Rattle.bank_model.specs.declared.answer.Step.TheVariants as did
+use Rattle.bank_shape.specs.declared.answer.WriteAnswer.TheVariants as wrote
+use Rattle.bank_shape.specs.declared.answer.Step.TheVariants as did
 use Rattle.bank_model.specs.Events.{Event, Write, Read, Serve, Begin, Iterate, Cut, newest}
 use Rattle.bank_model.specs.History.{Awaited, queue, waits, begun, due_after, has_exhausted, in_progress}
 use Rattle.bank_model.specs.After.{due_work, work_after, is_ready, is_store}
@@ -20,14 +21,6 @@ use Rattle.bank_invariant.proofs.Taking.{answer_accepted}
 abbrev pub IsHeadAlone : {n : ℕ} → List (Entry n) → Type 0
 IsHeadAlone [] = Unit {0}
 IsHeadAlone {n} (head ∷ rest) = IsTrue (gives_all head.given) ⊎ (layer_of rest head.line ≡ no_layer n)
-
-and_left : (a b : Bool) → (a && b) ≡ true → a ≡ true
-and_left true b h = refl
-and_left false b h = cc
-
-and_right : (a b : Bool) → (a && b) ≡ true → b ≡ true
-and_right true b h = h
-and_right false b h = cc
 
 -- neither of two is there
 neither_first : (p q : Option ℕ) → or_this p q ≡ None → p ≡ None
@@ -185,7 +178,7 @@ module _ {n : ℕ} where
     complete_in (Serve answer ∷ h) may busy none = complete_in h may.1 busy none
     complete_in (Begin did.More ∷ h) may busy none =
         begins_complete h (waits shape h) (has_exhausted h) (due_after shape h) (newest h) (queue shape h)
-        (and_right (not (in_progress h)) (is_ready (waits shape h) (work_after shape h)) may.0.0) none
+        (and_second (not (in_progress h)) (is_ready (waits shape h) (work_after shape h)) may.0.0) none
     complete_in (Begin (did.Stored row place) ∷ h) may busy none = cc
     complete_in (Begin (did.Moved step) ∷ h) may busy none = cc
     complete_in (Begin (did.Retired slot line) ∷ h) may busy none = cc
@@ -204,8 +197,8 @@ module _ {n : ℕ} where
 
     complete_busy : (h : List (Event n)) → MayAll shape most h → head_busy_after shape h ≡ true → IsComplete (queue shape h)
     complete_busy h may busy =
-        complete_in h may (and_left (in_progress h) (is_store (work_after shape h)) busy)
-        (store_due h (has_exhausted h) (due_after shape h) (queue shape h) (and_right (in_progress h) (is_store (work_after shape h)) busy))
+        complete_in h may (and_first (in_progress h) (is_store (work_after shape h)) busy)
+        (store_due h (has_exhausted h) (due_after shape h) (queue shape h) (and_second (in_progress h) (is_store (work_after shape h)) busy))
 
     queue-apart : (h : List (Event n)) → MayAll shape most h → IsApart (queue shape h)
     queue-apart [] may = tt

@@ -8,7 +8,7 @@ use Rattle.protected_queue.specs.Queue as taking
 use Rattle.power_recovery.specs.Kept.{KeptState}
 use Rattle.power_recovery.specs.Events.{with_entries, accepted_kept}
 use Rattle.bank_shape.specs.declared.BankShape.{BankShape}
-use Rattle.bank_model.specs.declared.answer.WriteAnswer.TheVariants as wrote
+use Rattle.bank_shape.specs.declared.answer.WriteAnswer.TheVariants as wrote
 use Rattle.bank_model.specs.Events.{Event}
 use Rattle.bank_model.specs.History.{queue, has_exhausted}
 use Rattle.bank_model.specs.Answers.{accept_answer, head_busy_after}

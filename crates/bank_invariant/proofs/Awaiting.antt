@@ -17,13 +17,13 @@ use Rattle.bank_shape.specs.declared.Work.{Work}
 use Rattle.bank_shape.specs.declared.Work.TheVariants.{Nothing, Store, Copy}
 use Rattle.bank_shape.specs.Shape.{slot_at}
 use Rattle.power_recovery.specs.Kept.{KeptState, array_line, stands_at}
-use Rattle.bank_model.specs.declared.answer.WriteAnswer.TheVariants as wrote
-use Rattle.bank_model.specs.declared.answer.ReadAnswer.{ReadAnswer}
-use Rattle.bank_model.specs.declared.answer.ReadAnswer.TheVariants as came
+use Rattle.bank_shape.specs.declared.answer.WriteAnswer.TheVariants as wrote
+use Rattle.bank_shape.specs.declared.answer.ReadAnswer.{ReadAnswer}
+use Rattle.bank_shape.specs.declared.answer.ReadAnswer.TheVariants as came
 use Rattle.bank_model.specs.Events.{Event, Write, Read, Serve, Begin, Iterate, Cut, newest}
 use Rattle.bank_model.specs.History.{Awaited, awaited, queue, waits}
 use Rattle.bank_model.specs.Answers.{MayAll, IsServed}
-use Rattle.bank_invariant.specs.declared.Waiting.{Waiting}
+use Rattle.bank_shape.specs.declared.waiting.Waiting.{Waiting}
 use Rattle.bank_invariant.specs.State.{BankState, Operation}
 use Rattle.bank_invariant.specs.Tied.{decoded, IsSoundLine, IsWornLine, IsUnderWay, IsOf, IsRunning, AreSound, AreTied}
 use Rattle.bank_invariant.specs.Holds.{Holds, waiting_of}

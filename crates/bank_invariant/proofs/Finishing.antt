@@ -21,7 +21,7 @@ use Rattle.power_recovery.specs.Events.{is_store, with_entries, with_regions, co
 use Rattle.power_recovery.proofs.Frames.{slot_of-stored}
 use Rattle.power_recovery.proofs.Placing.{slot_of-within, slot_of-apart}
 use Rattle.power_recovery.proofs.Bundle.{next_work-store, none_due, head-known, head_region-exists, IsKept-stored}
-use Rattle.bank_model.specs.declared.answer.Step.TheVariants as did
+use Rattle.bank_shape.specs.declared.answer.Step.TheVariants as did
 use Rattle.bank_model.specs.Events.{Event, Begin, newest, line_of_row}
 use Rattle.bank_model.specs.History.{Awaited, waits, iterated, stored_in, moved_in}
 use Rattle.bank_model.specs.After.{work_after}

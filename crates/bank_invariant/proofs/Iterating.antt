@@ -19,11 +19,11 @@ use Rattle.power_recovery.specs.Slots.{bank_lines}
 use Rattle.power_recovery.specs.Kept.{KeptState, IsKept, region_at, slot_of, array_line, stands_at, target_slot, due_region, next_work}
 use Rattle.power_recovery.proofs.Placing.{slot_of-within, slot_at-within, slot_at-place}
 use Rattle.power_recovery.proofs.Bundle.{due_region-Some}
-use Rattle.bank_model.specs.declared.answer.ReadAnswer.TheVariants as came
+use Rattle.bank_shape.specs.declared.answer.ReadAnswer.TheVariants as came
 use Rattle.bank_model.specs.Events.{Event, Write, Read, Serve, Begin, Iterate, Cut}
 use Rattle.bank_model.specs.History.{Awaited, waits, iterated}
 use Rattle.bank_model.specs.Answers.{MayAll}
-use Rattle.bank_invariant.specs.declared.Waiting.{Waiting}
+use Rattle.bank_shape.specs.declared.waiting.Waiting.{Waiting}
 use Rattle.bank_invariant.specs.State.{BankState, Operation, target_of}
 use Rattle.bank_invariant.specs.Tied.{decoded, AreSound, IsOf, IsRunning, IsUnderWay}
 use Rattle.bank_invariant.specs.Holds.{Holds, waiting_of}

@@ -8,7 +8,7 @@ use Rattle.bank_shape.specs.declared.BankShape.{BankShape}
 use Rattle.bank_shape.specs.Shape.{slots_of}
 use Rattle.line_writer.specs.Writing.{steps_left, most_steps}
 use Rattle.power_recovery.specs.Kept.{region_at, stands_at}
-use Rattle.bank_model.specs.declared.answer.ReadAnswer.TheVariants as came
+use Rattle.bank_shape.specs.declared.answer.ReadAnswer.TheVariants as came
 use Rattle.bank_model.specs.Events.{Event, Write, Read, Serve, Begin, Iterate, Cut, newest, RowsBelow}
 use Rattle.bank_model.specs.History.{Awaited, queue, waits, in_progress, iterated, stores, stored_in, moved_in, retired, has_exhausted, first_or}
 use Rattle.bank_model.specs.Answers.{MayAll}

@@ -20,7 +20,7 @@ use Rattle.power_recovery.proofs.Bundle.{IsKept-exhausted, IsKept-retired}
 use Rattle.power_recovery.proofs.Frames.{array_line-retired}
 use Rattle.bank_model.specs.Events.{Event}
 use Rattle.bank_model.specs.History.{Awaited, waits, iterated, retired}
-use Rattle.bank_invariant.specs.declared.Waiting.{Waiting}
+use Rattle.bank_shape.specs.declared.waiting.Waiting.{Waiting}
 use Rattle.bank_invariant.specs.State.{BankState, Operation, target_of}
 use Rattle.bank_invariant.specs.Tied.{decoded, AreSound, IsSoundLine, IsWornLine}
 use Rattle.bank_invariant.specs.Holds.{Holds, stands_for}

@@ -1,5 +1,6 @@
 -- The begin of a line write that goes on.
 use Rattle.std.proofs.Common.{◌≡◌, ◌≢◌, ℕ, ◌<◌, ◌==◌, ◌||◌, ◌&&◌, not, inl, inr, ◌⊎◌, Bool, true, false, List, [], ◌∷◌, zero, suc, length, slice_get, None, is_some, refl, sym, ap, subst, ◌∙◌, arith, eq-eqb}
+use Rattle.masked_bytes.proofs.Truth.{and_second}
 use Rattle.std.specs.Prelude.{IsSomeAnd, IsTrue, All}
 use Rattle.std.specs.List.{list_any}
 use Rattle.std.proofs.lemmas.Bool.{cases_eq, ne_eqb}
@@ -21,7 +22,7 @@ use Rattle.power_recovery.proofs.Frames.{next_work-completed}
 use Rattle.power_recovery.proofs.Bundle.{next_work-store, next_work-copy, head-known, IsKept-completed}
 use Rattle.bank_model.specs.Events.{newest}
 use Rattle.bank_model.specs.History.{begun, due_after}
-use Rattle.bank_invariant.specs.declared.Waiting.{Waiting}
+use Rattle.bank_shape.specs.declared.waiting.Waiting.{Waiting}
 use Rattle.bank_invariant.specs.State.{target_of, is_free}
 use Rattle.bank_invariant.specs.Tied.{decoded, AreSound, IsOf}
 use Rattle.bank_invariant.specs.Holds.{Holds}
@@ -39,10 +40,6 @@ laid-twice (b ∷ bytes) [] under = refl
 laid-twice (b ∷ bytes) (g ∷ given) [] = refl
 laid-twice (b ∷ bytes) (true ∷ given) (u ∷ under) = ap (λ xs. b ∷ xs) (laid-twice bytes given under)
 laid-twice (b ∷ bytes) (false ∷ given) (u ∷ under) = ap (λ xs. u ∷ xs) (laid-twice bytes given under)
-
-both_so : (a b : Bool) → (a && b) ≡ true → b ≡ true
-both_so true b h = h
-both_so false b h = cc
 
 module _ {n : ℕ} where
   -- a store that may begin has no read of its line that waits
@@ -117,7 +114,7 @@ begun_store_law n m e line slot h bank old new op holds may next many same work 
     let read : decoded e new (array_line kept slot) ≡ under = ap (λ (l : LineState n m). decode e l.held) (same (array_line kept slot)) in
     let len : length under ≡ n = length-decode e (old.line (array_line kept slot)).held in
     let free : is_free bank.waiting (Store line slot) ≡ true =
-    ap (λ work. is_free bank.waiting work) (sym next) ∙ both_so (not (is_some bank.running)) (is_free bank.waiting (next_work kept)) may in
+    ap (λ work. is_free bank.waiting work) (sym next) ∙ and_second (not (is_some bank.running)) (is_free bank.waiting (next_work kept)) may in
     let shown : laid (layer_of kept.entries (head_line kept.entries)).bytes (layer_of kept.entries (head_line kept.entries)).given under ≡ newest h (head_line kept.entries) =
     ap (λ s. laid (layer_of kept.entries (head_line kept.entries)).bytes (layer_of kept.entries (head_line kept.entries)).given (decoded e old (array_line kept s)))
     (place ∙ ap (λ l. slot_of kept l) (sym at_head))

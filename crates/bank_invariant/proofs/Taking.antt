@@ -20,11 +20,11 @@ use Rattle.power_recovery.specs.Kept.{KeptState, next_work, stands_at}
 use Rattle.power_recovery.specs.Events.{is_store, is_copy, accepted_kept}
 use Rattle.power_recovery.proofs.Frames.{head-accepted_busy, next_work-accepted, next_work-due}
 use Rattle.power_recovery.proofs.Bundle.{IsKept-accepted, next_work-store, next_work-copy}
-use Rattle.bank_model.specs.declared.answer.WriteAnswer.TheVariants as wrote
+use Rattle.bank_shape.specs.declared.answer.WriteAnswer.TheVariants as wrote
 use Rattle.bank_model.specs.Events.{Event, Write, newest}
 use Rattle.bank_model.specs.History.{queue, has_exhausted}
 use Rattle.bank_model.specs.Answers.{accept_answer, head_busy_after}
-use Rattle.bank_invariant.specs.declared.Waiting.{Waiting}
+use Rattle.bank_shape.specs.declared.waiting.Waiting.{Waiting}
 use Rattle.bank_invariant.specs.State.{Operation, target_of, is_storing}
 use Rattle.bank_invariant.specs.Tied.{decoded, IsOf, IsRunning, AreTied}
 use Rattle.bank_invariant.specs.Writes.{FullLaw, ExhaustedWriteLaw, AcceptedLaw, MergedLaw}

@@ -26,7 +26,7 @@ use Rattle.power_recovery.specs.Slots.{bank_lines}
 use Rattle.power_recovery.specs.Kept.{KeptState, IsKept, AllBelow, region_at, slot_of, array_line, stands_at, target_slot, due_region, due_work, next_work}
 use Rattle.power_recovery.proofs.Placing.{slot_of-within, slot_of-apart, slot_of-off_gap, slot_at-within}
 use Rattle.power_recovery.proofs.Bundle.{due_region-Some}
-use Rattle.bank_invariant.specs.declared.Waiting.{Waiting}
+use Rattle.bank_shape.specs.declared.waiting.Waiting.{Waiting}
 use Rattle.bank_invariant.specs.State.{target_of}
 use Rattle.bank_invariant.specs.Tied.{decoded, IsSoundLine, IsWornLine, AreSound, IsOf}
 use Rattle.bank_invariant.specs.Holds.{stands_for}

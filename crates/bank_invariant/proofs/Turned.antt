@@ -21,7 +21,7 @@ use Rattle.power_recovery.specs.Events.{is_copy}
 use Rattle.power_recovery.proofs.Placing.{slot_of-within, slot_of-off_gap, slot_at-within}
 use Rattle.power_recovery.proofs.Frames.{moved_at, moved_kept-at, slot_of-moved, slot_of-moved_region, slot_of-moved_other}
 use Rattle.power_recovery.proofs.Bundle.{due_region-Some, next_work-copy, IsKept-moved_at}
-use Rattle.bank_model.specs.declared.answer.Step.TheVariants as did
+use Rattle.bank_shape.specs.declared.answer.Step.TheVariants as did
 use Rattle.bank_model.specs.Events.{Event, Begin, Iterate, newest}
 use Rattle.bank_model.specs.History.{Awaited, queue, begun, waits, in_progress, iterated, stores, stored_in, moved_in, due_after, first_or}
 use Rattle.bank_model.specs.After.{work_after, may_begin_after}

@@ -9,7 +9,7 @@ use Rattle.bank_shape.specs.Shape.{slot_at}
 use Rattle.line_writer.specs.Writing.{steps_left, most_steps}
 use Rattle.power_recovery.specs.Kept.{KeptState, array_line, next_work}
 use Rattle.power_recovery.specs.Events.{completed_kept}
-use Rattle.bank_model.specs.declared.answer.Step.TheVariants as did
+use Rattle.bank_shape.specs.declared.answer.Step.TheVariants as did
 use Rattle.bank_model.specs.Events.{Event, Begin}
 use Rattle.bank_invariant.specs.State.{BankState, Operation, may_begin, target_of}
 use Rattle.bank_invariant.specs.Tied.{decoded, IsUnderWay}

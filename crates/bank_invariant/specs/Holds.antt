@@ -11,7 +11,7 @@ use Rattle.power_recovery.specs.Kept.{KeptState, IsKept, region_at, stands_at}
 use Rattle.bank_model.specs.Events.{Event, newest, RowsBelow}
 use Rattle.bank_model.specs.History.{Awaited, queue, waits, in_progress, iterated, stores, stored_in, moved_in, retired, has_exhausted, first_or}
 use Rattle.bank_model.specs.Answers.{MayAll}
-use Rattle.bank_invariant.specs.declared.Waiting.{Waiting}
+use Rattle.bank_shape.specs.declared.waiting.Waiting.{Waiting}
 use Rattle.bank_invariant.specs.State.{BankState}
 use Rattle.bank_invariant.specs.Tied.{decoded, IsTied}
 

@@ -6,7 +6,7 @@ use Rattle.bank_shape.specs.declared.Work.TheVariants.{Copy}
 use Rattle.bank_shape.specs.Shape.{slot_at}
 use Rattle.power_recovery.specs.Kept.{array_line, next_work}
 use Rattle.power_recovery.specs.Events.{moved_kept}
-use Rattle.bank_model.specs.declared.answer.Step.TheVariants as did
+use Rattle.bank_shape.specs.declared.answer.Step.TheVariants as did
 use Rattle.bank_model.specs.Events.{Event, Begin, Iterate}
 use Rattle.bank_invariant.specs.State.{BankState, Operation, target_of}
 use Rattle.bank_invariant.specs.Tied.{decoded}

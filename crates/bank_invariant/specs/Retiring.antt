@@ -5,7 +5,7 @@ use Rattle.spare_pool.specs.Table.{used_by}
 use Rattle.line_writer.specs.Writing.{most_steps}
 use Rattle.power_recovery.specs.Kept.{KeptState, target_slot}
 use Rattle.power_recovery.specs.Events.{retired_kept, exhausted_kept}
-use Rattle.bank_model.specs.declared.answer.Step.TheVariants as did
+use Rattle.bank_shape.specs.declared.answer.Step.TheVariants as did
 use Rattle.bank_model.specs.Events.{Event, Iterate}
 use Rattle.bank_model.specs.Answers.{MayHappen}
 use Rattle.bank_invariant.specs.State.{BankState, Operation}

@@ -8,7 +8,7 @@ use Rattle.bank_shape.specs.declared.Work.TheVariants.{Nothing, Store, Copy}
 use Rattle.line_writer.specs.declared.writer.LineWriter.{LineWriter}
 use Rattle.power_recovery.specs.Kept.{KeptState, array_line, target_slot, next_work}
 use Rattle.power_recovery.specs.Events.{first_kept, is_store}
-use Rattle.bank_invariant.specs.declared.Waiting.{Waiting}
+use Rattle.bank_shape.specs.declared.waiting.Waiting.{Waiting}
 
 -- a line write in progress: what it is for, the array line that it writes, and how far it has come
 pub record Operation (n m e : ℕ) : Type 0 where

@@ -2,7 +2,7 @@
 use Rattle.std.specs.Prelude.{ℕ, ◌+◌, ◌≤◌, false, List, [], ◌∷◌, map, None}
 use Rattle.pcm_cells.specs.Device.{ArrayState}
 use Rattle.line_writer.specs.Writing.{most_steps}
-use Rattle.bank_model.specs.declared.answer.ReadAnswer.TheVariants as came
+use Rattle.bank_shape.specs.declared.answer.ReadAnswer.TheVariants as came
 use Rattle.bank_model.specs.Events.{Event, Read, Cut}
 use Rattle.bank_model.specs.Answers.{MayHappen}
 use Rattle.bank_invariant.specs.State.{BankState}

@@ -7,7 +7,7 @@ use Rattle.pcm_cells.specs.Device.{ArrayState}
 use Rattle.bank_shape.specs.declared.Work.TheVariants.{Store}
 use Rattle.power_recovery.specs.Kept.{KeptState, array_line, next_work}
 use Rattle.power_recovery.specs.Events.{completed_kept, stored_kept}
-use Rattle.bank_model.specs.declared.answer.Step.TheVariants as did
+use Rattle.bank_shape.specs.declared.answer.Step.TheVariants as did
 use Rattle.bank_model.specs.Events.{Event, Begin, Iterate}
 use Rattle.bank_invariant.specs.State.{BankState, Operation, may_begin}
 use Rattle.bank_invariant.specs.Tied.{decoded}

@@ -14,7 +14,7 @@ use Rattle.line_writer.specs.declared.writer.Progress.TheVariants as progress
 use Rattle.line_writer.specs.Writing.{Writes}
 use Rattle.line_writer.specs.Untouched.{AreUntouched}
 use Rattle.power_recovery.specs.Kept.{KeptState, array_line, due_region, due_work, next_work}
-use Rattle.bank_invariant.specs.declared.Waiting.{Waiting}
+use Rattle.bank_shape.specs.declared.waiting.Waiting.{Waiting}
 use Rattle.bank_invariant.specs.State.{BankState, Operation, target_of}
 
 -- what an array line is read as

@@ -4,8 +4,8 @@ use Rattle.pcm_cells.specs.Device.{ArrayState}
 use Rattle.protected_queue.specs.declared.accept.Accept.{Accept}
 use Rattle.protected_queue.specs.declared.accept.Accept.TheVariants.{Pushed, Merged, Full}
 use Rattle.protected_queue.specs.Queue as taking
-use Rattle.bank_model.specs.declared.answer.WriteAnswer.{WriteAnswer}
-use Rattle.bank_model.specs.declared.answer.WriteAnswer.TheVariants as wrote
+use Rattle.bank_shape.specs.declared.answer.WriteAnswer.{WriteAnswer}
+use Rattle.bank_shape.specs.declared.answer.WriteAnswer.TheVariants as wrote
 use Rattle.bank_model.specs.Events.{Event}
 use Rattle.bank_model.specs.Answers.{write_answer, head_busy_after}
 use Rattle.bank_invariant.specs.State.{BankState}

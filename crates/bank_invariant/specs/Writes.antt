@@ -5,7 +5,7 @@ use Rattle.masked_bytes.specs.Entries.{RowsApart}
 use Rattle.masked_bytes.specs.declared.entry.Entry.{Entry}
 use Rattle.line_writer.specs.Writing.{most_steps}
 use Rattle.power_recovery.specs.Events.{accepted_kept}
-use Rattle.bank_model.specs.declared.answer.WriteAnswer.TheVariants as wrote
+use Rattle.bank_shape.specs.declared.answer.WriteAnswer.TheVariants as wrote
 use Rattle.bank_model.specs.Events.{Event, Write}
 use Rattle.bank_model.specs.History.{queue}
 use Rattle.bank_model.specs.Answers.{MayHappen, head_busy_after}

@@ -1,13 +1,13 @@
 -- Which rows an event answers: they stand in the queue or wait.
 use Rattle.std.proofs.Common.{◌≡◌, ℕ, ◌==◌, ◌||◌, ◌&&◌, not, Bool, true, false, List, [], ◌∷◌, Option, Some, None, drop, length, refl, sym, ap, ◌∙◌, subst, cond, eqb}
-use Rattle.std.proofs.lemmas.Bool.{eq-eqb}
+use Rattle.std.proofs.lemmas.Bool.{eq-eqb, or_left, or_right}
 use Rattle.masked_bytes.specs.declared.entry.Entry.{Entry}
 use Rattle.masked_bytes.specs.Entries.{has_row, RowsApart, newest_row, candidate, or_this, head_row}
 use Rattle.bank_shape.specs.declared.BankShape.{BankShape}
 use Rattle.bank_shape.specs.declared.Work.TheVariants.{Nothing}
-use Rattle.bank_model.specs.declared.answer.WriteAnswer.TheVariants as wrote
-use Rattle.bank_model.specs.declared.answer.Served.{Served}
-use Rattle.bank_model.specs.declared.answer.Step.TheVariants as did
+use Rattle.bank_shape.specs.declared.answer.WriteAnswer.TheVariants as wrote
+use Rattle.bank_shape.specs.declared.answer.Served.{Served}
+use Rattle.bank_shape.specs.declared.answer.Step.TheVariants as did
 use Rattle.bank_model.specs.Events.{Event}
 use Rattle.bank_model.specs.History.{Awaited, queue, due_after, has_exhausted}
 use Rattle.bank_model.specs.After.{work_after, due_work}
@@ -23,18 +23,10 @@ abbrev pub IsFirst : List Awaited → ℕ → Type 0
 IsFirst [] row = ⊥
 IsFirst (w ∷ ws) row = row ≡ w.row
 
-or_first : (a b : Bool) → a ≡ true → (a || b) ≡ true
-or_first true b h = refl
-or_first false b h = cc
-
-or_second : (a b : Bool) → b ≡ true → (a || b) ≡ true
-or_second true b h = refl
-or_second false b h = h
-
 module _ {n : ℕ} where
   pub head-there : (es : List (Entry n)) (row : ℕ) → IsHead es row → has_row es row ≡ true
   head-there [] row h = absurd h
-  head-there (e ∷ es) row h = or_first (e.row == row) _ (eq-eqb e.row row (sym h))
+  head-there (e ∷ es) row h = or_left (e.row == row) _ (eq-eqb e.row row (sym h))
 
   pub head-gone : (es : List (Entry n)) (row : ℕ) → RowsApart es → IsHead es row → has_row (drop 1 es) row ≡ false
   head-gone [] row a h = absurd h
@@ -45,11 +37,11 @@ module _ {n : ℕ} where
   newest_row-there (e ∷ es) line at h = by (newest_row es line) (λ is. newest_row-there es line at is) refl h
     where
       own : (b : Bool) → cond b (Some e.row) None ≡ Some at → has_row (e ∷ es) at ≡ true
-      own true h = let same : e.row ≡ at = cc in or_first (e.row == at) _ (eq-eqb e.row at same)
+      own true h = let same : e.row ≡ at = cc in or_left (e.row == at) _ (eq-eqb e.row at same)
       own false h = absurd (cc)
 
       by : (r : Option ℕ) → (newest_row es line ≡ Some at → has_row es at ≡ true) → newest_row es line ≡ r → or_this r (cond (eqb e.line line) (Some e.row) None) ≡ Some at → has_row (e ∷ es) at ≡ true
-      by (Some row) rest is h = or_second (e.row == at) _ (rest (is ∙ h))
+      by (Some row) rest is h = or_right (e.row == at) _ (rest (is ∙ h))
       by None rest is h = own (eqb e.line line) h
 
   pub candidate-there : (busy : Bool) (es : List (Entry n)) (line at : ℕ) → candidate busy es line ≡ Some at → has_row es at ≡ true
@@ -57,16 +49,16 @@ module _ {n : ℕ} where
   candidate-there busy (e ∷ es) line at h = by (newest_row es line) refl h
     where
       own : (b : Bool) → cond b (Some e.row) None ≡ Some at → has_row (e ∷ es) at ≡ true
-      own true h = let same : e.row ≡ at = cc in or_first (e.row == at) _ (eq-eqb e.row at same)
+      own true h = let same : e.row ≡ at = cc in or_left (e.row == at) _ (eq-eqb e.row at same)
       own false h = absurd (cc)
 
       by : (r : Option ℕ) → newest_row es line ≡ r → or_this r (cond (not busy && eqb e.line line) (Some e.row) None) ≡ Some at → has_row (e ∷ es) at ≡ true
-      by (Some row) is h = or_second (e.row == at) _ (newest_row-there es line at (is ∙ h))
+      by (Some row) is h = or_right (e.row == at) _ (newest_row-there es line at (is ∙ h))
       by None is h = own (not busy && eqb e.line line) h
 
 pub first-there : (ws : List Awaited) (row : ℕ) → IsFirst ws row → has_wait ws row ≡ true
 first-there [] row h = absurd h
-first-there (w ∷ ws) row h = or_first (w.row == row) _ (eq-eqb w.row row (sym h))
+first-there (w ∷ ws) row h = or_left (w.row == row) _ (eq-eqb w.row row (sym h))
 
 pub first-gone : (ws : List Awaited) (row : ℕ) → WaitsApart ws → IsFirst ws row → has_wait (drop 1 ws) row ≡ false
 first-gone [] row a h = absurd h

@@ -2,12 +2,13 @@
 use Rattle.std.proofs.Common.{◌≡◌, ℕ, ◌||◌, not, Bool, true, false, List, [], ◌∷◌, Option, Some, None, refl, sym, ap, ◌∙◌, subst}
 use Rattle.std.specs.Prelude.{is_some}
 use Rattle.bank_shape.specs.declared.BankShape.{BankShape}
-use Rattle.bank_model.specs.declared.answer.Step.{Step}
-use Rattle.bank_model.specs.declared.answer.Step.TheVariants as did
-use Rattle.bank_model.specs.declared.answer.Keep.TheVariants as keep
+use Rattle.bank_shape.specs.declared.answer.Step.{Step}
+use Rattle.bank_shape.specs.declared.answer.Step.TheVariants as did
+use Rattle.bank_shape.specs.declared.answer.Keep.TheVariants as keep
 use Rattle.bank_model.specs.Events.{Event, Write, Read, Serve, Begin, Iterate, Cut}
 use Rattle.bank_model.specs.History.{in_progress, iterated, goes_on}
-use Rattle.bank_model.specs.Timing.{Pacing, Happens, Core, Regs, KeepBegin, KeepIterate, KeepCut, Timed, core, core_of}
+use Rattle.bank_shape.specs.declared.pace.Pace.{Pace}
+use Rattle.bank_model.specs.Timing.{Happens, Core, Regs, KeepBegin, KeepIterate, KeepCut, TimedEvent, core, core_of}
 use Rattle.bank_model.specs.Changes.{change_after, change_by, changed_by, keeping_after, keeping_by, halted_after, halted_by, rounds_after}
 use Rattle.bank_model.specs.Running.{busy_by, made_by, busy_after, made_after}
 use Rattle.bank_model.specs.Lawful.{Lawful, MayCome}
@@ -28,9 +29,9 @@ pub made-some : (change : Option ℕ) (rounds count : ℕ) → is_some change �
 made-some None rounds count is = absurd (cc)
 made-some (Some item) rounds count is = refl
 
-module _ {n m : ℕ} (shape : BankShape) (pace : Pacing) (e : ℕ) where
+module _ {n m : ℕ} (shape : BankShape) (pace : Pace) (e : ℕ) where
   -- a change comes with the end of a line write, and then none of the bank is in progress
-  pub changed-idle : (xs : List (Timed n m)) → Lawful shape pace e xs → is_some (change_after shape xs) ≡ true → in_progress (core xs) ≡ false
+  pub changed-idle : (xs : List (TimedEvent n m)) → Lawful shape pace e xs → is_some (change_after shape xs) ≡ true → in_progress (core xs) ≡ false
   changed-idle [] l some = refl
   changed-idle (x ∷ xs) l some = by x.happens l.0 (changed-idle xs l.1) some
     where
@@ -63,7 +64,7 @@ module _ {n m : ℕ} (shape : BankShape) (pace : Pacing) (e : ℕ) where
       by (Regs (KeepCut tearing)) may ih some = ih some
 
   -- the writing of a change that has halted is not in progress
-  pub halted-stops : (xs : List (Timed n m)) → Lawful shape pace e xs → halted_after xs ≡ true → keeping_after xs ≡ false
+  pub halted-stops : (xs : List (TimedEvent n m)) → Lawful shape pace e xs → halted_after xs ≡ true → keeping_after xs ≡ false
   halted-stops [] l is = refl
   halted-stops (x ∷ xs) l is = by x.happens l.0 (halted-stops xs l.1) is
     where

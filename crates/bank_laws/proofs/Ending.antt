@@ -3,15 +3,16 @@ use Rattle.std.proofs.Common.{◌≡◌, ◌≢◌, ℕ, ◌⊎◌, inl, inr, Bo
 use Rattle.std.specs.Prelude.{unwrap_or}
 use Rattle.result_rows.specs.declared.Outcome.{Outcome}
 use Rattle.result_rows.specs.declared.Outcome.TheVariants as out
-use Rattle.row_laws.specs.declared.Asks.TheVariants.{Writes}
-use Rattle.row_laws.specs.Answers.{accepts}
-use Rattle.row_laws.specs.Serving.{may_have}
+use Rattle.row_rules.specs.declared.Asks.TheVariants.{Writes}
+use Rattle.row_rules.specs.Answers.{accepts}
+use Rattle.row_rules.specs.Serving.{may_have}
 use Rattle.bank_shape.specs.declared.BankShape.{BankShape}
-use Rattle.bank_model.specs.declared.answer.WriteAnswer.{WriteAnswer}
-use Rattle.bank_model.specs.declared.answer.WriteAnswer.TheVariants as wrote
+use Rattle.bank_shape.specs.declared.answer.WriteAnswer.{WriteAnswer}
+use Rattle.bank_shape.specs.declared.answer.WriteAnswer.TheVariants as wrote
 use Rattle.bank_model.specs.Events.{Write}
 use Rattle.bank_model.specs.History.{queue}
-use Rattle.bank_model.specs.Timing.{Pacing, Happens, Core, Regs, Timed, core}
+use Rattle.bank_shape.specs.declared.pace.Pace.{Pace}
+use Rattle.bank_model.specs.Timing.{Happens, Core, Regs, TimedEvent, core}
 use Rattle.bank_model.specs.Lawful.{Lawful, MayCome}
 use Rattle.bank_laws.specs.Outcomes.{on_row, outcome_with, outcome_of, ended}
 use Rattle.bank_laws.specs.Settling.{AreOpen}
@@ -20,13 +21,13 @@ use Rattle.bank_laws.proofs.Settling.{stays}
 use Rattle.bank_laws.proofs.Fates.{IsLeft, WriteFate, WriteFateBy, ReadFate, ReadFateBy, write_fate, read_fate, new-push, new-merged, eqb-same}
 
 -- what an event leaves stands in the end as said
-pub record Onwards {n m : ℕ} (shape : BankShape) (all ys : List (Timed n m)) (tick : ℕ) (h : Happens n) : Type 0 where
+pub record Onwards {n m : ℕ} (shape : BankShape) (all ys : List (TimedEvent n m)) (tick : ℕ) (h : Happens n) : Type 0 where
   pub stay : (row : ℕ) → unwrap_or (outcome_with shape ys h tick row) (outcome_of shape ys row) ≢ out.Unset
       → outcome_of shape all row ≡ unwrap_or (outcome_with shape ys h tick row) (outcome_of shape ys row)
   pub writes : (row : ℕ) → WriteFateBy shape ys tick h row → WriteFate shape all row
   pub reads : (row : ℕ) (owed : List ℕ) → ReadFateBy shape ys tick h row owed → ReadFate shape all row owed
 
-pub onwards : {n m : ℕ} (shape : BankShape) (pace : Pacing) (e : ℕ) (later : List (Timed n m)) (x : Timed n m) (ys : List (Timed n m))
+pub onwards : {n m : ℕ} (shape : BankShape) (pace : Pace) (e : ℕ) (later : List (TimedEvent n m)) (x : TimedEvent n m) (ys : List (TimedEvent n m))
     → Lawful shape pace e (later ++ x ∷ ys) → Onwards shape (later ++ x ∷ ys) ys x.tick x.happens
 onwards shape pace e later x ys l = record {
   stay = λ row set. stays shape pace e later (x ∷ ys) row l set;
@@ -110,7 +111,7 @@ module _ {n : ℕ} where
   outcome-may tick line bytes given wrote.Full o is = ap (may_have tick (Writes line bytes given) []) is ∙ eqb-same tick
   outcome-may tick line bytes given wrote.Exhausted o is = ap (may_have tick (Writes line bytes given) []) is ∙ eqb-same tick
 
-module _ {n m : ℕ} (shape : BankShape) (pace : Pacing) (e : ℕ) (all ys : List (Timed n m)) (x : Timed n m) where
+module _ {n m : ℕ} (shape : BankShape) (pace : Pace) (e : ℕ) (all ys : List (TimedEvent n m)) (x : TimedEvent n m) where
   fate_outcome : (tick row : ℕ) → AreOpen shape all → WriteFate shape all row → IsLeft (ended tick (outcome_of shape all row)) ⊎ (ended tick (outcome_of shape all row) ≡ out.Queued tick)
   fate_outcome tick row o (inl there) = inr (ap (ended tick) (o.queued row there))
   fate_outcome tick row o (inr left) = inl (subst (λ (o : Outcome n). IsLeft o) (sym (left-ended tick (outcome_of shape all row) left)) left)

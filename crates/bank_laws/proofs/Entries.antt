@@ -1,6 +1,7 @@
 -- The rows of entries and of waiting reads, as they come, merge and go.
 use Rattle.std.proofs.Common.{◌≡◌, ℕ, ◌<◌, ◌==◌, ◌||◌, Bool, true, false, List, [], ◌∷◌, ◌++◌, Option, Some, None, drop, refl, sym, subst, arith, cond, eqb, eqb-true}
-use Rattle.std.proofs.lemmas.Bool.{eqb-false, ne_eqb}
+use Rattle.masked_bytes.proofs.Truth.{neither_first, neither_second}
+use Rattle.std.proofs.lemmas.Bool.{eqb-false, ne_eqb, or_from}
 use Rattle.masked_bytes.specs.declared.entry.Entry.{Entry}
 use Rattle.masked_bytes.specs.Entries.{has_row, RowsApart, merged, laid_on}
 use Rattle.bank_model.specs.History.{Awaited, begun}
@@ -10,18 +11,6 @@ use Rattle.bank_laws.specs.Standing.{has_wait, WaitsApart}
 pub either : {A : Type 0} (b : Bool) → (b ≡ true → A) → (b ≡ false → A) → A
 either true f g = f refl
 either false f g = g refl
-
-pub or_none : (a b : Bool) → a ≡ false → b ≡ false → (a || b) ≡ false
-or_none true b h k = h
-or_none false b h k = k
-
-pub or_left : (a b : Bool) → (a || b) ≡ false → a ≡ false
-or_left true b h = h
-or_left false b h = refl
-
-pub or_right : (a b : Bool) → (a || b) ≡ false → b ≡ false
-or_right true b h = cc
-or_right false b h = h
 
 pub differ : (a b : ℕ) → a < b → (a == b) ≡ false
 differ a b lt = ne_eqb a b (λ e. omega arith)
@@ -34,12 +23,12 @@ differ_sym a b h = ne_eqb b a (λ e. eqb-false a b h (sym e))
 
 module _ {n : ℕ} where
   pub lacks-push : (es : List (Entry n)) (x : Entry n) (r : ℕ) → has_row es r ≡ false → (x.row == r) ≡ false → has_row (es ++ x ∷ []) r ≡ false
-  lacks-push [] x r h k = or_none (x.row == r) false k refl
-  lacks-push (e ∷ es) x r h k = or_none (e.row == r) _ (or_left (e.row == r) _ h) (lacks-push es x r (or_right (e.row == r) _ h) k)
+  lacks-push [] x r h k = or_from (x.row == r) false k refl
+  lacks-push (e ∷ es) x r h k = or_from (e.row == r) _ (neither_first (e.row == r) _ h) (lacks-push es x r (neither_second (e.row == r) _ h) k)
 
   pub lacks-drop : (es : List (Entry n)) (r : ℕ) → has_row es r ≡ false → has_row (drop 1 es) r ≡ false
   lacks-drop [] r h = refl
-  lacks-drop (e ∷ es) r h = or_right (e.row == r) _ h
+  lacks-drop (e ∷ es) r h = neither_second (e.row == r) _ h
 
   pub row-begun : (due : Option ℕ) (f : ℕ → List ℕ) (es : List (Entry n)) (r : ℕ) → has_row (begun due f es) r ≡ has_row es r
   row-begun (Some region) f es r = refl
@@ -51,15 +40,15 @@ module _ {n : ℕ} where
   lacks-merged old row bytes given [] r h k = refl
   lacks-merged old row bytes given (e ∷ es) r h k =
       elim (eqb e.row old) as (λ b. has_row (cond b (laid_on row bytes given e ∷ es) (e ∷ merged old row bytes given es)) r ≡ false) [
-        | true ↦ or_none (row == r) _ k (or_right (e.row == r) _ h)
-        | false ↦ or_none (e.row == r) _ (or_left (e.row == r) _ h) (lacks-merged old row bytes given es r (or_right (e.row == r) _ h) k)
+        | true ↦ or_from (row == r) _ k (neither_second (e.row == r) _ h)
+        | false ↦ or_from (e.row == r) _ (neither_first (e.row == r) _ h) (lacks-merged old row bytes given es r (neither_second (e.row == r) _ h) k)
       ]
 
   pub apart-push : (es : List (Entry n)) (x : Entry n) → RowsApart es → has_row es x.row ≡ false → RowsApart (es ++ x ∷ [])
   apart-push [] x a h = (refl, tt)
   apart-push (e ∷ es) x a h = (
-    lacks-push es x e.row a.0 (differ_sym e.row x.row (or_left (e.row == x.row) _ h)),
-    apart-push es x a.1 (or_right (e.row == x.row) _ h),
+    lacks-push es x e.row a.0 (differ_sym e.row x.row (neither_first (e.row == x.row) _ h)),
+    apart-push es x a.1 (neither_second (e.row == x.row) _ h),
   )
 
   pub apart-drop : (es : List (Entry n)) → RowsApart es → RowsApart (drop 1 es)
@@ -76,10 +65,10 @@ module _ {n : ℕ} where
   apart-merged old row bytes given [] a h = tt
   apart-merged old row bytes given (e ∷ es) a h =
       elim (eqb e.row old) as (λ b. RowsApart (cond b (laid_on row bytes given e ∷ es) (e ∷ merged old row bytes given es))) [
-        | true ↦ (or_right (e.row == row) _ h, a.1)
+        | true ↦ (neither_second (e.row == row) _ h, a.1)
         | false ↦ (
-          lacks-merged old row bytes given es e.row a.0 (differ_sym e.row row (or_left (e.row == row) _ h)),
-          apart-merged old row bytes given es a.1 (or_right (e.row == row) _ h),
+          lacks-merged old row bytes given es e.row a.0 (differ_sym e.row row (neither_first (e.row == row) _ h)),
+          apart-merged old row bytes given es a.1 (neither_second (e.row == row) _ h),
         )
       ]
 
@@ -89,8 +78,8 @@ module _ {n : ℕ} where
   lacks-old old row bytes given [] a h = refl
   lacks-old old row bytes given (e ∷ es) a h =
       elim (eqb e.row old) as (λ b. eqb e.row old ≡ b → has_row (cond b (laid_on row bytes given e ∷ es) (e ∷ merged old row bytes given es)) old ≡ false) [
-        | true ↦ λ is. or_none (row == old) _ h (subst (λ r. has_row es r ≡ false) (eqb-true e.row old is) a.0)
-        | false ↦ λ is. or_none (e.row == old) _ is (lacks-old old row bytes given es a.1 h)
+        | true ↦ λ is. or_from (row == old) _ h (subst (λ r. has_row es r ≡ false) (eqb-true e.row old is) a.0)
+        | false ↦ λ is. or_from (e.row == old) _ is (lacks-old old row bytes given es a.1 h)
       ] refl
 
   -- of the head's row there is no other entry
@@ -98,18 +87,18 @@ module _ {n : ℕ} where
   lacks-head es head a = a.0
 
 pub no_wait-push : (ws : List Awaited) (w : Awaited) (r : ℕ) → has_wait ws r ≡ false → (w.row == r) ≡ false → has_wait (ws ++ w ∷ []) r ≡ false
-no_wait-push [] w r h k = or_none (w.row == r) false k refl
-no_wait-push (v ∷ ws) w r h k = or_none (v.row == r) _ (or_left (v.row == r) _ h) (no_wait-push ws w r (or_right (v.row == r) _ h) k)
+no_wait-push [] w r h k = or_from (w.row == r) false k refl
+no_wait-push (v ∷ ws) w r h k = or_from (v.row == r) _ (neither_first (v.row == r) _ h) (no_wait-push ws w r (neither_second (v.row == r) _ h) k)
 
 pub no_wait-drop : (ws : List Awaited) (r : ℕ) → has_wait ws r ≡ false → has_wait (drop 1 ws) r ≡ false
 no_wait-drop [] r h = refl
-no_wait-drop (w ∷ ws) r h = or_right (w.row == r) _ h
+no_wait-drop (w ∷ ws) r h = neither_second (w.row == r) _ h
 
 pub waits_apart-push : (ws : List Awaited) (w : Awaited) → WaitsApart ws → has_wait ws w.row ≡ false → WaitsApart (ws ++ w ∷ [])
 waits_apart-push [] w a h = (refl, tt)
 waits_apart-push (v ∷ ws) w a h = (
-  no_wait-push ws w v.row a.0 (differ_sym v.row w.row (or_left (v.row == w.row) _ h)),
-  waits_apart-push ws w a.1 (or_right (v.row == w.row) _ h),
+  no_wait-push ws w v.row a.0 (differ_sym v.row w.row (neither_first (v.row == w.row) _ h)),
+  waits_apart-push ws w a.1 (neither_second (v.row == w.row) _ h),
 )
 
 pub waits_apart-drop : (ws : List Awaited) → WaitsApart ws → WaitsApart (drop 1 ws)

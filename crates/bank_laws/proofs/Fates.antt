@@ -1,20 +1,21 @@
 -- What becomes of a row: an accepted write leaves the queue or stays there, and a read that waits is answered or lost.
 use Rattle.std.proofs.Common.{◌≡◌, ◌≢◌, ℕ, ◌==◌, ◌||◌, ◌⊎◌, inl, inr, Bool, true, false, List, [], ◌∷◌, ◌++◌, Some, None, drop, refl, sym, ◌∙◌, subst, cond, eqb, eqb-true}
 use Rattle.std.specs.Prelude.{unwrap_or}
-use Rattle.std.proofs.lemmas.Bool.{eq-eqb}
+use Rattle.std.proofs.lemmas.Bool.{eq-eqb, or_left, or_right}
 use Rattle.result_rows.specs.declared.Outcome.{Outcome}
 use Rattle.result_rows.specs.declared.Outcome.TheVariants as out
 use Rattle.masked_bytes.specs.declared.entry.Entry.{Entry}
 use Rattle.masked_bytes.specs.Entries.{has_row, merged, laid_on}
 use Rattle.bank_shape.specs.declared.BankShape.{BankShape}
-use Rattle.bank_model.specs.declared.answer.WriteAnswer.TheVariants as wrote
-use Rattle.bank_model.specs.declared.answer.ReadAnswer.TheVariants as came
-use Rattle.bank_model.specs.declared.answer.Served.{Served}
-use Rattle.bank_model.specs.declared.answer.Step.TheVariants as did
+use Rattle.bank_shape.specs.declared.answer.WriteAnswer.TheVariants as wrote
+use Rattle.bank_shape.specs.declared.answer.ReadAnswer.TheVariants as came
+use Rattle.bank_shape.specs.declared.answer.Served.{Served}
+use Rattle.bank_shape.specs.declared.answer.Step.TheVariants as did
 use Rattle.bank_model.specs.Events.{Write, Read, Serve, Begin, Iterate, Cut, newest}
 use Rattle.bank_model.specs.History.{Awaited, queue, waits, due_after}
 use Rattle.bank_model.specs.Answers.{IsServed}
-use Rattle.bank_model.specs.Timing.{Pacing, Happens, Core, Regs, Timed, core, core_of}
+use Rattle.bank_shape.specs.declared.pace.Pace.{Pace}
+use Rattle.bank_model.specs.Timing.{Happens, Core, Regs, TimedEvent, core, core_of}
 use Rattle.bank_model.specs.Lawful.{Lawful, MayCome}
 use Rattle.bank_laws.specs.Outcomes.{on_row, outcome_with, outcome_of}
 use Rattle.bank_laws.specs.Standing.{has_wait}
@@ -24,14 +25,6 @@ use Rattle.bank_laws.proofs.Settling.{opens, step_stays}
 
 pub eqb-same : (a : ℕ) → (a == a) ≡ true
 eqb-same a = eq-eqb a a refl
-
-pub or_first : (a b : Bool) → a ≡ true → (a || b) ≡ true
-or_first true b h = refl
-or_first false b h = absurd (cc)
-
-pub or_second : (a b : Bool) → b ≡ true → (a || b) ≡ true
-or_second true b h = refl
-or_second false b h = h
 
 module _ {n : ℕ} where
   -- the outcome of a write that has left the queue
@@ -81,8 +74,8 @@ module _ {n : ℕ} where
       by false rest h = rest h
 
   pub new-push : (es : List (Entry n)) (x : Entry n) → has_row (es ++ x ∷ []) x.row ≡ true
-  new-push [] x = or_first (x.row == x.row) false (eqb-same x.row)
-  new-push (e ∷ es) x = or_second (e.row == x.row) _ (new-push es x)
+  new-push [] x = or_left (x.row == x.row) false (eqb-same x.row)
+  new-push (e ∷ es) x = or_right (e.row == x.row) _ (new-push es x)
 
   -- after a merge another row is still there, and so is the new one
   there-merged : (old row : ℕ) (bytes : List ℕ) (given : List Bool) (es : List (Entry n)) (r : ℕ)
@@ -90,7 +83,7 @@ module _ {n : ℕ} where
   there-merged old row bytes given [] r h ne = absurd (cc)
   there-merged old row bytes given (e ∷ es) r h ne =
       elim (eqb e.row old) as (λ b. eqb e.row old ≡ b → has_row (cond b (laid_on row bytes given e ∷ es) (e ∷ merged old row bytes given es)) r ≡ true) [
-        | true ↦ λ is. or_second (row == r) _ (rest (e.row == r) (subst (λ a. (a == r) ≡ false) (sym (eqb-true e.row old is)) ne) h)
+        | true ↦ λ is. or_right (row == r) _ (rest (e.row == r) (subst (λ a. (a == r) ≡ false) (sym (eqb-true e.row old is)) ne) h)
         | false ↦ λ is. more (e.row == r) (λ k. there-merged old row bytes given es r k ne) h
       ] refl
     where
@@ -108,8 +101,8 @@ module _ {n : ℕ} where
     where
       by : (b : Bool) → (has_row es old ≡ true → has_row (merged old row bytes given es) row ≡ true) → (b || has_row es old) ≡ true
           → has_row (cond b (laid_on row bytes given e ∷ es) (e ∷ merged old row bytes given es)) row ≡ true
-      by true go h = or_first (row == row) _ (eqb-same row)
-      by false go h = or_second (e.row == row) _ (go h)
+      by true go h = or_left (row == row) _ (eqb-same row)
+      by false go h = or_right (e.row == row) _ (go h)
 
 -- a read of this row waits, and is owed these bytes
 abbrev pub Awaits : List Awaited → ℕ → List ℕ → Type 0
@@ -127,27 +120,27 @@ awaits-new (v ∷ ws) w = inr (awaits-new ws w)
 
 pub awaits-has : (ws : List Awaited) (row : ℕ) (owed : List ℕ) → Awaits ws row owed → has_wait ws row ≡ true
 awaits-has [] row owed a = absurd a
-awaits-has (w ∷ ws) row owed (inl a) = or_first (w.row == row) _ (eq-eqb w.row row a.0)
-awaits-has (w ∷ ws) row owed (inr a) = or_second (w.row == row) _ (awaits-has ws row owed a)
+awaits-has (w ∷ ws) row owed (inl a) = or_left (w.row == row) _ (eq-eqb w.row row a.0)
+awaits-has (w ∷ ws) row owed (inr a) = or_right (w.row == row) _ (awaits-has ws row owed a)
 
 module _ {n m : ℕ} (shape : BankShape) where
   -- an accepted write stands in the queue, or has left it
-  abbrev pub WriteFate : List (Timed n m) → ℕ → Type 0
+  abbrev pub WriteFate : List (TimedEvent n m) → ℕ → Type 0
   WriteFate zs row = (has_row (queue shape (core zs)) row ≡ true) ⊎ IsLeft (outcome_of shape zs row)
 
   -- a read waits, or is settled
-  abbrev pub ReadFate : List (Timed n m) → ℕ → List ℕ → Type 0
+  abbrev pub ReadFate : List (TimedEvent n m) → ℕ → List ℕ → Type 0
   ReadFate zs row owed = Awaits (waits shape (core zs)) row owed ⊎ IsSettled owed (outcome_of shape zs row)
 
   -- these after one more event
-  abbrev pub WriteFateBy : List (Timed n m) → ℕ → Happens n → ℕ → Type 0
+  abbrev pub WriteFateBy : List (TimedEvent n m) → ℕ → Happens n → ℕ → Type 0
   WriteFateBy zs tick h row = (has_row (queue shape (core_of h (core zs))) row ≡ true) ⊎ IsLeft (unwrap_or (outcome_with shape zs h tick row) (outcome_of shape zs row))
 
-  abbrev pub ReadFateBy : List (Timed n m) → ℕ → Happens n → ℕ → List ℕ → Type 0
+  abbrev pub ReadFateBy : List (TimedEvent n m) → ℕ → Happens n → ℕ → List ℕ → Type 0
   ReadFateBy zs tick h row owed = Awaits (waits shape (core_of h (core zs))) row owed ⊎ IsSettled owed (unwrap_or (outcome_with shape zs h tick row) (outcome_of shape zs row))
 
-module _ {n m : ℕ} (shape : BankShape) (pace : Pacing) (e : ℕ) where
-  merged_fate : (zs : List (Timed n m)) (tick at line old row : ℕ) (bytes : List ℕ) (given : List Bool)
+module _ {n m : ℕ} (shape : BankShape) (pace : Pace) (e : ℕ) where
+  merged_fate : (zs : List (TimedEvent n m)) (tick at line old row : ℕ) (bytes : List ℕ) (given : List Bool)
       → has_row (queue shape (core zs)) row ≡ true → WriteFateBy shape zs tick (Core (Write at line bytes given (wrote.Merged old))) row
   merged_fate zs tick at line old row bytes given h =
       elim (eqb old row) as (λ b. eqb old row ≡ b → (has_row (merged old at bytes given (queue shape (core zs))) row ≡ true) ⊎ IsLeft (unwrap_or (cond b (Some (out.Merged tick)) None) (outcome_of shape zs row))) [
@@ -155,7 +148,7 @@ module _ {n m : ℕ} (shape : BankShape) (pace : Pacing) (e : ℕ) where
         | false ↦ λ is. inl (there-merged old at bytes given (queue shape (core zs)) row h is)
       ] refl
 
-  stored_fate : (zs : List (Timed n m)) (tick at place row : ℕ) (es : List (Entry n)) → IsHead es at → has_row es row ≡ true
+  stored_fate : (zs : List (TimedEvent n m)) (tick at place row : ℕ) (es : List (Entry n)) → IsHead es at → has_row es row ≡ true
       → (has_row (drop 1 es) row ≡ true) ⊎ IsLeft (unwrap_or (on_row at row (out.Stored tick place)) (outcome_of shape zs row))
   stored_fate zs tick at place row [] head h = absurd head
   stored_fate zs tick at place row (f ∷ es) head h = by (eqb at row) refl
@@ -169,7 +162,7 @@ module _ {n m : ℕ} (shape : BankShape) (pace : Pacing) (e : ℕ) where
       by false is = inl (rest (f.row == row) (subst (λ a. (a == row) ≡ false) head is) h)
 
   -- what stands before an event stands after it, or leaves by it
-  standing_fate : (zs : List (Timed n m)) (x : Timed n m) (h : Happens n) (row : ℕ) → MayCome shape pace e zs x h
+  standing_fate : (zs : List (TimedEvent n m)) (x : TimedEvent n m) (h : Happens n) (row : ℕ) → MayCome shape pace e zs x h
       → has_row (queue shape (core zs)) row ≡ true → WriteFateBy shape zs x.tick h row
   standing_fate zs x (Core (Write at line bytes given wrote.Accepted)) row may h = inl (there-push (queue shape (core zs)) _ row h)
   standing_fate zs x (Core (Write at line bytes given (wrote.Merged old))) row may h = merged_fate zs x.tick at line old row bytes given h
@@ -190,7 +183,7 @@ module _ {n m : ℕ} (shape : BankShape) (pace : Pacing) (e : ℕ) where
   standing_fate zs x (Core (Iterate did.Exhausted)) row may h = inl h
   standing_fate zs x (Core (Cut tearing)) row may h = inl h
 
-  served_fate : (zs : List (Timed n m)) (tick row : ℕ) (owed : List ℕ) (ws : List Awaited) (answer : Served n) → IsServed shape (core zs) ws answer
+  served_fate : (zs : List (TimedEvent n m)) (tick row : ℕ) (owed : List ℕ) (ws : List Awaited) (answer : Served n) → IsServed shape (core zs) ws answer
       → Awaits ws row owed → Awaits (drop 1 ws) row owed ⊎ IsSettled owed (unwrap_or (on_row answer.row row (out.Read tick answer.place answer.bytes)) (outcome_of shape zs row))
   served_fate zs tick row owed [] answer s a = absurd a
   served_fate zs tick row owed (w ∷ ws) answer s (inr a) = inl a
@@ -198,12 +191,12 @@ module _ {n m : ℕ} (shape : BankShape) (pace : Pacing) (e : ℕ) where
       inr (subst (λ b. IsSettled owed (unwrap_or (cond b (Some (out.Read tick answer.place answer.bytes)) None) (outcome_of shape zs row)))
       (sym (eq-eqb answer.row row (s.0 ∙ a.0))) (s.2 ∙ a.1))
 
-  lost_fate : (zs : List (Timed n m)) (tick row : ℕ) (owed : List ℕ) (b : Bool) → b ≡ true
+  lost_fate : (zs : List (TimedEvent n m)) (tick row : ℕ) (owed : List ℕ) (b : Bool) → b ≡ true
       → IsSettled owed (unwrap_or (cond b (Some (out.Lost tick)) None) (outcome_of shape zs row))
   lost_fate zs tick row owed true is = tt
   lost_fate zs tick row owed false is = absurd (cc)
 
-  waiting_fate : (zs : List (Timed n m)) (x : Timed n m) (h : Happens n) (row : ℕ) (owed : List ℕ) → MayCome shape pace e zs x h
+  waiting_fate : (zs : List (TimedEvent n m)) (x : TimedEvent n m) (h : Happens n) (row : ℕ) (owed : List ℕ) → MayCome shape pace e zs x h
       → Awaits (waits shape (core zs)) row owed → ReadFateBy shape zs x.tick h row owed
   waiting_fate zs x (Core (Write at line bytes given answer)) row owed may a = inl a
   waiting_fate zs x (Core (Read at line came.Waiting)) row owed may a = inl (awaits-push (waits shape (core zs)) _ row owed a)
@@ -216,7 +209,7 @@ module _ {n m : ℕ} (shape : BankShape) (pace : Pacing) (e : ℕ) where
   waiting_fate zs x (Core (Cut tearing)) row owed may a = inr (lost_fate zs x.tick row owed (has_wait (waits shape (core zs)) row) (awaits-has (waits shape (core zs)) row owed a))
 
   -- over any later events
-  pub write_fate : (later zs : List (Timed n m)) (row : ℕ) → Lawful shape pace e (later ++ zs) → WriteFate shape zs row → WriteFate shape (later ++ zs) row
+  pub write_fate : (later zs : List (TimedEvent n m)) (row : ℕ) → Lawful shape pace e (later ++ zs) → WriteFate shape zs row → WriteFate shape (later ++ zs) row
   write_fate [] zs row l f = f
   write_fate (x ∷ later) zs row l f = by (write_fate later zs row l.1 f)
     where
@@ -225,7 +218,7 @@ module _ {n m : ℕ} (shape : BankShape) (pace : Pacing) (e : ℕ) where
       by (inr left) =
           inr (subst (λ (o : Outcome n). IsLeft o) (sym (step_stays shape pace e (later ++ zs) x x.happens row l.1 (opens shape pace e (later ++ zs) l.1) l.0 (left-set (outcome_of shape (later ++ zs) row) left))) left)
 
-  pub read_fate : (later zs : List (Timed n m)) (row : ℕ) (owed : List ℕ) → Lawful shape pace e (later ++ zs) → ReadFate shape zs row owed → ReadFate shape (later ++ zs) row owed
+  pub read_fate : (later zs : List (TimedEvent n m)) (row : ℕ) (owed : List ℕ) → Lawful shape pace e (later ++ zs) → ReadFate shape zs row owed → ReadFate shape (later ++ zs) row owed
   read_fate [] zs row owed l f = f
   read_fate (x ∷ later) zs row owed l f = by (read_fate later zs row owed l.1 f)
     where

@@ -1,10 +1,10 @@
 -- The entry of a row, with its line, and whether one of that line stands behind it.
 use Rattle.std.proofs.Common.{◌≡◌, ℕ, ◌==◌, ◌||◌, ◌&&◌, ◌⊎◌, inl, inr, not, Bool, true, false, List, [], ◌∷◌, ◌++◌, Option, Some, None, refl, sym, ap, ◌∙◌, subst, cond, eqb, eqb-true}
-use Rattle.std.proofs.lemmas.Bool.{eq-eqb}
+use Rattle.std.proofs.lemmas.Bool.{eq-eqb, or_left, or_right}
 use Rattle.masked_bytes.specs.declared.entry.Entry.{Entry}
 use Rattle.masked_bytes.specs.Entries.{has_row, RowsApart, merged, laid_on, newest_row, candidate, or_this}
 use Rattle.bank_shape.specs.declared.BankShape.{BankShape}
-use Rattle.bank_model.specs.declared.answer.WriteAnswer.TheVariants as wrote
+use Rattle.bank_shape.specs.declared.answer.WriteAnswer.TheVariants as wrote
 use Rattle.bank_model.specs.Events.{Event}
 use Rattle.bank_model.specs.History.{begun, queue, has_exhausted}
 use Rattle.bank_model.specs.Answers.{head_busy_after, accept_answer, write_answer}
@@ -12,14 +12,6 @@ use Rattle.std.specs.Prelude.{length}
 use Rattle.bank_laws.specs.Pairs.{has_line}
 use Rattle.bank_laws.proofs.Answering.{newest_row-there}
 use Rattle.bank_laws.proofs.Pairs.{line-merged, no_candidate-rest}
-
-or_first : (a b : Bool) → a ≡ true → (a || b) ≡ true
-or_first true b h = refl
-or_first false b h = absurd (cc)
-
-or_second : (a b : Bool) → b ≡ true → (a || b) ≡ true
-or_second true b h = refl
-or_second false b h = h
 
 no_row : {A : Type 0} (a row : ℕ) → (a == row) ≡ false → a ≡ row → A
 no_row a row ne is = absurd (cc (ne, eq-eqb a row is))
@@ -42,13 +34,13 @@ module _ {n : ℕ} where
 
   pub stands-row : (es : List (Entry n)) (row line : ℕ) → Stands es row line → has_row es row ≡ true
   stands-row [] row line s = absurd s
-  stands-row (e ∷ es) row line (inl s) = or_first (e.row == row) _ (eq-eqb e.row row s.0)
-  stands-row (e ∷ es) row line (inr s) = or_second (e.row == row) _ (stands-row es row line s)
+  stands-row (e ∷ es) row line (inl s) = or_left (e.row == row) _ (eq-eqb e.row row s.0)
+  stands-row (e ∷ es) row line (inr s) = or_right (e.row == row) _ (stands-row es row line s)
 
   pub stands-line : (es : List (Entry n)) (row line : ℕ) → Stands es row line → has_line es line ≡ true
   stands-line [] row line s = absurd s
-  stands-line (e ∷ es) row line (inl s) = or_first (e.line == line) _ (eq-eqb e.line line s.1)
-  stands-line (e ∷ es) row line (inr s) = or_second (e.line == line) _ (stands-line es row line s)
+  stands-line (e ∷ es) row line (inl s) = or_left (e.line == line) _ (eq-eqb e.line line s.1)
+  stands-line (e ∷ es) row line (inr s) = or_right (e.line == line) _ (stands-line es row line s)
 
   -- a row stands once, so it has one line
   pub stands-one : (es : List (Entry n)) (row a b : ℕ) → RowsApart es → Stands es row a → Stands es row b → a ≡ b

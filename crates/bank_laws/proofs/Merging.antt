@@ -1,30 +1,31 @@
 -- What becomes of an accepted write, and what the rows behind it show of that.
 use Rattle.std.proofs.Common.{◌≡◌, ℕ, ◌==◌, ◌&&◌, ◌||◌, ◌⊎◌, inl, inr, Bool, true, false, List, [], ◌∷◌, ◌++◌, Option, Some, None, drop, refl, sym, ap, ◌∙◌, subst, cond, eqb, eqb-true, append_assoc}
+use Rattle.masked_bytes.proofs.Truth.{neither_first, neither_second}
 use Rattle.std.specs.Prelude.{unwrap_or}
 use Rattle.std.specs.List.{list_any}
-use Rattle.std.proofs.lemmas.Bool.{eq-eqb}
+use Rattle.std.proofs.lemmas.Bool.{eq-eqb, and_from, and_left, and_right, or_left, or_right, or_from}
 use Rattle.std.proofs.lemmas.List.Folds.{list_any-append}
 use Rattle.result_rows.specs.declared.Outcome.{Outcome}
 use Rattle.result_rows.specs.declared.Outcome.TheVariants as out
 use Rattle.masked_bytes.specs.declared.entry.Entry.{Entry}
 use Rattle.masked_bytes.specs.Entries.{RowsApart, merged}
-use Rattle.row_laws.specs.declared.Row.{Row}
-use Rattle.row_laws.specs.declared.Asks.TheVariants.{Writes}
-use Rattle.row_laws.specs.Answers.{accepts}
-use Rattle.row_laws.specs.Rows.{accepted_of}
-use Rattle.row_laws.specs.Queueing.{merges_at, merge_fits}
+use Rattle.row_rules.specs.declared.Row.{Row}
+use Rattle.row_rules.specs.declared.Asks.TheVariants.{Writes}
+use Rattle.row_rules.specs.Answers.{accepts}
+use Rattle.row_rules.specs.Rows.{accepted_of}
+use Rattle.row_rules.specs.Queueing.{merges_at, merge_fits}
 use Rattle.bank_shape.specs.declared.BankShape.{BankShape}
-use Rattle.bank_model.specs.declared.answer.WriteAnswer.{WriteAnswer}
-use Rattle.bank_model.specs.declared.answer.WriteAnswer.TheVariants as wrote
-use Rattle.bank_model.specs.declared.answer.Step.TheVariants as did
+use Rattle.bank_shape.specs.declared.answer.WriteAnswer.{WriteAnswer}
+use Rattle.bank_shape.specs.declared.answer.WriteAnswer.TheVariants as wrote
+use Rattle.bank_shape.specs.declared.answer.Step.TheVariants as did
 use Rattle.bank_model.specs.Events.{Write, Read, Serve, Begin, Iterate, Cut, newest}
 use Rattle.bank_model.specs.History.{begun, queue, due_after}
-use Rattle.bank_model.specs.Timing.{Pacing, Happens, Core, Regs, Timed, core, core_of}
+use Rattle.bank_shape.specs.declared.pace.Pace.{Pace}
+use Rattle.bank_model.specs.Timing.{Happens, Core, Regs, TimedEvent, core, core_of}
 use Rattle.bank_model.specs.Lawful.{Lawful, MayCome}
 use Rattle.bank_laws.specs.Outcomes.{on_row, outcome_with, outcome_of, ended, row_with, rows_from}
 use Rattle.bank_laws.specs.Settling.{AreOpen}
 use Rattle.bank_laws.specs.RowLaws.{is_merge_fair, MergeLaw}
-use Rattle.bank_laws.proofs.Entries.{or_none, or_left, or_right}
 use Rattle.bank_laws.proofs.Standing.{stand_apart}
 use Rattle.bank_laws.proofs.Answering.{IsHead, stored-head}
 use Rattle.bank_laws.proofs.Settling.{opens, above_all, lawful_before, step_stays}
@@ -34,35 +35,15 @@ use Rattle.bank_laws.proofs.Ending.{Onwards, IsOutcome, accepting, write_outcome
 use Rattle.bank_laws.proofs.Serves.{may_at, onwards_at}
 use Rattle.bank_laws.proofs.Lines.{Stands, Covered, covered-stands, stands-row, stands-one, stands-push, stands-new, covered-push, covered-new, stands-begun, covered-begun, stands-rest, covered-rest, stands-merged, covered-merged, merged-new, merges-stands, merges-covers, merges-uncovered}
 
-or_true_left : (a b : Bool) → a ≡ true → (a || b) ≡ true
-or_true_left true b h = refl
-or_true_left false b h = absurd (cc)
-
-or_true_right : (a b : Bool) → b ≡ true → (a || b) ≡ true
-or_true_right true b h = refl
-or_true_right false b h = h
-
-and_of : (a b : Bool) → a ≡ true → b ≡ true → (a && b) ≡ true
-and_of true b h k = k
-and_of false b h k = h
-
-and_not : (a b : Bool) → b ≡ false → (a && b) ≡ false
-and_not true b h = h
-and_not false b h = refl
-
-and_not_first : (a b : Bool) → a ≡ false → (a && b) ≡ false
-and_not_first true b h = absurd (cc)
-and_not_first false b h = refl
-
 module _ {n : ℕ} where
   any-more : (p : Row n → Bool) (xs ys : List (Row n)) → list_any p xs ≡ true → list_any p (xs ++ ys) ≡ true
-  any-more p xs ys h = list_any-append p xs ys ∙ or_true_left (list_any p xs) _ h
+  any-more p xs ys h = list_any-append p xs ys ∙ or_left (list_any p xs) _ h
 
   any-new : (p : Row n → Bool) (xs : List (Row n)) (r : Row n) → p r ≡ true → list_any p (xs ++ r ∷ []) ≡ true
-  any-new p xs r h = list_any-append p xs (r ∷ []) ∙ or_true_right (list_any p xs) _ (or_true_left (p r) false h)
+  any-new p xs r h = list_any-append p xs (r ∷ []) ∙ or_right (list_any p xs) _ (or_left (p r) false h)
 
   any-none : (p : Row n → Bool) (xs ys : List (Row n)) → list_any p xs ≡ false → list_any p ys ≡ false → list_any p (xs ++ ys) ≡ false
-  any-none p xs ys h k = list_any-append p xs ys ∙ or_none (list_any p xs) _ h k
+  any-none p xs ys h k = list_any-append p xs ys ∙ or_from (list_any p xs) _ h k
 
   -- the first accepted write of a line stays the first
   merges_at-more : (line tick : ℕ) (xs ys : List (Row n)) → merges_at line tick xs ≡ true → merges_at line tick (xs ++ ys) ≡ true
@@ -76,8 +57,8 @@ module _ {n : ℕ} where
   merges_at-new : (line : ℕ) (xs : List (Row n)) (r : Row n) → list_any (accepted_of line) xs ≡ false → accepted_of line r ≡ true → merges_at line r.tick (xs ++ r ∷ []) ≡ true
   merges_at-new line [] r none is = subst (λ b. cond b (r.tick == r.tick) false ≡ true) (sym is) (eqb-same r.tick)
   merges_at-new line (x ∷ xs) r none is =
-      subst (λ b. cond b (x.tick == r.tick) (merges_at line r.tick (xs ++ r ∷ [])) ≡ true) (sym (or_left (accepted_of line x) _ none))
-      (merges_at-new line xs r (or_right (accepted_of line x) _ none) is)
+      subst (λ b. cond b (x.tick == r.tick) (merges_at line r.tick (xs ++ r ∷ [])) ≡ true) (sym (neither_first (accepted_of line x) _ none))
+      (merges_at-new line xs r (neither_second (accepted_of line x) _ none) is)
 
   -- what stays true of a row's entry while entries come, merge, are begun and go
   pub record IsKept (P : List (Entry n) → Type 0) (row : ℕ) : Type 0 where
@@ -118,12 +99,12 @@ module _ {n : ℕ} where
 
 module _ {n m : ℕ} (shape : BankShape) where
   -- a row is stored, by an event at this tick
-  abbrev pub StoredBy : List (Timed n m) → ℕ → Happens n → ℕ → Type 0
+  abbrev pub StoredBy : List (TimedEvent n m) → ℕ → Happens n → ℕ → Type 0
   StoredBy zs tick h row = (u : ℕ) × (p : ℕ) × (unwrap_or (outcome_with shape zs h tick row) (outcome_of shape zs row) ≡ out.Stored u p)
 
   -- an accepted write of a line stands, and none came behind it; or it stands, and one stands behind it; or it is stored;
   -- or it is merged, at the tick of the next accepted write of the line
-  abbrev pub Fate : List (Timed n m) → List (Row n) → ℕ → ℕ → Type 0
+  abbrev pub Fate : List (TimedEvent n m) → List (Row n) → ℕ → ℕ → Type 0
   Fate zs between row line =
       (Stands (queue shape (core zs)) row line × (list_any (accepted_of line) between ≡ false))
       ⊎ ((Covered (queue shape (core zs)) row line × (list_any (accepted_of line) between ≡ true))
@@ -131,15 +112,15 @@ module _ {n m : ℕ} (shape : BankShape) where
       ⊎ ((u : ℕ) × (outcome_of shape zs row ≡ out.Merged u) × (merges_at line u between ≡ true))))
 
   -- that after one more event
-  abbrev pub FateBy : List (Timed n m) → ℕ → Happens n → List (Row n) → ℕ → ℕ → Type 0
+  abbrev pub FateBy : List (TimedEvent n m) → ℕ → Happens n → List (Row n) → ℕ → ℕ → Type 0
   FateBy zs tick h between row line =
       (Stands (queue shape (core_of h (core zs))) row line × (list_any (accepted_of line) between ≡ false))
       ⊎ ((Covered (queue shape (core_of h (core zs))) row line × (list_any (accepted_of line) between ≡ true))
       ⊎ (StoredBy zs tick h row
       ⊎ ((u : ℕ) × (unwrap_or (outcome_with shape zs h tick row) (outcome_of shape zs row) ≡ out.Merged u) × (merges_at line u between ≡ true))))
 
-module _ {n m : ℕ} (shape : BankShape) (pace : Pacing) (e : ℕ) where
-  pub stays_there : (P : List (Entry n) → Type 0) (row : ℕ) → IsKept P row → (zs : List (Timed n m)) (x : Timed n m) (h : Happens n) → MayCome shape pace e zs x h → SparesRow h row
+module _ {n m : ℕ} (shape : BankShape) (pace : Pace) (e : ℕ) where
+  pub stays_there : (P : List (Entry n) → Type 0) (row : ℕ) → IsKept P row → (zs : List (TimedEvent n m)) (x : TimedEvent n m) (h : Happens n) → MayCome shape pace e zs x h → SparesRow h row
       → P (queue shape (core zs)) → P (queue shape (core_of h (core zs))) ⊎ StoredBy shape zs x.tick h row
   stays_there P row k zs x (Core (Write at line bytes given wrote.Accepted)) may spares p = inl (k.push (queue shape (core zs)) _ p)
   stays_there P row k zs x (Core (Write at line bytes given (wrote.Merged old))) may spares p = inl (k.merge old at bytes given (queue shape (core zs)) spares p)
@@ -161,7 +142,7 @@ module _ {n m : ℕ} (shape : BankShape) (pace : Pacing) (e : ℕ) where
   stays_there P row k zs x (Core (Cut tearing)) may spares p = inl p
 
   -- a row with an entry of its line behind it is never merged
-  pub spares_covered : (zs : List (Timed n m)) (x : Timed n m) (h : Happens n) (row line : ℕ) → MayCome shape pace e zs x h → RowsApart (queue shape (core zs)) → Covered (queue shape (core zs)) row line → SparesRow h row
+  pub spares_covered : (zs : List (TimedEvent n m)) (x : TimedEvent n m) (h : Happens n) (row line : ℕ) → MayCome shape pace e zs x h → RowsApart (queue shape (core zs)) → Covered (queue shape (core zs)) row line → SparesRow h row
   spares_covered zs x (Core (Write at l bytes given wrote.Accepted)) row line may apart c = tt
   spares_covered zs x (Core (Write at l bytes given (wrote.Merged old))) row line may apart c = by (eqb old row) refl
     where
@@ -184,7 +165,7 @@ module _ {n m : ℕ} (shape : BankShape) (pace : Pacing) (e : ℕ) where
   spares_covered zs x (Core (Cut tearing)) row line may apart c = tt
 
   -- nor is one by a write of another line
-  spares_other : (zs : List (Timed n m)) (x : Timed n m) (at l row line old : ℕ) (bytes : List ℕ) (given : List Bool) → MayCome shape pace e zs x (Core (Write at l bytes given (wrote.Merged old))) → RowsApart (queue shape (core zs))
+  spares_other : (zs : List (TimedEvent n m)) (x : TimedEvent n m) (at l row line old : ℕ) (bytes : List ℕ) (given : List Bool) → MayCome shape pace e zs x (Core (Write at l bytes given (wrote.Merged old))) → RowsApart (queue shape (core zs))
       → Stands (queue shape (core zs)) row line → (l == line) ≡ false → (old == row) ≡ false
   spares_other zs x at l row line old bytes given may apart s ne = by (eqb old row) refl
     where
@@ -195,13 +176,13 @@ module _ {n m : ℕ} (shape : BankShape) (pace : Pacing) (e : ℕ) where
           absurd (cc (ne, eq-eqb l line lines))
       by false is = is
 
-  module _ (all : List (Timed n m)) where
+  module _ (all : List (TimedEvent n m)) where
     -- the row of a write accepts where its answer does
     abbrev RowAgrees : ℕ → Happens n → Type 0
     RowAgrees tick (Core (Write at line bytes given answer)) = accepts (ended tick (outcome_of shape all at)) ≡ accepting answer
     RowAgrees tick h = Unit {0}
 
-    alone_on : (zs : List (Timed n m)) (x : Timed n m) (h : Happens n) (between rows : List (Row n)) (row line : ℕ) → MayCome shape pace e zs x h → SparesRow h row
+    alone_on : (zs : List (TimedEvent n m)) (x : TimedEvent n m) (h : Happens n) (between rows : List (Row n)) (row line : ℕ) → MayCome shape pace e zs x h → SparesRow h row
         → Stands (queue shape (core zs)) row line → list_any (accepted_of line) between ≡ false → list_any (accepted_of line) rows ≡ false
         → FateBy shape zs x.tick h (between ++ rows) row line
     alone_on zs x h between rows row line may spares s none quiet = by (stays_there (λ es. Stands es row line) row (stands-kept row line) zs x h may spares s)
@@ -210,13 +191,13 @@ module _ {n m : ℕ} (shape : BankShape) (pace : Pacing) (e : ℕ) where
         by (inl there) = inl (there, any-none (accepted_of line) between rows none quiet)
         by (inr stored) = inr (inr (inl stored))
 
-    alone_step : (zs : List (Timed n m)) (x : Timed n m) (h : Happens n) (cancels : Bool) (between : List (Row n)) (row line : ℕ) → RowsApart (queue shape (core zs)) → MayCome shape pace e zs x h → RowAgrees x.tick h
+    alone_step : (zs : List (TimedEvent n m)) (x : TimedEvent n m) (h : Happens n) (cancels : Bool) (between : List (Row n)) (row line : ℕ) → RowsApart (queue shape (core zs)) → MayCome shape pace e zs x h → RowAgrees x.tick h
         → Stands (queue shape (core zs)) row line → list_any (accepted_of line) between ≡ false
         → FateBy shape zs x.tick h (between ++ row_with shape all h x.tick cancels) row line
     alone_step zs x (Core (Write at l bytes given wrote.Full)) cancels between row line apart may acc s none =
-        alone_on zs x (Core (Write at l bytes given wrote.Full)) between _ row line may tt s none (or_none (l == line && accepts (ended x.tick (outcome_of shape all at))) false (and_not (l == line) _ acc) refl)
+        alone_on zs x (Core (Write at l bytes given wrote.Full)) between _ row line may tt s none (or_from (l == line && accepts (ended x.tick (outcome_of shape all at))) false (and_right (l == line) _ acc) refl)
     alone_step zs x (Core (Write at l bytes given wrote.Exhausted)) cancels between row line apart may acc s none =
-        alone_on zs x (Core (Write at l bytes given wrote.Exhausted)) between _ row line may tt s none (or_none (l == line && accepts (ended x.tick (outcome_of shape all at))) false (and_not (l == line) _ acc) refl)
+        alone_on zs x (Core (Write at l bytes given wrote.Exhausted)) between _ row line may tt s none (or_from (l == line && accepts (ended x.tick (outcome_of shape all at))) false (and_right (l == line) _ acc) refl)
     alone_step zs x (Core (Write at l bytes given wrote.Accepted)) cancels between row line apart may acc s none = by (eqb l line) refl
       where
         own : Row n
@@ -226,9 +207,9 @@ module _ {n m : ℕ} (shape : BankShape) (pace : Pacing) (e : ℕ) where
         by true is =
             inr (inl (
               covered-new (queue shape (core zs)) (record { row = at; line = l; bytes = bytes; given = given }) row line (eqb-true l line is) s,
-              any-new (accepted_of line) between own (and_of (l == line) _ is acc),
+              any-new (accepted_of line) between own (and_from (l == line) _ is acc),
             ))
-        by false is = alone_on zs x (Core (Write at l bytes given wrote.Accepted)) between (own ∷ []) row line may tt s none (or_none (l == line && accepts own.outcome) false (and_not_first (l == line) _ is) refl)
+        by false is = alone_on zs x (Core (Write at l bytes given wrote.Accepted)) between (own ∷ []) row line may tt s none (or_from (l == line && accepts own.outcome) false (and_left (l == line) _ is) refl)
     alone_step zs x (Core (Write at l bytes given (wrote.Merged old))) cancels between row line apart may acc s none = by (eqb l line) refl
       where
         own : Row n
@@ -239,20 +220,20 @@ module _ {n m : ℕ} (shape : BankShape) (pace : Pacing) (e : ℕ) where
             ⊎ ((Covered (merged old at bytes given (queue shape (core zs))) row line × (list_any (accepted_of line) (between ++ own ∷ []) ≡ true))
             ⊎ (((u : ℕ) × (p : ℕ) × (unwrap_or (cond b (Some (out.Merged x.tick)) None) (outcome_of shape zs row) ≡ out.Stored u p))
             ⊎ ((u : ℕ) × (unwrap_or (cond b (Some (out.Merged x.tick)) None) (outcome_of shape zs row) ≡ out.Merged u) × (merges_at line u (between ++ own ∷ []) ≡ true))))
-        into is true old_is = inr (inr (inr (x.tick, refl, merges_at-new line between own none (and_of (l == line) _ is acc))))
+        into is true old_is = inr (inr (inr (x.tick, refl, merges_at-new line between own none (and_from (l == line) _ is acc))))
         into is false old_is =
             inr (inl (
               covered-merged old at bytes given (queue shape (core zs)) row line old_is
                   (subst (λ k. Covered (queue shape (core zs)) row k) (eqb-true l line is)
                   (merges-covers shape (core zs) l old may.may.2 row old_is (subst (λ k. Stands (queue shape (core zs)) row k) (sym (eqb-true l line is)) s))),
-              any-new (accepted_of line) between own (and_of (l == line) _ is acc),
+              any-new (accepted_of line) between own (and_from (l == line) _ is acc),
             ))
 
         by : (b : Bool) → eqb l line ≡ b → FateBy shape zs x.tick (Core (Write at l bytes given (wrote.Merged old))) (between ++ own ∷ []) row line
         by true is = into is (eqb old row) refl
         by false is =
             alone_on zs x (Core (Write at l bytes given (wrote.Merged old))) between (own ∷ []) row line may (spares_other zs x at l row line old bytes given may apart s is) s none
-            (or_none (l == line && accepts own.outcome) false (and_not_first (l == line) _ is) refl)
+            (or_from (l == line && accepts own.outcome) false (and_left (l == line) _ is) refl)
     alone_step zs x (Core (Read at l answer)) cancels between row line apart may acc s none = alone_on zs x (Core (Read at l answer)) between _ row line may tt s none refl
     alone_step zs x (Regs event) cancels between row line apart may acc s none = alone_on zs x (Regs event) between _ row line may tt s none refl
     alone_step zs x (Core (Serve answer)) cancels between row line apart may acc s none = alone_on zs x (Core (Serve answer)) between _ row line may tt s none refl
@@ -261,7 +242,7 @@ module _ {n m : ℕ} (shape : BankShape) (pace : Pacing) (e : ℕ) where
     alone_step zs x (Core (Cut tearing)) true between row line apart may acc s none = alone_on zs x (Core (Cut tearing)) between _ row line may tt s none refl
     alone_step zs x (Core (Cut tearing)) false between row line apart may acc s none = alone_on zs x (Core (Cut tearing)) between _ row line may tt s none refl
 
-    fate_step : (zs : List (Timed n m)) (x : Timed n m) (h : Happens n) (cancels : Bool) (between : List (Row n)) (row line : ℕ) → Lawful shape pace e zs → RowsApart (queue shape (core zs)) → MayCome shape pace e zs x h → RowAgrees x.tick h
+    fate_step : (zs : List (TimedEvent n m)) (x : TimedEvent n m) (h : Happens n) (cancels : Bool) (between : List (Row n)) (row line : ℕ) → Lawful shape pace e zs → RowsApart (queue shape (core zs)) → MayCome shape pace e zs x h → RowAgrees x.tick h
         → Fate shape zs between row line → FateBy shape zs x.tick h (between ++ row_with shape all h x.tick cancels) row line
     fate_step zs x h cancels between row line l apart may acc (inl alone) = alone_step zs x h cancels between row line apart may acc alone.0 alone.1
     fate_step zs x h cancels between row line l apart may acc (inr (inl covered)) =
@@ -279,7 +260,7 @@ module _ {n m : ℕ} (shape : BankShape) (pace : Pacing) (e : ℕ) where
           merges_at-more line into.0 between _ into.2,
         )))
 
-    pub row_agrees : (pre : List (Timed n m)) (x : Timed n m) (ys : List (Timed n m)) → Lawful shape pace e all → AreOpen shape all → all ≡ pre ++ x ∷ ys → RowAgrees x.tick x.happens
+    pub row_agrees : (pre : List (TimedEvent n m)) (x : TimedEvent n m) (ys : List (TimedEvent n m)) → Lawful shape pace e all → AreOpen shape all → all ≡ pre ++ x ∷ ys → RowAgrees x.tick x.happens
     row_agrees pre x ys l o same = by x.happens (may_at shape pace e all pre x ys l same) (onwards_at shape pace e all pre x ys l same)
       where
         by : (h : Happens n) → MayCome shape pace e ys x h → Onwards shape all ys x.tick h → RowAgrees x.tick h
@@ -292,17 +273,17 @@ module _ {n m : ℕ} (shape : BankShape) (pace : Pacing) (e : ℕ) where
         by (Core (Cut tearing)) may on = tt
 
     -- over any later events
-    pub fate : (pre later zs : List (Timed n m)) (row line : ℕ) → Lawful shape pace e all → AreOpen shape all → all ≡ pre ++ (later ++ zs) → Fate shape zs [] row line → Fate shape (later ++ zs) (rows_after shape all later) row line
+    pub fate : (pre later zs : List (TimedEvent n m)) (row line : ℕ) → Lawful shape pace e all → AreOpen shape all → all ≡ pre ++ (later ++ zs) → Fate shape zs [] row line → Fate shape (later ++ zs) (rows_after shape all later) row line
     fate pre [] zs row line l o same f = f
     fate pre (x ∷ later) zs row line l o same f =
-        let here : Lawful shape pace e (x ∷ later ++ zs) = lawful_before shape pace e pre (x ∷ later ++ zs) (subst (λ (xs : List (Timed n m)). Lawful shape pace e xs) same l) in
+        let here : Lawful shape pace e (x ∷ later ++ zs) = lawful_before shape pace e pre (x ∷ later ++ zs) (subst (λ (xs : List (TimedEvent n m)). Lawful shape pace e xs) same l) in
         let b = above_all shape pace e (later ++ zs) here.1 in
         fate_step (later ++ zs) x x.happens x.cancels (rows_after shape all later) row line here.1 (stand_apart shape (core (later ++ zs)) b.0 b.1).queued_apart here.0
         (row_agrees pre x (later ++ zs) l o same)
         (fate (pre ++ x ∷ []) later zs row line l o (same ∙ sym (append_assoc pre (x ∷ []) (later ++ zs))) f)
 
     -- what is left in the end
-    fate_fits : (later zs : List (Timed n m)) (row line tick : ℕ) → AreOpen shape all → all ≡ later ++ zs → Fate shape (later ++ zs) (rows_after shape all later) row line
+    fate_fits : (later zs : List (TimedEvent n m)) (row line tick : ℕ) → AreOpen shape all → all ≡ later ++ zs → Fate shape (later ++ zs) (rows_after shape all later) row line
         → merge_fits line (ended tick (outcome_of shape all row)) (rows_after shape all later) ≡ true
     fate_fits later zs row line tick o same f = by (subst (λ xs. Fate shape xs (rows_after shape all later) row line) (sym same) f)
       where
@@ -314,7 +295,7 @@ module _ {n m : ℕ} (shape : BankShape) (pace : Pacing) (e : ℕ) where
         by (inr (inr (inr into))) = ap (λ (o : Outcome n). merge_fits line (ended tick o) (rows_after shape all later)) into.1 ∙ into.2
 
     -- an accepted write stands as its row comes
-    pub fate_new : (ys : List (Timed n m)) (x : Timed n m) (at line : ℕ) (bytes : List ℕ) (given : List Bool) (answer : WriteAnswer) → Lawful shape pace e ys → MayCome shape pace e ys x (Core (Write at line bytes given answer))
+    pub fate_new : (ys : List (TimedEvent n m)) (x : TimedEvent n m) (at line : ℕ) (bytes : List ℕ) (given : List Bool) (answer : WriteAnswer) → Lawful shape pace e ys → MayCome shape pace e ys x (Core (Write at line bytes given answer))
         → accepting answer ≡ true → Stands (queue shape (Write at line bytes given answer ∷ core ys)) at line
     fate_new ys x at line bytes given wrote.Accepted l may acc = stands-new (queue shape (core ys)) (record { row = at; line = line; bytes = bytes; given = given })
     fate_new ys x at line bytes given (wrote.Merged old) l may acc =
@@ -329,13 +310,13 @@ module _ {n m : ℕ} (shape : BankShape) (pace : Pacing) (e : ℕ) where
     refused_fits tick line wrote.Full o after ref is = ap (λ (o : Outcome n). merge_fits line o after) is
     refused_fits tick line wrote.Exhausted o after ref is = ap (λ (o : Outcome n). merge_fits line o after) is
 
-    merged_at : Lawful shape pace e all → AreOpen shape all → (later : List (Timed n m)) (x : Timed n m) (ys : List (Timed n m)) → all ≡ later ++ x ∷ ys
+    merged_at : Lawful shape pace e all → AreOpen shape all → (later : List (TimedEvent n m)) (x : TimedEvent n m) (ys : List (TimedEvent n m)) → all ≡ later ++ x ∷ ys
         → Passes is_merge_fair (rows_from shape all ys) (row_with shape all x.happens x.tick x.cancels) (rows_after shape all later)
     merged_at l o later x ys same =
         by x.happens x.cancels here.1 (may_at shape pace e all later x ys l same) (onwards_at shape pace e all later x ys l same) (λ row line f. fate_fits later (x ∷ ys) row line x.tick o same (fate [] later (x ∷ ys) row line l o same f))
       where
         here : Lawful shape pace e (x ∷ ys)
-        here = lawful_before shape pace e later (x ∷ ys) (subst (λ (xs : List (Timed n m)). Lawful shape pace e xs) same l)
+        here = lawful_before shape pace e later (x ∷ ys) (subst (λ (xs : List (TimedEvent n m)). Lawful shape pace e xs) same l)
 
         by : (h : Happens n) (cancels : Bool) → Lawful shape pace e ys → MayCome shape pace e ys x h → Onwards shape all ys x.tick h
             → ((row line : ℕ) → FateBy shape ys x.tick h [] row line → merge_fits line (ended x.tick (outcome_of shape all row)) (rows_after shape all later) ≡ true)

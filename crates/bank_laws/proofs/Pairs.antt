@@ -1,6 +1,7 @@
 -- Two entries of one line stand only where the lower one is the head and gives all bytes.
 use Rattle.std.proofs.Common.{◌≡◌, ℕ, ◌==◌, ◌||◌, ◌&&◌, not, Bool, true, false, List, [], ◌∷◌, ◌++◌, Option, Some, None, drop, length, refl, sym, ap, ◌∙◌, subst, arith, cond, eqb, eqb-true}
-use Rattle.std.proofs.lemmas.Bool.{eq-eqb}
+use Rattle.masked_bytes.proofs.Truth.{neither_first, neither_second, and_first, and_second}
+use Rattle.std.proofs.lemmas.Bool.{eq-eqb, or_from}
 use Rattle.std.proofs.lemmas.List.{length-replicate}
 use Rattle.masked_bytes.specs.declared.entry.Entry.{Entry}
 use Rattle.masked_bytes.specs.Masked.{joined, gives_all}
@@ -8,22 +9,14 @@ use Rattle.masked_bytes.specs.Entries.{merged, laid_on, newest_row, candidate, o
 use Rattle.masked_bytes.proofs.Layering.{length-joined, gives_all-all_given}
 use Rattle.bank_shape.specs.declared.BankShape.{BankShape}
 use Rattle.bank_shape.specs.declared.Work.TheVariants.{Nothing}
-use Rattle.bank_model.specs.declared.answer.WriteAnswer.TheVariants as wrote
-use Rattle.bank_model.specs.declared.answer.Step.TheVariants as did
+use Rattle.bank_shape.specs.declared.answer.WriteAnswer.TheVariants as wrote
+use Rattle.bank_shape.specs.declared.answer.Step.TheVariants as did
 use Rattle.bank_model.specs.Events.{Event, Write, Read, Serve, Begin, Iterate, Cut, newest}
 use Rattle.bank_model.specs.History.{Awaited, begun, queue, waits, due_after, has_exhausted, in_progress}
 use Rattle.bank_model.specs.After.{is_ready, is_store, due_work}
 use Rattle.bank_model.specs.Answers.{head_busy_after, accept_answer, write_answer, MayAll}
 use Rattle.bank_laws.specs.Pairs.{has_line, LinesApart, ArePaired, PairLaw}
-use Rattle.bank_laws.proofs.Entries.{or_none, or_left, or_right, differ_sym, either}
-
-pub and_left : (a b : Bool) → (a && b) ≡ true → a ≡ true
-and_left true b h = refl
-and_left false b h = h
-
-pub and_right : (a b : Bool) → (a && b) ≡ true → b ≡ true
-and_right true b h = h
-and_right false b h = cc
+use Rattle.bank_laws.proofs.Entries.{differ_sym, either}
 
 pub eqb-same : (a : ℕ) → (a == a) ≡ true
 eqb-same a = eq-eqb a a refl
@@ -55,14 +48,14 @@ module _ {n : ℕ} where
   -- New entries
 
   no_line-push : (es : List (Entry n)) (x : Entry n) (line : ℕ) → has_line es line ≡ false → (x.line == line) ≡ false → has_line (es ++ x ∷ []) line ≡ false
-  no_line-push [] x line h k = or_none (x.line == line) false k refl
-  no_line-push (e ∷ es) x line h k = or_none (e.line == line) _ (or_left (e.line == line) _ h) (no_line-push es x line (or_right (e.line == line) _ h) k)
+  no_line-push [] x line h k = or_from (x.line == line) false k refl
+  no_line-push (e ∷ es) x line h k = or_from (e.line == line) _ (neither_first (e.line == line) _ h) (no_line-push es x line (neither_second (e.line == line) _ h) k)
 
   lines_apart-push : (es : List (Entry n)) (x : Entry n) → LinesApart es → has_line es x.line ≡ false → LinesApart (es ++ x ∷ [])
   lines_apart-push [] x a h = (refl, tt)
   lines_apart-push (e ∷ es) x a h = (
-    no_line-push es x e.line a.0 (differ_sym e.line x.line (or_left (e.line == x.line) _ h)),
-    lines_apart-push es x a.1 (or_right (e.line == x.line) _ h),
+    no_line-push es x e.line a.0 (differ_sym e.line x.line (neither_first (e.line == x.line) _ h)),
+    lines_apart-push es x a.1 (neither_second (e.line == x.line) _ h),
   )
 
   long-push : (es : List (Entry n)) (x : Entry n) → AllLong es → length x.given ≡ n → AllLong (es ++ x ∷ [])
@@ -75,7 +68,7 @@ module _ {n : ℕ} where
     where
       own : (b : Bool) → (eqb e.line line ≡ b) → or_this (cond b (Some e.row) None) other ≡ None → has_line es line ≡ false → has_line (e ∷ es) line ≡ false
       own true is h rest = absurd (cc)
-      own false is h rest = or_none (e.line == line) _ is rest
+      own false is h rest = or_from (e.line == line) _ is rest
 
       by : (r : Option ℕ) → (or_this r None ≡ None → has_line es line ≡ false) → or_this (or_this r (cond (eqb e.line line) (Some e.row) None)) other ≡ None → has_line (e ∷ es) line ≡ false
       by (Some row) rest h = absurd (cc)
@@ -218,7 +211,7 @@ module _ {n : ℕ} (shape : BankShape) where
         λ same.
             let busy : head_busy_after shape h ≡ true = no_candidate-head (head_busy_after shape h) e rest line found same in
             let full : HeadFull (queue shape h) =
-            busy-full h (has_exhausted h) (due_after shape h) (queue shape h) (k.working (and_left (in_progress h) _ busy)) (and_right (in_progress h) _ busy) in
+            busy-full h (has_exhausted h) (due_after shape h) (queue shape h) (k.working (and_first (in_progress h) _ busy)) (and_second (in_progress h) _ busy) in
             subst (λ (q : List (Entry n)). HeadFull q) is full,
       )
 
@@ -249,7 +242,7 @@ module _ {n : ℕ} (shape : BankShape) where
       record {
         paired = paired-begun (due_after shape h) (newest h) (queue shape h) k.paired;
         long = long-begun (due_after shape h) (newest h) (queue shape h) k.long;
-        working = λ p. work-begun h (has_exhausted h) (due_after shape h) (queue shape h) (waits shape h) (newest h) (and_right (not (in_progress h)) _ m.0.0);
+        working = λ p. work-begun h (has_exhausted h) (due_after shape h) (queue shape h) (waits shape h) (newest h) (and_second (not (in_progress h)) _ m.0.0);
       }
   keeps_pairs most (Begin (did.Moved step) ∷ h) m =
       let k = keeps_pairs most h m.1 in

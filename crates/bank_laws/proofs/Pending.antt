@@ -2,23 +2,24 @@
 use Rattle.std.proofs.Common.{◌≡◌, ◌≢◌, ℕ, ◌<◌, ◌≤◌, ◌==◌, ◌&&◌, ◌||◌, ◌⊎◌, inl, inr, not, Bool, true, false, List, [], ◌∷◌, ◌++◌, Option, Some, None, drop, length, refl, sym, ap, ◌∙◌, subst, arith, cond, eqb, append_assoc}
 use Rattle.std.specs.Prelude.{unwrap_or, nat_lt, nat_le}
 use Rattle.std.specs.List.{list_any}
-use Rattle.std.proofs.lemmas.Bool.{lt-ltb, le-ltb, le-leb}
+use Rattle.std.proofs.lemmas.Bool.{lt-ltb, le-ltb, le-leb, or_left, or_right, and_from}
 use Rattle.result_rows.specs.declared.Outcome.{Outcome}
 use Rattle.result_rows.specs.declared.Outcome.TheVariants as out
 use Rattle.masked_bytes.specs.Entries.{has_row, candidate}
-use Rattle.row_laws.specs.declared.Row.{Row}
-use Rattle.row_laws.specs.Answers.{accepts, is_full, is_merged, is_queued, stored_after}
-use Rattle.row_laws.specs.Rows.{accepted_of}
-use Rattle.row_laws.specs.Queueing.{merges_at, pending}
+use Rattle.row_rules.specs.declared.Row.{Row}
+use Rattle.row_rules.specs.Answers.{accepts, is_full, is_merged, is_queued, stored_after}
+use Rattle.row_rules.specs.Rows.{accepted_of}
+use Rattle.row_rules.specs.Queueing.{merges_at, pending}
 use Rattle.bank_shape.specs.declared.BankShape.{BankShape}
-use Rattle.bank_model.specs.declared.answer.WriteAnswer.{WriteAnswer}
-use Rattle.bank_model.specs.declared.answer.WriteAnswer.TheVariants as wrote
-use Rattle.bank_model.specs.declared.answer.Step.TheVariants as did
+use Rattle.bank_shape.specs.declared.answer.WriteAnswer.{WriteAnswer}
+use Rattle.bank_shape.specs.declared.answer.WriteAnswer.TheVariants as wrote
+use Rattle.bank_shape.specs.declared.answer.Step.TheVariants as did
 use Rattle.bank_model.specs.Events.{Event, Write, Read, Serve, Begin, Iterate, Cut, RowsBelow, newest}
 use Rattle.bank_model.specs.History.{queue, due_after, has_exhausted}
 use Rattle.bank_model.specs.Answers.{head_busy_after, accept_answer, write_answer}
 use Rattle.bank_model.specs.Sensing.{most_steps}
-use Rattle.bank_model.specs.Timing.{Pacing, Happens, Core, Regs, Timed, core, core_of, last_tick}
+use Rattle.bank_shape.specs.declared.pace.Pace.{Pace}
+use Rattle.bank_model.specs.Timing.{Happens, Core, Regs, TimedEvent, core, core_of, last_tick}
 use Rattle.bank_model.specs.Lawful.{Lawful, MayCome}
 use Rattle.bank_laws.specs.Outcomes.{outcome_with, outcome_of, ended, row_with, rows_from}
 use Rattle.bank_laws.specs.Ticks.{ends_action}
@@ -28,7 +29,7 @@ use Rattle.bank_laws.proofs.Standing.{stand_apart}
 use Rattle.bank_laws.proofs.Ticks.{last_tick-rises, last-below}
 use Rattle.bank_laws.proofs.Settling.{opens, above_all, lawful_before, step_stays, stays}
 use Rattle.bank_laws.proofs.Fates.{IsLeft, WriteFate, write_fate}
-use Rattle.bank_laws.proofs.Walking.{Passes, walk, rows_after, rows_after-more, and_both}
+use Rattle.bank_laws.proofs.Walking.{Passes, walk, rows_after, rows_after-more}
 use Rattle.bank_laws.proofs.Ending.{Onwards, IsOutcome, accepting, own_row, write_outcome, outcome-accepts}
 use Rattle.bank_laws.proofs.Serves.{may_at, onwards_at}
 use Rattle.bank_laws.proofs.Wears.{stored_by, stored_up_to}
@@ -37,14 +38,6 @@ use Rattle.bank_laws.proofs.Lines.{Covered, covered-stands, stands-row}
 use Rattle.bank_laws.proofs.Merging.{Fate, covered-kept, stays_there, spares_covered, FateBy, fate, fate_new}
 use Rattle.bank_laws.proofs.Counting.{among, Falling, falling-more, hits, entries-counted}
 use Rattle.bank_laws.proofs.Waiting.{may_all, cond_length}
-
-pub or_on_right : (a b : Bool) → b ≡ true → (a || b) ≡ true
-or_on_right true b h = refl
-or_on_right false b h = h
-
-pub or_on_left : (a b : Bool) → a ≡ true → (a || b) ≡ true
-or_on_left true b h = refl
-or_on_left false b h = absurd (cc)
 
 module _ {n : ℕ} where
   -- whether a write with this outcome stands at tick t, where an accepted write of its line came since, or none
@@ -93,7 +86,7 @@ module _ {n : ℕ} where
       by false None a = room (eqb (length (queue shape h)) shape.writes) a
 
 pub by_stored_later : (n t tick : ℕ) (any : Bool) (u p : ℕ) → t < u → stands_by {n = n} t tick any (out.Stored u p) ≡ true
-by_stored_later n t tick any u p lt = or_on_left (nat_lt t u) false (lt-ltb t u lt)
+by_stored_later n t tick any u p lt = or_left (nat_lt t u) false (lt-ltb t u lt)
 
 pub by_stored_before : (n t tick : ℕ) (any : Bool) (u p : ℕ) → u ≤ t → stands_by {n = n} t tick any (out.Stored u p) ≡ false
 by_stored_before n t tick any u p le = subst (λ b. (b || false) ≡ false) (sym (le-ltb t u le)) refl
@@ -103,11 +96,11 @@ abbrev pub write_rows : {n : ℕ} → Happens n → List ℕ
 write_rows (Core (Write row line bytes given answer)) = row ∷ []
 write_rows _ = []
 
-abbrev pub writes_in : {n m : ℕ} → List (Timed n m) → List ℕ
+abbrev pub writes_in : {n m : ℕ} → List (TimedEvent n m) → List ℕ
 writes_in [] = []
 writes_in (x ∷ xs) = write_rows x.happens ++ writes_in xs
 
-pub writes-fall : {n m : ℕ} (zs : List (Timed n m)) (bound : ℕ) → RowsBelow (core zs) bound → Falling (writes_in zs) bound
+pub writes-fall : {n m : ℕ} (zs : List (TimedEvent n m)) (bound : ℕ) → RowsBelow (core zs) bound → Falling (writes_in zs) bound
 writes-fall [] bound b = tt
 writes-fall {n} {m} (z ∷ zs) bound b = by z.happens (λ bound b. writes-fall zs bound b) b
   where
@@ -120,7 +113,7 @@ writes-fall {n} {m} (z ∷ zs) bound b = by z.happens (λ bound b. writes-fall z
     by (Core (Iterate answer)) go b = go bound b
     by (Core (Cut tearing)) go b = go bound b
 
-pub queue-asked : {n m : ℕ} (shape : BankShape) (zs : List (Timed n m)) (r : ℕ) → has_row (queue shape (core zs)) r ≡ true → among (writes_in zs) r ≡ true
+pub queue-asked : {n m : ℕ} (shape : BankShape) (zs : List (TimedEvent n m)) (r : ℕ) → has_row (queue shape (core zs)) r ≡ true → among (writes_in zs) r ≡ true
 queue-asked shape [] r there = absurd (cc)
 queue-asked {n} {m} shape (z ∷ zs) r there = by z.happens (λ t. queue-asked shape zs r t) there
   where
@@ -132,14 +125,14 @@ queue-asked {n} {m} shape (z ∷ zs) r there = by z.happens (λ t. queue-asked s
 
     by : (h : Happens n) → (has_row (queue shape (core zs)) r ≡ true → among (writes_in zs) r ≡ true) → has_row (queue shape (core_of h (core zs))) r ≡ true → among (write_rows h ++ writes_in zs) r ≡ true
     by (Core (Write at line bytes given wrote.Accepted)) go there =
-        either (has_row (queue shape (core zs)) r) (λ t. or_on_right (at == r) _ (go t))
-        (λ f. either (eqb at r) (λ is. or_on_left (at == r) _ is)
+        either (has_row (queue shape (core zs)) r) (λ t. or_right (at == r) _ (go t))
+        (λ f. either (eqb at r) (λ is. or_left (at == r) _ is)
         (λ ne. absurd (cc (lacks-push (queue shape (core zs)) (record { row = at; line = line; bytes = bytes; given = given }) r f ne, there))))
     by (Core (Write at line bytes given (wrote.Merged old))) go there =
-        either (has_row (queue shape (core zs)) r) (λ t. or_on_right (at == r) _ (go t))
-        (λ f. either (eqb at r) (λ is. or_on_left (at == r) _ is) (λ ne. absurd (cc (lacks-merged old at bytes given (queue shape (core zs)) r f ne, there))))
-    by (Core (Write at line bytes given wrote.Full)) go there = or_on_right (at == r) _ (go there)
-    by (Core (Write at line bytes given wrote.Exhausted)) go there = or_on_right (at == r) _ (go there)
+        either (has_row (queue shape (core zs)) r) (λ t. or_right (at == r) _ (go t))
+        (λ f. either (eqb at r) (λ is. or_left (at == r) _ is) (λ ne. absurd (cc (lacks-merged old at bytes given (queue shape (core zs)) r f ne, there))))
+    by (Core (Write at line bytes given wrote.Full)) go there = or_right (at == r) _ (go there)
+    by (Core (Write at line bytes given wrote.Exhausted)) go there = or_right (at == r) _ (go there)
     by (Core (Read at line answer)) go there = go there
     by (Core (Serve answer)) go there = go there
     by (Regs event) go there = go there
@@ -156,15 +149,15 @@ queue-asked {n} {m} shape (z ∷ zs) r there = by z.happens (λ t. queue-asked s
     by (Core (Cut tearing)) go there = go there
 
 -- a refused write has its outcome at once
-pub refused_set : {n m : ℕ} (shape : BankShape) (ys : List (Timed n m)) (tick at line : ℕ) (bytes : List ℕ) (given : List Bool) (answer : WriteAnswer) → accepting answer ≡ false
+pub refused_set : {n m : ℕ} (shape : BankShape) (ys : List (TimedEvent n m)) (tick at line : ℕ) (bytes : List ℕ) (given : List Bool) (answer : WriteAnswer) → accepting answer ≡ false
     → unwrap_or (outcome_with shape ys (Core (Write at line bytes given answer)) tick at) (outcome_of shape ys at) ≢ out.Unset
 refused_set shape ys tick at line bytes given wrote.Accepted ref un = absurd (cc)
 refused_set shape ys tick at line bytes given (wrote.Merged old) ref un = absurd (cc)
 refused_set {n} shape ys tick at line bytes given wrote.Full ref un = let both : ◌≡◌ {A = Outcome n} (out.Full tick) out.Unset = sym (own_row at (out.Full tick) (outcome_of shape ys at)) ∙ un in absurd (cc)
 refused_set {n} shape ys tick at line bytes given wrote.Exhausted ref un = let both : ◌≡◌ {A = Outcome n} (out.Worn tick) out.Unset = sym (own_row at (out.Worn tick) (outcome_of shape ys at)) ∙ un in absurd (cc)
 
-module _ {n m : ℕ} (shape : BankShape) (pace : Pacing) (e : ℕ) where
-  pub last-later : (later zs : List (Timed n m)) → 1 ≤ pace.read → 1 ≤ pace.iter → Lawful shape pace e (later ++ zs) → last_tick zs ≤ last_tick (later ++ zs)
+module _ {n m : ℕ} (shape : BankShape) (pace : Pace) (e : ℕ) where
+  pub last-later : (later zs : List (TimedEvent n m)) → 1 ≤ pace.read → 1 ≤ pace.iter → Lawful shape pace e (later ++ zs) → last_tick zs ≤ last_tick (later ++ zs)
   last-later [] zs r i l = omega arith
   last-later (y ∷ later) zs r i l =
       let before : last_tick zs ≤ last_tick (later ++ zs) = last-later later zs r i l.1 in
@@ -172,7 +165,7 @@ module _ {n m : ℕ} (shape : BankShape) (pace : Pacing) (e : ℕ) where
       omega (arith, before, rises)
 
   -- what is stored by later events is stored above the last tick
-  pub stored_above : (later zs : List (Timed n m)) (row u p : ℕ) → 1 ≤ pace.read → 1 ≤ pace.iter → Lawful shape pace e (later ++ zs) → (outcome_of shape zs row ≡ out.Stored u p → ⊥)
+  pub stored_above : (later zs : List (TimedEvent n m)) (row u p : ℕ) → 1 ≤ pace.read → 1 ≤ pace.iter → Lawful shape pace e (later ++ zs) → (outcome_of shape zs row ≡ out.Stored u p → ⊥)
       → outcome_of shape (later ++ zs) row ≡ out.Stored u p → last_tick zs < u
   stored_above [] zs row u p r i l isnt s = absurd (isnt s)
   stored_above (y ∷ later) zs row u p r i l isnt s =
@@ -185,11 +178,11 @@ module _ {n m : ℕ} (shape : BankShape) (pace : Pacing) (e : ℕ) where
           omega (arith, up, lt, now.1)
       by (inr s) go = go s
 
-  abbrev pub CoveredOn : List (Timed n m) → ℕ → ℕ → Type 0
+  abbrev pub CoveredOn : List (TimedEvent n m) → ℕ → ℕ → Type 0
   CoveredOn zs row line = Covered (queue shape (core zs)) row line ⊎ ((u : ℕ) × (p : ℕ) × (outcome_of shape zs row ≡ out.Stored u p))
 
   -- a row with one of its line behind it stands until it is stored
-  pub covered_on : (later zs : List (Timed n m)) (row line : ℕ) → Lawful shape pace e (later ++ zs) → Covered (queue shape (core zs)) row line → CoveredOn (later ++ zs) row line
+  pub covered_on : (later zs : List (TimedEvent n m)) (row line : ℕ) → Lawful shape pace e (later ++ zs) → Covered (queue shape (core zs)) row line → CoveredOn (later ++ zs) row line
   covered_on [] zs row line l c = inl c
   covered_on (y ∷ later) zs row line l c = by (covered_on later zs row line l.1 c)
     where
@@ -201,7 +194,7 @@ module _ {n m : ℕ} (shape : BankShape) (pace : Pacing) (e : ℕ) where
       by (inr stored) =
           inr (stored.0, stored.1, step_stays shape pace e (later ++ zs) y y.happens row l.1 (opens shape pace e (later ++ zs) l.1) l.0 (λ un. let k : ◌≡◌ {A = Outcome n} (out.Stored stored.0 stored.1) out.Unset = sym stored.2 ∙ un in absurd (cc)) ∙ stored.2)
 
-module _ {n m : ℕ} (shape : BankShape) (pace : Pacing) (e : ℕ) (all : List (Timed n m)) where
+module _ {n m : ℕ} (shape : BankShape) (pace : Pace) (e : ℕ) (all : List (TimedEvent n m)) where
   pub left_by : (t tick : ℕ) (o : Outcome n) → IsLeft o → ((u p : ℕ) → o ≡ out.Stored u p → t < u) → stands_by t tick false o ≡ true
   left_by t tick out.Unset left above = absurd left
   left_by t tick (out.Stored at place) left above = by_stored_later n t tick false at place (above at place refl)
@@ -215,9 +208,9 @@ module _ {n m : ℕ} (shape : BankShape) (pace : Pacing) (e : ℕ) (all : List (
   left_by t tick (out.Lost at) left above = absurd left
   left_by t tick (out.Cut at) left above = absurd left
 
-  module _ (later : List (Timed n m)) (x : Timed n m) (now : List (Timed n m)) (r : 1 ≤ pace.read) (i : 1 ≤ pace.iter) (l : Lawful shape pace e all) (same : all ≡ later ++ x ∷ now) (arrives : ends_action x.happens ≡ false) where
+  module _ (later : List (TimedEvent n m)) (x : TimedEvent n m) (now : List (TimedEvent n m)) (r : 1 ≤ pace.read) (i : 1 ≤ pace.iter) (l : Lawful shape pace e all) (same : all ≡ later ++ x ∷ now) (arrives : ends_action x.happens ≡ false) where
     whole : Lawful shape pace e (later ++ x ∷ now)
-    whole = subst (λ (xs : List (Timed n m)). Lawful shape pace e xs) same l
+    whole = subst (λ (xs : List (TimedEvent n m)). Lawful shape pace e xs) same l
 
     here : Lawful shape pace e (x ∷ now)
     here = lawful_before shape pace e later (x ∷ now) whole
@@ -226,7 +219,7 @@ module _ {n m : ℕ} (shape : BankShape) (pace : Pacing) (e : ℕ) (all : List (
     split = append_assoc later (x ∷ []) now ∙ sym same
 
     over : Lawful shape pace e ((later ++ x ∷ []) ++ now)
-    over = subst (λ (xs : List (Timed n m)). Lawful shape pace e xs) (sym split) l
+    over = subst (λ (xs : List (TimedEvent n m)). Lawful shape pace e xs) (sym split) l
 
     -- an outcome that is set by now stays to the end
     kept : (row : ℕ) (o : Outcome n) → o ≢ out.Unset → outcome_of shape now row ≡ o → outcome_of shape all row ≡ o
@@ -256,7 +249,7 @@ module _ {n m : ℕ} (shape : BankShape) (pace : Pacing) (e : ℕ) (all : List (
         there = stands-row (queue shape (core now)) row line alone.0
 
         last : WriteFate shape all row
-        last = subst (λ (xs : List (Timed n m)). WriteFate shape xs row) split (write_fate shape pace e (later ++ x ∷ []) now row over (inl there))
+        last = subst (λ (xs : List (TimedEvent n m)). WriteFate shape xs row) split (write_fate shape pace e (later ++ x ∷ []) now row over (inl there))
 
         by : WriteFate shape all row → stands_by x.tick tick false (outcome_of shape all row) ≡ true
         by (inl end) = ap (stands_by x.tick tick false) ((opens shape pace e all l).queued row end)
@@ -267,7 +260,7 @@ module _ {n m : ℕ} (shape : BankShape) (pace : Pacing) (e : ℕ) (all : List (
         there = stands-row (queue shape (core now)) row line (covered-stands (queue shape (core now)) row line covered.0)
 
         last : CoveredOn shape pace e all row line
-        last = subst (λ (xs : List (Timed n m)). CoveredOn shape pace e xs row line) split (covered_on shape pace e (later ++ x ∷ []) now row line over covered.0)
+        last = subst (λ (xs : List (TimedEvent n m)). CoveredOn shape pace e xs row line) split (covered_on shape pace e (later ++ x ∷ []) now row line over covered.0)
 
         by : CoveredOn shape pace e all row line → stands_by x.tick tick (list_any (accepted_of line) between) (outcome_of shape all row) ≡ true
         by (inl c) = ap (stands_by x.tick tick (list_any (accepted_of line) between)) ((opens shape pace e all l).queued row (stands-row (queue shape (core all)) row line (covered-stands (queue shape (core all)) row line c)))
@@ -286,19 +279,19 @@ module _ {n m : ℕ} (shape : BankShape) (pace : Pacing) (e : ℕ) (all : List (
         → stands_by x.tick tick any (outcome_of shape all row) ≡ has_row (queue shape (core now)) row
     refused_same row tick any isnt set = by_refused x.tick tick any (outcome_of shape all row) isnt ∙ sym (gone row (outcome_of shape now row) set refl)
 
-    queue_among : (mid ys : List (Timed n m)) → now ≡ mid ++ ys → length (pending x.tick (rows_after shape all mid) (rows_from shape all ys)) ≡ hits (λ r. has_row (queue shape (core now)) r) (writes_in ys)
+    queue_among : (mid ys : List (TimedEvent n m)) → now ≡ mid ++ ys → length (pending x.tick (rows_after shape all mid) (rows_from shape all ys)) ≡ hits (λ r. has_row (queue shape (core now)) r) (writes_in ys)
     queue_among mid [] at_split = refl
     queue_among mid (z ∷ ys) at_split =
         by z.happens z.cancels before.0 (onwards_at shape pace e all (later ++ x ∷ mid) z ys l in_all)
         (λ row line f. stands_same row line z.tick (rows_after shape all mid)
-        (subst (λ (xs : List (Timed n m)). Fate shape xs (rows_after shape all mid) row line) (sym at_split) (fate shape pace e all (later ++ x ∷ []) mid (z ∷ ys) row line l (opens shape pace e all l) in_split f)))
-        (λ row set. subst (λ (xs : List (Timed n m)). outcome_of shape xs row ≢ out.Unset) (sym at_split)
+        (subst (λ (xs : List (TimedEvent n m)). Fate shape xs (rows_after shape all mid) row line) (sym at_split) (fate shape pace e all (later ++ x ∷ []) mid (z ∷ ys) row line l (opens shape pace e all l) in_split f)))
+        (λ row set. subst (λ (xs : List (TimedEvent n m)). outcome_of shape xs row ≢ out.Unset) (sym at_split)
         (λ un. set (sym (stays shape pace e mid (z ∷ ys) row there set) ∙ un)))
         (subst (λ (rows : List (Row n)). length (pending x.tick rows (rows_from shape all ys)) ≡ hits (λ r. has_row (queue shape (core now)) r) (writes_in ys)) (rows_after-more shape all mid z)
         (queue_among (mid ++ z ∷ []) ys (at_split ∙ sym (append_assoc mid (z ∷ []) ys))))
       where
         there : Lawful shape pace e (mid ++ z ∷ ys)
-        there = subst (λ (xs : List (Timed n m)). Lawful shape pace e xs) at_split here.1
+        there = subst (λ (xs : List (TimedEvent n m)). Lawful shape pace e xs) at_split here.1
 
         before : Lawful shape pace e (z ∷ ys)
         before = lawful_before shape pace e mid (z ∷ ys) there
@@ -336,13 +329,13 @@ module _ {n m : ℕ} (shape : BankShape) (pace : Pacing) (e : ℕ) (all : List (
         let b = above_all shape pace e now here.1 in
         queue_among [] now refl ∙ entries-counted (queue shape (core now)) (writes_in now) b.0 (stand_apart shape (core now) b.0 b.1).queued_apart (writes-fall now b.0 b.1) (queue-asked shape now)
 
-  room_at : 1 ≤ pace.read → 1 ≤ pace.iter → Lawful shape pace e all → (later : List (Timed n m)) (x : Timed n m) (ys : List (Timed n m)) → all ≡ later ++ x ∷ ys
+  room_at : 1 ≤ pace.read → 1 ≤ pace.iter → Lawful shape pace e all → (later : List (TimedEvent n m)) (x : TimedEvent n m) (ys : List (TimedEvent n m)) → all ≡ later ++ x ∷ ys
       → Passes (is_room_fair shape.writes) (rows_from shape all ys) (row_with shape all x.happens x.tick x.cancels) (rows_after shape all later)
   room_at r i l later x ys same =
       by x.happens x.cancels (may_at shape pace e all later x ys l same) (onwards_at shape pace e all later x ys l same) (λ arrives. queue_length later x ys r i l same arrives)
     where
       here : Lawful shape pace e (x ∷ ys)
-      here = lawful_before shape pace e later (x ∷ ys) (subst (λ (xs : List (Timed n m)). Lawful shape pace e xs) same l)
+      here = lawful_before shape pace e later (x ∷ ys) (subst (λ (xs : List (TimedEvent n m)). Lawful shape pace e xs) same l)
 
       few : length (pending x.tick [] (rows_from shape all ys)) ≡ length (queue shape (core ys)) → nat_le (length (pending x.tick [] (rows_from shape all ys))) shape.writes ≡ true
       few count =
@@ -357,18 +350,18 @@ module _ {n m : ℕ} (shape : BankShape) (pace : Pacing) (e : ℕ) (all : List (
           → (ends_action h ≡ false → length (pending x.tick [] (rows_from shape all ys)) ≡ length (queue shape (core ys)))
           → Passes (is_room_fair shape.writes) (rows_from shape all ys) (row_with shape all h x.tick cancels) (rows_after shape all later)
       by (Core (Write row line bytes given answer)) cancels may on count =
-          and_both _ _ (few (count refl))
+          and_from _ _ (few (count refl))
           (or_full (is_full (ended x.tick (outcome_of shape all row))) _ (λ full.
           let was : answer ≡ wrote.Full =
           full_outcome x.tick answer (ended x.tick (outcome_of shape all row)) (write_outcome shape pace e all ys x row line bytes given answer (opens shape pace e all l) may on) full in
           ap (λ k. k == shape.writes) (count refl) ∙ full-room shape (core ys) line (sym was ∙ may.may.2)))
-      by (Core (Read row line answer)) cancels may on count = and_both _ _ (few (count refl)) refl
+      by (Core (Read row line answer)) cancels may on count = and_from _ _ (few (count refl)) refl
       by (Core (Serve answer)) cancels may on count = tt
       by (Regs event) cancels may on count = tt
       by (Core (Begin answer)) cancels may on count = tt
       by (Core (Iterate answer)) cancels may on count = tt
       by (Core (Cut tearing)) true may on count = tt
-      by (Core (Cut tearing)) false may on count = and_both _ _ (few (count refl)) refl
+      by (Core (Cut tearing)) false may on count = and_from _ _ (few (count refl)) refl
 
 pub queue_law : QueueLaw
 queue_law n m e shape pace xs sized l = walk shape xs (is_room_fair shape.writes) [] xs refl (room_at shape pace e xs sized.read sized.iter l)

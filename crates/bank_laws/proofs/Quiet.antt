@@ -1,30 +1,32 @@
 -- A bank that never accepted a write has nothing to do, and so the laws of worn rows.
 use Rattle.std.proofs.Common.{◌≡◌, ℕ, ◌+◌, ◌*◌, ◌/◌, ◌<◌, ◌≤◌, ◌&&◌, ◌||◌, not, Bool, true, false, List, [], ◌∷◌, ◌++◌, Option, Some, None, refl, sym, ap, ◌∙◌, arith, cond, append_assoc}
+use Rattle.masked_bytes.proofs.Truth.{neither_first, neither_second}
 use Rattle.std.specs.Prelude.{nat_le}
 use Rattle.std.specs.List.{list_any}
-use Rattle.std.proofs.lemmas.Bool.{lt-leb}
+use Rattle.std.proofs.lemmas.Bool.{lt-leb, and_from}
 use Rattle.result_rows.specs.declared.Outcome.{Outcome}
 use Rattle.result_rows.specs.declared.Outcome.TheVariants as out
 use Rattle.masked_bytes.specs.declared.entry.Entry.{Entry}
-use Rattle.row_laws.specs.declared.Row.{Row}
-use Rattle.row_laws.specs.Answers.{is_worn, accepts}
-use Rattle.row_laws.specs.Rows.{accepted}
-use Rattle.row_laws.specs.Wearing.{worn_row, worn_by, store_fits, is_wear_final, is_wear_earned}
+use Rattle.row_rules.specs.declared.Row.{Row}
+use Rattle.row_rules.specs.Answers.{is_worn, accepts}
+use Rattle.row_rules.specs.Rows.{accepted}
+use Rattle.row_rules.specs.Wearing.{worn_row, worn_by, store_fits, is_wear_final, is_wear_earned}
 use Rattle.bank_shape.specs.declared.BankShape.{BankShape}
 use Rattle.bank_shape.specs.declared.Work.TheVariants.{Nothing}
-use Rattle.bank_model.specs.declared.answer.WriteAnswer.{WriteAnswer}
-use Rattle.bank_model.specs.declared.answer.WriteAnswer.TheVariants as wrote
+use Rattle.bank_shape.specs.declared.answer.WriteAnswer.{WriteAnswer}
+use Rattle.bank_shape.specs.declared.answer.WriteAnswer.TheVariants as wrote
 use Rattle.bank_model.specs.Events.{Event, Write, Read, Serve, Begin, Iterate, Cut}
 use Rattle.bank_model.specs.History.{first_or, stores, stored_in, moved_in, due_after, queue, waits, has_exhausted, in_progress}
 use Rattle.bank_model.specs.After.{is_ready, due_work, may_begin_after}
-use Rattle.bank_model.specs.Timing.{Pacing, Happens, Core, Regs, Timed, core, core_of}
+use Rattle.bank_shape.specs.declared.pace.Pace.{Pace}
+use Rattle.bank_model.specs.Timing.{Happens, Core, Regs, TimedEvent, core, core_of}
 use Rattle.bank_model.specs.Lawful.{Lawful, MayCome}
 use Rattle.bank_laws.specs.Outcomes.{outcome_of, ended, row_with, rows_from}
 use Rattle.bank_laws.specs.Settling.{AreOpen}
 use Rattle.bank_laws.specs.RowLaws.{WearLaw}
-use Rattle.bank_laws.proofs.Entries.{either, or_left, or_right}
+use Rattle.bank_laws.proofs.Entries.{either}
 use Rattle.bank_laws.proofs.Settling.{opens}
-use Rattle.bank_laws.proofs.Walking.{Passes, walk, rows_after, and_both}
+use Rattle.bank_laws.proofs.Walking.{Passes, walk, rows_after}
 use Rattle.bank_laws.proofs.Ending.{Onwards, IsOutcome, accepting, write_outcome, outcome-accepts}
 use Rattle.bank_laws.proofs.Serves.{may_at, onwards_at}
 use Rattle.bank_laws.proofs.Wears.{refused-exhausted, exhausted-refused, worn_outcome, worn_rows-exhausted, none_worn_before, none_worn_after}
@@ -61,9 +63,9 @@ module _ {n : ℕ} (shape : BankShape) (h : List (Event n)) where
       by false false None [] fine none empty m = absurd (cc)
       by false false None (e ∷ es) fine none empty m = absurd (cc)
 
-module _ {n m : ℕ} (shape : BankShape) (pace : Pacing) (e : ℕ) (all : List (Timed n m)) where
+module _ {n m : ℕ} (shape : BankShape) (pace : Pace) (e : ℕ) (all : List (TimedEvent n m)) where
   -- where no row is an accepted write the bank is quiet
-  quiet : (later ys : List (Timed n m)) → 1 ≤ shape.psi → Lawful shape pace e all → AreOpen shape all → all ≡ later ++ ys → list_any accepted (rows_from shape all ys) ≡ false
+  quiet : (later ys : List (TimedEvent n m)) → 1 ≤ shape.psi → Lawful shape pace e all → AreOpen shape all → all ≡ later ++ ys → list_any accepted (rows_from shape all ys) ≡ false
       → IsQuiet shape (core ys)
   quiet later [] some l o same none = record { queue = refl; stored = λ region. refl; exhausted = refl; idle = refl }
   quiet later (x ∷ ys) some l o same none =
@@ -81,7 +83,7 @@ module _ {n m : ℕ} (shape : BankShape) (pace : Pacing) (e : ℕ) (all : List (
       by (Core (Write at line bytes given answer)) cancels may on rest none =
           let acc : accepts (ended x.tick (outcome_of shape all at)) ≡ accepting answer =
           outcome-accepts x.tick answer (ended x.tick (outcome_of shape all at)) (write_outcome shape pace e all ys x at line bytes given answer o may on) in
-          refused at line bytes given answer (sym acc ∙ or_left (accepts (ended x.tick (outcome_of shape all at))) _ none) (rest (or_right (accepts (ended x.tick (outcome_of shape all at))) _ none))
+          refused at line bytes given answer (sym acc ∙ neither_first (accepts (ended x.tick (outcome_of shape all at))) _ none) (rest (neither_second (accepts (ended x.tick (outcome_of shape all at))) _ none))
       by (Core (Read at line answer)) cancels may on rest none = let q = rest none in record { queue = q.queue; stored = q.stored; exhausted = q.exhausted; idle = q.idle }
       by (Core (Serve answer)) cancels may on rest none = let q = rest none in record { queue = q.queue; stored = q.stored; exhausted = q.exhausted; idle = q.idle }
       by (Regs event) cancels may on rest none = let q = rest none in record { queue = q.queue; stored = q.stored; exhausted = q.exhausted; idle = q.idle }
@@ -131,7 +133,7 @@ module _ {n m : ℕ} (shape : BankShape) (pace : Pacing) (e : ℕ) (all : List (
   worn-is_worn tick wrote.Full o is ex = absurd (cc)
   worn-is_worn tick wrote.Exhausted o is ex = ap is_worn is
 
-  final_at : 1 ≤ pace.read → 1 ≤ pace.iter → Lawful shape pace e all → AreOpen shape all → (later : List (Timed n m)) (x : Timed n m) (ys : List (Timed n m)) → all ≡ later ++ x ∷ ys
+  final_at : 1 ≤ pace.read → 1 ≤ pace.iter → Lawful shape pace e all → AreOpen shape all → (later : List (TimedEvent n m)) (x : TimedEvent n m) (ys : List (TimedEvent n m)) → all ≡ later ++ x ∷ ys
       → Passes is_wear_final (rows_from shape all ys) (row_with shape all x.happens x.tick x.cancels) (rows_after shape all later)
   final_at r i l o later x ys same =
       by x.happens x.cancels (may_at shape pace e all later x ys l same) (onwards_at shape pace e all later x ys l same)
@@ -141,7 +143,7 @@ module _ {n m : ℕ} (shape : BankShape) (pace : Pacing) (e : ℕ) (all : List (
           → Passes is_wear_final (rows_from shape all ys) (row_with shape all h x.tick cancels) (rows_after shape all later)
       by (Core (Write at line bytes given answer)) cancels may on worn =
           let is : IsOutcome x.tick answer (ended x.tick (outcome_of shape all at)) = write_outcome shape pace e all ys x at line bytes given answer o may on in
-          and_both _ _
+          and_from _ _
           (or_true (list_any worn_row (rows_from shape all ys)) _
           (λ w. worn-is_worn x.tick answer (ended x.tick (outcome_of shape all at)) is (exhausted-refused shape (core ys) line answer may.may.2 (worn w))))
           (stores_fit (ended x.tick (outcome_of shape all at)) (rows_from shape all ys) (rows_after shape all later)
@@ -158,7 +160,7 @@ module _ {n m : ℕ} (shape : BankShape) (pace : Pacing) (e : ℕ) (all : List (
       by (Core (Cut tearing)) true may on worn = tt
       by (Core (Cut tearing)) false may on worn = refl
 
-  earned_at : 1 ≤ shape.psi → Lawful shape pace e all → AreOpen shape all → (later : List (Timed n m)) (x : Timed n m) (ys : List (Timed n m)) → all ≡ later ++ x ∷ ys
+  earned_at : 1 ≤ shape.psi → Lawful shape pace e all → AreOpen shape all → (later : List (TimedEvent n m)) (x : TimedEvent n m) (ys : List (TimedEvent n m)) → all ≡ later ++ x ∷ ys
       → Passes is_wear_earned (rows_from shape all ys) (row_with shape all x.happens x.tick x.cancels) (rows_after shape all later)
   earned_at some l o later x ys same =
       by x.happens x.cancels (may_at shape pace e all later x ys l same) (onwards_at shape pace e all later x ys l same)

@@ -1,32 +1,36 @@
 -- The rows and the events agree on the newest bytes, and every row of a bank's table is served as it should be.
 use Rattle.std.proofs.Common.{◌≡◌, ℕ, ◌==◌, ◌&&◌, not, inl, inr, Bool, true, false, List, [], ◌∷◌, ◌++◌, Some, None, length, refl, sym, ap, ◌∙◌, subst, cond, eqb, append_assoc}
+use Rattle.std.proofs.lemmas.Bool.{and_from}
 use Rattle.result_rows.specs.declared.Outcome.{Outcome}
 use Rattle.result_rows.specs.declared.Outcome.TheVariants as out
 use Rattle.masked_bytes.specs.Masked.{laid, gives_all}
 use Rattle.masked_bytes.specs.Entries.{layer_of}
-use Rattle.row_laws.specs.declared.Asks.TheVariants.{Reads}
-use Rattle.row_laws.specs.Answers.{accepts}
-use Rattle.row_laws.specs.Rows as rows
-use Rattle.row_laws.specs.Rows.{each_row}
-use Rattle.row_laws.specs.Serving.{may_have, same_bytes, is_served}
+use Rattle.row_rules.specs.declared.Asks.TheVariants.{Reads}
+use Rattle.row_rules.specs.Answers.{accepts}
+use Rattle.row_rules.specs.Rows as rows
+use Rattle.row_rules.specs.Rows.{each_row}
+use Rattle.row_rules.specs.Serving.{may_have, same_bytes, is_served}
 use Rattle.bank_shape.specs.declared.BankShape.{BankShape}
-use Rattle.bank_model.specs.declared.answer.WriteAnswer.{WriteAnswer}
-use Rattle.bank_model.specs.declared.answer.WriteAnswer.TheVariants as wrote
-use Rattle.bank_model.specs.declared.answer.ReadAnswer.{ReadAnswer}
-use Rattle.bank_model.specs.declared.answer.ReadAnswer.TheVariants as came
-use Rattle.bank_model.specs.declared.clock.Doing.TheVariants as doing
+use Rattle.bank_shape.specs.declared.answer.WriteAnswer.{WriteAnswer}
+use Rattle.bank_shape.specs.declared.answer.WriteAnswer.TheVariants as wrote
+use Rattle.bank_shape.specs.declared.answer.ReadAnswer.{ReadAnswer}
+use Rattle.bank_shape.specs.declared.answer.ReadAnswer.TheVariants as came
+use Rattle.bank_shape.specs.declared.clock.Doing.TheVariants as doing
 use Rattle.bank_model.specs.Events.{Event, Write, Read, Serve, Begin, Iterate, Cut, newest}
 use Rattle.bank_model.specs.History.{Awaited, awaited, queue, waits}
 use Rattle.bank_model.specs.Answers.{read_answer}
-use Rattle.bank_model.specs.Timing.{Pacing, Happens, Core, Regs, Timed, core, core_of, is_empty}
-use Rattle.bank_model.specs.Running.{Choice, chosen_by, gives_way, choice_after}
+use Rattle.bank_shape.specs.declared.pace.Pace.{Pace}
+use Rattle.bank_model.specs.Timing.{Happens, Core, Regs, TimedEvent, core, core_of, is_empty}
+use Rattle.bank_shape.specs.Pausing.{gives_way}
+use Rattle.bank_shape.specs.Acting.{Choice, chosen_by}
+use Rattle.bank_model.specs.Running.{choice_after}
 use Rattle.bank_model.specs.Lawful.{Lawful, IsIdle, MayCome}
 use Rattle.bank_laws.specs.Outcomes.{outcome_of, ended, row_with, rows_from}
 use Rattle.bank_laws.specs.Settling.{AreOpen}
 use Rattle.bank_laws.specs.RowLaws.{ServedLaw}
 use Rattle.bank_laws.proofs.Settling.{opens, lawful_before}
 use Rattle.bank_laws.proofs.Fates.{Awaits, IsSettled, ReadFate, awaits-new, eqb-same}
-use Rattle.bank_laws.proofs.Walking.{Passes, walk, rows_after, and_both}
+use Rattle.bank_laws.proofs.Walking.{Passes, walk, rows_after}
 use Rattle.bank_laws.proofs.Ending.{Onwards, onwards, accepting, outcome-accepts, outcome-may, own_answer, write_outcome}
 
 pub same_bytes-same : (xs ys : List ℕ) → xs ≡ ys → same_bytes xs ys ≡ true
@@ -34,7 +38,7 @@ same_bytes-same xs ys e = subst (λ ys. same_bytes xs ys ≡ true) e (itself xs)
   where
     itself : (xs : List ℕ) → same_bytes xs xs ≡ true
     itself [] = refl
-    itself (x ∷ xs) = and_both (x == x) _ (eqb-same x) (itself xs)
+    itself (x ∷ xs) = and_from (x == x) _ (eqb-same x) (itself xs)
 
 -- where nothing is chosen no read waits
 pub none-waits : (way reads : Bool) (c : Choice) → chosen_by way reads c ≡ None → reads ≡ false
@@ -50,7 +54,7 @@ empty-waits : (ws : List Awaited) → not (is_empty ws) ≡ false → ws ≡ []
 empty-waits [] h = refl
 empty-waits (w ∷ ws) h = absurd (cc)
 
-pub idle-waits : {n m : ℕ} (shape : BankShape) (pace : Pacing) (xs : List (Timed n m)) → IsIdle shape pace xs → waits shape (core xs) ≡ []
+pub idle-waits : {n m : ℕ} (shape : BankShape) (pace : Pace) (xs : List (TimedEvent n m)) → IsIdle shape pace xs → waits shape (core xs) ≡ []
 idle-waits shape pace xs idle = empty-waits (waits shape (core xs)) (none-waits (gives_way pace.policy) (not (is_empty (waits shape (core xs)))) (choice_after shape pace xs) idle.chosen)
 
 lay_taken : (a b : Bool) (xs ys : List ℕ) → b ≡ true → cond (a && b) xs ys ≡ cond a xs ys
@@ -73,16 +77,16 @@ module _ {n : ℕ} where
       by false true f = absurd (cc)
       by false false f = absurd (cc)
 
-module _ {n m : ℕ} (shape : BankShape) (pace : Pacing) (e : ℕ) (all : List (Timed n m)) where
+module _ {n m : ℕ} (shape : BankShape) (pace : Pace) (e : ℕ) (all : List (TimedEvent n m)) where
   -- of each split of a lawful history: its event was allowed, and what it leaves stands in the end
-  pub may_at : (later : List (Timed n m)) (x : Timed n m) (ys : List (Timed n m)) → Lawful shape pace e all → all ≡ later ++ x ∷ ys → MayCome shape pace e ys x x.happens
-  may_at later x ys l same = (lawful_before shape pace e later (x ∷ ys) (subst (λ (xs : List (Timed n m)). Lawful shape pace e xs) same l)).0
+  pub may_at : (later : List (TimedEvent n m)) (x : TimedEvent n m) (ys : List (TimedEvent n m)) → Lawful shape pace e all → all ≡ later ++ x ∷ ys → MayCome shape pace e ys x x.happens
+  may_at later x ys l same = (lawful_before shape pace e later (x ∷ ys) (subst (λ (xs : List (TimedEvent n m)). Lawful shape pace e xs) same l)).0
 
-  pub onwards_at : (later : List (Timed n m)) (x : Timed n m) (ys : List (Timed n m)) → Lawful shape pace e all → all ≡ later ++ x ∷ ys → Onwards shape all ys x.tick x.happens
+  pub onwards_at : (later : List (TimedEvent n m)) (x : TimedEvent n m) (ys : List (TimedEvent n m)) → Lawful shape pace e all → all ≡ later ++ x ∷ ys → Onwards shape all ys x.tick x.happens
   onwards_at later x ys l same =
-      subst (λ (xs : List (Timed n m)). Onwards shape xs ys x.tick x.happens) (sym same) (onwards shape pace e later x ys (subst (λ (xs : List (Timed n m)). Lawful shape pace e xs) same l))
+      subst (λ (xs : List (TimedEvent n m)). Onwards shape xs ys x.tick x.happens) (sym same) (onwards shape pace e later x ys (subst (λ (xs : List (TimedEvent n m)). Lawful shape pace e xs) same l))
 
-  newest_write : (ys : List (Timed n m)) (x : Timed n m) (at row line : ℕ) (bytes : List ℕ) (given : List Bool) (answer : WriteAnswer)
+  newest_write : (ys : List (TimedEvent n m)) (x : TimedEvent n m) (at row line : ℕ) (bytes : List ℕ) (given : List Bool) (answer : WriteAnswer)
       → accepts (ended x.tick (outcome_of shape all row)) ≡ accepting answer → rows.newest (rows_from shape all ys) line ≡ newest (core ys) line
       → cond (eqb at line && accepts (ended x.tick (outcome_of shape all row))) (laid bytes given (rows.newest (rows_from shape all ys) line)) (rows.newest (rows_from shape all ys) line)
       ≡ newest (Write row at bytes given answer ∷ core ys) line
@@ -92,7 +96,7 @@ module _ {n m : ℕ} (shape : BankShape) (pace : Pacing) (e : ℕ) (all : List (
   newest_write ys x at row line bytes given wrote.Exhausted acc ih = lay_left (eqb at line) _ _ _ acc ∙ ih
 
   -- the newest bytes by the rows are those by the events
-  pub newest_same : (later ys : List (Timed n m)) (line : ℕ) → Lawful shape pace e all → AreOpen shape all → all ≡ later ++ ys → rows.newest (rows_from shape all ys) line ≡ newest (core ys) line
+  pub newest_same : (later ys : List (TimedEvent n m)) (line : ℕ) → Lawful shape pace e all → AreOpen shape all → all ≡ later ++ ys → rows.newest (rows_from shape all ys) line ≡ newest (core ys) line
   newest_same later [] line l o same = refl
   newest_same later (x ∷ ys) line l o same =
       by x.happens x.cancels (may_at later x ys l same) (onwards_at later x ys l same) (newest_same (later ++ x ∷ []) ys line l o (same ∙ sym (append_assoc later (x ∷ []) ys)))
@@ -128,7 +132,7 @@ module _ {n m : ℕ} (shape : BankShape) (pace : Pacing) (e : ℕ) (all : List (
   waited_may tick line row newest owed none is (inr s) = read_may tick line newest owed (outcome_of shape all row) is s
 
   -- the row of each event is served
-  served_at : Lawful shape pace e all → AreOpen shape all → waits shape (core all) ≡ [] → (later : List (Timed n m)) (x : Timed n m) (ys : List (Timed n m)) → all ≡ later ++ x ∷ ys
+  served_at : Lawful shape pace e all → AreOpen shape all → waits shape (core all) ≡ [] → (later : List (TimedEvent n m)) (x : TimedEvent n m) (ys : List (TimedEvent n m)) → all ≡ later ++ x ∷ ys
       → Passes is_served (rows_from shape all ys) (row_with shape all x.happens x.tick x.cancels) (rows_after shape all later)
   served_at l o none later x ys same =
       by x.happens x.cancels (may_at later x ys l same) (onwards_at later x ys l same) (λ line. newest_same (later ++ x ∷ []) ys line l o (same ∙ sym (append_assoc later (x ∷ []) ys)))
@@ -139,7 +143,7 @@ module _ {n m : ℕ} (shape : BankShape) (pace : Pacing) (e : ℕ) (all : List (
           outcome-may x.tick line bytes given answer (ended x.tick (outcome_of shape all row)) (write_outcome shape pace e all ys x row line bytes given answer o may on)
       by (Core (Read row line (came.Forwarded bytes))) cancels may on new =
           ap (may_have x.tick (Reads line) (rows.newest (rows_from shape all ys) line)) (own_answer shape pace e all ys x (Core (Read row line (came.Forwarded bytes))) row (out.Forwarded x.tick bytes) on refl (λ is. absurd (cc)))
-          ∙ and_both (x.tick == x.tick) _ (eqb-same x.tick) (same_bytes-same bytes _ (forwarded-newest shape (core ys) line bytes may.may.1 ∙ sym (new line)))
+          ∙ and_from (x.tick == x.tick) _ (eqb-same x.tick) (same_bytes-same bytes _ (forwarded-newest shape (core ys) line bytes may.may.1 ∙ sym (new line)))
       by (Core (Read row line came.Busy)) cancels may on new =
           ap (may_have x.tick (Reads line) (rows.newest (rows_from shape all ys) line)) (own_answer shape pace e all ys x (Core (Read row line came.Busy)) row (out.Busy x.tick) on refl (λ is. absurd (cc)))
           ∙ eqb-same x.tick

@@ -5,16 +5,17 @@ use Rattle.std.proofs.lemmas.Bool.{ne_eqb}
 use Rattle.result_rows.specs.declared.Outcome.{Outcome}
 use Rattle.result_rows.specs.declared.Outcome.TheVariants as out
 use Rattle.masked_bytes.specs.declared.entry.Entry.{Entry}
-use Rattle.bank_model.specs.declared.answer.Served.{Served}
-use Rattle.bank_model.specs.declared.answer.Step.{Step}
+use Rattle.bank_shape.specs.declared.answer.Served.{Served}
+use Rattle.bank_shape.specs.declared.answer.Step.{Step}
 use Rattle.masked_bytes.specs.Entries.{has_row, merged}
 use Rattle.bank_shape.specs.declared.BankShape.{BankShape}
-use Rattle.bank_model.specs.declared.answer.WriteAnswer.TheVariants as wrote
-use Rattle.bank_model.specs.declared.answer.ReadAnswer.TheVariants as came
-use Rattle.bank_model.specs.declared.answer.Step.TheVariants as did
+use Rattle.bank_shape.specs.declared.answer.WriteAnswer.TheVariants as wrote
+use Rattle.bank_shape.specs.declared.answer.ReadAnswer.TheVariants as came
+use Rattle.bank_shape.specs.declared.answer.Step.TheVariants as did
 use Rattle.bank_model.specs.Events.{Event, Write, Read, Serve, Begin, Iterate, Cut, RowsBelow, newest}
 use Rattle.bank_model.specs.History.{awaited, begun, queue, waits, due_after}
-use Rattle.bank_model.specs.Timing.{Pacing, Happens, Core, Regs, Timed, core, core_of}
+use Rattle.bank_shape.specs.declared.pace.Pace.{Pace}
+use Rattle.bank_model.specs.Timing.{Happens, Core, Regs, TimedEvent, core, core_of}
 use Rattle.bank_model.specs.Lawful.{Lawful, MayCome}
 use Rattle.bank_laws.specs.Outcomes.{on_row, outcome_with, outcome_of}
 use Rattle.bank_laws.specs.Standing.{has_wait}
@@ -63,12 +64,12 @@ module _ {n : ℕ} where
 
 module _ {n m : ℕ} (shape : BankShape) where
   -- what stands after an event, and what is not yet here, has no outcome
-  record OpenBy (xs : List (Timed n m)) (tick : ℕ) (h : Happens n) : Type 0 where
+  record OpenBy (xs : List (TimedEvent n m)) (tick : ℕ) (h : Happens n) : Type 0 where
     queued : (row : ℕ) → has_row (queue shape (core_of h (core xs))) row ≡ true → unwrap_or (outcome_with shape xs h tick row) (outcome_of shape xs row) ≡ out.Unset
     waiting : (row : ℕ) → has_wait (waits shape (core_of h (core xs))) row ≡ true → unwrap_or (outcome_with shape xs h tick row) (outcome_of shape xs row) ≡ out.Unset
     coming : (row : ℕ) → RowsBelow (core_of h (core xs)) row → unwrap_or (outcome_with shape xs h tick row) (outcome_of shape xs row) ≡ out.Unset
 
-  module _ (xs : List (Timed n m)) (tick : ℕ) (o : AreOpen shape xs) where
+  module _ (xs : List (TimedEvent n m)) (tick : ℕ) (o : AreOpen shape xs) where
     -- an event that answers its own row, which stands nowhere
     refused : (at row : ℕ) (t : Outcome n) → RowsBelow (core xs) at → (has_row (queue shape (core xs)) row ≡ true) ⊎ (has_wait (waits shape (core xs)) row ≡ true)
         → unwrap_or (on_row at row t) (outcome_of shape xs row) ≡ out.Unset
@@ -163,9 +164,9 @@ module _ {n m : ℕ} (shape : BankShape) where
       coming = λ r below. kept_lost (has_wait (waits shape (core xs)) r) _ _ ((stand_apart shape (core xs) r below).waiting_below r (omega arith)) (o.coming r below);
     }
 
-module _ {n m : ℕ} (shape : BankShape) (pace : Pacing) (e : ℕ) where
+module _ {n m : ℕ} (shape : BankShape) (pace : Pace) (e : ℕ) where
   -- some row is above all rows of a lawful history
-  pub above_all : (xs : List (Timed n m)) → Lawful shape pace e xs → (next : ℕ) × RowsBelow (core xs) next
+  pub above_all : (xs : List (TimedEvent n m)) → Lawful shape pace e xs → (next : ℕ) × RowsBelow (core xs) next
   above_all [] l = (0, tt)
   above_all (x ∷ xs) l = by x.happens (above_all xs l.1) l.0
     where
@@ -178,7 +179,7 @@ module _ {n m : ℕ} (shape : BankShape) (pace : Pacing) (e : ℕ) where
       by (Core (Iterate answer)) b may = b
       by (Core (Cut tearing)) b may = b
 
-  step_open : (xs : List (Timed n m)) (x : Timed n m) (h : Happens n) → Lawful shape pace e xs → AreOpen shape xs → MayCome shape pace e xs x h → OpenBy shape xs x.tick h
+  step_open : (xs : List (TimedEvent n m)) (x : TimedEvent n m) (h : Happens n) → Lawful shape pace e xs → AreOpen shape xs → MayCome shape pace e xs x h → OpenBy shape xs x.tick h
   step_open xs x (Core (Write row line bytes given wrote.Accepted)) l o may = open_accepted shape xs x.tick o row line bytes given may.asked
   step_open xs x (Core (Write row line bytes given (wrote.Merged old))) l o may =
       open_merged shape xs x.tick o row line old bytes given may.asked (merged-there shape (core xs) line old may.may.2)
@@ -232,14 +233,14 @@ module _ {n m : ℕ} (shape : BankShape) (pace : Pacing) (e : ℕ) where
   step_open xs x (Core (Iterate did.Exhausted)) l o may = record { queued = o.queued; waiting = o.waiting; coming = o.coming }
   step_open xs x (Core (Cut tearing)) l o may = let b = above_all xs l in open_cut shape xs x.tick o tearing b.0 b.1
 
-  pub opens : (xs : List (Timed n m)) → Lawful shape pace e xs → AreOpen shape xs
+  pub opens : (xs : List (TimedEvent n m)) → Lawful shape pace e xs → AreOpen shape xs
   opens [] l = record { queued = λ row h. refl; waiting = λ row h. refl; coming = λ row h. refl }
   opens (x ∷ xs) l =
       let o = step_open xs x x.happens l.1 (opens xs l.1) l.0 in
       record { queued = o.queued; waiting = o.waiting; coming = o.coming }
 
   -- so an outcome stays over one more event
-  pub step_stays : (xs : List (Timed n m)) (x : Timed n m) (h : Happens n) (row : ℕ) → Lawful shape pace e xs → AreOpen shape xs → MayCome shape pace e xs x h
+  pub step_stays : (xs : List (TimedEvent n m)) (x : TimedEvent n m) (h : Happens n) (row : ℕ) → Lawful shape pace e xs → AreOpen shape xs → MayCome shape pace e xs x h
       → outcome_of shape xs row ≢ out.Unset → unwrap_or (outcome_with shape xs h x.tick row) (outcome_of shape xs row) ≡ outcome_of shape xs row
   step_stays xs x (Core (Write at line bytes given wrote.Accepted)) row l o may set = refl
   step_stays xs x (Core (Write at line bytes given (wrote.Merged old))) row l o may set =
@@ -266,11 +267,11 @@ module _ {n m : ℕ} (shape : BankShape) (pace : Pacing) (e : ℕ) where
   step_stays xs x (Core (Iterate did.Exhausted)) row l o may set = refl
   step_stays xs x (Core (Cut tearing)) row l o may set = settled_lost (outcome_of shape xs) (has_wait (waits shape (core xs)) row) row _ (o.waiting row) set
 
-  pub lawful_before : (later xs : List (Timed n m)) → Lawful shape pace e (later ++ xs) → Lawful shape pace e xs
+  pub lawful_before : (later xs : List (TimedEvent n m)) → Lawful shape pace e (later ++ xs) → Lawful shape pace e xs
   lawful_before [] xs l = l
   lawful_before (x ∷ later) xs l = lawful_before later xs l.1
 
-  pub stays : (later xs : List (Timed n m)) (row : ℕ) → Lawful shape pace e (later ++ xs) → outcome_of shape xs row ≢ out.Unset
+  pub stays : (later xs : List (TimedEvent n m)) (row : ℕ) → Lawful shape pace e (later ++ xs) → outcome_of shape xs row ≢ out.Unset
       → outcome_of shape (later ++ xs) row ≡ outcome_of shape xs row
   stays [] xs row l set = refl
   stays (x ∷ later) xs row l set =

@@ -3,13 +3,15 @@ use Rattle.std.proofs.Common.{◌≡◌, ℕ, ◌<◌, ◌≤◌, ◌&&◌, Bool
 use Rattle.std.specs.Prelude.{IsTrue, IfSome, All, nat_lt}
 use Rattle.std.proofs.lemmas.List.Elements.{All-nil, All-cons, All-weaker}
 use Rattle.bank_shape.specs.declared.BankShape.{BankShape}
-use Rattle.bank_model.specs.declared.answer.ReadAnswer.TheVariants as came
-use Rattle.bank_model.specs.declared.clock.Doing.{Doing}
-use Rattle.bank_model.specs.declared.clock.Doing.TheVariants.{Serving, Beginning, Iterating}
-use Rattle.bank_model.specs.declared.clock.Action.{Action}
+use Rattle.bank_shape.specs.declared.answer.ReadAnswer.TheVariants as came
+use Rattle.bank_shape.specs.declared.clock.Doing.{Doing}
+use Rattle.bank_shape.specs.declared.clock.Doing.TheVariants.{Serving, Beginning, Iterating}
+use Rattle.bank_shape.specs.declared.clock.Action.{Action}
 use Rattle.bank_model.specs.Events.{Write, Read, Serve, Begin, Iterate, Cut}
 use Rattle.bank_model.specs.After.{work_after, is_store_of}
-use Rattle.bank_model.specs.Timing.{Pacing, Happens, Core, Regs, KeepBegin, KeepIterate, KeepCut, Timed, lasts, ends, is_doing, core, last_tick}
+use Rattle.bank_shape.specs.declared.pace.Pace.{Pace}
+use Rattle.bank_shape.specs.Acting.{lasts}
+use Rattle.bank_model.specs.Timing.{Happens, Core, Regs, KeepBegin, KeepIterate, KeepCut, TimedEvent, ends, is_doing, core, last_tick}
 use Rattle.bank_model.specs.Running.{drops_begin, started, left_by, running, running_at, chosen_after}
 use Rattle.bank_model.specs.Changes.{change_after}
 use Rattle.bank_model.specs.Lawful.{Lawful, MayCome}
@@ -21,7 +23,7 @@ lasts_some read iter Beginning r i = r
 lasts_some read iter Iterating r i = i
 
 -- an action that is chosen at a tick ends above it
-started-above : (pace : Pacing) (r : Option Action) (d : Option Doing) (last tick : ℕ) (a : Action) → 1 ≤ pace.read → 1 ≤ pace.iter
+started-above : (pace : Pace) (r : Option Action) (d : Option Doing) (last tick : ℕ) (a : Action) → 1 ≤ pace.read → 1 ≤ pace.iter
     → IfSome r (λ a. last < ends pace a) → started r d last tick ≡ Some a → last < ends pace a
 started-above pace (Some action) d last tick a r i above e = let same : action ≡ a = cc in subst (λ a. last < ends pace a) same above
 started-above pace None None last tick a r i above e = absurd (cc)
@@ -35,9 +37,9 @@ started-above pace None (Some doing) last tick a r i above e = by (nat_lt last t
         subst P same (omega (arith, some))
     by false e = absurd (cc)
 
-module _ {n m : ℕ} (shape : BankShape) (pace : Pacing) (e : ℕ) where
+module _ {n m : ℕ} (shape : BankShape) (pace : Pace) (e : ℕ) where
   -- what runs after an event ends above it
-  running-above : (xs : List (Timed n m)) → Lawful shape pace e xs → IfSome (running shape pace xs) (λ a. last_tick xs < ends pace a)
+  running-above : (xs : List (TimedEvent n m)) → Lawful shape pace e xs → IfSome (running shape pace xs) (λ a. last_tick xs < ends pace a)
   running-above [] l = tt
   running-above (x ∷ xs) l = by x.happens l.0
     where
@@ -57,7 +59,7 @@ module _ {n m : ℕ} (shape : BankShape) (pace : Pacing) (e : ℕ) where
       by (Core (Cut tearing)) may = tt
 
   -- the action that ends at an event ends above the last one
-  ends-after : (xs : List (Timed n m)) (x : Timed n m) (doing : Doing) → 1 ≤ pace.read → 1 ≤ pace.iter → Lawful shape pace e xs
+  ends-after : (xs : List (TimedEvent n m)) (x : TimedEvent n m) (doing : Doing) → 1 ≤ pace.read → 1 ≤ pace.iter → Lawful shape pace e xs
       → running_at shape pace xs x.tick ≡ Some (record { doing = doing; first = x.first }) → x.tick ≡ ends pace (record { doing = doing; first = x.first })
       → last_tick xs < x.tick
   ends-after xs x doing r i l runs at =
@@ -65,7 +67,7 @@ module _ {n m : ℕ} (shape : BankShape) (pace : Pacing) (e : ℕ) where
       started-above pace (running shape pace xs) (chosen_after shape pace xs) (last_tick xs) x.tick (record { doing = doing; first = x.first }) r i (running-above xs l) runs in
       omega (arith, above, at)
 
-  pub last-below : (xs : List (Timed n m)) (x : Timed n m) → 1 ≤ pace.read → 1 ≤ pace.iter → Lawful shape pace e (x ∷ xs)
+  pub last-below : (xs : List (TimedEvent n m)) (x : TimedEvent n m) → 1 ≤ pace.read → 1 ≤ pace.iter → Lawful shape pace e (x ∷ xs)
       → IsTrue (ends_action x.happens) → last_tick xs < x.tick
   last-below xs x r i l = by x.happens l.0
     where
@@ -80,7 +82,7 @@ module _ {n m : ℕ} (shape : BankShape) (pace : Pacing) (e : ℕ) where
       by (Core (Iterate answer)) may is = ends-after xs x Iterating r i l.1 may.on_time.0.0 may.on_time.0.1
       by (Core (Cut tearing)) may is = absurd (cc)
 
-  pub last_tick-rises : (xs : List (Timed n m)) (x : Timed n m) → 1 ≤ pace.read → 1 ≤ pace.iter → Lawful shape pace e (x ∷ xs) → last_tick xs ≤ x.tick
+  pub last_tick-rises : (xs : List (TimedEvent n m)) (x : TimedEvent n m) → 1 ≤ pace.read → 1 ≤ pace.iter → Lawful shape pace e (x ∷ xs) → last_tick xs ≤ x.tick
   last_tick-rises xs x r i l = by x.happens l.0
     where
       by : (h : Happens n) → MayCome shape pace e xs x h → last_tick xs ≤ x.tick
@@ -95,7 +97,7 @@ module _ {n m : ℕ} (shape : BankShape) (pace : Pacing) (e : ℕ) where
       by (Core (Cut tearing)) may = may.on_time.0.1
 
   -- no event is above the last
-  pub ticks-up_to : (xs : List (Timed n m)) → 1 ≤ pace.read → 1 ≤ pace.iter → Lawful shape pace e xs → All (λ y. y.tick ≤ last_tick xs) xs
+  pub ticks-up_to : (xs : List (TimedEvent n m)) → 1 ≤ pace.read → 1 ≤ pace.iter → Lawful shape pace e xs → All (λ y. y.tick ≤ last_tick xs) xs
   ticks-up_to [] r i l = All-nil (λ y. y.tick ≤ 0)
   ticks-up_to (x ∷ xs) r i l =
       let rises : last_tick xs ≤ x.tick = last_tick-rises xs x r i l in

@@ -2,21 +2,22 @@
 use Rattle.std.proofs.Common.{◌≡◌, ◌≢◌, ℕ, ◌<◌, ◌≤◌, ◌==◌, ◌&&◌, ◌||◌, ◌⊎◌, inl, inr, not, suc, Bool, true, false, List, [], ◌∷◌, ◌++◌, Some, None, drop, length, refl, sym, ap, ◌∙◌, subst, arith, cond, eqb, append_assoc}
 use Rattle.std.specs.Prelude.{unwrap_or, nat_lt, nat_le}
 use Rattle.std.specs.List.{list_any}
-use Rattle.std.proofs.lemmas.Bool.{eq-eqb, lt-ltb, le-ltb, le-leb}
+use Rattle.std.proofs.lemmas.Bool.{eq-eqb, lt-ltb, le-ltb, le-leb, or_left, or_right, and_from, or_from}
 use Rattle.std.proofs.lemmas.List.Folds.{list_any-append}
 use Rattle.result_rows.specs.declared.Outcome.{Outcome}
 use Rattle.result_rows.specs.declared.Outcome.TheVariants as out
-use Rattle.row_laws.specs.declared.Row.{Row}
-use Rattle.row_laws.specs.Answers.{is_lost, read_after}
-use Rattle.row_laws.specs.Rows.{is_cut}
-use Rattle.row_laws.specs.Queueing.{waiting}
+use Rattle.row_rules.specs.declared.Row.{Row}
+use Rattle.row_rules.specs.Answers.{is_lost, read_after}
+use Rattle.row_rules.specs.Rows.{is_cut}
+use Rattle.row_rules.specs.Queueing.{waiting}
 use Rattle.bank_shape.specs.declared.BankShape.{BankShape}
 use Rattle.bank_shape.specs.Pausing.{is_cancelling, most_cancels}
-use Rattle.bank_model.specs.declared.answer.ReadAnswer.{ReadAnswer}
-use Rattle.bank_model.specs.declared.answer.ReadAnswer.TheVariants as came
+use Rattle.bank_shape.specs.declared.answer.ReadAnswer.{ReadAnswer}
+use Rattle.bank_shape.specs.declared.answer.ReadAnswer.TheVariants as came
 use Rattle.bank_model.specs.Events.{Event, Write, Read, Serve, Begin, Iterate, Cut, RowsBelow, newest}
 use Rattle.bank_model.specs.History.{Awaited, awaited, queue, waits}
-use Rattle.bank_model.specs.Timing.{Pacing, Happens, Core, Regs, Timed, core, core_of, last_tick, is_empty, is_writing}
+use Rattle.bank_shape.specs.declared.pace.Pace.{Pace}
+use Rattle.bank_model.specs.Timing.{Happens, Core, Regs, TimedEvent, core, core_of, last_tick, is_empty, is_writing}
 use Rattle.bank_model.specs.Running.{running_at, cancels_after}
 use Rattle.bank_model.specs.Lawful.{Lawful, MayCome, would_cancel}
 use Rattle.bank_laws.specs.Outcomes.{on_row, outcome_with, outcome_of, row_with, rows_from}
@@ -29,23 +30,15 @@ use Rattle.bank_laws.proofs.Holding.{bound_law}
 use Rattle.bank_laws.proofs.Fates.{Awaits, IsSettled, ReadFate, awaits-new}
 use Rattle.bank_laws.specs.Standing.{has_wait}
 use Rattle.bank_laws.specs.Ticks.{ends_action}
-use Rattle.bank_laws.proofs.Entries.{or_none, either, no_wait-push, no_wait-drop}
+use Rattle.bank_laws.proofs.Entries.{either, no_wait-push, no_wait-drop}
 use Rattle.bank_laws.proofs.Standing.{stand_apart}
 use Rattle.bank_laws.proofs.Ticks.{last_tick-rises, last-below}
 use Rattle.bank_laws.proofs.Answering.{IsFirst, served-first}
 use Rattle.bank_laws.proofs.Settling.{opens, above_all, lawful_before, step_stays, stays}
-use Rattle.bank_laws.proofs.Walking.{Passes, walk, rows_after, rows_after-more, and_both}
+use Rattle.bank_laws.proofs.Walking.{Passes, walk, rows_after, rows_after-more}
 use Rattle.bank_laws.proofs.Ending.{Onwards, own_row, own_answer}
 use Rattle.bank_laws.proofs.Serves.{may_at, onwards_at, idle-waits}
 use Rattle.bank_laws.proofs.Counting.{among, Falling, falling-more, hits, waits-counted}
-
-or_right_of : (a b : Bool) → b ≡ true → (a || b) ≡ true
-or_right_of true b h = refl
-or_right_of false b h = h
-
-or_left_of : (a b : Bool) → a ≡ true → (a || b) ≡ true
-or_left_of true b h = refl
-or_left_of false b h = absurd (cc)
 
 not_and : (a b : Bool) → b ≡ true → (a && not b) ≡ false
 not_and true true h = refl
@@ -72,18 +65,18 @@ wait-push (v ∷ ws) w row h = by (v.row == row) (λ k. wait-push ws w row k) h
     by false go h = go h
 
 pub wait-new : (ws : List Awaited) (w : Awaited) → has_wait (ws ++ w ∷ []) w.row ≡ true
-wait-new [] w = or_left_of (w.row == w.row) false (eq-eqb w.row w.row refl)
-wait-new (v ∷ ws) w = or_right_of (v.row == w.row) _ (wait-new ws w)
+wait-new [] w = or_left (w.row == w.row) false (eq-eqb w.row w.row refl)
+wait-new (v ∷ ws) w = or_right (v.row == w.row) _ (wait-new ws w)
 
-module _ {n m : ℕ} (shape : BankShape) (pace : Pacing) (e : ℕ) (all : List (Timed n m)) where
+module _ {n m : ℕ} (shape : BankShape) (pace : Pace) (e : ℕ) (all : List (TimedEvent n m)) where
   -- a read that waits waits on, is read, or is lost at a cut that has a row
-  abbrev Waits : List (Timed n m) → Timed n m → Happens n → ℕ → Type 0
+  abbrev Waits : List (TimedEvent n m) → TimedEvent n m → Happens n → ℕ → Type 0
   Waits zs x h row =
       ((has_wait (waits shape (core_of h (core zs))) row ≡ true) × (list_any is_cut (row_with shape all h x.tick x.cancels) ≡ false))
       ⊎ (((ends_action h ≡ true) × (p : ℕ) × (bytes : List ℕ) × (unwrap_or (outcome_with shape zs h x.tick row) (outcome_of shape zs row) ≡ out.Read x.tick p bytes))
       ⊎ ((unwrap_or (outcome_with shape zs h x.tick row) (outcome_of shape zs row) ≡ out.Lost x.tick) × (list_any is_cut (row_with shape all h x.tick x.cancels) ≡ true)))
 
-  wait_step : (zs : List (Timed n m)) (x : Timed n m) (h : Happens n) (row : ℕ) → MayCome shape pace e zs x h → has_wait (waits shape (core zs)) row ≡ true → Waits zs x h row
+  wait_step : (zs : List (TimedEvent n m)) (x : TimedEvent n m) (h : Happens n) (row : ℕ) → MayCome shape pace e zs x h → has_wait (waits shape (core zs)) row ≡ true → Waits zs x h row
   wait_step zs x (Core (Write at line bytes given answer)) row may there = inl (there, refl)
   wait_step zs x (Core (Read at line came.Waiting)) row may there = inl (wait-push (waits shape (core zs)) _ row there, refl)
   wait_step zs x (Core (Read at line came.Busy)) row may there = inl (there, refl)
@@ -132,7 +125,7 @@ module _ {n m : ℕ} (shape : BankShape) (pace : Pacing) (e : ℕ) (all : List (
     pub ticks : (t : ℕ) → last ≤ t → read_after t o ≡ false
     pub lost : (is_lost o && not (list_any is_cut between)) ≡ false
 
-  abbrev pub ReadState : List (Timed n m) → List (Row n) → ℕ → Type 0
+  abbrev pub ReadState : List (TimedEvent n m) → List (Row n) → ℕ → Type 0
   ReadState zs between row =
       ((has_wait (waits shape (core zs)) row ≡ true) × (list_any is_cut between ≡ false)) ⊎ IsPast (outcome_of shape zs row) (last_tick zs) between
 
@@ -148,33 +141,33 @@ module _ {n m : ℕ} (shape : BankShape) (pace : Pacing) (e : ℕ) (all : List (
       by true false h is = absurd (cc)
       by false b h is = refl
 
-  state_step : (zs : List (Timed n m)) (x : Timed n m) (h : Happens n) (between : List (Row n)) (row : ℕ) → Lawful shape pace e zs → MayCome shape pace e zs x h → last_tick zs ≤ x.tick → ReadState zs between row
+  state_step : (zs : List (TimedEvent n m)) (x : TimedEvent n m) (h : Happens n) (between : List (Row n)) (row : ℕ) → Lawful shape pace e zs → MayCome shape pace e zs x h → last_tick zs ≤ x.tick → ReadState zs between row
       → ((has_wait (waits shape (core_of h (core zs))) row ≡ true) × (list_any is_cut (between ++ row_with shape all h x.tick x.cancels) ≡ false))
       ⊎ IsPast (unwrap_or (outcome_with shape zs h x.tick row) (outcome_of shape zs row)) x.tick (between ++ row_with shape all h x.tick x.cancels)
   state_step zs x h between row l may rises (inl w) = by (wait_step zs x h row may w.0)
     where
       by : Waits zs x h row → ((has_wait (waits shape (core_of h (core zs))) row ≡ true) × (list_any is_cut (between ++ row_with shape all h x.tick x.cancels) ≡ false))
           ⊎ IsPast (unwrap_or (outcome_with shape zs h x.tick row) (outcome_of shape zs row)) x.tick (between ++ row_with shape all h x.tick x.cancels)
-      by (inl on) = inl (on.0, list_any-append is_cut between _ ∙ or_none (list_any is_cut between) _ w.1 on.1)
+      by (inl on) = inl (on.0, list_any-append is_cut between _ ∙ or_from (list_any is_cut between) _ w.1 on.1)
       by (inr (inl read)) =
           inr (subst (λ (o : Outcome n). IsPast o x.tick (between ++ row_with shape all h x.tick x.cancels)) (sym read.3)
           (record { set = λ is. absurd (cc); ticks = λ t le. le-ltb t x.tick le; lost = refl }))
       by (inr (inr lost)) =
           inr (subst (λ (o : Outcome n). IsPast o x.tick (between ++ row_with shape all h x.tick x.cancels)) (sym lost.0)
-          (record { set = λ is. absurd (cc); ticks = λ t le. refl; lost = not_and true _ (list_any-append is_cut between _ ∙ or_right_of (list_any is_cut between) _ lost.1) }))
+          (record { set = λ is. absurd (cc); ticks = λ t le. refl; lost = not_and true _ (list_any-append is_cut between _ ∙ or_right (list_any is_cut between) _ lost.1) }))
   state_step zs x h between row l may rises (inr past) =
       inr (subst (λ (o : Outcome n). IsPast o x.tick (between ++ row_with shape all h x.tick x.cancels)) (sym (step_stays shape pace e zs x h row l (opens shape pace e zs l) may past.set))
       (past_more (outcome_of shape zs row) (last_tick zs) x.tick between _ rises past))
 
-  pub state : (later zs : List (Timed n m)) (row : ℕ) → 1 ≤ pace.read → 1 ≤ pace.iter → Lawful shape pace e (later ++ zs) → ReadState zs [] row → ReadState (later ++ zs) (rows_after shape all later) row
+  pub state : (later zs : List (TimedEvent n m)) (row : ℕ) → 1 ≤ pace.read → 1 ≤ pace.iter → Lawful shape pace e (later ++ zs) → ReadState zs [] row → ReadState (later ++ zs) (rows_after shape all later) row
   state [] zs row r i l s = s
   state (x ∷ later) zs row r i l s = state_step (later ++ zs) x x.happens (rows_after shape all later) row l.1 l.0 (last_tick-rises shape pace e (later ++ zs) x r i l) (state later zs row r i l.1 s)
 
   -- a read that waits waits on, or is read above a tick, or lost
-  abbrev pub Onward : ℕ → List (Timed n m) → ℕ → Type 0
+  abbrev pub Onward : ℕ → List (TimedEvent n m) → ℕ → Type 0
   Onward t zs row = (has_wait (waits shape (core zs)) row ≡ true) ⊎ ((outcome_of shape zs row ≢ out.Unset) × ((read_after t (outcome_of shape zs row) || is_lost (outcome_of shape zs row)) ≡ true))
 
-  pub onward_step : (t : ℕ) (zs : List (Timed n m)) (x : Timed n m) (h : Happens n) (row : ℕ) → Lawful shape pace e zs → MayCome shape pace e zs x h → (ends_action h ≡ true → t < x.tick) → Onward t zs row
+  pub onward_step : (t : ℕ) (zs : List (TimedEvent n m)) (x : TimedEvent n m) (h : Happens n) (row : ℕ) → Lawful shape pace e zs → MayCome shape pace e zs x h → (ends_action h ≡ true → t < x.tick) → Onward t zs row
       → (has_wait (waits shape (core_of h (core zs))) row ≡ true)
       ⊎ ((unwrap_or (outcome_with shape zs h x.tick row) (outcome_of shape zs row) ≢ out.Unset)
       × ((read_after t (unwrap_or (outcome_with shape zs h x.tick row) (outcome_of shape zs row)) || is_lost (unwrap_or (outcome_with shape zs h x.tick row) (outcome_of shape zs row))) ≡ true))
@@ -185,13 +178,13 @@ module _ {n m : ℕ} (shape : BankShape) (pace : Pacing) (e : ℕ) (all : List (
 
       by : Waits zs x h row → (has_wait (waits shape (core_of h (core zs))) row ≡ true) ⊎ Goal (unwrap_or (outcome_with shape zs h x.tick row) (outcome_of shape zs row))
       by (inl on) = inl on.0
-      by (inr (inl read)) = inr (subst (λ (o : Outcome n). Goal o) (sym read.3) ((λ is. absurd (cc)), or_left_of (nat_lt t x.tick) false (lt-ltb t x.tick (above read.0))))
+      by (inr (inl read)) = inr (subst (λ (o : Outcome n). Goal o) (sym read.3) ((λ is. absurd (cc)), or_left (nat_lt t x.tick) false (lt-ltb t x.tick (above read.0))))
       by (inr (inr lost)) = inr (subst (λ (o : Outcome n). Goal o) (sym lost.0) ((λ is. absurd (cc)), refl))
   onward_step t zs x h row l may above (inr past) =
       let same = step_stays shape pace e zs x h row l (opens shape pace e zs l) may past.0 in
       inr (subst (λ (o : Outcome n). (o ≢ out.Unset) × ((read_after t o || is_lost o) ≡ true)) (sym same) past)
 
-  onward : (t : ℕ) (later zs : List (Timed n m)) (row : ℕ) → 1 ≤ pace.read → 1 ≤ pace.iter → Lawful shape pace e (later ++ zs) → t ≤ last_tick zs → Onward t zs row
+  onward : (t : ℕ) (later zs : List (TimedEvent n m)) (row : ℕ) → 1 ≤ pace.read → 1 ≤ pace.iter → Lawful shape pace e (later ++ zs) → t ≤ last_tick zs → Onward t zs row
       → Onward t (later ++ zs) row × (t ≤ last_tick (later ++ zs))
   onward t [] zs row r i l le o = (o, le)
   onward t (x ∷ later) zs row r i l le o =
@@ -209,13 +202,13 @@ module _ {n m : ℕ} (shape : BankShape) (pace : Pacing) (e : ℕ) (all : List (
   comb_true false false c h k = absurd (cc)
 
   -- a read awaits its answer by the rows exactly where it waits by the events
-  awaits_same : (later : List (Timed n m)) (x : Timed n m) (now : List (Timed n m)) (between : List (Row n)) (row : ℕ) → 1 ≤ pace.read → 1 ≤ pace.iter → Lawful shape pace e all
+  awaits_same : (later : List (TimedEvent n m)) (x : TimedEvent n m) (now : List (TimedEvent n m)) (between : List (Row n)) (row : ℕ) → 1 ≤ pace.read → 1 ≤ pace.iter → Lawful shape pace e all
       → waits shape (core all) ≡ [] → all ≡ later ++ x ∷ now → ends_action x.happens ≡ false → ReadState now between row
       → (read_after x.tick (outcome_of shape all row) || (is_lost (outcome_of shape all row) && not (list_any is_cut between))) ≡ has_wait (waits shape (core now)) row
   awaits_same later x now between row r i l none same arrives s = by s
     where
       whole : Lawful shape pace e (later ++ x ∷ now)
-      whole = subst (λ (xs : List (Timed n m)). Lawful shape pace e xs) same l
+      whole = subst (λ (xs : List (TimedEvent n m)). Lawful shape pace e xs) same l
 
       here : Lawful shape pace e (x ∷ now)
       here = lawful_before shape pace e later (x ∷ now) whole
@@ -229,14 +222,14 @@ module _ {n m : ℕ} (shape : BankShape) (pace : Pacing) (e : ℕ) (all : List (
           let first : Onward x.tick (x ∷ now) row = onward_step x.tick now x x.happens row here.1 here.0 (λ is. absurd (cc (arrives, is))) (inl w.0) in
           let end = onward x.tick later (x ∷ now) row r i whole (omega arith) first in
           comb_true (read_after x.tick (outcome_of shape all row)) (is_lost (outcome_of shape all row)) (list_any is_cut between)
-          (last (subst (λ (xs : List (Timed n m)). Onward x.tick xs row) (sym same) end.0)) w.1 ∙ sym w.0
+          (last (subst (λ (xs : List (TimedEvent n m)). Onward x.tick xs row) (sym same) end.0)) w.1 ∙ sym w.0
       by (inr past) =
           let split : (later ++ x ∷ []) ++ now ≡ all = append_assoc later (x ∷ []) now ∙ sym same in
           let kept : outcome_of shape all row ≡ outcome_of shape now row =
-          sym (ap (λ xs. outcome_of shape xs row) split) ∙ stays shape pace e (later ++ x ∷ []) now row (subst (λ (xs : List (Timed n m)). Lawful shape pace e xs) (sym split) l) past.set in
+          sym (ap (λ xs. outcome_of shape xs row) split) ∙ stays shape pace e (later ++ x ∷ []) now row (subst (λ (xs : List (TimedEvent n m)). Lawful shape pace e xs) (sym split) l) past.set in
           let gone : has_wait (waits shape (core now)) row ≡ false = either (has_wait (waits shape (core now)) row) (λ there. absurd (past.set ((opens shape pace e now here.1).waiting row there))) (λ is. is) in
           subst (λ (o : Outcome n). (read_after x.tick o || (is_lost o && not (list_any is_cut between))) ≡ false) (sym kept)
-          (or_none (read_after x.tick (outcome_of shape now row)) _ (past.ticks x.tick (last_tick-rises shape pace e now x r i here)) past.lost)
+          (or_from (read_after x.tick (outcome_of shape now row)) _ (past.ticks x.tick (last_tick-rises shape pace e now x r i here)) past.lost)
           ∙ sym gone
 
 -- the rows of the reads, the newest first
@@ -244,11 +237,11 @@ abbrev pub read_rows : {n : ℕ} → Happens n → List ℕ
 read_rows (Core (Read row line answer)) = row ∷ []
 read_rows _ = []
 
-abbrev pub reads_in : {n m : ℕ} → List (Timed n m) → List ℕ
+abbrev pub reads_in : {n m : ℕ} → List (TimedEvent n m) → List ℕ
 reads_in [] = []
 reads_in (x ∷ xs) = read_rows x.happens ++ reads_in xs
 
-pub reads-fall : {n m : ℕ} (zs : List (Timed n m)) (bound : ℕ) → RowsBelow (core zs) bound → Falling (reads_in zs) bound
+pub reads-fall : {n m : ℕ} (zs : List (TimedEvent n m)) (bound : ℕ) → RowsBelow (core zs) bound → Falling (reads_in zs) bound
 reads-fall [] bound b = tt
 reads-fall {n} {m} (z ∷ zs) bound b = by z.happens (λ bound b. reads-fall zs bound b) b
   where
@@ -261,25 +254,25 @@ reads-fall {n} {m} (z ∷ zs) bound b = by z.happens (λ bound b. reads-fall zs 
     by (Core (Iterate answer)) go b = go bound b
     by (Core (Cut tearing)) go b = go bound b
 
-pub waits-asked : {n m : ℕ} (shape : BankShape) (zs : List (Timed n m)) (r : ℕ) → has_wait (waits shape (core zs)) r ≡ true → among (reads_in zs) r ≡ true
+pub waits-asked : {n m : ℕ} (shape : BankShape) (zs : List (TimedEvent n m)) (r : ℕ) → has_wait (waits shape (core zs)) r ≡ true → among (reads_in zs) r ≡ true
 waits-asked shape [] r there = absurd (cc)
 waits-asked {n} {m} shape (z ∷ zs) r there = by z.happens (λ t. waits-asked shape zs r t) there
   where
     by : (h : Happens n) → (has_wait (waits shape (core zs)) r ≡ true → among (reads_in zs) r ≡ true) → has_wait (waits shape (core_of h (core zs))) r ≡ true → among (read_rows h ++ reads_in zs) r ≡ true
     by (Core (Write at line bytes given answer)) go there = go there
     by (Core (Read at line came.Waiting)) go there =
-        either (has_wait (waits shape (core zs)) r) (λ t. or_right_of (at == r) _ (go t))
-        (λ f. either (eqb at r) (λ is. or_left_of (at == r) _ is)
+        either (has_wait (waits shape (core zs)) r) (λ t. or_right (at == r) _ (go t))
+        (λ f. either (eqb at r) (λ is. or_left (at == r) _ is)
         (λ ne. absurd (cc (no_wait-push (waits shape (core zs)) (awaited at line (newest (core zs) line) (layer_of (queue shape (core zs)) line)) r f ne, there))))
-    by (Core (Read at line came.Busy)) go there = or_right_of (at == r) _ (go there)
-    by (Core (Read at line (came.Forwarded bytes))) go there = or_right_of (at == r) _ (go there)
+    by (Core (Read at line came.Busy)) go there = or_right (at == r) _ (go there)
+    by (Core (Read at line (came.Forwarded bytes))) go there = or_right (at == r) _ (go there)
     by (Core (Serve answer)) go there = either (has_wait (waits shape (core zs)) r) go (λ f. absurd (cc (no_wait-drop (waits shape (core zs)) r f, there)))
     by (Regs event) go there = go there
     by (Core (Begin answer)) go there = go there
     by (Core (Iterate answer)) go there = go there
     by (Core (Cut tearing)) go there = absurd (cc)
 
-pub may_all : {n m : ℕ} (shape : BankShape) (pace : Pacing) (e : ℕ) (zs : List (Timed n m)) → Lawful shape pace e zs → MayAll shape (most_steps e) (core zs)
+pub may_all : {n m : ℕ} (shape : BankShape) (pace : Pace) (e : ℕ) (zs : List (TimedEvent n m)) → Lawful shape pace e zs → MayAll shape (most_steps e) (core zs)
 may_all shape pace e [] l = tt
 may_all {n} {m} shape pace e (z ∷ zs) l = by z.happens l.0 (may_all shape pace e zs l.1)
   where
@@ -293,31 +286,31 @@ cond_length true false q xs k is same = absurd (cc)
 cond_length false true q xs k is same = absurd (cc)
 cond_length false false q xs k is same = same
 
-module _ {n m : ℕ} (shape : BankShape) (pace : Pacing) (e : ℕ) (all : List (Timed n m)) where
+module _ {n m : ℕ} (shape : BankShape) (pace : Pace) (e : ℕ) (all : List (TimedEvent n m)) where
   -- how the read of an event begins
-  abbrev pub StateBy : List (Timed n m) → ℕ → Happens n → ℕ → Type 0
+  abbrev pub StateBy : List (TimedEvent n m) → ℕ → Happens n → ℕ → Type 0
   StateBy ys tick h row = ((has_wait (waits shape (core_of h (core ys))) row ≡ true) × (false ≡ false)) ⊎ IsPast shape pace e all (unwrap_or (outcome_with shape ys h tick row) (outcome_of shape ys row)) tick []
 
-  pub state_new : (ys : List (Timed n m)) (tick row line : ℕ) (answer : ReadAnswer n) → StateBy ys tick (Core (Read row line answer)) row
+  pub state_new : (ys : List (TimedEvent n m)) (tick row line : ℕ) (answer : ReadAnswer n) → StateBy ys tick (Core (Read row line answer)) row
   state_new ys tick row line came.Waiting = inl (wait-new (waits shape (core ys)) (awaited row line (newest (core ys) line) (layer_of (queue shape (core ys)) line)), refl)
   state_new ys tick row line came.Busy =
       inr (subst (λ (o : Outcome n). IsPast shape pace e all o tick []) (sym (own_row row (out.Busy tick) (outcome_of shape ys row))) (record { set = λ is. absurd (cc); ticks = λ t le. refl; lost = refl }))
   state_new ys tick row line (came.Forwarded bytes) =
       inr (subst (λ (o : Outcome n). IsPast shape pace e all o tick []) (sym (own_row row (out.Forwarded tick bytes) (outcome_of shape ys row))) (record { set = λ is. absurd (cc); ticks = λ t le. refl; lost = refl }))
 
-  waits_among : (later : List (Timed n m)) (x : Timed n m) (now : List (Timed n m)) → 1 ≤ pace.read → 1 ≤ pace.iter → Lawful shape pace e all → waits shape (core all) ≡ [] → all ≡ later ++ x ∷ now → ends_action x.happens ≡ false
-      → (mid ys : List (Timed n m)) → now ≡ mid ++ ys
+  waits_among : (later : List (TimedEvent n m)) (x : TimedEvent n m) (now : List (TimedEvent n m)) → 1 ≤ pace.read → 1 ≤ pace.iter → Lawful shape pace e all → waits shape (core all) ≡ [] → all ≡ later ++ x ∷ now → ends_action x.happens ≡ false
+      → (mid ys : List (TimedEvent n m)) → now ≡ mid ++ ys
       → length (waiting x.tick (rows_after shape all mid) (rows_from shape all ys)) ≡ hits (λ r. has_wait (waits shape (core now)) r) (reads_in ys)
   waits_among later x now r i l none same arrives mid [] split = refl
   waits_among later x now r i l none same arrives mid (z ∷ ys) split =
       by z.happens z.cancels
       (λ row s. awaits_same shape pace e all later x now (rows_after shape all mid) row r i l none same arrives
-      (subst (λ (xs : List (Timed n m)). ReadState shape pace e all xs (rows_after shape all mid) row) (sym split) (state shape pace e all mid (z ∷ ys) row r i here s)))
+      (subst (λ (xs : List (TimedEvent n m)). ReadState shape pace e all xs (rows_after shape all mid) row) (sym split) (state shape pace e all mid (z ∷ ys) row r i here s)))
       (subst (λ (rows : List (Row n)). length (waiting x.tick rows (rows_from shape all ys)) ≡ hits (λ r. has_wait (waits shape (core now)) r) (reads_in ys)) (rows_after-more shape all mid z)
       (waits_among later x now r i l none same arrives (mid ++ z ∷ []) ys (split ∙ sym (append_assoc mid (z ∷ []) ys))))
     where
       here : Lawful shape pace e (mid ++ z ∷ ys)
-      here = subst (λ (xs : List (Timed n m)). Lawful shape pace e xs) split (lawful_before shape pace e later (x ∷ now) (subst (λ (xs : List (Timed n m)). Lawful shape pace e xs) same l)).1
+      here = subst (λ (xs : List (TimedEvent n m)). Lawful shape pace e xs) split (lawful_before shape pace e later (x ∷ now) (subst (λ (xs : List (TimedEvent n m)). Lawful shape pace e xs) same l)).1
 
       by : (h : Happens n) (cancels : Bool)
           → ((row : ℕ) → StateBy ys z.tick h row → (read_after x.tick (outcome_of shape all row) || (is_lost (outcome_of shape all row) && not (list_any is_cut (rows_after shape all mid)))) ≡ has_wait (waits shape (core now)) row)
@@ -333,10 +326,10 @@ module _ {n m : ℕ} (shape : BankShape) (pace : Pacing) (e : ℕ) (all : List (
       by (Core (Cut tearing)) false f ih = ih
 
   -- as many reads wait by the rows as by the events
-  pub waits_length : (later : List (Timed n m)) (x : Timed n m) (ys : List (Timed n m)) → 1 ≤ pace.read → 1 ≤ pace.iter → Lawful shape pace e all → waits shape (core all) ≡ [] → all ≡ later ++ x ∷ ys → ends_action x.happens ≡ false
+  pub waits_length : (later : List (TimedEvent n m)) (x : TimedEvent n m) (ys : List (TimedEvent n m)) → 1 ≤ pace.read → 1 ≤ pace.iter → Lawful shape pace e all → waits shape (core all) ≡ [] → all ≡ later ++ x ∷ ys → ends_action x.happens ≡ false
       → length (waiting x.tick [] (rows_from shape all ys)) ≡ length (waits shape (core ys))
   waits_length later x ys r i l none same arrives =
-      let here : Lawful shape pace e (x ∷ ys) = lawful_before shape pace e later (x ∷ ys) (subst (λ (xs : List (Timed n m)). Lawful shape pace e xs) same l) in
+      let here : Lawful shape pace e (x ∷ ys) = lawful_before shape pace e later (x ∷ ys) (subst (λ (xs : List (TimedEvent n m)). Lawful shape pace e xs) same l) in
       let b = above_all shape pace e ys here.1 in
       waits_among later x ys r i l none same arrives [] ys refl
       ∙ waits-counted (waits shape (core ys)) (reads_in ys) b.0 (stand_apart shape (core ys) b.0 b.1).waiting_apart (reads-fall ys b.0 b.1) (waits-asked shape ys)
@@ -372,13 +365,13 @@ module _ {n m : ℕ} (shape : BankShape) (pace : Pacing) (e : ℕ) (all : List (
   settled_all row owed none (inl a) = absurd (subst (λ ws. Awaits ws row owed) none a)
   settled_all row owed none (inr s) = s
 
-  wait_at : 1 ≤ pace.read → 1 ≤ pace.iter → Lawful shape pace e all → waits shape (core all) ≡ [] → (later : List (Timed n m)) (x : Timed n m) (ys : List (Timed n m)) → all ≡ later ++ x ∷ ys
+  wait_at : 1 ≤ pace.read → 1 ≤ pace.iter → Lawful shape pace e all → waits shape (core all) ≡ [] → (later : List (TimedEvent n m)) (x : TimedEvent n m) (ys : List (TimedEvent n m)) → all ≡ later ++ x ∷ ys
       → Passes (is_wait_fair shape.reads) (rows_from shape all ys) (row_with shape all x.happens x.tick x.cancels) (rows_after shape all later)
   wait_at r i l none later x ys same =
       by x.happens x.cancels (may_at shape pace e all later x ys l same) (onwards_at shape pace e all later x ys l same) (λ arrives. waits_length later x ys r i l none same arrives)
     where
       here : Lawful shape pace e (x ∷ ys)
-      here = lawful_before shape pace e later (x ∷ ys) (subst (λ (xs : List (Timed n m)). Lawful shape pace e xs) same l)
+      here = lawful_before shape pace e later (x ∷ ys) (subst (λ (xs : List (TimedEvent n m)). Lawful shape pace e xs) same l)
 
       few : length (waiting x.tick [] (rows_from shape all ys)) ≡ length (waits shape (core ys)) → nat_le (length (waiting x.tick [] (rows_from shape all ys))) shape.reads ≡ true
       few count =
@@ -388,16 +381,16 @@ module _ {n m : ℕ} (shape : BankShape) (pace : Pacing) (e : ℕ) (all : List (
       by : (h : Happens n) (cancels : Bool) → MayCome shape pace e ys x h → Onwards shape all ys x.tick h
           → (ends_action h ≡ false → length (waiting x.tick [] (rows_from shape all ys)) ≡ length (waits shape (core ys)))
           → Passes (is_wait_fair shape.reads) (rows_from shape all ys) (row_with shape all h x.tick cancels) (rows_after shape all later)
-      by (Core (Write row line bytes given answer)) cancels may on count = and_both _ _ (few (count refl)) refl
+      by (Core (Write row line bytes given answer)) cancels may on count = and_from _ _ (few (count refl)) refl
       by (Core (Read row line (came.Forwarded bytes))) cancels may on count =
-          and_both _ _ (few (count refl))
+          and_from _ _ (few (count refl))
           (ap (waits_fit shape.reads (length (waiting x.tick [] (rows_from shape all ys)))) (own_answer shape pace e all ys x (Core (Read row line (came.Forwarded bytes))) row (out.Forwarded x.tick bytes) on refl (λ is. absurd (cc))))
       by (Core (Read row line came.Busy)) cancels may on count =
-          and_both _ _ (few (count refl))
+          and_from _ _ (few (count refl))
           (fits_busy (length (waiting x.tick [] (rows_from shape all ys))) x.tick (outcome_of shape all row) (own_answer shape pace e all ys x (Core (Read row line came.Busy)) row (out.Busy x.tick) on refl (λ is. absurd (cc)))
           (ap (λ k. k == shape.reads) (count refl) ∙ (read_room (core ys) line came.Busy may.may.1).0 refl))
       by (Core (Read row line came.Waiting)) cancels may on count =
-          and_both _ _ (few (count refl))
+          and_from _ _ (few (count refl))
           (fits_waiting (length (waiting x.tick [] (rows_from shape all ys))) (newest (core ys) line) (outcome_of shape all row)
           (settled_all row (newest (core ys) line) none
           (on.reads row (newest (core ys) line) (inl (awaits-new (waits shape (core ys)) (awaited row line (newest (core ys) line) (layer_of (queue shape (core ys)) line))))))
@@ -407,7 +400,7 @@ module _ {n m : ℕ} (shape : BankShape) (pace : Pacing) (e : ℕ) (all : List (
       by (Core (Begin answer)) cancels may on count = tt
       by (Core (Iterate answer)) cancels may on count = tt
       by (Core (Cut tearing)) true may on count = tt
-      by (Core (Cut tearing)) false may on count = and_both _ _ (few (count refl)) refl
+      by (Core (Cut tearing)) false may on count = and_from _ _ (few (count refl)) refl
 
 pub wait_law : WaitLaw
 wait_law n m e shape pace xs sized l idle =

@@ -2,44 +2,37 @@
 use Rattle.std.proofs.Common.{◌≡◌, ◌≢◌, ℕ, ◌<◌, ◌≤◌, ◌&&◌, ◌||◌, ◌⊎◌, inl, inr, Bool, true, false, List, [], ◌∷◌, ◌++◌, Option, Some, None, length, refl, sym, ap, ◌∙◌, subst, arith, cond, eqb, append_assoc}
 use Rattle.std.specs.Prelude.{unwrap_or, nat_le}
 use Rattle.std.specs.List.{list_any}
-use Rattle.std.proofs.lemmas.Bool.{lt-leb}
+use Rattle.std.proofs.lemmas.Bool.{lt-leb, and_left, and_right, or_from}
 use Rattle.std.proofs.lemmas.List.Folds.{list_any-append}
 use Rattle.result_rows.specs.declared.Outcome.{Outcome}
 use Rattle.result_rows.specs.declared.Outcome.TheVariants as out
 use Rattle.masked_bytes.specs.Entries.{candidate}
-use Rattle.row_laws.specs.declared.Row.{Row}
-use Rattle.row_laws.specs.Answers.{is_worn, accepts}
-use Rattle.row_laws.specs.Wearing.{worn_row, worn_by}
+use Rattle.row_rules.specs.declared.Row.{Row}
+use Rattle.row_rules.specs.Answers.{is_worn, accepts}
+use Rattle.row_rules.specs.Wearing.{worn_row, worn_by}
 use Rattle.bank_shape.specs.declared.BankShape.{BankShape}
 use Rattle.bank_shape.specs.declared.Work.TheVariants.{Nothing}
-use Rattle.bank_model.specs.declared.answer.WriteAnswer.{WriteAnswer}
-use Rattle.bank_model.specs.declared.answer.WriteAnswer.TheVariants as wrote
-use Rattle.bank_model.specs.declared.answer.ReadAnswer.TheVariants as came
-use Rattle.bank_model.specs.declared.answer.Step.TheVariants as did
+use Rattle.bank_shape.specs.declared.answer.WriteAnswer.{WriteAnswer}
+use Rattle.bank_shape.specs.declared.answer.WriteAnswer.TheVariants as wrote
+use Rattle.bank_shape.specs.declared.answer.ReadAnswer.TheVariants as came
+use Rattle.bank_shape.specs.declared.answer.Step.TheVariants as did
 use Rattle.bank_model.specs.Events.{Event, Write, Read, Serve, Begin, Iterate, Cut}
 use Rattle.bank_model.specs.History.{queue, waits, has_exhausted, due_after}
 use Rattle.bank_model.specs.After.{due_work, work_after}
 use Rattle.bank_model.specs.Answers.{head_busy_after, accept_answer, write_answer, IsDone}
-use Rattle.bank_model.specs.Timing.{Pacing, Happens, Core, Regs, Timed, core, core_of, last_tick}
+use Rattle.bank_shape.specs.declared.pace.Pace.{Pace}
+use Rattle.bank_model.specs.Timing.{Happens, Core, Regs, TimedEvent, core, core_of, last_tick}
 use Rattle.bank_model.specs.Lawful.{Lawful, MayCome}
 use Rattle.bank_laws.specs.Outcomes.{on_row, outcome_with, outcome_of, ended, row_with, rows_from}
 use Rattle.bank_laws.specs.Standing.{has_wait}
 use Rattle.bank_laws.specs.Settling.{AreOpen}
 use Rattle.bank_laws.specs.Ticks.{ends_action}
-use Rattle.bank_laws.proofs.Entries.{either, or_none}
+use Rattle.bank_laws.proofs.Entries.{either}
 use Rattle.bank_laws.proofs.Settling.{lawful_before}
 use Rattle.bank_laws.proofs.Ticks.{last_tick-rises, last-below}
 use Rattle.bank_laws.proofs.Walking.{rows_after}
 use Rattle.bank_laws.proofs.Ending.{Onwards, IsOutcome, write_outcome, outcome-accepts}
 use Rattle.bank_laws.proofs.Serves.{may_at, onwards_at}
-
-and_first : (a b : Bool) → a ≡ false → (a && b) ≡ false
-and_first true b h = absurd (cc)
-and_first false b h = refl
-
-pub and_second : (a b : Bool) → b ≡ false → (a && b) ≡ false
-and_second true b h = h
-and_second false b h = refl
 
 or_rest : (a b : Bool) → a ≡ false → (a || b) ≡ true → b ≡ true
 or_rest true b h k = absurd (cc)
@@ -127,9 +120,9 @@ module _ {n : ℕ} where
   exhausted-refused shape h line answer a ex =
       a ∙ ap (λ b. cond b wrote.Exhausted (accept_answer shape h (candidate (head_busy_after shape h) (queue shape h) line))) ex
 
-module _ {n m : ℕ} (shape : BankShape) (pace : Pacing) (e : ℕ) where
+module _ {n m : ℕ} (shape : BankShape) (pace : Pace) (e : ℕ) where
   -- what an event leaves stored was stored before, or is stored at its tick
-  pub stored_by : (zs : List (Timed n m)) (x : Timed n m) (h : Happens n) (row u p : ℕ) → unwrap_or (outcome_with shape zs h x.tick row) (outcome_of shape zs row) ≡ out.Stored u p
+  pub stored_by : (zs : List (TimedEvent n m)) (x : TimedEvent n m) (h : Happens n) (row u p : ℕ) → unwrap_or (outcome_with shape zs h x.tick row) (outcome_of shape zs row) ≡ out.Stored u p
       → ((ends_action h ≡ true) × (u ≡ x.tick)) ⊎ (outcome_of shape zs row ≡ out.Stored u p)
   stored_by zs x (Core (Write at line bytes given wrote.Accepted)) row u p s = inr s
   stored_by zs x (Core (Write at line bytes given (wrote.Merged old))) row u p s = inr (not_stored old row _ _ u p (λ is. absurd (cc)) s)
@@ -153,7 +146,7 @@ module _ {n m : ℕ} (shape : BankShape) (pace : Pacing) (e : ℕ) where
   stored_by zs x (Core (Cut tearing)) row u p s = inr (lost_not_stored (has_wait (waits shape (core zs)) row) x.tick _ u p s)
 
   -- a store is no later than the last event
-  pub stored_up_to : (zs : List (Timed n m)) (row u p : ℕ) → 1 ≤ pace.read → 1 ≤ pace.iter → Lawful shape pace e zs → outcome_of shape zs row ≡ out.Stored u p → u ≤ last_tick zs
+  pub stored_up_to : (zs : List (TimedEvent n m)) (row u p : ℕ) → 1 ≤ pace.read → 1 ≤ pace.iter → Lawful shape pace e zs → outcome_of shape zs row ≡ out.Stored u p → u ≤ last_tick zs
   stored_up_to [] row u p r i l s = absurd (cc)
   stored_up_to (x ∷ zs) row u p r i l s = by (stored_by zs x x.happens row u p s) (stored_up_to zs row u p r i l.1) (last_tick-rises shape pace e zs x r i l)
     where
@@ -162,7 +155,7 @@ module _ {n m : ℕ} (shape : BankShape) (pace : Pacing) (e : ℕ) where
       by (inr s) before rises = omega (arith, before s, rises)
 
   -- an exhausted bank's event stores nothing
-  kept_by : (zs : List (Timed n m)) (x : Timed n m) (h : Happens n) (row u p : ℕ) → MayCome shape pace e zs x h → has_exhausted (core zs) ≡ true
+  kept_by : (zs : List (TimedEvent n m)) (x : TimedEvent n m) (h : Happens n) (row u p : ℕ) → MayCome shape pace e zs x h → has_exhausted (core zs) ≡ true
       → unwrap_or (outcome_with shape zs h x.tick row) (outcome_of shape zs row) ≡ out.Stored u p → outcome_of shape zs row ≡ out.Stored u p
   kept_by zs x (Core (Write at line bytes given wrote.Accepted)) row u p may ex s = s
   kept_by zs x (Core (Write at line bytes given (wrote.Merged old))) row u p may ex s = not_stored old row _ _ u p (λ is. absurd (cc)) s
@@ -185,23 +178,23 @@ module _ {n m : ℕ} (shape : BankShape) (pace : Pacing) (e : ℕ) where
   kept_by zs x (Core (Iterate did.Exhausted)) row u p may ex s = s
   kept_by zs x (Core (Cut tearing)) row u p may ex s = lost_not_stored (has_wait (waits shape (core zs)) row) x.tick _ u p s
 
-  exhausted_on : (h : Happens n) (zs : List (Timed n m)) → has_exhausted (core zs) ≡ true → has_exhausted (core_of h (core zs)) ≡ true
+  exhausted_on : (h : Happens n) (zs : List (TimedEvent n m)) → has_exhausted (core zs) ≡ true → has_exhausted (core_of h (core zs)) ≡ true
   exhausted_on (Core event) zs ex = exhausted-more event (core zs) ex
   exhausted_on (Regs event) zs ex = ex
 
-  pub exhausted_later : (later zs : List (Timed n m)) → has_exhausted (core zs) ≡ true → has_exhausted (core (later ++ zs)) ≡ true
+  pub exhausted_later : (later zs : List (TimedEvent n m)) → has_exhausted (core zs) ≡ true → has_exhausted (core (later ++ zs)) ≡ true
   exhausted_later [] zs ex = ex
   exhausted_later (x ∷ later) zs ex = exhausted_on x.happens (later ++ zs) (exhausted_later later zs ex)
 
   -- what is stored in the end was stored before the bank was exhausted
-  pub stored_before_exhausted : (later zs : List (Timed n m)) (row u p : ℕ) → Lawful shape pace e (later ++ zs) → has_exhausted (core zs) ≡ true
+  pub stored_before_exhausted : (later zs : List (TimedEvent n m)) (row u p : ℕ) → Lawful shape pace e (later ++ zs) → has_exhausted (core zs) ≡ true
       → outcome_of shape (later ++ zs) row ≡ out.Stored u p → outcome_of shape zs row ≡ out.Stored u p
   stored_before_exhausted [] zs row u p l ex s = s
   stored_before_exhausted (x ∷ later) zs row u p l ex s =
       stored_before_exhausted later zs row u p l.1 ex (kept_by (later ++ zs) x x.happens row u p l.0 (exhausted_later later zs ex) s)
 
   -- an event exhausts the bank as it ends an action, or the bank was exhausted before
-  exhausted_by : (zs : List (Timed n m)) (h : Happens n) → has_exhausted (core_of h (core zs)) ≡ true
+  exhausted_by : (zs : List (TimedEvent n m)) (h : Happens n) → has_exhausted (core_of h (core zs)) ≡ true
       → ((ends_action h ≡ true) × ((tick row : ℕ) → outcome_with shape zs h tick row ≡ None)) ⊎ (has_exhausted (core zs) ≡ true)
   exhausted_by zs (Core (Write row line bytes given answer)) ex = inr ex
   exhausted_by zs (Core (Read row line answer)) ex = inr ex
@@ -220,7 +213,7 @@ module _ {n m : ℕ} (shape : BankShape) (pace : Pacing) (e : ℕ) where
   exhausted_by zs (Core (Cut tearing)) ex = inr ex
 
   -- what an exhausted bank had stored it stored below its last event
-  pub stored_below_exhausted : (zs : List (Timed n m)) (row u p : ℕ) → 1 ≤ pace.read → 1 ≤ pace.iter → Lawful shape pace e zs → has_exhausted (core zs) ≡ true
+  pub stored_below_exhausted : (zs : List (TimedEvent n m)) (row u p : ℕ) → 1 ≤ pace.read → 1 ≤ pace.iter → Lawful shape pace e zs → has_exhausted (core zs) ≡ true
       → outcome_of shape zs row ≡ out.Stored u p → u < last_tick zs
   stored_below_exhausted [] row u p r i l ex s = absurd (cc)
   stored_below_exhausted (x ∷ zs) row u p r i l ex s =
@@ -237,23 +230,23 @@ module _ {n m : ℕ} (shape : BankShape) (pace : Pacing) (e : ℕ) where
           let lt : u < last_tick zs = before ex (kept_by zs x x.happens row u p l.0 ex s) in
           omega arith
 
-module _ {n m : ℕ} (shape : BankShape) (pace : Pacing) (e : ℕ) (all : List (Timed n m)) where
+module _ {n m : ℕ} (shape : BankShape) (pace : Pace) (e : ℕ) (all : List (TimedEvent n m)) where
   -- the row of a worn write is above every store
-  worn_above : (later : List (Timed n m)) (x : Timed n m) (ys : List (Timed n m)) (row u p : ℕ) → 1 ≤ pace.read → 1 ≤ pace.iter → Lawful shape pace e all → all ≡ later ++ x ∷ ys
+  worn_above : (later : List (TimedEvent n m)) (x : TimedEvent n m) (ys : List (TimedEvent n m)) (row u p : ℕ) → 1 ≤ pace.read → 1 ≤ pace.iter → Lawful shape pace e all → all ≡ later ++ x ∷ ys
       → has_exhausted (core ys) ≡ true → outcome_of shape all row ≡ out.Stored u p → u < x.tick
   worn_above later x ys row u p r i l same ex s =
-      let whole : Lawful shape pace e (later ++ x ∷ ys) = subst (λ (xs : List (Timed n m)). Lawful shape pace e xs) same l in
+      let whole : Lawful shape pace e (later ++ x ∷ ys) = subst (λ (xs : List (TimedEvent n m)). Lawful shape pace e xs) same l in
       let here : Lawful shape pace e (x ∷ ys) = lawful_before shape pace e later (x ∷ ys) whole in
       let as_split : (later ++ x ∷ []) ++ ys ≡ all = append_assoc later (x ∷ []) ys ∙ sym same in
       let before : outcome_of shape ys row ≡ out.Stored u p =
-      stored_before_exhausted shape pace e (later ++ x ∷ []) ys row u p (subst (λ (xs : List (Timed n m)). Lawful shape pace e xs) (sym as_split) l) ex
+      stored_before_exhausted shape pace e (later ++ x ∷ []) ys row u p (subst (λ (xs : List (TimedEvent n m)). Lawful shape pace e xs) (sym as_split) l) ex
       (ap (λ xs. outcome_of shape xs row) as_split ∙ s) in
       let lt : u < last_tick ys = stored_below_exhausted shape pace e ys row u p r i here.1 ex before in
       let rises : last_tick ys ≤ x.tick = last_tick-rises shape pace e ys x r i here in
       omega arith
 
   -- the row of an event is no worn row with a tick up to that of a store
-  not_worn_here : (later : List (Timed n m)) (x : Timed n m) (ys : List (Timed n m)) (row u p : ℕ) → 1 ≤ pace.read → 1 ≤ pace.iter → Lawful shape pace e all → AreOpen shape all
+  not_worn_here : (later : List (TimedEvent n m)) (x : TimedEvent n m) (ys : List (TimedEvent n m)) (row u p : ℕ) → 1 ≤ pace.read → 1 ≤ pace.iter → Lawful shape pace e all → AreOpen shape all
       → all ≡ later ++ x ∷ ys → outcome_of shape all row ≡ out.Stored u p → worn_by u (row_with shape all x.happens x.tick x.cancels) ≡ false
   not_worn_here later x ys row u p r i l o same s =
       by x.happens x.cancels (may_at shape pace e all later x ys l same) (onwards_at shape pace e all later x ys l same) (λ ex. worn_above later x ys row u p r i l same ex s)
@@ -266,8 +259,8 @@ module _ {n m : ℕ} (shape : BankShape) (pace : Pacing) (e : ℕ) (all : List (
           let ex : has_exhausted (core ys) ≡ true =
           refused-exhausted shape (core ys) line
           (sym (worn_outcome x.tick answer (ended x.tick (outcome_of shape all at)) (write_outcome shape pace e all ys x at line bytes given answer o may on) worn) ∙ may.may.2) in
-          or_none (is_worn (ended x.tick (outcome_of shape all at)) && nat_le x.tick u) false (and_second (is_worn (ended x.tick (outcome_of shape all at))) _ (lt-leb x.tick u (above ex))) refl)
-          (λ fine. or_none (is_worn (ended x.tick (outcome_of shape all at)) && nat_le x.tick u) false (and_first (is_worn (ended x.tick (outcome_of shape all at))) _ fine) refl)
+          or_from (is_worn (ended x.tick (outcome_of shape all at)) && nat_le x.tick u) false (and_right (is_worn (ended x.tick (outcome_of shape all at))) _ (lt-leb x.tick u (above ex))) refl)
+          (λ fine. or_from (is_worn (ended x.tick (outcome_of shape all at)) && nat_le x.tick u) false (and_left (is_worn (ended x.tick (outcome_of shape all at))) _ fine) refl)
       by (Core (Read at line answer)) cancels may on above = refl
       by (Core (Serve answer)) cancels may on above = refl
       by (Regs event) cancels may on above = refl
@@ -276,24 +269,24 @@ module _ {n m : ℕ} (shape : BankShape) (pace : Pacing) (e : ℕ) (all : List (
       by (Core (Cut tearing)) true may on above = refl
       by (Core (Cut tearing)) false may on above = refl
 
-  pub none_worn_before : (later ys : List (Timed n m)) (row u p : ℕ) → 1 ≤ pace.read → 1 ≤ pace.iter → Lawful shape pace e all → AreOpen shape all → all ≡ later ++ ys
+  pub none_worn_before : (later ys : List (TimedEvent n m)) (row u p : ℕ) → 1 ≤ pace.read → 1 ≤ pace.iter → Lawful shape pace e all → AreOpen shape all → all ≡ later ++ ys
       → outcome_of shape all row ≡ out.Stored u p → worn_by u (rows_from shape all ys) ≡ false
   none_worn_before later [] row u p r i l o same s = refl
   none_worn_before later (x ∷ ys) row u p r i l o same s =
       list_any-append (λ (q : Row n). worn_row q && nat_le q.tick u) (row_with shape all x.happens x.tick x.cancels) (rows_from shape all ys)
-      ∙ or_none _ _ (not_worn_here later x ys row u p r i l o same s)
+      ∙ or_from _ _ (not_worn_here later x ys row u p r i l o same s)
       (none_worn_before (later ++ x ∷ []) ys row u p r i l o (same ∙ sym (append_assoc later (x ∷ []) ys)) s)
 
-  pub none_worn_after : (pre later zs : List (Timed n m)) (row u p : ℕ) → 1 ≤ pace.read → 1 ≤ pace.iter → Lawful shape pace e all → AreOpen shape all → all ≡ pre ++ (later ++ zs)
+  pub none_worn_after : (pre later zs : List (TimedEvent n m)) (row u p : ℕ) → 1 ≤ pace.read → 1 ≤ pace.iter → Lawful shape pace e all → AreOpen shape all → all ≡ pre ++ (later ++ zs)
       → outcome_of shape all row ≡ out.Stored u p → worn_by u (rows_after shape all later) ≡ false
   none_worn_after pre [] zs row u p r i l o same s = refl
   none_worn_after pre (x ∷ later) zs row u p r i l o same s =
       list_any-append (λ (q : Row n). worn_row q && nat_le q.tick u) (rows_after shape all later) (row_with shape all x.happens x.tick x.cancels)
-      ∙ or_none _ _ (none_worn_after (pre ++ x ∷ []) later zs row u p r i l o (same ∙ sym (append_assoc pre (x ∷ []) (later ++ zs))) s)
+      ∙ or_from _ _ (none_worn_after (pre ++ x ∷ []) later zs row u p r i l o (same ∙ sym (append_assoc pre (x ∷ []) (later ++ zs))) s)
       (not_worn_here pre x (later ++ zs) row u p r i l o same s)
 
   -- a worn row among earlier ones comes of a bank that is exhausted
-  pub worn_rows-exhausted : (later ys : List (Timed n m)) → Lawful shape pace e all → AreOpen shape all → all ≡ later ++ ys → list_any worn_row (rows_from shape all ys) ≡ true
+  pub worn_rows-exhausted : (later ys : List (TimedEvent n m)) → Lawful shape pace e all → AreOpen shape all → all ≡ later ++ ys → list_any worn_row (rows_from shape all ys) ≡ true
       → has_exhausted (core ys) ≡ true
   worn_rows-exhausted later [] l o same w = absurd (cc)
   worn_rows-exhausted later (x ∷ ys) l o same w =

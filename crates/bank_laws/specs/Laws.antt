@@ -3,16 +3,17 @@ use Rattle.std.specs.Prelude.{◌≡◌, ◌≢◌, ◌&&◌, nat_le, nat_lt, le
 use Rattle.pcm_cells.specs.Device.{ArrayState}
 use Rattle.pcm_cells.specs.declared.array.Sense.{Sense}
 use Rattle.ecp_line.specs.Reading.{decode, is_worn_line}
-use Rattle.row_laws.specs.declared.Row.{Row}
-use Rattle.row_laws.specs.Rows.{each_row}
-use Rattle.row_laws.specs.Rules.{Rules}
-use Rattle.row_laws.specs.Table.{KeepsRows}
+use Rattle.row_rules.specs.declared.Row.{Row}
+use Rattle.row_rules.specs.Rows.{each_row}
+use Rattle.row_rules.specs.declared.Rules.{Rules}
+use Rattle.row_rules.specs.Table.{KeepsRows}
 use Rattle.bank_shape.specs.declared.BankShape.{BankShape}
 use Rattle.spare_pool.specs.Table.{line_from}
 use Rattle.bank_shape.specs.Shape.{slots_of, controls_of, control_line, lines_in}
 use Rattle.bank_model.specs.After.{array_line_after, slot_of_work, due_work}
 use Rattle.bank_model.specs.History.{retired, has_exhausted, due_after, queue}
-use Rattle.bank_model.specs.Timing.{Pacing, Timed, core}
+use Rattle.bank_shape.specs.declared.pace.Pace.{Pace}
+use Rattle.bank_model.specs.Timing.{TimedEvent, core}
 use Rattle.bank_model.specs.Sensing.{pulses_of, most_steps}
 use Rattle.bank_model.specs.Adding.{senses_of}
 use Rattle.bank_model.specs.Lawful.{Lawful, IsIdle}
@@ -22,7 +23,7 @@ use Rattle.bank_laws.specs.Logs.{has_sense, has_controls, is_line_fair}
 use Rattle.bank_model.specs.Changes.{change_after, halted_after}
 
 -- the rules of a bank. A line write takes at most `8 * (3 * e + 2)` steps
-abbrev pub rules_of : ℕ → BankShape → Pacing → Rules
+abbrev pub rules_of : ℕ → BankShape → Pace → Rules
 rules_of e shape pace =
     record { writes = shape.writes; reads = shape.reads; spares = shape.spares; read = pace.read; iter = pace.iter; steps = most_steps e; policy = pace.policy; twice = nat_lt 0 (controls_of shape) }
 
@@ -47,7 +48,7 @@ module _ {n m : ℕ} (e : ℕ) (shape : BankShape) (array : ArrayState n m) wher
 
 -- what holds of the array in the end: each line has the pulses of the history; the lines that were retired, the target that found no
 -- spare, and the control line at which the writing of a change has halted, are worn
-pub record LeavesArray {n m : ℕ} (e : ℕ) (shape : BankShape) (xs : List (Timed n m)) (array : ArrayState n m) : Type 0 where
+pub record LeavesArray {n m : ℕ} (e : ℕ) (shape : BankShape) (xs : List (TimedEvent n m)) (array : ArrayState n m) : Type 0 where
   pub pulses : (line : ℕ) → line < lines_in shape → (array.line (shape.base + line)).pulses ≡ pulses_of xs (shape.base + line)
   pub retired : (line : ℕ) → line < slots_of shape + length (retired (core xs))
       → ((slot : ℕ) → slot < slots_of shape → line_from (slots_of shape) slot (retired (core xs)) slot ≢ line)
@@ -57,7 +58,7 @@ pub record LeavesArray {n m : ℕ} (e : ℕ) (shape : BankShape) (xs : List (Tim
       → IsTrue (is_worn_at e array (array_line_after shape (core xs) (slot_of_work shape (core xs) (due_work shape (core xs) (due_after shape (core xs)) (queue shape (core xs))))))
 
 -- the sizes of a bank, and its times
-pub record IsSized (shape : BankShape) (pace : Pacing) : Type 0 where
+pub record IsSized (shape : BankShape) (pace : Pace) : Type 0 where
   pub regions : 1 ≤ shape.regions
   pub lines : 1 ≤ shape.lines
   pub writes : 1 ≤ shape.writes
@@ -69,13 +70,13 @@ pub record IsSized (shape : BankShape) (pace : Pacing) : Type 0 where
 -- the law of the rows
 abbrev pub TableLaw : (n m : ℕ) → Type 0
 TableLaw n m =
-    (e : ℕ) (shape : BankShape) (pace : Pacing) (xs : List (Timed n m))
+    (e : ℕ) (shape : BankShape) (pace : Pace) (xs : List (TimedEvent n m))
     → IsSized shape pace → Lawful shape pace e xs → IsIdle shape pace xs → KeepsRows (rules_of e shape pace) (table_of shape xs)
 
 -- the law of the places and of wear
 abbrev pub PlaceLaw : (n m : ℕ) → Type 0
 PlaceLaw n m =
-    (e : ℕ) (shape : BankShape) (pace : Pacing) (xs : List (Timed n m)) (array : ArrayState n m)
+    (e : ℕ) (shape : BankShape) (pace : Pace) (xs : List (TimedEvent n m)) (array : ArrayState n m)
     → IsSized shape pace → Lawful shape pace e xs → IsIdle shape pace xs → LeavesArray e shape xs array
     → KeepsPlaces e shape array (rules_of e shape pace) (table_of shape xs)
 
@@ -86,6 +87,6 @@ log_of shape log = filter (λ s. nat_le shape.base s.line && nat_lt s.line (shap
 -- the law of the log, to which senses may have been added in the end
 abbrev pub LogLaw : (n m : ℕ) → Type 0
 LogLaw n m =
-    (e : ℕ) (shape : BankShape) (pace : Pacing) (xs : List (Timed n m)) (array : ArrayState n m) (log extra : List (Sense n m))
+    (e : ℕ) (shape : BankShape) (pace : Pace) (xs : List (TimedEvent n m)) (array : ArrayState n m) (log extra : List (Sense n m))
     → IsSized shape pace → Lawful shape pace e xs → IsIdle shape pace xs → LeavesArray e shape xs array → log_of shape log ≡ senses_of xs ++ extra → All (λ s. s.pulses ≡ (array.line s.line).pulses) extra
     → KeepsLog e shape array (rules_of e shape pace) (table_of shape xs) log

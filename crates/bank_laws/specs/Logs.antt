@@ -9,12 +9,12 @@ use Rattle.bank_shape.specs.declared.BankShape.{BankShape}
 use Rattle.bank_model.specs.Changes.{all_controls}
 use Rattle.result_rows.specs.declared.Outcome.{Outcome}
 use Rattle.result_rows.specs.declared.Outcome.TheVariants as out
-use Rattle.row_laws.specs.declared.Row.{Row}
-use Rattle.row_laws.specs.Rows.{RowTest, line_of, asks_read, is_cut, newest}
-use Rattle.row_laws.specs.Serving.{same_bytes}
-use Rattle.row_laws.specs.Rules.{Rules}
-use Rattle.row_laws.specs.Queueing.{cover}
-use Rattle.row_laws.specs.Wearing.{worn_row}
+use Rattle.row_rules.specs.declared.Row.{Row}
+use Rattle.row_rules.specs.Rows.{RowTest, line_of, asks_read, is_cut, newest}
+use Rattle.row_rules.specs.Serving.{same_bytes}
+use Rattle.row_rules.specs.declared.Rules.{Rules}
+use Rattle.row_rules.specs.Queueing.{cover}
+use Rattle.row_rules.specs.Wearing.{worn_row}
 
 module _ {n m : ℕ} (read_as : Cells n m → List ℕ) (log : List (Sense n m)) where
   -- a sense of the place at the tick, whose cells give these bytes

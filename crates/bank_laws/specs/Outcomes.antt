@@ -3,16 +3,16 @@ use Rattle.std.specs.Prelude.{ℕ, ◌==◌, Bool, false, if◌then◌else◌, L
 use Rattle.std.specs.List.{list_any}
 use Rattle.result_rows.specs.declared.Outcome.{Outcome}
 use Rattle.result_rows.specs.declared.Outcome.TheVariants as out
-use Rattle.row_laws.specs.declared.Asks.TheVariants.{Reads, Writes, Cuts}
-use Rattle.row_laws.specs.declared.Row.{Row}
+use Rattle.row_rules.specs.declared.Asks.TheVariants.{Reads, Writes, Cuts}
+use Rattle.row_rules.specs.declared.Row.{Row}
 use Rattle.bank_shape.specs.declared.BankShape.{BankShape}
-use Rattle.bank_model.specs.declared.answer.WriteAnswer.TheVariants as wrote
-use Rattle.bank_model.specs.declared.answer.ReadAnswer.TheVariants as came
-use Rattle.bank_model.specs.declared.answer.Step.{Step}
-use Rattle.bank_model.specs.declared.answer.Step.TheVariants as did
+use Rattle.bank_shape.specs.declared.answer.WriteAnswer.TheVariants as wrote
+use Rattle.bank_shape.specs.declared.answer.ReadAnswer.TheVariants as came
+use Rattle.bank_shape.specs.declared.answer.Step.{Step}
+use Rattle.bank_shape.specs.declared.answer.Step.TheVariants as did
 use Rattle.bank_model.specs.Events.{Event, Write, Read, Serve, Begin, Iterate, Cut}
 use Rattle.bank_model.specs.History.{Awaited, waits}
-use Rattle.bank_model.specs.Timing.{Happens, Core, Regs, Timed, core}
+use Rattle.bank_model.specs.Timing.{Happens, Core, Regs, TimedEvent, core}
 
 -- this outcome, for this row
 abbrev pub on_row : {n : ℕ} → ℕ → ℕ → Outcome n → Option (Outcome n)
@@ -38,13 +38,13 @@ outcome_by ws (Iterate answer) tick row = step_outcome answer tick row
 outcome_by ws (Cut tearing) tick row = if list_any (λ w. w.row == row) ws then Some (out.Lost tick) else None
 
 -- what happens makes of a row, after these events
-abbrev pub outcome_with : {n m : ℕ} → BankShape → List (Timed n m) → Happens n → ℕ → ℕ → Option (Outcome n)
+abbrev pub outcome_with : {n m : ℕ} → BankShape → List (TimedEvent n m) → Happens n → ℕ → ℕ → Option (Outcome n)
 outcome_with shape xs (Core event) tick row = outcome_by (waits shape (core xs)) event tick row
 outcome_with shape xs (Regs event) tick row = None
 
 module _ {n m : ℕ} (shape : BankShape) where
   -- the outcome of a row so far
-  abbrev pub outcome_of : List (Timed n m) → ℕ → Outcome n
+  abbrev pub outcome_of : List (TimedEvent n m) → ℕ → Outcome n
   outcome_of [] row = out.Unset
   outcome_of (x ∷ xs) row = unwrap_or (outcome_with shape xs x.happens x.tick row) (outcome_of xs row)
 
@@ -54,7 +54,7 @@ ended tick out.Unset = out.Queued tick
 ended tick outcome = outcome
 
 -- the row of an event, with the outcome that the whole history leaves
-abbrev pub row_by : {n m : ℕ} → BankShape → List (Timed n m) → Event n → ℕ → Bool → List (Row n)
+abbrev pub row_by : {n m : ℕ} → BankShape → List (TimedEvent n m) → Event n → ℕ → Bool → List (Row n)
 row_by shape all (Write row line bytes given answer) tick cancels =
     record { tick = tick; asks = Writes line bytes given; outcome = ended tick (outcome_of shape all row) } ∷ []
 row_by shape all (Read row line answer) tick cancels = record { tick = tick; asks = Reads line; outcome = outcome_of shape all row } ∷ []
@@ -62,16 +62,16 @@ row_by shape all (Cut tearing) tick false = record { tick = tick; asks = Cuts; o
 row_by shape all _ tick cancels = []
 
 -- the row of what happens: an arrival or a cut has one, and a cancel has none
-abbrev pub row_with : {n m : ℕ} → BankShape → List (Timed n m) → Happens n → ℕ → Bool → List (Row n)
+abbrev pub row_with : {n m : ℕ} → BankShape → List (TimedEvent n m) → Happens n → ℕ → Bool → List (Row n)
 row_with shape all (Core event) tick cancels = row_by shape all event tick cancels
 row_with shape all (Regs event) tick cancels = []
 
 module _ {n m : ℕ} (shape : BankShape) where
   -- the rows of these events, where `all` is the whole history
-  abbrev pub rows_from : List (Timed n m) → List (Timed n m) → List (Row n)
+  abbrev pub rows_from : List (TimedEvent n m) → List (TimedEvent n m) → List (Row n)
   rows_from all [] = []
   rows_from all (x ∷ xs) = row_with shape all x.happens x.tick x.cancels ++ rows_from all xs
 
   -- the table that the whole history leaves, the newest row first
-  abbrev pub table_of : List (Timed n m) → List (Row n)
+  abbrev pub table_of : List (TimedEvent n m) → List (Row n)
   table_of xs = rows_from xs xs

@@ -2,7 +2,8 @@
 use Rattle.std.specs.Prelude.{ℕ, ◌<◌, ◌≤◌, Bool, true, false, IsTrue, List, ◌∷◌, All}
 use Rattle.bank_shape.specs.declared.BankShape.{BankShape}
 use Rattle.bank_model.specs.Events.{Write, Read, Serve, Begin, Iterate, Cut}
-use Rattle.bank_model.specs.Timing.{Pacing, Happens, Core, Regs, KeepBegin, KeepIterate, KeepCut, Timed}
+use Rattle.bank_shape.specs.declared.pace.Pace.{Pace}
+use Rattle.bank_model.specs.Timing.{Happens, Core, Regs, KeepBegin, KeepIterate, KeepCut, TimedEvent}
 use Rattle.bank_model.specs.Lawful.{Lawful}
 
 -- the end of an action: a serve, a begin or an iteration
@@ -18,12 +19,12 @@ ends_action (Regs (KeepIterate answer)) = true
 ends_action (Regs (KeepCut tearing)) = false
 
 -- an event comes at no tick below an earlier one's, and an action ends above every earlier event
-pub record ComesAfter {n m : ℕ} (x : Timed n m) (xs : List (Timed n m)) : Type 0 where
+pub record ComesAfter {n m : ℕ} (x : TimedEvent n m) (xs : List (TimedEvent n m)) : Type 0 where
   pub not_before : All (λ y. y.tick ≤ x.tick) xs
   pub ends_above : IsTrue (ends_action x.happens) → All (λ y. y.tick < x.tick) xs
 
 -- so it is in a lawful history, where each action takes at least one tick
 abbrev pub TickLaw : Type 0
 TickLaw =
-    (n m e : ℕ) (shape : BankShape) (pace : Pacing) (x : Timed n m) (xs : List (Timed n m))
+    (n m e : ℕ) (shape : BankShape) (pace : Pace) (x : TimedEvent n m) (xs : List (TimedEvent n m))
     → 1 ≤ pace.read → 1 ≤ pace.iter → Lawful shape pace e (x ∷ xs) → ComesAfter x xs

@@ -2,14 +2,14 @@
 use Rattle.std.specs.Prelude.{ℕ, Bool, false, List, [], ◌∷◌, reverse}
 use Rattle.pcm_cells.specs.declared.row.Cells.{Cells}
 use Rattle.result_rows.specs.declared.Outcome.TheVariants as out
-use Rattle.row_laws.specs.declared.Row.{Row}
-use Rattle.row_laws.specs.Worked.{W, M, R, C, whole, laid_over}
-use Rattle.bank_model.specs.Timing.{Timed}
+use Rattle.row_rules.specs.declared.Row.{Row}
+use Rattle.row_rules.specs.Worked.{W, M, R, C, whole, laid_over}
+use Rattle.bank_model.specs.Timing.{TimedEvent}
 use Rattle.bank_model.specs.Worked.{small}
 use Rattle.bank_laws.specs.Outcomes.{table_of}
 
 -- the table that a history of the small bank leaves
-abbrev pub table : List (Timed 2 1) → List (Row 2)
+abbrev pub table : List (TimedEvent 2 1) → List (Row 2)
 table xs = reverse (table_of small xs)
 
 abbrev pub paused_rows : List (Row 2)

@@ -2,9 +2,9 @@
 //! there is nothing to run.
 
 ghost use Rattle.std.specs.Prelude.{◌≡◌, None, [], true, false};
-ghost use Rattle.bank_shape.specs.Pausing.{Pause, Plain, Cancel};
-ghost use Rattle.row_laws.specs.Rows.{each_row};
-ghost use Rattle.row_laws.specs.Table.{first_fault};
+ghost use Rattle.bank_shape.specs.declared.pace.Policy.TheVariants.{Pause, Plain, Cancel};
+ghost use Rattle.row_rules.specs.Rows.{each_row};
+ghost use Rattle.row_rules.specs.Table.{first_fault};
 ghost use Rattle.bank_model.specs.Adding.{senses_of};
 ghost use Rattle.bank_model.specs.Worked.{small, pace, paused, not_paused, cancelled, two_entries, dropped_begin};
 ghost use Rattle.bank_laws.specs.Laws.{rules_of};

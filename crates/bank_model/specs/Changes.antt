@@ -4,13 +4,13 @@ use Rattle.bank_shape.specs.declared.BankShape.{BankShape}
 use Rattle.bank_shape.specs.declared.Home.{Home}
 use Rattle.bank_shape.specs.declared.Home.TheVariants as home
 use Rattle.bank_shape.specs.Shape.{controls_from, controls_of, control_line}
-use Rattle.bank_model.specs.declared.answer.Step.{Step}
-use Rattle.bank_model.specs.declared.answer.Step.TheVariants as did
-use Rattle.bank_model.specs.declared.answer.Keep.{Keep}
-use Rattle.bank_model.specs.declared.answer.Keep.TheVariants as keep
+use Rattle.bank_shape.specs.declared.answer.Step.{Step}
+use Rattle.bank_shape.specs.declared.answer.Step.TheVariants as did
+use Rattle.bank_shape.specs.declared.answer.Keep.{Keep}
+use Rattle.bank_shape.specs.declared.answer.Keep.TheVariants as keep
 use Rattle.bank_model.specs.Events.{Event, Begin, Iterate, Cut, line_of_row}
 use Rattle.bank_model.specs.History.{stores, retired, first_or}
-use Rattle.bank_model.specs.Timing.{Happens, Core, Regs, KeepBegin, KeepIterate, KeepCut, Timed, core}
+use Rattle.bank_model.specs.Timing.{Happens, Core, Regs, KeepBegin, KeepIterate, KeepCut, TimedEvent, core}
 
 -- an item of a bank whose registers are kept in the array
 abbrev pub item_if : Home → ℕ → Option ℕ
@@ -67,21 +67,21 @@ halted_by (Regs (KeepIterate keep.Halted)) old = true
 halted_by happens old = old
 
 -- the item of the change that stands, if one does
-abbrev pub change_after : {n m : ℕ} → BankShape → List (Timed n m) → Option ℕ
+abbrev pub change_after : {n m : ℕ} → BankShape → List (TimedEvent n m) → Option ℕ
 change_after shape [] = None
 change_after shape (x ∷ xs) = change_by shape (core xs) x.happens (change_after shape xs)
 
 module _ {n m : ℕ} where
   -- whether it is being written, how often that was iterated, and whether its writing has ended at a worn control line
-  abbrev pub keeping_after : List (Timed n m) → Bool
+  abbrev pub keeping_after : List (TimedEvent n m) → Bool
   keeping_after [] = false
   keeping_after (x ∷ xs) = keeping_by x.happens (keeping_after xs)
 
-  abbrev pub rounds_after : List (Timed n m) → ℕ
+  abbrev pub rounds_after : List (TimedEvent n m) → ℕ
   rounds_after [] = 0
   rounds_after (x ∷ xs) = rounds_by x.happens (rounds_after xs)
 
-  abbrev pub halted_after : List (Timed n m) → Bool
+  abbrev pub halted_after : List (TimedEvent n m) → Bool
   halted_after [] = false
   halted_after (x ∷ xs) = halted_by x.happens (halted_after xs)
 

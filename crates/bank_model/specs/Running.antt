@@ -1,21 +1,23 @@
 -- Which action runs after a timed history, and which is chosen next.
 use Rattle.std.specs.Prelude.{ℕ, ◌+◌, ◌&&◌, ◌||◌, not, nat_lt, Bool, true, false, if◌then◌else◌, List, [], ◌∷◌, Option, Some, None}
-use Rattle.bank_shape.specs.Pausing.{Pausing, Pause, Plain, Cancel}
+use Rattle.bank_shape.specs.declared.pace.Policy.{Policy}
+use Rattle.bank_shape.specs.declared.pace.Policy.TheVariants.{Pause, Plain, Cancel}
 use Rattle.bank_shape.specs.declared.BankShape.{BankShape}
-use Rattle.bank_model.specs.declared.answer.Step.TheVariants as did
-use Rattle.bank_model.specs.declared.answer.ReadAnswer.TheVariants as came
-use Rattle.bank_model.specs.declared.clock.Doing.{Doing}
-use Rattle.bank_model.specs.declared.clock.Doing.TheVariants.{Serving, Beginning, Iterating}
-use Rattle.bank_model.specs.declared.clock.Action.{Action}
+use Rattle.bank_shape.specs.declared.answer.Step.TheVariants as did
+use Rattle.bank_shape.specs.declared.answer.ReadAnswer.TheVariants as came
+use Rattle.bank_shape.specs.declared.clock.Doing.{Doing}
+use Rattle.bank_shape.specs.declared.clock.Doing.TheVariants.{Serving, Beginning, Iterating}
+use Rattle.bank_shape.specs.declared.clock.Action.{Action}
 use Rattle.bank_model.specs.Events.{Event, Write, Read, Serve, Begin, Iterate, Cut}
 use Rattle.bank_model.specs.History.{waits, in_progress, iterated, has_exhausted}
 use Rattle.bank_model.specs.After.{work_after, may_begin_after, is_store_of}
-use Rattle.bank_model.specs.Timing.{Pacing, Happens, Core, Regs, KeepBegin, KeepIterate, KeepCut, Timed, is_doing, is_empty, core, last_tick}
-use Rattle.bank_model.specs.declared.answer.Keep.TheVariants as keep
+use Rattle.bank_shape.specs.declared.pace.Pace.{Pace}
+use Rattle.bank_model.specs.Timing.{Happens, Core, Regs, KeepBegin, KeepIterate, KeepCut, TimedEvent, is_doing, is_empty, core, last_tick}
+use Rattle.bank_shape.specs.declared.answer.Keep.TheVariants as keep
 use Rattle.bank_model.specs.Changes.{change_after, keeping_after, rounds_after, halted_after}
 
 -- whether a line write gives way to a read between two iterations
-abbrev pub gives_way : Pausing → Bool
+abbrev pub gives_way : Policy → Bool
 gives_way Pause = true
 gives_way Plain = false
 gives_way Cancel = true
@@ -90,34 +92,34 @@ tears_bank (Some item) action = false
 
 module _ {n m : ℕ} (shape : BankShape) where
   -- whether a line write is in progress after a list, and whether one may be begun
-  abbrev pub busy_after : List (Timed n m) → Bool
+  abbrev pub busy_after : List (TimedEvent n m) → Bool
   busy_after xs = busy_by (change_after shape xs) (keeping_after xs) (in_progress (core xs))
 
-  abbrev pub ready_after : List (Timed n m) → Bool
+  abbrev pub ready_after : List (TimedEvent n m) → Bool
   ready_after xs = ready_by (change_after shape xs) (keeping_after xs || halted_after xs) (may_begin_after shape (core xs))
 
-  abbrev pub made_after : List (Timed n m) → ℕ
+  abbrev pub made_after : List (TimedEvent n m) → ℕ
   made_after xs = made_by (change_after shape xs) (rounds_after xs) (iterated (core xs))
 
-  abbrev pub is_over : List (Timed n m) → Bool
+  abbrev pub is_over : List (TimedEvent n m) → Bool
   is_over xs = over_by (change_after shape xs) (halted_after xs) (has_exhausted (core xs))
 
-module _ {n m : ℕ} (shape : BankShape) (pace : Pacing) where
+module _ {n m : ℕ} (shape : BankShape) (pace : Pace) where
   -- the line write that a list leaves
-  abbrev pub choice_after : List (Timed n m) → Choice
+  abbrev pub choice_after : List (TimedEvent n m) → Choice
   choice_after xs = choice (busy_after shape xs) (ready_after shape xs)
 
   -- the action that is chosen after a list
-  abbrev pub chosen_after : List (Timed n m) → Option Doing
+  abbrev pub chosen_after : List (TimedEvent n m) → Option Doing
   chosen_after xs = chosen_by (gives_way pace.policy) (not (is_empty (waits shape (core xs)))) (choice_after xs)
 
   -- the action that runs after the last event, before one is chosen at its tick
-  abbrev pub running : List (Timed n m) → Option Action
+  abbrev pub running : List (TimedEvent n m) → Option Action
   running [] = None
   running (x ∷ xs) = left_by shape (core xs) (change_after shape xs) x.happens (started (running xs) (chosen_after xs) (last_tick xs) x.tick)
 
   -- the action that runs at a tick after the list, before one is chosen at that tick
-  abbrev pub running_at : List (Timed n m) → ℕ → Option Action
+  abbrev pub running_at : List (TimedEvent n m) → ℕ → Option Action
   running_at xs tick = started (running xs) (chosen_after xs) (last_tick xs) tick
 
 -- how often the present work was cancelled
@@ -138,6 +140,6 @@ cancels_with (Regs (KeepIterate keep.More)) cancels count = count
 cancels_with (Regs (KeepIterate answer)) cancels count = 0
 cancels_with (Regs (KeepCut tearing)) cancels count = count + 1
 
-abbrev pub cancels_after : {n m : ℕ} → List (Timed n m) → ℕ
+abbrev pub cancels_after : {n m : ℕ} → List (TimedEvent n m) → ℕ
 cancels_after [] = 0
 cancels_after (x ∷ xs) = cancels_with x.happens x.cancels (cancels_after xs)

@@ -7,13 +7,13 @@ use Rattle.ecp_line.specs.Reading.{decode}
 pub use Rattle.ecp_line.specs.Steps.{most_steps}
 use Rattle.masked_bytes.specs.Masked.{laid}
 use Rattle.bank_shape.specs.declared.BankShape.{BankShape}
-use Rattle.bank_model.specs.declared.answer.Step.TheVariants as did
+use Rattle.bank_shape.specs.declared.answer.Step.TheVariants as did
 use Rattle.bank_model.specs.Events.{Event, Serve, Begin, Iterate, Cut, newest, up_to, line_of_row}
 use Rattle.bank_model.specs.History.{Awaited, waits}
 use Rattle.bank_model.specs.After.{work_after, target_after, sources_of, stands_at_after}
-use Rattle.bank_model.specs.Timing.{Happens, Core, Keeping, KeepBegin, KeepIterate, KeepCut, Timed, core, is_doing}
-use Rattle.bank_model.specs.declared.clock.Doing.TheVariants.{Iterating}
-use Rattle.bank_model.specs.declared.clock.Action.{Action}
+use Rattle.bank_model.specs.Timing.{Happens, Core, Keeping, KeepBegin, KeepIterate, KeepCut, TimedEvent, core, is_doing}
+use Rattle.bank_shape.specs.declared.clock.Doing.TheVariants.{Iterating}
+use Rattle.bank_shape.specs.declared.clock.Action.{Action}
 use Rattle.bank_model.specs.Changes.{line_of_change, all_controls}
 
 -- a line, if there is one, is this one
@@ -22,7 +22,7 @@ is_at None line = false
 is_at (Some at) line = at == line
 
 -- how often a line was pulsed or torn, up to the greatest u64
-abbrev pub pulses_of : {n m : ℕ} → List (Timed n m) → ℕ → ℕ
+abbrev pub pulses_of : {n m : ℕ} → List (TimedEvent n m) → ℕ → ℕ
 pulses_of [] line = 0
 pulses_of (x ∷ xs) line = if is_at x.pulsed line then counted (pulses_of xs line) else pulses_of xs line
 
@@ -80,13 +80,13 @@ begun_with (Core (Begin answer)) (s ∷ rest) older = Some s.cells
 begun_with happens senses older = older
 
 -- the first cells that the last begin sensed: for a copy, those of its source
-abbrev pub copied : {n m : ℕ} → List (Timed n m) → Option (Cells n m)
+abbrev pub copied : {n m : ℕ} → List (TimedEvent n m) → Option (Cells n m)
 copied [] = None
 copied (x ∷ xs) = begun_with x.happens x.senses (copied xs)
 
 -- what an event sensed is read right. At a serve it gives the answer's bytes, those kept with the read laid over it; where a
 -- write is stored it gives the newest bytes of the line as of that write; where a gap move is done it gives the copied line's bytes
-abbrev pub IsReadRight : {n m : ℕ} → ℕ → BankShape → List (Timed n m) → Event n → List (Sense n m) → Type 0
+abbrev pub IsReadRight : {n m : ℕ} → ℕ → BankShape → List (TimedEvent n m) → Event n → List (Sense n m) → Type 0
 IsReadRight e shape xs (Serve answer) (s ∷ []) = IsLaid e (waits shape (core xs)) answer.bytes s.cells
 IsReadRight e shape xs (Begin (did.Stored row place)) (s ∷ []) = decode e s.cells ≡ newest (up_to row (core xs)) (line_of_row row (core xs))
 IsReadRight e shape xs (Iterate (did.Stored row place)) (s ∷ []) = decode e s.cells ≡ newest (up_to row (core xs)) (line_of_row row (core xs))

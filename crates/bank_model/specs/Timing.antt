@@ -1,19 +1,19 @@
 -- Events with their times, the newest first, and the actions of a bank.
 use Rattle.std.specs.Prelude.{ℕ, ◌+◌, ◌||◌, Bool, true, false, List, [], ◌∷◌, Option, Some, None}
 use Rattle.pcm_cells.specs.declared.array.Sense.{Sense}
-use Rattle.bank_shape.specs.Pausing.{Pausing}
-use Rattle.bank_model.specs.declared.clock.Doing.{Doing}
-use Rattle.bank_model.specs.declared.clock.Doing.TheVariants.{Serving, Beginning, Iterating}
-use Rattle.bank_model.specs.declared.clock.Action.{Action}
-use Rattle.bank_model.specs.declared.answer.Keep.{Keep}
+use Rattle.bank_shape.specs.declared.pace.Policy.{Policy}
+use Rattle.bank_shape.specs.declared.clock.Doing.{Doing}
+use Rattle.bank_shape.specs.declared.clock.Doing.TheVariants.{Serving, Beginning, Iterating}
+use Rattle.bank_shape.specs.declared.clock.Action.{Action}
+use Rattle.bank_shape.specs.declared.answer.Keep.{Keep}
 use Rattle.bank_model.specs.Events.{Event}
 use Rattle.bank_model.specs.History.{Awaited}
 
 -- how many ticks a sense and an iteration take, and when a line write gives way to a read
-pub record Pacing : Type 0 where
+pub record Pace : Type 0 where
   pub read : ℕ
   pub iter : ℕ
-  pub policy : Pausing
+  pub policy : Policy
 
 -- what happens at the control lines of a bank: the writing of the change that stands begins, goes on by an iteration, or is broken off
 -- by a read. A power cut of it is one with that of the bank
@@ -28,7 +28,7 @@ pub data Happens (n : ℕ) : Type 0 where
   Regs : (event : Keeping) → Happens n
 
 -- an event with its tick, the first tick of its action, the array lines that it sensed, the one that it pulsed or tore, and whether it is a cut that a read made
-pub record Timed (n m : ℕ) : Type 0 where
+pub record TimedEvent (n m : ℕ) : Type 0 where
   pub happens : Happens n
   pub tick : ℕ
   pub first : ℕ
@@ -46,7 +46,7 @@ abbrev pub ends_with : ℕ → ℕ → Action → ℕ
 ends_with read iter action = action.first + lasts read iter action.doing
 
 -- the tick at which an action ends
-abbrev pub ends : Pacing → Action → ℕ
+abbrev pub ends : Pace → Action → ℕ
 ends pace action = ends_with pace.read pace.iter action
 
 abbrev pub same_doing : Doing → Doing → Bool
@@ -74,10 +74,10 @@ core_of (Regs event) h = h
 
 module _ {n m : ℕ} where
   -- the core events
-  abbrev pub core : List (Timed n m) → List (Event n)
+  abbrev pub core : List (TimedEvent n m) → List (Event n)
   core [] = []
   core (x ∷ xs) = core_of x.happens (core xs)
 
-  abbrev pub last_tick : List (Timed n m) → ℕ
+  abbrev pub last_tick : List (TimedEvent n m) → ℕ
   last_tick [] = 0
   last_tick (x ∷ xs) = x.tick

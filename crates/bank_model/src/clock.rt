@@ -1,8 +1,8 @@
 //! What a bank is busy with, for how long, and what it turns to next.
 
 ghost use Rattle.std.specs.Prelude.{◌≡◌, ◌+◌, ◌<◌, ◌^◌};
-ghost use Rattle.bank_model.specs.Timing.{ends_with};
-ghost use Rattle.bank_model.specs.Running.{chosen_by, choice};
+ghost use Rattle.bank_shape.specs.Acting.{ends_with};
+ghost use Rattle.bank_shape.specs.Acting.{chosen_by, choice};
 
 /// What a bank is busy with.
 #[derive(Clone, Copy, Debug, PartialEq, Eq)]

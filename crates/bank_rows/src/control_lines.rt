@@ -4,7 +4,7 @@
 ghost use Rattle.std.specs.Prelude.{◌≡◌, ◌<◌, IfOk, IfSome, IsTrue, None, is_some};
 ghost use Rattle.reg_lines.specs.Regs.{AreHeld};
 
-use bank_model::answer::Keep;
+use bank_shape::answer::Keep;
 use pcm_cells::{Act, CellArray, Script, ScriptArray, Wear};
 use reg_lines::regs::RegLines;
 use reg_lines::{Change, encode, values_of};

@@ -8,7 +8,7 @@ ghost use Rattle.power_recovery.specs.Slots.{bank_lines};
 ghost use Rattle.bank_invariant.specs.Tied.{IsTied};
 
 use bank_core::bank::Bank;
-use bank_model::answer::{ReadAnswer, Step, WriteAnswer};
+use bank_shape::answer::{ReadAnswer, Step, WriteAnswer};
 use bank_shape::{BankShape, Home};
 use pcm_cells::{Act, CellArray, Script, ScriptArray, Wear};
 use std::alloc::{AllocError, Global};

@@ -3,15 +3,15 @@
 
 ghost use Rattle.std.specs.Prelude.{◌≡◌, ◌+◌, ◌≤◌, List, IfOk};
 ghost use Rattle.bank_shape.specs.Shape.{IsBankShape, lines_in};
-ghost use Rattle.bank_model.specs.Timing.{Timed as TimedEvent};
+ghost use Rattle.bank_model.specs.Timing.{TimedEvent};
 ghost use Rattle.clock_laws.specs.Leads.{Leads};
 
 use crate::rows::{end, powered, write_all};
 use bank_core::bank::Bank;
 use bank_shape::{BankShape, Home};
 use bank_timing::recover;
-use bank_timing::timed::Timed;
-use pace::Policy;
+use bank_timing::clocked::ClockedBank;
+use bank_shape::Policy;
 use pcm_cells::{CellArray, ScriptArray};
 use reg_lines::regs::RegLines;
 use result_rows::Results;
@@ -23,7 +23,7 @@ fn written<A: CellArray<64, 8>>(
     alloc: Global,
     array: &mut A,
     shape: BankShape,
-) -> Result<Timed<64, 8, 6>, AllocError>
+) -> Result<ClockedBank<64, 8, 6>, AllocError>
     requires limits { IsBankShape shape }
     requires room { shape.base + lines_in shape ≤ 11 }
     ensures { IfOk result (λ timed. (xs : List (TimedEvent 64 8)) × Leads xs timed (A.state array.new)) }
@@ -38,7 +38,7 @@ fn written<A: CellArray<64, 8>>(
 // A new bank that is read back from the control lines, if the one that wrote them has nothing left to write.
 fn reread<A: CellArray<64, 8>>(
     alloc: Global,
-    timed: &Timed<64, 8, 6>,
+    timed: &ClockedBank<64, 8, 6>,
     array: &mut A,
 ) -> Result<Option<Bank<64, 8, 6>>, AllocError>
     requires { (xs : List (TimedEvent 64 8)) × Leads xs timed.now (A.state array.old) }

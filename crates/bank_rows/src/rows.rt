@@ -5,14 +5,14 @@ ghost use Rattle.std.specs.Prelude.{◌≡◌, ◌+◌, ◌<◌, ◌≤◌, List
 ghost use Rattle.masked_bytes.specs.Masked.{IsMasked};
 ghost use Rattle.bank_shape.specs.Shape.{IsBankShape, lines_in};
 ghost use Rattle.power_recovery.specs.Slots.{bank_lines};
-ghost use Rattle.bank_model.specs.Timing.{Timed as TimedEvent};
+ghost use Rattle.bank_model.specs.Timing.{TimedEvent};
 ghost use Rattle.bank_invariant.specs.State.{first_bank};
 ghost use Rattle.clock_laws.specs.Leads.{Leads};
 ghost use Rattle.bank_timing.specs.Extending.{AreOpen, IsOpen};
 
 use bank_shape::{BankShape, Home};
-use bank_timing::timed::Timed;
-use pace::{Pace, Policy};
+use bank_timing::clocked::ClockedBank;
+use bank_shape::{Pace, Policy};
 use pcm_cells::{Act, CellArray, Script, ScriptArray, Wear};
 use result_rows::{Outcome, Results};
 use std::alloc::{AllocError, Global};
@@ -104,7 +104,7 @@ fn is_open(results: &Results<64>, row: u32) -> bool
 }
 
 // Whether a bank has this line.
-fn has_line(timed: &Timed<64, 8, 6>, line: u32) -> bool
+fn has_line(timed: &ClockedBank<64, 8, 6>, line: u32) -> bool
     ensures { IsTrue result → line < bank_lines timed.now.bank.kept.shape }
 {
     let shape = timed.bank().kept().shape();
@@ -113,7 +113,7 @@ fn has_line(timed: &Timed<64, 8, 6>, line: u32) -> bool
 
 // A write of this row arrives.
 fn write<A: CellArray<64, 8>>(
-    timed: &mut Timed<64, 8, 6>,
+    timed: &mut ClockedBank<64, 8, 6>,
     array: &A,
     results: &mut Results<64>,
     row: u32,
@@ -140,7 +140,7 @@ fn write<A: CellArray<64, 8>>(
 
 // A read of this row arrives.
 fn read<A: CellArray<64, 8>>(
-    timed: &mut Timed<64, 8, 6>,
+    timed: &mut ClockedBank<64, 8, 6>,
     array: &mut A,
     results: &mut Results<64>,
     row: u32,
@@ -164,7 +164,7 @@ fn read<A: CellArray<64, 8>>(
 
 // A write of this row that gives every byte, each the same.
 pub(crate) fn write_all<A: CellArray<64, 8>>(
-    timed: &mut Timed<64, 8, 6>,
+    timed: &mut ClockedBank<64, 8, 6>,
     array: &A,
     results: &mut Results<64>,
     row: u32,
@@ -185,7 +185,7 @@ pub(crate) fn write_all<A: CellArray<64, 8>>(
 
 // A write of this row that gives the first byte alone.
 fn write_first<A: CellArray<64, 8>>(
-    timed: &mut Timed<64, 8, 6>,
+    timed: &mut ClockedBank<64, 8, 6>,
     array: &A,
     results: &mut Results<64>,
     row: u32,
@@ -210,7 +210,7 @@ fn write_first<A: CellArray<64, 8>>(
 
 // The power is cut.
 fn cut<A: CellArray<64, 8>>(
-    timed: &mut Timed<64, 8, 6>,
+    timed: &mut ClockedBank<64, 8, 6>,
     array: &mut A,
     results: &mut Results<64>,
 ) -> bool
@@ -228,7 +228,7 @@ fn cut<A: CellArray<64, 8>>(
 
 // The clock goes on to a tick, unless that is past or too late.
 fn pass<A: CellArray<64, 8>>(
-    timed: &mut Timed<64, 8, 6>,
+    timed: &mut ClockedBank<64, 8, 6>,
     array: &mut A,
     results: &mut Results<64>,
     to: u64,
@@ -250,7 +250,7 @@ fn pass<A: CellArray<64, 8>>(
 
 // What comes with this row.
 fn arrive<A: CellArray<64, 8>>(
-    timed: &mut Timed<64, 8, 6>,
+    timed: &mut ClockedBank<64, 8, 6>,
     array: &mut A,
     results: &mut Results<64>,
     row: u32,
@@ -275,7 +275,7 @@ fn arrive<A: CellArray<64, 8>>(
 
 // The clock goes on to the tick of this row, and what comes with it arrives.
 fn play<A: CellArray<64, 8>>(
-    timed: &mut Timed<64, 8, 6>,
+    timed: &mut ClockedBank<64, 8, 6>,
     array: &mut A,
     results: &mut Results<64>,
     row: u32,
@@ -296,7 +296,7 @@ fn play<A: CellArray<64, 8>>(
 
 // The clock goes on to the end.
 pub(crate) fn end<A: CellArray<64, 8>>(
-    timed: &mut Timed<64, 8, 6>,
+    timed: &mut ClockedBank<64, 8, 6>,
     array: &mut A,
     results: &mut Results<64>,
 ) -> bool
@@ -318,7 +318,7 @@ pub(crate) fn powered<A: CellArray<64, 8>>(
     array: &mut A,
     shape: BankShape,
     policy: Policy,
-) -> Result<Timed<64, 8, 6>, AllocError>
+) -> Result<ClockedBank<64, 8, 6>, AllocError>
     requires limits { IsBankShape shape }
     requires room { shape.base + lines_in shape ≤ 11 }
     ensures going { IfOk result (λ timed. timed.drained ≡ false) }
@@ -331,13 +331,13 @@ pub(crate) fn powered<A: CellArray<64, 8>>(
         iter: 10,
         policy,
     };
-    let timed = Timed::new(alloc, shape, pace)?;
+    let timed = ClockedBank::new(alloc, shape, pace)?;
     Ok(timed)
 }
 
 // Plays the rows from row 1 on, over a bank of its own, up to the end: whether each could be played.
 fn plays<A: CellArray<64, 8>>(
-    timed: &mut Timed<64, 8, 6>,
+    timed: &mut ClockedBank<64, 8, 6>,
     array: &mut A,
     results: &mut Results<64>,
     table: &[(u64, Call, Saw)],

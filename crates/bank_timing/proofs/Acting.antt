@@ -2,10 +2,10 @@
 use Rattle.std.proofs.Common.{◌≡◌, ℕ, ◌<◌, ◌≤◌, List, Option, Some, None, sym, subst, arith}
 use Rattle.std.specs.Prelude.{IfSome}
 use Rattle.pcm_cells.specs.Device.{ArrayState}
-use Rattle.pace.specs.declared.Pace.{Pace}
-use Rattle.bank_model.specs.declared.clock.Doing.{Doing}
-use Rattle.bank_model.specs.declared.clock.Action.{Action}
-use Rattle.bank_model.specs.Timing.{Timed, ends}
+use Rattle.bank_shape.specs.declared.pace.Pace.{Pace}
+use Rattle.bank_shape.specs.declared.clock.Doing.{Doing}
+use Rattle.bank_shape.specs.declared.clock.Action.{Action}
+use Rattle.bank_model.specs.Timing.{TimedEvent, ends}
 use Rattle.clock_laws.specs.State.{ClockState, or_else, started_at, chosen, next_action}
 use Rattle.clock_laws.specs.Leads.{Leads}
 use Rattle.clock_laws.specs.Fitting.{Fits, IsFit}
@@ -29,7 +29,7 @@ module _ {n m e : ℕ} (clock : ClockState n m e) where
 
   -- time passes while it runs
   pub passes : (to : ℕ) (action : Option Action) → action ≡ next_action clock → clock.tick < to → IfSome action (λ a. to < ends clock.pace a)
-      → (xs : List (Timed n m)) (array : ArrayState n m) → Leads xs clock array → Leads xs (at_tick to action clock) array
+      → (xs : List (TimedEvent n m)) (array : ArrayState n m) → Leads xs clock array → Leads xs (at_tick to action clock) array
   passes to action is later runs xs array leads =
       subst (λ (a : Option Action). Leads xs (at_tick to a clock) array) (sym is)
       (passing_law n m e to xs clock array leads later (subst (λ (a : Option Action). IfSome a (λ a. to < ends clock.pace a)) is runs))
@@ -57,6 +57,6 @@ module _ {n m e : ℕ} (clock : ClockState n m e) where
     pub next-fits : IsFit clock.bank clock.regs clock.action → Fits clock.bank clock.regs action.doing
     next-fits fit = some-of (λ (a : Action). Fits clock.bank clock.regs a.doing) (next_action clock) action next (chosen_law n m e clock fit)
 
-    pub next-ends : (xs : List (Timed n m)) (array : ArrayState n m) → Leads xs clock array → 1 ≤ clock.pace.read → 1 ≤ clock.pace.iter → clock.tick < ends clock.pace action
+    pub next-ends : (xs : List (TimedEvent n m)) (array : ArrayState n m) → Leads xs clock array → 1 ≤ clock.pace.read → 1 ≤ clock.pace.iter → clock.tick < ends clock.pace action
     next-ends xs array leads read iter =
         some-of (λ (a : Action). clock.tick < ends clock.pace a) (next_action clock) action next (ending_later_law n m e clock read iter leads.told.to_come)

@@ -11,12 +11,12 @@ use Rattle.line_writer.specs.declared.writer.Progress.{Progress}
 use Rattle.line_writer.specs.declared.writer.Progress.TheVariants as progress
 use Rattle.line_writer.specs.Writing.{IsProgress}
 use Rattle.power_recovery.specs.Kept.{next_work}
-use Rattle.bank_model.specs.declared.answer.Step.{Step}
-use Rattle.bank_model.specs.declared.clock.Doing.{Doing}
-use Rattle.bank_model.specs.declared.clock.Doing.TheVariants.{Beginning}
-use Rattle.bank_model.specs.declared.clock.Action.{Action}
+use Rattle.bank_shape.specs.declared.answer.Step.{Step}
+use Rattle.bank_shape.specs.declared.clock.Doing.{Doing}
+use Rattle.bank_shape.specs.declared.clock.Doing.TheVariants.{Beginning}
+use Rattle.bank_shape.specs.declared.clock.Action.{Action}
 use Rattle.bank_model.specs.Events.{Event, Begin}
-use Rattle.bank_model.specs.Timing.{Timed, core, ends}
+use Rattle.bank_model.specs.Timing.{TimedEvent, core, ends}
 use Rattle.bank_model.specs.Touching.{Touches}
 use Rattle.bank_invariant.specs.State.{BankState, is_free, may_begin}
 use Rattle.bank_invariant.specs.Tied.{decoded}
@@ -57,7 +57,7 @@ module _ {n m e : ℕ} (clock : ClockState n m e) (action : Action) (next : next
   pub begin-ready : IsTrue (may_begin clock.bank)
   begin-ready = (needs_law n m e clock.bank clock.regs).begins alone (subst (λ (d : Doing). Fits clock.bank clock.regs d) doing (next-fits clock action next fit))
 
-  module _ (old new : ArrayState n m) (results : List (Outcome n)) (answer : Step) (bank : BankState n m e) (led : (xs : List (Timed n m)) × Leads xs clock old)
+  module _ (old new : ArrayState n m) (results : List (Outcome n)) (answer : Step) (bank : BankState n m e) (led : (xs : List (TimedEvent n m)) × Leads xs clock old)
       (unset : AreOpen clock.bank results) (begins : IsBegin clock.bank bank answer old new) where
     idle : clock.regs.writer ≡ None
     idle = no_writer clock.regs (λ writer change. IsWritingOf writer (old.line (clock.regs.base + change.item)) change) led.1.control.held.writing alone
@@ -98,7 +98,7 @@ module _ {n m e : ℕ} (clock : ClockState n m e) (action : Action) (next : next
             (begin-leaves clock.bank old (ends clock.pace action) results begins.op.target begins.op.writer led.1.holds.kept free.0 (apart_law n m e led.0 clock old led.1) unset begins.few clock.regs alone idle
             begins.op.work begins.op.writer.progress (sym begins.work) ready begins.begun begins.bytes begins.target reads))
 
-        goes : (xs : List (Timed n m)) → Leads xs clock old → GoesOn xs clock bank (put_if (item_by clock.bank.kept answer) bank.kept clock.regs) (Begin answer) action old new
+        goes : (xs : List (TimedEvent n m)) → Leads xs clock old → GoesOn xs clock bank (put_if (item_by clock.bank.kept answer) bank.kept clock.regs) (Begin answer) action old new
         goes xs leads =
             let end : IsCompletion xs clock bank (put_if (item_by clock.bank.kept answer) bank.kept clock.regs) (Begin answer) action (lines_sensed clock.bank.kept begins.op.work) None old new =
             record {

@@ -1,5 +1,6 @@
 -- A read cancels what runs of a line write, and then waits: what becomes of the clock and of the array.
 use Rattle.std.proofs.Common.{◌≡◌, ℕ, ◌+◌, ◌<◌, ◌≤◌, ◌&&◌, ◌==◌, not, nat_lt, Bool, true, false, List, [], ◌∷◌, length, map, Option, Some, None, is_some, refl, sym, ap, subst, ◌∙◌, arith, ltb-true}
+use Rattle.masked_bytes.proofs.Truth.{and_first, and_second}
 use Rattle.std.proofs.lemmas.Bool.{false≢true, ne_eqb, lt-ltb}
 use Rattle.std.specs.Prelude.{unwrap_or, IsTrue, if◌then◌else◌}
 use Rattle.pcm_cells.specs.Device.{ArrayState}
@@ -7,13 +8,13 @@ use Rattle.masked_bytes.specs.Masked.{gives_all}
 use Rattle.masked_bytes.specs.Entries.{layer_of, has_row}
 use Rattle.result_rows.specs.declared.Outcome.{Outcome}
 use Rattle.bank_shape.specs.Pausing.{is_cancelling, most_cancels}
-use Rattle.bank_model.specs.declared.answer.ReadAnswer.{ReadAnswer}
-use Rattle.bank_model.specs.declared.answer.ReadAnswer.TheVariants as came
-use Rattle.bank_model.specs.declared.clock.Doing.TheVariants.{Iterating}
+use Rattle.bank_shape.specs.declared.answer.ReadAnswer.{ReadAnswer}
+use Rattle.bank_shape.specs.declared.answer.ReadAnswer.TheVariants as came
+use Rattle.bank_shape.specs.declared.clock.Doing.TheVariants.{Iterating}
 use Rattle.bank_model.specs.Events.{Event, Read, Cut}
 use Rattle.bank_model.specs.History.{Awaited, waits}
-use Rattle.bank_model.specs.declared.clock.Action.{Action}
-use Rattle.bank_model.specs.Timing.{Timed, core, is_doing, is_writing}
+use Rattle.bank_shape.specs.declared.clock.Action.{Action}
+use Rattle.bank_model.specs.Timing.{TimedEvent, core, is_doing, is_writing}
 use Rattle.bank_laws.specs.Outcomes.{outcome_with}
 use Rattle.bank_model.specs.Touching.{Touches}
 use Rattle.reg_lines.specs.declared.Change.{Change}
@@ -22,7 +23,7 @@ use Rattle.reg_lines.specs.Keeping.{broken_off, torn_line as regs_torn}
 use Rattle.register_laws.proofs.Staying.{stays_law}
 use Rattle.register_laws.proofs.Writing.{broken_law}
 use Rattle.power_recovery.specs.Kept.{KeptState}
-use Rattle.bank_invariant.specs.declared.Waiting.{Waiting}
+use Rattle.bank_shape.specs.declared.waiting.Waiting.{Waiting}
 use Rattle.bank_invariant.specs.State.{BankState}
 use Rattle.bank_invariant.specs.Holds.{Holds, waiting_of}
 use Rattle.bank_invariant.specs.Steps.{cut_off}
@@ -43,32 +44,32 @@ use Rattle.clock_laws.proofs.Extending.{arrival_added_law, both_added_law}
 use Rattle.clock_laws.proofs.Fitting.{needs_law}
 use Rattle.bank_timing.specs.Extending.{Extends, AreOpen, IsOpen, outcome_in}
 use Rattle.bank_timing.specs.Cancelling.{cancel_by, cancelled_by, cancel_first}
-use Rattle.bank_timing.proofs.Losses.{both-left, both-right, iterating-fits, work-leaves, same_torn}
+use Rattle.bank_timing.proofs.Losses.{iterating-fits, work-leaves, same_torn}
 use Rattle.bank_timing.proofs.ReadArrivals.{read-keeps, waits-unset}
 
 module _ {n m e : ℕ} (clock : ClockState n m e) (line : ℕ) (would : IsTrue (cancels_for clock line)) where
   -- what a read that cancels finds: a begin or an iteration runs, no read waits, the count is below the most, and the queue lacks a byte
   rest-one : (is_writing clock.action && (not (nat_lt 0 (length clock.bank.waiting)) && (nat_lt clock.cancels most_cancels && not (gives_all (layer_of clock.bank.kept.entries line).given)))) ≡ true
-  rest-one = both-right (is_cancelling clock.pace.policy) _ would
+  rest-one = and_second (is_cancelling clock.pace.policy) _ would
 
   rest-two : (not (nat_lt 0 (length clock.bank.waiting)) && (nat_lt clock.cancels most_cancels && not (gives_all (layer_of clock.bank.kept.entries line).given))) ≡ true
-  rest-two = both-right (is_writing clock.action) _ rest-one
+  rest-two = and_second (is_writing clock.action) _ rest-one
 
   rest-three : (nat_lt clock.cancels most_cancels && not (gives_all (layer_of clock.bank.kept.entries line).given)) ≡ true
-  rest-three = both-right (not (nat_lt 0 (length clock.bank.waiting))) _ rest-two
+  rest-three = and_second (not (nat_lt 0 (length clock.bank.waiting))) _ rest-two
 
   pub none-waits : clock.bank.waiting ≡ []
-  none-waits = by clock.bank.waiting (both-left (not (nat_lt 0 (length clock.bank.waiting))) _ rest-two)
+  none-waits = by clock.bank.waiting (and_first (not (nat_lt 0 (length clock.bank.waiting))) _ rest-two)
     where
       by : (ws : List (Waiting n)) → not (nat_lt 0 (length ws)) ≡ true → ws ≡ []
       by [] is = refl
       by (w ∷ ws) is = absurd (false≢true (ap not (sym (lt-ltb 0 (length (w ∷ ws)) (omega arith))) ∙ is))
 
   pub few-cancels : clock.cancels < 4
-  few-cancels = ltb-true clock.cancels 4 (both-left (nat_lt clock.cancels most_cancels) _ rest-three)
+  few-cancels = ltb-true clock.cancels 4 (and_first (nat_lt clock.cancels most_cancels) _ rest-three)
 
   pub lacks-byte : gives_all (layer_of clock.bank.kept.entries line).given ≡ false
-  lacks-byte = by (gives_all (layer_of clock.bank.kept.entries line).given) (both-right (nat_lt clock.cancels most_cancels) _ rest-three)
+  lacks-byte = by (gives_all (layer_of clock.bank.kept.entries line).given) (and_second (nat_lt clock.cancels most_cancels) _ rest-three)
     where
       by : (b : Bool) → not b ≡ true → b ≡ false
       by true is = absurd (cc)
@@ -85,7 +86,7 @@ module _ {n m e : ℕ} (clock : ClockState n m e) (line : ℕ) (would : IsTrue (
       -- a cancel of the bank's line write
       pub cancels-work : clock.regs.change ≡ None → Touches clock.tick [] (torn_line tearing clock.bank.running) tearing old new
           → ((h : List (Event n)) → Holds h clock.bank old → Holds (Cut tearing ∷ h) (cut_off clock.bank) new)
-          → (xs : List (Timed n m)) → Leads xs clock old → ReachesBy clock.bank.kept.shape xs (cancel_by clock.regs.change xs clock) (after_cancel clock (cut_off clock.bank) clock.regs) old new
+          → (xs : List (TimedEvent n m)) → Leads xs clock old → ReachesBy clock.bank.kept.shape xs (cancel_by clock.regs.change xs clock) (after_cancel clock (cut_off clock.bank) clock.regs) old new
       cancels-work none touches holds xs leads =
           subst (λ (change : Option Change). ReachesBy clock.bank.kept.shape xs (cancel_by change xs clock) (after_cancel clock (cut_off clock.bank) clock.regs) old new) (sym none)
           (cancel_ends_law n m e line tearing xs clock (cut_off clock.bank) old new leads would none tears (holds (core xs) leads.holds) refl refl
@@ -96,7 +97,7 @@ module _ {n m e : ℕ} (clock : ClockState n m e) (line : ℕ) (would : IsTrue (
 
       -- one of the change's
       pub cancels-change : (change : Change) → clock.regs.change ≡ Some change → Touches clock.tick [] (regs_torn tearing clock.regs) tearing old new → AreHeld (broken_off clock.regs) new
-          → (xs : List (Timed n m)) → Leads xs clock old → ReachesBy clock.bank.kept.shape xs (cancel_by clock.regs.change xs clock) (after_cancel clock clock.bank (broken_off clock.regs)) old new
+          → (xs : List (TimedEvent n m)) → Leads xs clock old → ReachesBy clock.bank.kept.shape xs (cancel_by clock.regs.change xs clock) (after_cancel clock clock.bank (broken_off clock.regs)) old new
       cancels-change change is touches held xs leads =
           subst (λ (change : Option Change). ReachesBy clock.bank.kept.shape xs (cancel_by change xs clock) (after_cancel clock clock.bank (broken_off clock.regs)) old new) (sym is)
           (keep_cancel_ends_law n m e line tearing xs clock old new leads would (ap (λ (change : Option Change). is_some change) is) fit tears
@@ -150,7 +151,7 @@ read-waits {n} bank line lacks none some = by (gives_all (layer_of bank.kept.ent
 
 module _ {n m e : ℕ} where
   -- a cancel makes no outcome
-  cancel-quiet : (change : Option Change) (clock : ClockState n m e) (xs : List (Timed n m)) (row : ℕ) → waits clock.bank.kept.shape (core xs) ≡ []
+  cancel-quiet : (change : Option Change) (clock : ClockState n m e) (xs : List (TimedEvent n m)) (row : ℕ) → waits clock.bank.kept.shape (core xs) ≡ []
       → outcome_with clock.bank.kept.shape xs (cancel_by change xs clock).happens (cancel_by change xs clock).tick row ≡ None
   cancel-quiet None clock xs row none = rw none refl
   cancel-quiet (Some change) clock xs row none = refl
@@ -158,17 +159,17 @@ module _ {n m e : ℕ} where
 -- a read cancels what runs: what is true of the clock before, and what the cancel and the read leave
 pub record CancelsRead {n m e : ℕ} (row line : ℕ) (clock : ClockState n m e) (old new : ArrayState n m) (bank : BankState n m e) : Type 0 where
   pub would : IsTrue (cancels_for clock line)
-  pub led : (xs : List (Timed n m)) × Leads xs clock old
+  pub led : (xs : List (TimedEvent n m)) × Leads xs clock old
   pub rises : clock.bank.rows_below ≤ row
-  pub reaches : (xs : List (Timed n m)) → Leads xs clock old → ReachesBy clock.bank.kept.shape xs (cancel_by clock.regs.change xs clock) (cancelled_by clock.regs.change clock) old new
+  pub reaches : (xs : List (TimedEvent n m)) → Leads xs clock old → ReachesBy clock.bank.kept.shape xs (cancel_by clock.regs.change xs clock) (cancelled_by clock.regs.change clock) old new
   pub left : bank ≡ bank_after_read (cancelled_by clock.regs.change clock).bank row line (read_from (cancelled_by clock.regs.change clock).bank line)
   pub holds : (h : List (Event n)) (array : ArrayState n m) → Holds h (cancelled_by clock.regs.change clock).bank array
       → Holds (Read row line (read_from (cancelled_by clock.regs.change clock).bank line) ∷ h) bank array
 
 -- the calls say so: the cancel leaves this clock, and its bank then takes the read
 pub cancels-read : {n m e : ℕ} (row line : ℕ) (clock now : ClockState n m e) (old new : ArrayState n m) (bank : BankState n m e) (answer : ReadAnswer n)
-    → now ≡ cancelled_by clock.regs.change clock → IsTrue (cancels_for clock line) → (xs : List (Timed n m)) × Leads xs clock old → clock.bank.rows_below ≤ row
-    → ((xs : List (Timed n m)) → Leads xs clock old → ReachesBy clock.bank.kept.shape xs (cancel_by clock.regs.change xs clock) now old new)
+    → now ≡ cancelled_by clock.regs.change clock → IsTrue (cancels_for clock line) → (xs : List (TimedEvent n m)) × Leads xs clock old → clock.bank.rows_below ≤ row
+    → ((xs : List (TimedEvent n m)) → Leads xs clock old → ReachesBy clock.bank.kept.shape xs (cancel_by clock.regs.change xs clock) now old new)
     → answer ≡ read_from now.bank line → bank ≡ bank_after_read now.bank row line answer
     → ((h : List (Event n)) (array : ArrayState n m) → Holds h now.bank array → Holds (Read row line answer ∷ h) bank array)
     → CancelsRead row line clock old new bank
@@ -212,7 +213,7 @@ module _ {n m e row line : ℕ} {clock : ClockState n m e} {old new : ArrayState
   ended = with_bank bank behind
 
   -- each history that led to the clock goes on with the cancel and its read
-  pub cancel-extends : (results : List (Outcome n)) → (xs : List (Timed n m)) → Leads xs clock old
+  pub cancel-extends : (results : List (Outcome n)) → (xs : List (TimedEvent n m)) → Leads xs clock old
       → Extends xs (arrival clock.tick (Read row line (read_from clock.bank line)) ∷ cancel_by clock.regs.change xs clock ∷ []) clock ended old new results results
   cancel-extends results xs leads =
       subst (λ (a : ReadAnswer n). Extends xs (arrival clock.tick (Read row line a) ∷ x ∷ []) clock ended old new results results) (sym waits-before)
@@ -227,7 +228,7 @@ module _ {n m e row line : ℕ} {clock : ClockState n m e} {old new : ArrayState
         outcomes = λ at there. ap (λ (o : Option (Outcome n)). unwrap_or o (outcome_in results at)) (sym (cancel-quiet clock.regs.change clock xs at (waits-none (sym leads.holds.waiting ∙ none-waits clock line c.would))));
       })
     where
-      x : Timed n m
+      x : TimedEvent n m
       x = cancel_by clock.regs.change xs clock
 
       by-cancel : ReachesBy clock.bank.kept.shape xs x behind old new
@@ -273,8 +274,8 @@ module _ {n m e row line : ℕ} {clock : ClockState n m e} {old new : ArrayState
       }
 
 -- whether a cancel comes first
-pub first-then : {n m e : ℕ} (xs : List (Timed n m)) (clock : ClockState n m e) (line : ℕ) → cancels_for clock line ≡ true → cancel_first xs clock line ≡ cancel_by clock.regs.change xs clock ∷ []
+pub first-then : {n m e : ℕ} (xs : List (TimedEvent n m)) (clock : ClockState n m e) (line : ℕ) → cancels_for clock line ≡ true → cancel_first xs clock line ≡ cancel_by clock.regs.change xs clock ∷ []
 first-then {n} {m} xs clock line would = ap (λ (b : Bool). if b then cancel_by clock.regs.change xs clock ∷ [] else []) would
 
-pub first-else : {n m e : ℕ} (xs : List (Timed n m)) (clock : ClockState n m e) (line : ℕ) → cancels_for clock line ≡ false → cancel_first xs clock line ≡ []
+pub first-else : {n m e : ℕ} (xs : List (TimedEvent n m)) (clock : ClockState n m e) (line : ℕ) → cancels_for clock line ≡ false → cancel_first xs clock line ≡ []
 first-else {n} {m} xs clock line quiet = ap (λ (b : Bool). if b then cancel_by clock.regs.change xs clock ∷ [] else []) quiet

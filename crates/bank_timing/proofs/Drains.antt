@@ -11,7 +11,7 @@ use Rattle.masked_bytes.specs.Entries.{has_row}
 use Rattle.bank_shape.specs.declared.BankShape.{BankShape}
 use Rattle.bank_model.specs.Events.{Event}
 use Rattle.bank_model.specs.History.{queue}
-use Rattle.bank_model.specs.Timing.{Happens, Core, Regs, Timed, core, core_of}
+use Rattle.bank_model.specs.Timing.{Happens, Core, Regs, TimedEvent, core, core_of}
 use Rattle.bank_model.specs.Told.{tick_of_row}
 use Rattle.bank_laws.specs.Ticks.{ends_action}
 use Rattle.clock_laws.specs.State.{ClockState, next_action}
@@ -32,23 +32,23 @@ module _ {n : ℕ} where
   out-by shape row (Core event) past quiet none = queue-lacks shape past row none event (end-brings_none (Core event) row quiet)
   out-by shape row (Regs event) past quiet none = none
 
-stays-out : {n m : ℕ} (shape : BankShape) (row : ℕ) (added xs : List (Timed n m)) → IsQuiet added
+stays-out : {n m : ℕ} (shape : BankShape) (row : ℕ) (added xs : List (TimedEvent n m)) → IsQuiet added
     → has_row (queue shape (core xs)) row ≡ false → has_row (queue shape (core (added ++ xs))) row ≡ false
 stays-out shape row [] xs quiet none = none
 stays-out {n} {m} shape row (x ∷ added) xs quiet none =
-    out-by shape row x.happens (core (added ++ xs)) (All-head (λ (x : Timed n m). EndsAction x) x added quiet)
-    (stays-out shape row added xs (All-tail (λ (x : Timed n m). EndsAction x) x added quiet) none)
+    out-by shape row x.happens (core (added ++ xs)) (All-head (λ (x : TimedEvent n m). EndsAction x) x added quiet)
+    (stays-out shape row added xs (All-tail (λ (x : TimedEvent n m). EndsAction x) x added quiet) none)
 
 module _ {n m e : ℕ} where
   -- a clock to which nothing may come any more
   abbrev pub drained : ClockState n m e → ClockState n m e
   drained clock = record { bank = clock.bank; regs = clock.regs; pace = clock.pace; tick = clock.tick; action = clock.action; arrivals = clock.arrivals; cancels = clock.cancels; drained = true }
 
-  still-leads : (xs : List (Timed n m)) (clock : ClockState n m e) (array : ArrayState n m) → Leads xs clock array → Leads xs (drained clock) array
+  still-leads : (xs : List (TimedEvent n m)) (clock : ClockState n m e) (array : ArrayState n m) → Leads xs clock array → Leads xs (drained clock) array
   still-leads xs clock array leads =
       record { lawful = leads.lawful; holds = leads.holds; told = leads.told; regs = leads.regs; control = leads.control; pulses = leads.pulses; copying = leads.copying; taken = leads.taken }
 
-  ticks-are : (xs : List (Timed n m)) (clock : ClockState n m e) (array : ArrayState n m) → Leads xs clock array
+  ticks-are : (xs : List (TimedEvent n m)) (clock : ClockState n m e) (array : ArrayState n m) → Leads xs clock array
       → clock.arrivals ≡ map (λ (entry : Entry n). tick_of_row entry.row xs) clock.bank.kept.entries
   ticks-are xs clock array leads = leads.told.arrived ∙ ap (λ (es : List (Entry n)). map (λ (entry : Entry n). tick_of_row entry.row xs) es) (sym leads.holds.entries)
 
@@ -62,8 +62,8 @@ module _ {n m e : ℕ} where
     }
 
     module _ (recorded : List (Outcome n)) (queued : AreQueued clock.bank.kept.entries clock.arrivals between recorded) where
-      pub drains : next_action clock ≡ None → (xs : List (Timed n m)) → Leads xs old before
-          → (added : List (Timed n m)) × Drains xs added old (drained clock) before after results recorded
+      pub drains : next_action clock ≡ None → (xs : List (TimedEvent n m)) → Leads xs old before
+          → (added : List (TimedEvent n m)) × Drains xs added old (drained clock) before after results recorded
       drains rests xs leads =
           let by = ran.extends xs leads in
           let added = by.0 in (
@@ -87,7 +87,7 @@ module _ {n m e : ℕ} where
           )
 
       -- no other row is touched
-      pub drain-others : ((xs : List (Timed n m)) × Leads xs old before) → LeavesOthers old.bank results recorded
+      pub drain-others : ((xs : List (TimedEvent n m)) × Leads xs old before) → LeavesOthers old.bank results recorded
       drain-others led row there unqueued unawaited =
           let by = ran.extends led.0 led.1 in
           let none : has_row (queue old.bank.kept.shape (core (by.0 ++ led.0))) row ≡ false =

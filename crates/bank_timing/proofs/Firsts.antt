@@ -7,7 +7,7 @@ use Rattle.bank_shape.specs.Shape.{IsBankShape, slots_of, controls_of, controls_
 use Rattle.register_laws.proofs.Staying.{start_law as control_law}
 use Rattle.register_laws.proofs.Determining.{all-items}
 use Rattle.bank_shape.specs.declared.BankShape.{BankShape}
-use Rattle.bank_model.specs.Timing.{Pacing}
+use Rattle.bank_shape.specs.declared.pace.Pace.{Pace}
 use Rattle.bank_invariant.specs.State.{first_bank}
 use Rattle.bank_invariant.specs.Holds.{Holds}
 use Rattle.bank_core.specs.Steps.{IsFreshFor}
@@ -34,7 +34,7 @@ controls-fit shape limits = let fits = limits.fits in omega (arith, fits)
 
 module _ {n m e : ℕ} where
   -- over fresh lines, where it leads to the bank
-  pub first_leads : (shape : BankShape) (pace : Pacing) (array : ArrayState n m)
+  pub first_leads : (shape : BankShape) (pace : Pace) (array : ArrayState n m)
       → (shape.home ≡ home.Array → 16 ≤ n) → Holds {e = e} [] (first_bank shape) array → IsFreshFor shape array → Leads {e = e} [] (first_clock shape pace) array
   first_leads shape pace array wide holds fresh =
       start_law n m e (first_clock shape pace) array holds refl refl refl refl refl

@@ -8,12 +8,12 @@ use Rattle.bank_shape.specs.declared.Work.{Work}
 use Rattle.bank_shape.specs.declared.Work.TheVariants.{Nothing}
 use Rattle.line_writer.specs.declared.writer.Progress.TheVariants as progress
 use Rattle.power_recovery.specs.Kept.{next_work}
-use Rattle.bank_model.specs.declared.answer.Step.{Step}
-use Rattle.bank_model.specs.declared.clock.Doing.{Doing}
-use Rattle.bank_model.specs.declared.clock.Doing.TheVariants.{Iterating}
-use Rattle.bank_model.specs.declared.clock.Action.{Action}
+use Rattle.bank_shape.specs.declared.answer.Step.{Step}
+use Rattle.bank_shape.specs.declared.clock.Doing.{Doing}
+use Rattle.bank_shape.specs.declared.clock.Doing.TheVariants.{Iterating}
+use Rattle.bank_shape.specs.declared.clock.Action.{Action}
 use Rattle.bank_model.specs.Events.{Event, Iterate}
-use Rattle.bank_model.specs.Timing.{Timed, core, ends}
+use Rattle.bank_model.specs.Timing.{TimedEvent, core, ends}
 use Rattle.bank_model.specs.Touching.{Touches}
 use Rattle.bank_invariant.specs.State.{BankState, Operation}
 use Rattle.bank_invariant.specs.Tied.{decoded, IsOf}
@@ -44,7 +44,7 @@ module _ {n m e : ℕ} (clock : ClockState n m e) (action : Action) (next : next
   pub iterate-ready : IsTrue (is_some clock.bank.running)
   iterate-ready = (needs_law n m e clock.bank clock.regs).iterates alone (subst (λ (d : Doing). Fits clock.bank clock.regs d) doing (next-fits clock action next fit))
 
-  module _ (old new : ArrayState n m) (results : List (Outcome n)) (answer : Step) (bank : BankState n m e) (led : (xs : List (Timed n m)) × Leads xs clock old)
+  module _ (old new : ArrayState n m) (results : List (Outcome n)) (answer : Step) (bank : BankState n m e) (led : (xs : List (TimedEvent n m)) × Leads xs clock old)
       (unset : AreOpen clock.bank results) where
     idle : clock.regs.writer ≡ None
     idle = no_writer clock.regs (λ writer change. IsWritingOf writer (old.line (clock.regs.base + change.item)) change) led.1.control.held.writing alone
@@ -96,7 +96,7 @@ module _ {n m e : ℕ} (clock : ClockState n m e) (action : Action) (next : next
               (iterate-leaves clock.bank new (ends clock.pace action) results op.target op.writer iterates.now led.1.holds.kept going (apart_law n m e led.0 clock old led.1) unset iterates.step.fewer clock.regs alone idle
               op.work iterates.now.writer.progress some-work iterates.step.work iterates.step.bytes reads))
 
-          goes : (xs : List (Timed n m)) → Leads xs clock old → GoesOn xs clock bank put-regs (Iterate answer) action old new
+          goes : (xs : List (TimedEvent n m)) → Leads xs clock old → GoesOn xs clock bank put-regs (Iterate answer) action old new
           goes xs leads =
               let end : IsCompletion xs clock bank put-regs (Iterate answer) action (op.target ∷ []) (Some op.target) old new =
               record { next = next; doing = doing; later = later; alone = alone; put = refl; control = steps-by.puts.control old new leads.control alone (record { lines = touches.lines; controls = λ item below. controls_stay_law n m e (ends clock.pace action) item (op.target ∷ []) false op xs clock old new leads running (subst (λ (count : ℕ). item < count) leads.control.own.items below) touches }); holds = holds (core xs) leads.holds; shape = steps-by.shape; taken = steps-by.lost ∙ leads.taken; touches = touches } in

@@ -7,12 +7,12 @@ use Rattle.pcm_cells.specs.Device.{ArrayState}
 use Rattle.result_rows.specs.declared.Outcome.{Outcome}
 use Rattle.line_writer.specs.declared.writer.LineWriter.{LineWriter}
 use Rattle.line_writer.specs.Writing.{steps_left, most_steps}
-use Rattle.bank_model.specs.declared.answer.Keep.{Keep}
-use Rattle.bank_model.specs.declared.answer.Keep.TheVariants as keep
-use Rattle.bank_model.specs.declared.clock.Doing.{Doing}
-use Rattle.bank_model.specs.declared.clock.Doing.TheVariants.{Beginning, Iterating}
-use Rattle.bank_model.specs.declared.clock.Action.{Action}
-use Rattle.bank_model.specs.Timing.{Timed, Keeping, KeepBegin, KeepIterate, Regs, ends}
+use Rattle.bank_shape.specs.declared.answer.Keep.{Keep}
+use Rattle.bank_shape.specs.declared.answer.Keep.TheVariants as keep
+use Rattle.bank_shape.specs.declared.clock.Doing.{Doing}
+use Rattle.bank_shape.specs.declared.clock.Doing.TheVariants.{Beginning, Iterating}
+use Rattle.bank_shape.specs.declared.clock.Action.{Action}
+use Rattle.bank_model.specs.Timing.{TimedEvent, Keeping, KeepBegin, KeepIterate, Regs, ends}
 use Rattle.bank_model.specs.Touching.{Touches}
 use Rattle.bank_model.specs.Running.{cancels_with}
 use Rattle.bank_laws.specs.Ticks.{ends_action}
@@ -65,7 +65,7 @@ keep-iterated-cancels n keep.Halted count = refl
 module _ {n m e : ℕ} (clock : ClockState n m e) (action : Action) (regs : RegsState n m e) (old new : ArrayState n m) (results : List (Outcome n)) where
   keep-completes : (event : Keeping) → IsTrue (ends_action {n = n} (Regs event)) → clock.tick < ends clock.pace action → AreOpen clock.bank results
       → actions_left clock.bank regs < actions_left clock.bank clock.regs
-      → ((xs : List (Timed n m)) → Leads xs clock old → LeadsOn clock.bank.kept.shape xs (keep_completed clock action event new) (after_keep clock regs action event) old new)
+      → ((xs : List (TimedEvent n m)) → Leads xs clock old → LeadsOn clock.bank.kept.shape xs (keep_completed clock action event new) (after_keep clock regs action event) old new)
       → Completes clock (after_keep clock regs action event) action old new results results
   keep-completes event ends_one later unset less goes = record {
     now = refl;
@@ -76,7 +76,7 @@ module _ {n m e : ℕ} (clock : ClockState n m e) (action : Action) (regs : Regs
     extends = λ xs leads. (
       keep_completed clock action event new,
       record { leads = (goes xs leads).leads; shape = refl; pace = refl; adds = (goes xs leads).adds; rows = refl; outcomes = λ row there. refl },
-      All-cons (λ (x : Timed n m). EndsAction x) (keep_completed clock action event new) [] ends_one (All-nil (λ (x : Timed n m). EndsAction x)),
+      All-cons (λ (x : TimedEvent n m). EndsAction x) (keep_completed clock action event new) [] ends_one (All-nil (λ (x : TimedEvent n m). EndsAction x)),
     );
     unset = unset;
     bound = refl;
@@ -90,7 +90,7 @@ module _ {n m e : ℕ} (clock : ClockState n m e) (action : Action) (next : next
   pub keep-iterate-ready : action.doing ≡ Iterating → IsTrue (is_some clock.regs.writer)
   keep-iterate-ready doing = (needs_law n m e clock.bank clock.regs).iterates_change stands (subst (λ (d : Doing). Fits clock.bank clock.regs d) doing (next-fits clock action next fit))
 
-  module _ (regs : RegsState n m e) (answer : Keep) (old new : ArrayState n m) (led : (xs : List (Timed n m)) × Leads xs clock old) (read : 1 ≤ clock.pace.read) (iter : 1 ≤ clock.pace.iter)
+  module _ (regs : RegsState n m e) (answer : Keep) (old new : ArrayState n m) (led : (xs : List (TimedEvent n m)) × Leads xs clock old) (read : 1 ≤ clock.pace.read) (iter : 1 ≤ clock.pace.iter)
       (step : IsKeep clock.regs regs answer) (whole : IsWrittenWhole clock.regs new answer) (held : AreHeld regs new) (results : List (Outcome n)) (unset : AreOpen clock.bank results) where
     later : clock.tick < ends clock.pace action
     later = next-ends clock action next led.0 old led.1 read iter

@@ -1,7 +1,7 @@
 -- A settled bank keeps the laws of banks.
 use Rattle.std.proofs.Common.{◌≡◌, ℕ, ◌≤◌, List, None}
 use Rattle.pcm_cells.specs.Device.{ArrayState}
-use Rattle.bank_model.specs.Timing.{Timed}
+use Rattle.bank_model.specs.Timing.{TimedEvent}
 use Rattle.bank_laws.specs.Laws.{TableLaw, PlaceLaw, LogLaw, IsSized}
 use Rattle.clock_laws.specs.State.{ClockState, next_action}
 use Rattle.clock_laws.specs.Leads.{Leads}
@@ -10,7 +10,7 @@ use Rattle.clock_laws.proofs.Leaving.{leaving_law}
 use Rattle.bank_timing.specs.Laws.{KeepsLaws}
 
 pub keeps-laws : (n m e : ℕ) → TableLaw n m → PlaceLaw n m → LogLaw n m
-    → (xs : List (Timed n m)) (clock : ClockState n m e) (array : ArrayState n m) → 1 ≤ clock.pace.read → 1 ≤ clock.pace.iter
+    → (xs : List (TimedEvent n m)) (clock : ClockState n m e) (array : ArrayState n m) → 1 ≤ clock.pace.read → 1 ≤ clock.pace.iter
     → Leads xs clock array → next_action clock ≡ None → KeepsLaws e clock.bank.kept.shape clock.pace xs array
 keeps-laws n m e table place log xs clock array read iter leads rests =
     let shape = clock.bank.kept.shape in

@@ -21,12 +21,12 @@ use Rattle.line_writer.specs.Writing.{HasBegun, steps_left, most_steps}
 use Rattle.power_recovery.specs.Kept.{KeptState, IsKept, target_slot, next_work}
 use Rattle.power_recovery.specs.Events.{is_store, is_copy, stored_kept, moved_kept, retired_kept, exhausted_kept}
 use Rattle.power_recovery.proofs.Bundle.{next_work-store}
-use Rattle.bank_model.specs.declared.answer.Step.{Step}
-use Rattle.bank_model.specs.declared.answer.Step.TheVariants as did
-use Rattle.bank_model.specs.declared.clock.Action.{Action}
+use Rattle.bank_shape.specs.declared.answer.Step.{Step}
+use Rattle.bank_shape.specs.declared.answer.Step.TheVariants as did
+use Rattle.bank_shape.specs.declared.clock.Action.{Action}
 use Rattle.bank_model.specs.Events.{Event}
 use Rattle.bank_model.specs.History.{Awaited}
-use Rattle.bank_model.specs.Timing.{Timed, Core, ends}
+use Rattle.bank_model.specs.Timing.{TimedEvent, Core, ends}
 use Rattle.bank_laws.specs.Outcomes.{outcome_by, step_outcome}
 use Rattle.bank_laws.specs.Ticks.{ends_action}
 use Rattle.bank_invariant.specs.State.{BankState, Operation, is_free, target_of}
@@ -89,7 +89,7 @@ module _ {n m e : ℕ} (clock : ClockState n m e) (action : Action) (answer : St
   pub step-completes : (event : Event n) → ((ws : List Awaited) (tick row : ℕ) → outcome_by ws event tick row ≡ step_outcome answer tick row)
       → IsTrue (ends_action (Core event))
       → clock.tick < ends clock.pace action → Steps clock.bank clock.regs bank answer (ends clock.pace action) results
-      → ((xs : List (Timed n m)) → Leads xs clock old → GoesOn xs clock bank regs event action old new)
+      → ((xs : List (TimedEvent n m)) → Leads xs clock old → GoesOn xs clock bank regs event action old new)
       → Completes clock (after_action clock bank regs action event) action old new results (step_recorded answer (ends clock.pace action) results)
   step-completes event outcome ends_one later steps goes = record {
     now = refl;
@@ -101,7 +101,7 @@ module _ {n m e : ℕ} (clock : ClockState n m e) (action : Action) (answer : St
       completed_event xs clock action event new,
       end-extends xs clock bank regs action event old new results (step_recorded answer (ends clock.pace action) results) (goes xs leads) steps.shape (step-rows results (ends clock.pace action) answer)
           (λ row there. step-outcomes results (ends clock.pace action) answer steps.unset row there ∙ ap (λ (o : Option (Outcome n)). unwrap_or o (outcome_in results row)) (sym (outcome _ (ends clock.pace action) row))),
-      All-cons (λ (x : Timed n m). EndsAction x) (completed_event xs clock action event new) [] ends_one (All-nil (λ (x : Timed n m). EndsAction x)),
+      All-cons (λ (x : TimedEvent n m). EndsAction x) (completed_event xs clock action event new) [] ends_one (All-nil (λ (x : TimedEvent n m). EndsAction x)),
     );
     unset = steps.left;
     bound = steps.bound;

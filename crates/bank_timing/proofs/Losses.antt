@@ -1,19 +1,20 @@
 -- A power cut: what becomes of the clock, the array and the results.
 use Rattle.std.proofs.Common.{◌≡◌, ℕ, ◌+◌, ◌<◌, ◌==◌, ◌||◌, ◌&&◌, not, Bool, true, false, List, [], ◌∷◌, length, map, drop, Option, Some, None, is_some, refl, sym, ap, subst, ◌∙◌, arith, eq-eqb}
-use Rattle.std.proofs.lemmas.Bool.{false≢true, ne_eqb}
+use Rattle.masked_bytes.proofs.Truth.{neither_first, neither_second, and_first, and_second}
+use Rattle.std.proofs.lemmas.Bool.{false≢true, ne_eqb, or_right}
 use Rattle.std.specs.Prelude.{unwrap_or, IsTrue, if◌then◌else◌, slice_get}
 use Rattle.pcm_cells.specs.Device.{ArrayState}
 use Rattle.result_rows.specs.declared.Outcome.{Outcome}
 use Rattle.result_rows.specs.declared.Outcome.TheVariants as out
 use Rattle.result_rows.specs.Table.{HasRow, with_outcome}
-use Rattle.bank_model.specs.declared.clock.Doing.{Doing}
-use Rattle.bank_model.specs.declared.clock.Doing.TheVariants.{Serving, Beginning, Iterating}
-use Rattle.bank_model.specs.declared.clock.Action.{Action}
+use Rattle.bank_shape.specs.declared.clock.Doing.{Doing}
+use Rattle.bank_shape.specs.declared.clock.Doing.TheVariants.{Serving, Beginning, Iterating}
+use Rattle.bank_shape.specs.declared.clock.Action.{Action}
 use Rattle.bank_model.specs.Events.{Event, Cut}
 use Rattle.bank_model.specs.History.{waits}
-use Rattle.bank_model.specs.Timing.{Timed, core, is_doing, same_doing}
+use Rattle.bank_model.specs.Timing.{TimedEvent, core, is_doing, same_doing}
 use Rattle.bank_model.specs.Touching.{Touches}
-use Rattle.bank_invariant.specs.declared.Waiting.{Waiting}
+use Rattle.bank_shape.specs.declared.waiting.Waiting.{Waiting}
 use Rattle.bank_invariant.specs.State.{BankState, Operation}
 use Rattle.bank_invariant.specs.Holds.{Holds}
 use Rattle.bank_invariant.specs.Steps.{cut_off}
@@ -40,11 +41,9 @@ use Rattle.clock_laws.proofs.Tearing.{cut_ends_law}
 use Rattle.clock_laws.proofs.Fitting.{needs_law}
 use Rattle.clock_laws.proofs.Elsewhere.{holds-same}
 use Rattle.clock_laws.proofs.Together.{controls_stay_law, cut_touches_law}
-use Rattle.clock_laws.proofs.Deciding.{or_left, or_right, or_back}
 use Rattle.clock_laws.proofs.Others.{apart_law, same_wait, other_rows_law}
 use Rattle.bank_timing.specs.Extending.{Extends, AreOpen, IsOpen, LeavesOthers, outcome_in}
-use Rattle.pace.specs.declared.Pace.{Pace}
-use Rattle.pace.specs.Policies.{pacing_of}
+use Rattle.bank_shape.specs.declared.pace.Pace.{Pace}
 use Rattle.bank_timing.specs.Clock.{IsClock}
 use Rattle.bank_timing.specs.Losing.{lost_recorded, LosesOpen, bank_with_lost}
 use Rattle.bank_timing.proofs.Rows.{rows-set, has-set, in-set, open-set}
@@ -63,7 +62,7 @@ module _ {n : ℕ} (tick : ℕ) where
   rest-open : (w : Waiting n) (ws : List (Waiting n)) (results : List (Outcome n)) → WaitingApart (w ∷ ws) → ((row : ℕ) → has_waiting (w ∷ ws) row ≡ true → IsOpen results row)
       → (row : ℕ) → has_waiting ws row ≡ true → IsOpen (with_outcome results w.row (out.Lost tick)) row
   rest-open w ws results apart unset row there =
-      open-set results w.row (out.Lost tick) row (unset w.row (waits-head w ws)).exists (apart-by (has_waiting ws) row w.row there apart.0) (unset row (or_back (w.row == row) (has_waiting ws row) there))
+      open-set results w.row (out.Lost tick) row (unset w.row (waits-head w ws)).exists (apart-by (has_waiting ws) row w.row there apart.0) (unset row (or_right (w.row == row) (has_waiting ws row) there))
 
   pub loses-open : (ws : List (Waiting n)) (results : List (Outcome n)) → WaitingApart ws → ((row : ℕ) → has_waiting ws row ≡ true → IsOpen results row) → LosesOpen tick (rows_of ws) results
   loses-open [] results apart unset = tt
@@ -75,8 +74,8 @@ module _ {n : ℕ} (tick : ℕ) where
       → has_waiting ws row ≡ false → IsOpen results row → IsOpen (lost_recorded tick (rows_of ws) results) row
   kept-open [] results row apart unset none own = own
   kept-open (w ∷ ws) results row apart unset none own =
-      kept-open ws (with_outcome results w.row (out.Lost tick)) row apart.1 (rest-open w ws results apart unset) (or_right (w.row == row) _ none)
-      (open-set results w.row (out.Lost tick) row (unset w.row (waits-head w ws)).exists (λ same. absurd (differ (w.row == row) (or_left (w.row == row) _ none) (eq-eqb w.row row (sym same)))) own)
+      kept-open ws (with_outcome results w.row (out.Lost tick)) row apart.1 (rest-open w ws results apart unset) (neither_second (w.row == row) _ none)
+      (open-set results w.row (out.Lost tick) row (unset w.row (waits-head w ws)).exists (λ same. absurd (differ (w.row == row) (neither_first (w.row == row) _ none) (eq-eqb w.row row (sym same)))) own)
     where
       differ : (a : Bool) → a ≡ false → a ≡ true → ⊥
       differ true h k = cc
@@ -115,7 +114,7 @@ lose-none tick (at ∷ lost) results none = absurd (cc)
 
 -- a bank with its clock, as contracts see it
 abbrev pub view_by : {n m e : ℕ} → BankState n m e → RegsState n m e → Pace → ℕ → Option Action → List ℕ → ℕ → Bool → ClockState n m e
-view_by bank regs pace tick action arrivals cancels drained = record { bank = bank; regs = regs; pace = pacing_of pace; tick = tick; action = action; arrivals = arrivals; cancels = cancels; drained = drained }
+view_by bank regs pace tick action arrivals cancels drained = record { bank = bank; regs = regs; pace = pace; tick = tick; action = action; arrivals = arrivals; cancels = cancels; drained = drained }
 
 -- what the lost rows are doesn't matter to an action
 pub lost-clock : {n m e : ℕ} (rows : List ℕ) (bank : BankState n m e) (regs : RegsState n m e) (pace : Pace) (tick places : ℕ) (action : Option Action) → IsClock bank regs pace tick action places
@@ -146,14 +145,6 @@ iterating-fits {n} {m} {e} bank regs (Some a) fit is = iterates a.doing fit is
     iterates Beginning fit is = absurd (cc)
     iterates Iterating fit is = fit
 
-pub both-left : (a b : Bool) → (a && b) ≡ true → a ≡ true
-both-left true b is = refl
-both-left false b is = is
-
-pub both-right : (a b : Bool) → (a && b) ≡ true → b ≡ true
-both-right true b is = is
-both-right false b is = absurd (cc)
-
 pub not-some : {A : Type 0} (x : Option A) → not (is_some x) ≡ true → x ≡ None
 not-some None is = refl
 not-some (Some a) is = absurd (cc)
@@ -161,20 +152,20 @@ not-some (Some a) is = absurd (cc)
 -- a cut meets a clock whose action has what it needs: some history leads there over an array, and the rows that stand have no outcome yet
 pub record MeetsCut {n m e : ℕ} (clock : ClockState n m e) (old : ArrayState n m) (results : List (Outcome n)) : Type 0 where
   pub fit : IsFit clock.bank clock.regs clock.action
-  pub led : (xs : List (Timed n m)) × Leads xs clock old
+  pub led : (xs : List (TimedEvent n m)) × Leads xs clock old
   pub unset : AreOpen clock.bank results
 
 -- what a power cut asks for says so
 pub meets : {n m e : ℕ} {clock now : ClockState n m e} {old : ArrayState n m} {results : List (Outcome n)} → clock ≡ now
-    → IsFit clock.bank clock.regs clock.action → (xs : List (Timed n m)) × Leads xs now old → AreOpen now.bank results → MeetsCut clock old results
+    → IsFit clock.bank clock.regs clock.action → (xs : List (TimedEvent n m)) × Leads xs now old → AreOpen now.bank results → MeetsCut clock old results
 meets {n = n} {m = m} {e = e} {old = old} {results = results} view fit led unset = record {
   fit = fit;
-  led = subst (λ (clock : ClockState n m e). (xs : List (Timed n m)) × Leads xs clock old) (sym view) led;
+  led = subst (λ (clock : ClockState n m e). (xs : List (TimedEvent n m)) × Leads xs clock old) (sym view) led;
   unset = subst (λ (clock : ClockState n m e). AreOpen clock.bank results) (sym view) unset;
 }
 
 -- what a line write of the bank pulses or tears is no control line
-pub work-leaves : {n m e : ℕ} (xs : List (Timed n m)) (clock : ClockState n m e) (old new : ArrayState n m) (tick : ℕ) (tearing : Bool) → Leads xs clock old
+pub work-leaves : {n m e : ℕ} (xs : List (TimedEvent n m)) (clock : ClockState n m e) (old new : ArrayState n m) (tick : ℕ) (tearing : Bool) → Leads xs clock old
     → Touches tick [] (torn_line tearing clock.bank.running) tearing old new → LeavesControls clock.regs old new
 work-leaves {n} {m} {e} xs clock old new tick tearing leads touches = record { lines = touches.lines; controls = by tearing clock.bank.running refl touches }
   where
@@ -214,14 +205,14 @@ module _ {n m e : ℕ} {clock : ClockState n m e} {old : ArrayState n m} {result
   pub cut-ready : (tearing : Bool) → tearing ≡ (iterating && not stands) → IsTrue tearing → IsTrue (is_some clock.bank.running)
   cut-ready tearing is torn =
       let both : (iterating && not stands) ≡ true = sym is ∙ torn in
-      (needs_law n m e clock.bank clock.regs).iterates (not-some clock.regs.change (both-right iterating (not stands) both))
-      (iterating-fits clock.bank clock.regs clock.action c.fit (both-left iterating (not stands) both))
+      (needs_law n m e clock.bank clock.regs).iterates (not-some clock.regs.change (and_second iterating (not stands) both))
+      (iterating-fits clock.bank clock.regs clock.action c.fit (and_first iterating (not stands) both))
 
   pub cut-change-ready : (tearing : Bool) → tearing ≡ (iterating && stands) → IsTrue tearing → IsTrue (is_some clock.regs.writer)
   cut-change-ready tearing is torn =
       let both : (iterating && stands) ≡ true = sym is ∙ torn in
-      (needs_law n m e clock.bank clock.regs).iterates_change (both-right iterating stands both)
-      (iterating-fits clock.bank clock.regs clock.action c.fit (both-left iterating stands both))
+      (needs_law n m e clock.bank clock.regs).iterates_change (and_second iterating stands both)
+      (iterating-fits clock.bank clock.regs clock.action c.fit (and_first iterating stands both))
 
   -- the reads that the cut takes away have no outcome yet
   pub cut-open : LosesOpen clock.tick (rows_of clock.bank.waiting) results
@@ -283,7 +274,7 @@ module _ {n m e : ℕ} {clock : ClockState n m e} {old : ArrayState n m} {result
             (subst (λ (b : Bool). Touches clock.tick [] (regs_torn b clock.regs) b between later) change_is second) third
 
         -- each history that led to the clock goes on with the cut
-        pub cut-extends : (xs : List (Timed n m)) → Leads xs clock old
+        pub cut-extends : (xs : List (TimedEvent n m)) → Leads xs clock old
             → Extends xs (cut xs clock new ∷ []) clock (after_cut clock after) old new results recorded
         cut-extends xs leads = record {
           leads = ends.leads;
@@ -312,4 +303,4 @@ module _ {n m e : ℕ} {clock : ClockState n m e} {old : ArrayState n m} {result
 -- what a cut promises of every history that led to the clock
 abbrev pub CutExtends : {n m e : ℕ} → ClockState n m e → ClockState n m e → ArrayState n m → ArrayState n m → List (Outcome n) → List (Outcome n) → Type 0
 CutExtends {n} {m} clock new before after results recorded =
-    (xs : List (Timed n m)) → Leads xs clock before → Extends xs (cut xs clock after ∷ []) clock new before after results recorded
+    (xs : List (TimedEvent n m)) → Leads xs clock before → Extends xs (cut xs clock after ∷ []) clock new before after results recorded

@@ -1,5 +1,6 @@
 -- The writes that stand in the queue of a settled bank are queued, with the ticks of their arrival.
 use Rattle.std.proofs.Common.{◌≡◌, ℕ, suc, zero, ◌+◌, ◌<◌, ◌≤◌, ◌==◌, ◌||◌, if◌then◌else◌, Bool, true, false, List, [], ◌∷◌, length, drop, map, Option, Some, None, slice_get, refl, sym, ap, subst, ◌∙◌, arith, eqb-true}
+use Rattle.std.proofs.lemmas.Bool.{or_right}
 use Rattle.std.specs.Prelude.{unwrap_or, IsSomeAnd}
 use Rattle.std.proofs.lemmas.List.{drop-drop, length-drop}
 use Rattle.std.proofs.Math.ListN.{drop_of_length-le}
@@ -8,7 +9,6 @@ use Rattle.result_rows.specs.declared.Outcome.TheVariants.{Queued}
 use Rattle.result_rows.specs.Table.{HasRow, with_outcome}
 use Rattle.masked_bytes.specs.declared.entry.Entry.{Entry}
 use Rattle.masked_bytes.specs.Entries.{has_row}
-use Rattle.clock_laws.proofs.Deciding.{or_back}
 use Rattle.bank_timing.specs.Extending.{outcome_in, IsOpen}
 use Rattle.bank_timing.specs.Draining.{AreQueueable, AreQueued, queued_outcome}
 use Rattle.bank_timing.proofs.Rows.{rows-set, in-set, open-set}
@@ -89,7 +89,7 @@ module _ {n : ℕ} where
     rest = record {
       told = (let told = ready.told in omega (arith, told));
       apart = ready.apart.1;
-      unset = λ row there. open-set results e.row (Queued tick) row here.exists (apart-by (has_row es) row e.row there ready.apart.0) (ready.unset row (or_back (e.row == row) (has_row es row) there));
+      unset = λ row there. open-set results e.row (Queued tick) row here.exists (apart-by (has_row es) row e.row there ready.apart.0) (ready.unset row (or_right (e.row == row) (has_row es row) there));
     };
     rows = rows-set results e.row (Queued tick);
     outcomes = λ row there.

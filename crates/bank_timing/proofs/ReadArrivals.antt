@@ -9,14 +9,15 @@ use Rattle.result_rows.specs.Table.{HasRow, with_outcome}
 use Rattle.masked_bytes.specs.Entries.{layer_of}
 use Rattle.bank_shape.specs.declared.BankShape.{BankShape}
 use Rattle.reg_lines.specs.Regs.{RegsState}
-use Rattle.bank_model.specs.declared.answer.ReadAnswer.{ReadAnswer}
-use Rattle.bank_model.specs.declared.answer.ReadAnswer.TheVariants as came
+use Rattle.bank_shape.specs.declared.answer.ReadAnswer.{ReadAnswer}
+use Rattle.bank_shape.specs.declared.answer.ReadAnswer.TheVariants as came
 use Rattle.bank_model.specs.Events.{Event, Read}
 use Rattle.bank_model.specs.History.{Awaited, waits}
-use Rattle.bank_model.specs.Timing.{Timed, Pacing, Core, core}
+use Rattle.bank_shape.specs.declared.pace.Pace.{Pace}
+use Rattle.bank_model.specs.Timing.{TimedEvent, Core, core}
 use Rattle.bank_model.specs.Lawful.{Lawful}
 use Rattle.bank_laws.specs.Outcomes.{outcome_by}
-use Rattle.bank_invariant.specs.declared.Waiting.{Waiting}
+use Rattle.bank_shape.specs.declared.waiting.Waiting.{Waiting}
 use Rattle.bank_invariant.specs.State.{BankState}
 use Rattle.bank_invariant.specs.Holds.{Holds}
 use Rattle.bank_invariant.specs.Serving.{kept_with, read_from, waits_too}
@@ -24,10 +25,10 @@ use Rattle.bank_invariant.proofs.Quiet.{RowsBelow-more}
 use Rattle.bank_core.specs.Steps.{after_read as bank_after_read}
 use Rattle.clock_laws.specs.State.{ClockState}
 use Rattle.clock_laws.specs.Leads.{Leads}
-use Rattle.pace.specs.declared.Pace.{Pace}
-use Rattle.bank_model.specs.declared.clock.Doing.{Doing}
-use Rattle.bank_model.specs.declared.clock.Doing.TheVariants.{Serving, Beginning, Iterating}
-use Rattle.bank_model.specs.declared.clock.Action.{Action}
+use Rattle.bank_shape.specs.declared.pace.Pace.{Pace}
+use Rattle.bank_shape.specs.declared.clock.Doing.{Doing}
+use Rattle.bank_shape.specs.declared.clock.Doing.TheVariants.{Serving, Beginning, Iterating}
+use Rattle.bank_shape.specs.declared.clock.Action.{Action}
 use Rattle.clock_laws.specs.Fitting.{Fits, IsFit}
 use Rattle.clock_laws.proofs.Fitting.{fit_read_law}
 use Rattle.clock_laws.specs.Arriving.{arrival, cancels_for, action_after_read, after_read, KeepsWork}
@@ -82,19 +83,19 @@ module _ {n m e : ℕ} where
   -- an arrival leaves each other row
   pub arrival-others : (arrives : ℕ) (event : Event n) (clock new : ClockState n m e) (array : ArrayState n m) (results recorded : List (Outcome n))
       → ((row : ℕ) → row ≢ arrives → (is_arrival_of (Core event) row || false) ≡ false)
-      → (xs : List (Timed n m)) → Leads xs clock array → Extends xs (arrival clock.tick event ∷ []) clock new array array results recorded
+      → (xs : List (TimedEvent n m)) → Leads xs clock array → Extends xs (arrival clock.tick event ∷ []) clock new array array results recorded
       → LeavesOthersThan arrives clock.bank results recorded
   arrival-others arrives event clock new array results recorded quiet xs leads extends row there other unqueued unawaited =
       let lawful : Lawful clock.bank.kept.shape clock.pace e (arrival clock.tick event ∷ xs) =
       subst (λ (shape : BankShape). Lawful shape clock.pace e (arrival clock.tick event ∷ xs)) extends.shape
-      (subst (λ (pace : Pacing). Lawful new.bank.kept.shape pace e (arrival clock.tick event ∷ xs)) extends.pace extends.leads.lawful) in
+      (subst (λ (pace : Pace). Lawful new.bank.kept.shape pace e (arrival clock.tick event ∷ xs)) extends.pace extends.leads.lawful) in
       extends.outcomes row there
       ∙ other_rows_law n m e row (arrival clock.tick event ∷ []) xs clock array (outcome_in results) leads lawful unqueued unawaited (quiet row other)
 
 -- a bank takes a read, with an answer: what is true of its clock and of the results before, and what the bank promises
 pub record TakesRead {n m e : ℕ} (row line : ℕ) (clock : ClockState n m e) (results : List (Outcome n)) (answer : ReadAnswer n) (bank : BankState n m e) : Type 0 where
   pub quiet : cancels_for clock line ≡ false
-  pub led : (xs : List (Timed n m)) × (array : ArrayState n m) × Leads xs clock array
+  pub led : (xs : List (TimedEvent n m)) × (array : ArrayState n m) × Leads xs clock array
   pub rises : clock.bank.rows_below ≤ row
   pub unset : AreOpen clock.bank results
   pub fresh : IsOpen results row
@@ -135,7 +136,7 @@ read-keeps bank row line came.Busy = record { shape = refl; items = λ item. ref
 
 module _ {n m e row line : ℕ} {clock : ClockState n m e} {results : List (Outcome n)} {answer : ReadAnswer n} {bank : BankState n m e} (r : TakesRead row line clock results answer bank) where
   -- each history that led to the clock goes on with the arrival of the read
-  pub read-extends : (xs : List (Timed n m)) (array : ArrayState n m) → Leads xs clock array
+  pub read-extends : (xs : List (TimedEvent n m)) (array : ArrayState n m) → Leads xs clock array
       → Extends xs (arrival clock.tick (Read row line (read_from clock.bank line)) ∷ []) clock (after_read clock bank line answer) array array results (read_recorded answer clock.tick row results)
   read-extends xs array leads =
       subst (λ (a : ReadAnswer n). Extends xs (arrival clock.tick (Read row line a) ∷ []) clock (after_read clock bank line answer) array array results (read_recorded answer clock.tick row results)) (sym r.answered)

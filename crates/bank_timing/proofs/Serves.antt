@@ -6,16 +6,16 @@ use Rattle.pcm_cells.specs.Device.{ArrayState}
 use Rattle.result_rows.specs.declared.Outcome.{Outcome}
 use Rattle.result_rows.specs.declared.Outcome.TheVariants as out
 use Rattle.result_rows.specs.Table.{HasRow, with_outcome}
-use Rattle.bank_model.specs.declared.answer.Served.{Served}
-use Rattle.bank_model.specs.declared.clock.Doing.{Doing}
-use Rattle.bank_model.specs.declared.clock.Doing.TheVariants.{Serving}
-use Rattle.bank_model.specs.declared.clock.Action.{Action}
+use Rattle.bank_shape.specs.declared.answer.Served.{Served}
+use Rattle.bank_shape.specs.declared.clock.Doing.{Doing}
+use Rattle.bank_shape.specs.declared.clock.Doing.TheVariants.{Serving}
+use Rattle.bank_shape.specs.declared.clock.Action.{Action}
 use Rattle.bank_model.specs.Events.{Event, Serve}
 use Rattle.bank_model.specs.History.{waits}
-use Rattle.bank_model.specs.Timing.{Timed, core, ends}
+use Rattle.bank_model.specs.Timing.{TimedEvent, core, ends}
 use Rattle.bank_model.specs.Touching.{Touches}
 use Rattle.bank_laws.specs.Outcomes.{outcome_by}
-use Rattle.bank_invariant.specs.declared.Waiting.{Waiting}
+use Rattle.bank_shape.specs.declared.waiting.Waiting.{Waiting}
 use Rattle.bank_invariant.specs.State.{BankState}
 use Rattle.bank_invariant.specs.Serving.{served, served_from}
 use Rattle.bank_invariant.specs.Holds.{Holds}
@@ -36,7 +36,7 @@ use Rattle.bank_timing.proofs.Rows.{rows-set, in-set}
 use Rattle.bank_timing.proofs.Acting.{next-fits, next-ends}
 use Rattle.bank_timing.proofs.Standing.{waits-head, served-unset}
 
-module _ {n m e : ℕ} (xs : List (Timed n m)) (clock : ClockState n m e) (bank : BankState n m e) (regs : RegsState n m e) (action : Action) (event : Event n) (old new : ArrayState n m) (results recorded : List (Outcome n)) where
+module _ {n m e : ℕ} (xs : List (TimedEvent n m)) (clock : ClockState n m e) (bank : BankState n m e) (regs : RegsState n m e) (action : Action) (event : Event n) (old new : ArrayState n m) (results recorded : List (Outcome n)) where
   -- the event that ends an action, with the outcome that it makes
   pub end-extends : GoesOn xs clock bank regs event action old new → bank.kept.shape ≡ clock.bank.kept.shape → length recorded ≡ length results
       → ((row : ℕ) → HasRow results row
@@ -53,7 +53,7 @@ module _ {n m e : ℕ} (clock : ClockState n m e) (action : Action) (old new : A
   abbrev outcome_served : Outcome n
   outcome_served = out.Read (ends clock.pace action) answer_of.place answer_of.bytes
 
-  pub served-open : (xs : List (Timed n m)) → Leads xs clock old → clock.bank.waiting ≡ w ∷ ws → AreOpen clock.bank results
+  pub served-open : (xs : List (TimedEvent n m)) → Leads xs clock old → clock.bank.waiting ≡ w ∷ ws → AreOpen clock.bank results
       → StandOpen clock.bank.kept.entries (drop 1 clock.bank.waiting) (with_outcome results w.row outcome_served)
   served-open xs leads first unset =
       by clock.bank.waiting first (apart_law n m e xs clock old leads) unset
@@ -66,7 +66,7 @@ module _ {n m e : ℕ} (clock : ClockState n m e) (action : Action) (old new : A
           subst (λ (u : Waiting n). StandOpen clock.bank.kept.entries vs (with_outcome results u.row outcome_served)) same
           (served-unset clock.bank.kept.entries v vs clock.bank.rows_below results outcome_served apart unset)
 
-  pub serve-completes : (first : List (Timed n m)) → Leads first clock old → next_action clock ≡ Some action → action.doing ≡ Serving → clock.tick < ends clock.pace action
+  pub serve-completes : (first : List (TimedEvent n m)) → Leads first clock old → next_action clock ≡ Some action → action.doing ≡ Serving → clock.tick < ends clock.pace action
       → clock.bank.waiting ≡ w ∷ ws → Touches (ends clock.pace action) (answer_of.place ∷ []) None false old new
       → ((h : List (Event n)) → Holds h clock.bank old → Holds (Serve answer_of ∷ h) (served clock.bank) new) → AreOpen clock.bank results
       → Completes clock (after_action clock (served clock.bank) clock.regs action (Serve answer_of)) action old new results (with_outcome results w.row outcome_served)
@@ -79,7 +79,7 @@ module _ {n m e : ℕ} (clock : ClockState n m e) (action : Action) (old new : A
     extends = λ xs leads. (
       completed_event xs clock action (Serve answer_of) new,
       extended xs leads,
-      All-cons (λ (x : Timed n m). EndsAction x) (completed_event xs clock action (Serve answer_of) new) [] refl (All-nil (λ (x : Timed n m). EndsAction x)),
+      All-cons (λ (x : TimedEvent n m). EndsAction x) (completed_event xs clock action (Serve answer_of) new) [] refl (All-nil (λ (x : TimedEvent n m). EndsAction x)),
     );
     unset = served-open first led waiting unset;
     bound = refl;
@@ -93,7 +93,7 @@ module _ {n m e : ℕ} (clock : ClockState n m e) (action : Action) (old new : A
       has : HasRow results w.row
       has = (unset.waiting w.row (subst (λ (all : List (Waiting n)). has_waiting all w.row ≡ true) (sym waiting) (waits-head w ws))).exists
 
-      extended : (xs : List (Timed n m)) → Leads xs clock old
+      extended : (xs : List (TimedEvent n m)) → Leads xs clock old
           → Extends xs (completed_event xs clock action (Serve answer_of) new ∷ []) clock (after_action clock (served clock.bank) clock.regs action (Serve answer_of)) old new results (with_outcome results w.row outcome_served)
       extended xs leads =
           let end : IsCompletion xs clock (served clock.bank) clock.regs (Serve answer_of) action (answer_of.place ∷ []) None old new =
@@ -117,7 +117,7 @@ module _ {n m e : ℕ} (clock : ClockState n m e) (action : Action) (next : next
         by [] some is unset = absurd (omega arith)
         by (w ∷ ws) some is unset = subst (λ (row : ℕ). IsOpen results row) (sym (ap (λ (a : Served n). a.row) is)) (unset w.row (waits-head w ws))
 
-    pub serve-whole : (bank : BankState n m e) (led : (xs : List (Timed n m)) × Leads xs clock old) → 1 ≤ clock.pace.read → 1 ≤ clock.pace.iter
+    pub serve-whole : (bank : BankState n m e) (led : (xs : List (TimedEvent n m)) × Leads xs clock old) → 1 ≤ clock.pace.read → 1 ≤ clock.pace.iter
         → bank ≡ served clock.bank → Touches (ends clock.pace action) (answer.place ∷ []) None false old new
         → ((h : List (Event n)) → Holds h clock.bank old → Holds (Serve answer ∷ h) bank new)
         → Completes clock (after_action clock bank clock.regs action (Serve answer)) action old new results (with_outcome results answer.row (out.Read (ends clock.pace action) answer.place answer.bytes))

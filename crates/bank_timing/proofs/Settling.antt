@@ -7,13 +7,14 @@ use Rattle.ecp_line.specs.Layout.{IsLayout, width}
 use Rattle.line_writer.specs.Writing.{steps_left, most_steps}
 use Rattle.spare_pool.specs.Table.{used_by}
 use Rattle.power_recovery.specs.Kept.{KeptState, IsKept, due_region}
-use Rattle.bank_model.specs.declared.clock.Doing.{Doing}
-use Rattle.bank_model.specs.declared.clock.Doing.TheVariants.{Serving, Beginning, Iterating}
-use Rattle.bank_model.specs.declared.clock.Action.{Action}
-use Rattle.bank_model.specs.Timing.{ends, lasts, Timed}
+use Rattle.bank_shape.specs.declared.clock.Doing.{Doing}
+use Rattle.bank_shape.specs.declared.clock.Doing.TheVariants.{Serving, Beginning, Iterating}
+use Rattle.bank_shape.specs.declared.clock.Action.{Action}
+use Rattle.bank_shape.specs.Acting.{lasts}
+use Rattle.bank_model.specs.Timing.{ends, TimedEvent}
 use Rattle.pcm_cells.specs.Device.{ArrayState}
-use Rattle.pace.specs.declared.Pace.{Pace}
-use Rattle.pace.specs.Policies.{IsPace, pacing_of}
+use Rattle.bank_shape.specs.declared.pace.Pace.{Pace}
+use Rattle.bank_shape.specs.Pausing.{IsPace}
 use Rattle.bank_invariant.specs.State.{Operation}
 use Rattle.clock_laws.specs.State.{ClockState}
 use Rattle.clock_laws.specs.Leads.{Leads}
@@ -86,7 +87,7 @@ few-in-all waiting most attempts one a b c d =
     sum : (p : ℕ) → p ≤ 3066 * 3076 → waiting + p + one ≤ 10000000
     sum p h = omega (arith, a, b, d, h)
 
-pub few-actions : {n m e : ℕ} (xs : List (Timed n m)) (clock : ClockState n m e) (array : ArrayState n m) → IsLayout n m e → Leads xs clock array → actions_left clock.bank clock.regs ≤ 10000000
+pub few-actions : {n m e : ℕ} (xs : List (TimedEvent n m)) (clock : ClockState n m e) (array : ArrayState n m) → IsLayout n m e → Leads xs clock array → actions_left clock.bank clock.regs ≤ 10000000
 few-actions {n} {m} {e} xs clock array layout leads =
     few-in-all (length clock.bank.waiting) (most_steps e) (attempts_left clock.bank.kept) (present_left (item_of clock.regs.change) clock.regs.halted clock.regs.writer clock.bank.running)
     (waiting leads.holds.few_waiting leads.holds.kept.shape.few_reads) (most e (few-pointers e (width n) m layout.shape.3 layout.room))
@@ -103,7 +104,7 @@ pub enough : (tick left : ℕ) → tick ≤ 2 ^ 40 → left ≤ 10000000 → tic
 enough tick left h k = omega (arith, h, k)
 
 -- an action ends within 255 ticks
-pub ends-soon : {n m e : ℕ} (clock : ClockState n m e) (pace : Pace) (action : Action) → clock.pace ≡ pacing_of pace → IsPace pace → action.first ≤ clock.tick → ends clock.pace action ≤ clock.tick + 255
+pub ends-soon : {n m e : ℕ} (clock : ClockState n m e) (pace : Pace) (action : Action) → clock.pace ≡ pace → IsPace pace → action.first ≤ clock.tick → ends clock.pace action ≤ clock.tick + 255
 ends-soon clock pace action is paced begun =
     rw is (sum (lasts pace.read pace.iter action.doing) (short action.doing))
   where

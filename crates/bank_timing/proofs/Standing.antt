@@ -1,12 +1,12 @@
 -- Rows that stand have no outcome still while others are set.
 use Rattle.std.proofs.Common.{◌≡◌, ◌≢◌, ℕ, ◌<◌, ◌==◌, Bool, true, false, List, [], ◌∷◌, length, drop, refl, sym, ap, ◌∙◌, arith, eq-eqb}
+use Rattle.std.proofs.lemmas.Bool.{or_left, or_right}
 use Rattle.result_rows.specs.declared.Outcome.{Outcome}
 use Rattle.result_rows.specs.Table.{HasRow, with_outcome}
 use Rattle.masked_bytes.specs.declared.entry.Entry.{Entry}
 use Rattle.masked_bytes.specs.Entries.{has_row, head_row, completed}
-use Rattle.bank_invariant.specs.declared.Waiting.{Waiting}
+use Rattle.bank_shape.specs.declared.waiting.Waiting.{Waiting}
 use Rattle.clock_laws.specs.Standing.{has_waiting, AreApart}
-use Rattle.clock_laws.proofs.Deciding.{or_first, or_back}
 use Rattle.bank_timing.specs.Extending.{StandOpen}
 use Rattle.bank_timing.proofs.Rows.{open-set}
 
@@ -20,14 +20,14 @@ apart-by test row at has lacks = λ same. clash (test row) has (ap test same ∙
 
 module _ {n : ℕ} where
   pub has-head : (e : Entry n) (es : List (Entry n)) → has_row (e ∷ es) e.row ≡ true
-  has-head e es = or_first (e.row == e.row) (has_row es e.row) (eq-eqb e.row e.row refl)
+  has-head e es = or_left (e.row == e.row) (has_row es e.row) (eq-eqb e.row e.row refl)
 
   pub head-there : (es : List (Entry n)) → 0 < length es → has_row es (head_row es) ≡ true
   head-there [] some = absurd (omega arith)
   head-there (e ∷ es) some = has-head e es
 
   pub waits-head : (w : Waiting n) (ws : List (Waiting n)) → has_waiting (w ∷ ws) w.row ≡ true
-  waits-head w ws = or_first (w.row == w.row) (has_waiting ws w.row) (eq-eqb w.row w.row refl)
+  waits-head w ws = or_left (w.row == w.row) (has_waiting ws w.row) (eq-eqb w.row w.row refl)
 
   pub has-completed : (under : List ℕ) (es : List (Entry n)) (row : ℕ) → has_row (completed under es) row ≡ has_row es row
   has-completed under [] row = refl
@@ -47,7 +47,7 @@ module _ {n : ℕ} where
   served-unset es w ws next results o apart unset =
       let here = unset.waiting w.row (waits-head w ws) in
       stay-unset es ws results w.row o here.exists (unqueued (has_row es w.row) refl) apart.waiting_apart.0
-      (record { queued = unset.queued; waiting = λ row there. unset.waiting row (or_back (w.row == row) (has_waiting ws row) there) })
+      (record { queued = unset.queued; waiting = λ row there. unset.waiting row (or_right (w.row == row) (has_waiting ws row) there) })
     where
       unqueued : (b : Bool) → has_row es w.row ≡ b → has_row es w.row ≡ false
       unqueued false is = is
@@ -60,7 +60,7 @@ module _ {n : ℕ} where
   stored-unset (e ∷ es) ws next results o some apart unset =
       let here = unset.queued e.row (has-head e es) in
       stay-unset es ws results e.row o here.exists apart.queued_apart.0 (apart.one_place e.row (has-head e es))
-      (record { queued = λ row there. unset.queued row (or_back (e.row == row) (has_row es row) there); waiting = unset.waiting })
+      (record { queued = λ row there. unset.queued row (or_right (e.row == row) (has_row es row) there); waiting = unset.waiting })
 
   pub completed-unset : (under : List ℕ) (es : List (Entry n)) (ws : List (Waiting n)) (results : List (Outcome n)) → StandOpen es ws results → StandOpen (completed under es) ws results
   completed-unset under es ws results unset = record { queued = λ row there. unset.queued row (sym (has-completed under es row) ∙ there); waiting = unset.waiting }

@@ -2,7 +2,7 @@
 use Rattle.std.proofs.Common.{◌≡◌, ◌≢◌, ℕ, ◌+◌, ◌<◌, ◌≤◌, ◌==◌, ◌||◌, Bool, true, false, List, [], ◌∷◌, ◌++◌, length, ◌⊎◌, inl, inr, refl, sym, ap, subst, ◌∙◌, arith, eqb-true, eq-eqb, length-append}
 use Rattle.std.specs.Prelude.{unwrap_or, if◌then◌else◌}
 use Rattle.std.proofs.lemmas.List.{length-map}
-use Rattle.std.proofs.lemmas.Bool.{ne_eqb, false≢true}
+use Rattle.std.proofs.lemmas.Bool.{ne_eqb, false≢true, or_from, or_left, or_right}
 use Rattle.pcm_cells.specs.Device.{ArrayState}
 use Rattle.result_rows.specs.declared.Outcome.{Outcome}
 use Rattle.result_rows.specs.declared.Outcome.TheVariants as out
@@ -11,15 +11,15 @@ use Rattle.masked_bytes.specs.declared.entry.Entry.{Entry}
 use Rattle.masked_bytes.specs.Entries.{has_row, merged, laid_on, candidate, RowsApart}
 use Rattle.bank_shape.specs.declared.BankShape.{BankShape}
 use Rattle.line_writer.specs.Writing.{most_steps}
-use Rattle.pace.specs.declared.Pace.{Pace}
-use Rattle.bank_model.specs.declared.answer.WriteAnswer.{WriteAnswer}
-use Rattle.bank_model.specs.declared.answer.WriteAnswer.TheVariants as wrote
+use Rattle.bank_shape.specs.declared.pace.Pace.{Pace}
+use Rattle.bank_shape.specs.declared.answer.WriteAnswer.{WriteAnswer}
+use Rattle.bank_shape.specs.declared.answer.WriteAnswer.TheVariants as wrote
 use Rattle.bank_model.specs.Events.{Event, Write}
 use Rattle.bank_model.specs.History.{Awaited, queue, waits, has_exhausted}
 use Rattle.bank_model.specs.Answers.{MayAll, head_busy_after}
-use Rattle.bank_model.specs.Timing.{Timed, core}
+use Rattle.bank_model.specs.Timing.{TimedEvent, core}
 use Rattle.bank_laws.specs.Outcomes.{outcome_by}
-use Rattle.bank_invariant.specs.declared.Waiting.{Waiting}
+use Rattle.bank_shape.specs.declared.waiting.Waiting.{Waiting}
 use Rattle.bank_invariant.specs.State.{BankState}
 use Rattle.bank_invariant.specs.Holds.{Holds}
 use Rattle.bank_invariant.proofs.Quiet.{RowsBelow-more}
@@ -33,7 +33,6 @@ use Rattle.clock_laws.specs.Standing.{has_waiting, AreApart}
 use Rattle.clock_laws.proofs.Arriving.{write_law}
 use Rattle.clock_laws.proofs.Fitting.{fit_write_law}
 use Rattle.clock_laws.proofs.Extending.{arrival_added_law}
-use Rattle.clock_laws.proofs.Deciding.{or_none, or_first, or_back}
 use Rattle.clock_laws.proofs.Absent.{lacks-push, lacks-merged}
 use Rattle.clock_laws.proofs.Others.{apart_law, candidate-there}
 use Rattle.bank_timing.specs.Clock.{IsClock}
@@ -56,8 +55,8 @@ module _ {n : ℕ} where
   lacks-old old row bytes given (e ∷ es) a h = by (e.row == old) refl (lacks-old old row bytes given es a.1 h)
     where
       by : (b : Bool) → (e.row == old) ≡ b → has_row (merged old row bytes given es) old ≡ false → has_row (if b then laid_on row bytes given e ∷ es else e ∷ merged old row bytes given es) old ≡ false
-      by true is rest = or_none (row == old) _ h (subst (λ (r : ℕ). has_row es r ≡ false) (eqb-true e.row old is) a.0)
-      by false is rest = or_none (e.row == old) _ is rest
+      by true is rest = or_from (row == old) _ h (subst (λ (r : ℕ). has_row es r ≡ false) (eqb-true e.row old is) a.0)
+      by false is rest = or_from (e.row == old) _ is rest
 
   new-merged : (old row : ℕ) (bytes : List ℕ) (given : List Bool) (es : List (Entry n)) → has_row es old ≡ true → has_row (merged old row bytes given es) row ≡ true
   new-merged old row bytes given [] there = absurd (false≢true there)
@@ -65,8 +64,8 @@ module _ {n : ℕ} where
     where
       by : (b : Bool) → (has_row es old ≡ true → has_row (merged old row bytes given es) row ≡ true) → (b || has_row es old) ≡ true
           → has_row (if b then laid_on row bytes given e ∷ es else e ∷ merged old row bytes given es) row ≡ true
-      by true rest there = or_first (row == row) (has_row es row) (eq-eqb row row refl)
-      by false rest there = or_back (e.row == row) (has_row (merged old row bytes given es) row) (rest there)
+      by true rest there = or_left (row == row) (has_row es row) (eq-eqb row row refl)
+      by false rest there = or_right (e.row == row) (has_row (merged old row bytes given es) row) (rest there)
 
   -- a row of the queue then is one of before, or the new one
   old-or-new : (before after : List (Entry n)) (row r : ℕ) → (has_row before r ≡ false → (row == r) ≡ false → has_row after r ≡ false) → has_row after r ≡ true
@@ -103,7 +102,7 @@ module _ {n : ℕ} (es : List (Entry n)) (ws : List (Waiting n)) (next row : ℕ
 
 -- a bank takes a write, with an answer: what is true of its clock and of the results before, and what the bank promises
 pub record TakesWrite {n m e : ℕ} (row line : ℕ) (bytes : List ℕ) (given : List Bool) (clock : ClockState n m e) (results : List (Outcome n)) (answer : WriteAnswer) (bank : BankState n m e) : Type 0 where
-  pub led : (xs : List (Timed n m)) × (array : ArrayState n m) × Leads xs clock array
+  pub led : (xs : List (TimedEvent n m)) × (array : ArrayState n m) × Leads xs clock array
   pub rises : clock.bank.rows_below ≤ row
   pub unset : AreOpen clock.bank results
   pub fresh : IsOpen results row
@@ -120,7 +119,7 @@ write-rows row tick results wrote.Exhausted = rows-set results row (out.Worn tic
 
 module _ {n m e : ℕ} where
   -- a write is merged into the entry of a row that stands in the queue
-  merges-into : (row line : ℕ) (bytes : List ℕ) (given : List Bool) (clock : ClockState n m e) (old : ℕ) (bank : BankState n m e) (array : ArrayState n m) (xs : List (Timed n m)) → Leads xs clock array
+  merges-into : (row line : ℕ) (bytes : List ℕ) (given : List Bool) (clock : ClockState n m e) (old : ℕ) (bank : BankState n m e) (array : ArrayState n m) (xs : List (TimedEvent n m)) → Leads xs clock array
       → bank.kept.shape ≡ clock.bank.kept.shape → Holds (Write row line bytes given (wrote.Merged old) ∷ core xs) bank array → has_row clock.bank.kept.entries old ≡ true
   merges-into row line bytes given clock old bank array xs leads same holds =
       let shape : BankShape = clock.bank.kept.shape in
@@ -160,7 +159,7 @@ module _ {n m e row line : ℕ} {bytes : List ℕ} {given : List Bool} {clock : 
   keeps = subst (λ (b : BankState n m e). KeepsWork clock.bank b) (sym w.left) (write-keeps clock.bank entry_of answer)
 
   -- the row that the write is merged into stands in the queue
-  stands-by : (xs : List (Timed n m)) (array : ArrayState n m) → Leads xs clock array → Stands clock.bank answer
+  stands-by : (xs : List (TimedEvent n m)) (array : ArrayState n m) → Leads xs clock array → Stands clock.bank answer
   stands-by xs array leads = by answer (w.holds (core xs) array leads.holds)
     where
       by : (answer : WriteAnswer) → Holds (Write row line bytes given answer ∷ core xs) bank array → Stands clock.bank answer
@@ -170,7 +169,7 @@ module _ {n m e row line : ℕ} {bytes : List ℕ} {given : List Bool} {clock : 
       by wrote.Exhausted after = tt
 
   -- each history that led to the clock goes on with the arrival of the write
-  pub write-extends : (place : ℕ) → IsPlaceOf bank.kept row place answer → (xs : List (Timed n m)) (array : ArrayState n m) → Leads xs clock array
+  pub write-extends : (place : ℕ) → IsPlaceOf bank.kept row place answer → (xs : List (TimedEvent n m)) (array : ArrayState n m) → Leads xs clock array
       → Extends xs (arrival clock.tick (Write row line bytes given (write_from clock.bank line)) ∷ []) clock (after_write clock bank place answer) array array results (write_recorded answer clock.tick row results)
   write-extends place at xs array leads =
       subst (λ (a : WriteAnswer). Extends xs (arrival clock.tick (Write row line bytes given a) ∷ []) clock (after_write clock bank place answer) array array results (write_recorded answer clock.tick row results)) (sym w.answered)
@@ -190,7 +189,7 @@ module _ {n m e row line : ℕ} {bytes : List ℕ} {given : List Bool} {clock : 
       (λ other apart. no-other row other apart) w.led.0 w.led.2 (write-extends place at w.led.0 w.led.1 w.led.2)
 
   -- the entries are those of the history that the write extends
-  entries-then : (xs : List (Timed n m)) (array : ArrayState n m) → Leads xs clock array → bank.kept.entries ≡ queue clock.bank.kept.shape (Write row line bytes given answer ∷ core xs)
+  entries-then : (xs : List (TimedEvent n m)) (array : ArrayState n m) → Leads xs clock array → bank.kept.entries ≡ queue clock.bank.kept.shape (Write row line bytes given answer ∷ core xs)
   entries-then xs array leads = (w.holds (core xs) array leads.holds).entries ∙ ap (λ shape. queue shape (Write row line bytes given answer ∷ core xs)) keeps.shape
 
   -- the same reads wait

@@ -7,13 +7,13 @@ use Rattle.result_rows.specs.Table.{with_outcome}
 use Rattle.bank_shape.specs.declared.BankShape.{BankShape}
 use Rattle.bank_shape.specs.declared.Work.{Work}
 use Rattle.bank_shape.specs.declared.Work.TheVariants.{Nothing, Store, Copy}
-use Rattle.bank_model.specs.declared.answer.Step.{Step}
-use Rattle.bank_model.specs.declared.answer.Step.TheVariants as did
-use Rattle.bank_model.specs.declared.answer.Keep.{Keep}
-use Rattle.bank_model.specs.declared.answer.Keep.TheVariants as keep
-use Rattle.bank_model.specs.declared.clock.Action.{Action}
+use Rattle.bank_shape.specs.declared.answer.Step.{Step}
+use Rattle.bank_shape.specs.declared.answer.Step.TheVariants as did
+use Rattle.bank_shape.specs.declared.answer.Keep.{Keep}
+use Rattle.bank_shape.specs.declared.answer.Keep.TheVariants as keep
+use Rattle.bank_shape.specs.declared.clock.Action.{Action}
 use Rattle.bank_model.specs.Changes.{item_if}
-use Rattle.bank_model.specs.Timing.{Timed, ends}
+use Rattle.bank_model.specs.Timing.{TimedEvent, ends}
 use Rattle.reg_lines.specs.Regs.{RegsState}
 use Rattle.clock_laws.specs.State.{ClockState}
 use Rattle.clock_laws.specs.Completing.{arrivals_by}
@@ -78,8 +78,8 @@ pub record Completes {n m e : ℕ} (old new : ClockState n m e) (action : Action
   pub pace : new.pace ≡ old.pace
   pub drained : new.drained ≡ old.drained
   pub none : new.action ≡ None
-  pub extends : (xs : List (Timed n m)) → Leads xs old before
-      → (x : Timed n m) × Extends xs (x ∷ []) old new before after results recorded × IsQuiet (x ∷ [])
+  pub extends : (xs : List (TimedEvent n m)) → Leads xs old before
+      → (x : TimedEvent n m) × Extends xs (x ∷ []) old new before after results recorded × IsQuiet (x ∷ [])
   pub unset : AreOpen new.bank recorded
   pub bound : new.bank.rows_below ≡ old.bank.rows_below
   pub less : actions_left new.bank new.regs < actions_left old.bank old.regs

@@ -6,7 +6,7 @@ use Rattle.result_rows.specs.declared.Outcome.TheVariants.{Queued}
 use Rattle.result_rows.specs.Table.{HasRow}
 use Rattle.masked_bytes.specs.declared.entry.Entry.{Entry}
 use Rattle.masked_bytes.specs.Entries.{has_row, RowsApart}
-use Rattle.bank_model.specs.Timing.{Timed}
+use Rattle.bank_model.specs.Timing.{TimedEvent}
 use Rattle.bank_model.specs.Told.{tick_of_row}
 use Rattle.bank_model.specs.Adding.{Adds}
 use Rattle.bank_model.specs.Lawful.{IsIdle}
@@ -34,7 +34,7 @@ pub record AreQueued {n : ℕ} (es : List (Entry n)) (ticks : List ℕ) (results
 
 -- these events end actions, and extend the history to one after which the bank has nothing left to do, at the tick of the last of them;
 -- each row has the outcome that they make of it, but a write that stands in the queue in the end is queued, with the tick of its arrival
-pub record Drains {n m e : ℕ} (xs added : List (Timed n m)) (old new : ClockState n m e) (before after : ArrayState n m) (results recorded : List (Outcome n)) : Type 0 where
+pub record Drains {n m e : ℕ} (xs added : List (TimedEvent n m)) (old new : ClockState n m e) (before after : ArrayState n m) (results recorded : List (Outcome n)) : Type 0 where
   pub leads : Leads (added ++ xs) new after
   pub quiet : IsQuiet added
   pub now : new.tick ≡ ended_at old.tick added

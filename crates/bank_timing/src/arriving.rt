@@ -4,14 +4,14 @@ ghost use Rattle.masked_bytes.specs.Masked.{IsMasked};
 ghost use Rattle.pcm_cells.specs.Device.{ArrayState};
 ghost use Rattle.power_recovery.specs.Slots.{bank_lines};
 ghost use Rattle.bank_model.specs.Events.{Write, Read};
-ghost use Rattle.bank_model.specs.Timing.{Timed as TimedEvent};
+ghost use Rattle.bank_model.specs.Timing.{TimedEvent};
 ghost use Rattle.bank_invariant.specs.Serving.{read_from};
 ghost use Rattle.bank_core.specs.Steps.{write_from};
 ghost use Rattle.clock_laws.specs.Leads.{Leads};
 ghost use Rattle.result_rows.specs.declared.Outcome.{Outcome as RowOutcome};
 ghost use Rattle.clock_laws.specs.Arriving.{arrival, cancels_for, drops};
 ghost use Rattle.bank_timing.specs.Cancelling.{cancel_by, cancel_first};
-ghost use Rattle.bank_model.specs.declared.clock.Doing.TheVariants.{Beginning};
+ghost use Rattle.bank_shape.specs.declared.clock.Doing.TheVariants.{Beginning};
 ghost use Rattle.bank_model.specs.Timing.{is_doing, is_writing};
 ghost use Rattle.bank_model.specs.After.{is_store_of};
 ghost use Rattle.power_recovery.specs.Kept.{next_work};
@@ -20,16 +20,16 @@ ghost use Rattle.bank_timing.specs.Completing.{with_arrivals};
 ghost use Rattle.bank_timing.specs.Queueing.{entry_has_row};
 ghost use Rattle.bank_timing.specs.Extending.{Extends, AreOpen, IsOpen, LeavesOthersThan};
 
-use crate::timed::Timed;
-use bank_model::answer::{ReadAnswer, WriteAnswer};
-use bank_model::clock::{Action, Doing};
+use crate::clocked::ClockedBank;
+use bank_shape::answer::{ReadAnswer, WriteAnswer};
+use bank_shape::clock::{Action, Doing};
 use bank_shape::Work;
 use masked_bytes::layers::has_all;
 use pcm_cells::CellArray;
 use power_recovery::kept::Kept;
 use result_rows::{Outcome, Results};
 
-impl<const B: usize, const M: usize, const E: usize> Timed<B, M, E> {
+impl<const B: usize, const M: usize, const E: usize> ClockedBank<B, M, E> {
     /// A write of a bank line arrives now, with its row's number, above those of all before it. A byte that isn't given is 0.
     pub fn arrive_write(
         &mut self,

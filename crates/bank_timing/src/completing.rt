@@ -1,7 +1,7 @@
 // The end of an action.
 ghost use Rattle.std.specs.Prelude.{◌≡◌, ◌<◌, ◌≤◌, List, [], ◌∷◌, None, Some, IfSome, IsTrue, is_some, slice_get};
-ghost use Rattle.bank_model.specs.declared.clock.Doing.TheVariants.{Serving, Beginning, Iterating};
-ghost use Rattle.bank_model.specs.Timing.{Timed as TimedEvent, ends};
+ghost use Rattle.bank_shape.specs.declared.clock.Doing.TheVariants.{Serving, Beginning, Iterating};
+ghost use Rattle.bank_model.specs.Timing.{TimedEvent, ends};
 ghost use Rattle.clock_laws.specs.State.{next_action};
 ghost use Rattle.clock_laws.specs.Leads.{Leads};
 ghost use Rattle.result_rows.specs.declared.Outcome.{Outcome as RowOutcome};
@@ -13,9 +13,9 @@ ghost use Rattle.clock_laws.specs.Putting.{put_if};
 ghost use Rattle.bank_timing.specs.Extending.{AreOpen, last_tick_with_drain};
 ghost use Rattle.bank_timing.specs.Completing.{Completes, IsRecordable, step_recorded, recorded_clock, with_regs, region_of, item_from, cancels_by_step, cancels_by_keep};
 
-use crate::timed::Timed;
-use bank_model::answer::{Keep, Served, Step};
-use bank_model::clock::{Action, Doing};
+use crate::clocked::ClockedBank;
+use bank_shape::answer::{Keep, Served, Step};
+use bank_shape::clock::{Action, Doing};
 use bank_shape::{BankShape, Home, Work};
 use pcm_cells::CellArray;
 use power_recovery::kept::Kept;
@@ -24,7 +24,7 @@ use region_regs::Region;
 use result_rows::{Outcome, Results};
 use spare_pool::Remap;
 
-impl<const B: usize, const M: usize, const E: usize> Timed<B, M, E> {
+impl<const B: usize, const M: usize, const E: usize> ClockedBank<B, M, E> {
     // Completes the action that runs from now on, at its end: its event happens, and sets what outcome it makes.
     pub(crate) fn complete<A: CellArray<B, M>>(
         &mut self,

@@ -1,9 +1,9 @@
 // A power cut.
 ghost use Rattle.std.specs.Prelude.{◌≡◌, ◌&&◌, not, List, [], ◌∷◌, false, None, IsTrue};
 ghost use Rattle.pcm_cells.specs.Device.{ArrayState};
-ghost use Rattle.bank_model.specs.declared.clock.Doing.TheVariants.{Iterating};
+ghost use Rattle.bank_shape.specs.declared.clock.Doing.TheVariants.{Iterating};
 ghost use Rattle.bank_model.specs.Events.{Event};
-ghost use Rattle.bank_model.specs.Timing.{Timed as TimedEvent, is_doing};
+ghost use Rattle.bank_model.specs.Timing.{TimedEvent, is_doing};
 ghost use Rattle.bank_invariant.specs.Holds.{Holds};
 ghost use Rattle.bank_model.specs.Changes.{all_controls};
 ghost use Rattle.bank_model.specs.Touching.{Touches};
@@ -18,14 +18,14 @@ ghost use Rattle.clock_laws.specs.Cutting.{cut};
 ghost use Rattle.bank_timing.specs.Extending.{Extends, AreOpen, LeavesOthers};
 ghost use Rattle.bank_timing.specs.Losing.{LosesOpen, lost_recorded, with_lost};
 
-use crate::timed::Timed;
-use bank_model::clock::{Action, Doing};
+use crate::clocked::ClockedBank;
+use bank_shape::clock::{Action, Doing};
 use bank_shape::Home;
 use pcm_cells::CellArray;
 use register_recovery::recover;
 use result_rows::{Outcome, Results};
 
-impl<const B: usize, const M: usize, const E: usize> Timed<B, M, E> {
+impl<const B: usize, const M: usize, const E: usize> ClockedBank<B, M, E> {
     /// The power is cut now: an iteration that runs is torn, any other action is dropped, and each waiting read is lost.
     pub fn power_cut<A: CellArray<B, M>>(&mut self, array: &mut A, results: &mut Results<B>)
         requires going { self.old.drained ≡ false }

@@ -2,7 +2,7 @@
 ghost use Rattle.std.specs.Prelude.{◌≡◌, ℕ, ◌<◌, ◌≤◌, List, length, None, IsSomeAnd, slice_get, true, false};
 ghost use Rattle.result_rows.specs.Table.{with_outcome};
 ghost use Rattle.result_rows.specs.declared.Outcome.TheVariants.{Queued};
-ghost use Rattle.bank_model.specs.Timing.{Timed as TimedEvent};
+ghost use Rattle.bank_model.specs.Timing.{TimedEvent};
 ghost use Rattle.clock_laws.specs.State.{next_action};
 ghost use Rattle.clock_laws.specs.Draining.{FollowsStores};
 ghost use Rattle.clock_laws.specs.Leads.{Leads};
@@ -10,14 +10,14 @@ ghost use Rattle.bank_timing.specs.Extending.{RunsDown, AreOpen, IsOpen, LeavesO
 ghost use Rattle.bank_timing.specs.Laws.{KeepsLaws};
 ghost use Rattle.bank_timing.specs.Draining.{Drains, AreQueueable, AreQueued};
 
-use crate::timed::Timed;
+use crate::clocked::ClockedBank;
 use circular_buffer::HeapCircularBuffer;
 use pcm_cells::CellArray;
 use power_recovery::kept::Kept;
 use result_rows::{Outcome, Results};
 use table_laws::{logs_keep_their_laws, places_keep_their_laws, tables_keep_their_laws};
 
-impl<const B: usize, const M: usize, const E: usize> Timed<B, M, E> {
+impl<const B: usize, const M: usize, const E: usize> ClockedBank<B, M, E> {
     /// The clock goes on until nothing runs and nothing would be chosen; the writes that stand in the queue then are queued, with
     /// the ticks of their arrival. The present tick is that of the last event, or still that of before where none came. Nothing may
     /// come any more. The rows of every history that leads to the drained bank keep the laws of rows, of places and wear, and of the

@@ -6,6 +6,6 @@ mod arriving;
 mod completing;
 mod cutting;
 mod draining;
-pub mod timed;
+pub mod clocked;
 
 pub use register_recovery::recover;

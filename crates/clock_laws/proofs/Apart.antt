@@ -8,7 +8,7 @@ use Rattle.protected_queue.specs.Queue.{accepted, accepted_by}
 use Rattle.bank_model.specs.History.{Awaited}
 use Rattle.bank_laws.specs.Standing.{has_wait, WaitsApart, AreRowsApart}
 use Rattle.bank_laws.proofs.Standing as rows
-use Rattle.bank_invariant.specs.declared.Waiting.{Waiting}
+use Rattle.bank_shape.specs.declared.waiting.Waiting.{Waiting}
 use Rattle.clock_laws.specs.Standing.{has_waiting, WaitingApart, AreApart, StayApartLaw}
 
 -- a read that waits, as a history tells it

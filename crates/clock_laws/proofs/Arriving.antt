@@ -1,5 +1,6 @@
 -- A write or a read that arrives.
 use Rattle.std.proofs.Common.{◌≡◌, ℕ, ◌<◌, ◌==◌, ◌&&◌, nat_lt, Bool, true, false, cond, if◌then◌else◌, List, [], ◌∷◌, ◌++◌, zero, suc, map, slice_get, slice_set, Option, Some, None, refl, sym, ap, subst, ◌∙◌, arith, eq-eqb, append-nil}
+use Rattle.masked_bytes.proofs.Truth.{neither_first, neither_second}
 use Rattle.std.specs.Prelude.{IfSome, IsSomeAnd, not, length}
 use Rattle.std.proofs.lemmas.List.{map_push}
 use Rattle.masked_bytes.specs.declared.entry.Entry.{Entry}
@@ -9,17 +10,17 @@ use Rattle.pcm_cells.specs.Device.{ArrayState}
 use Rattle.bank_shape.specs.declared.BankShape.{BankShape}
 use Rattle.bank_shape.specs.Pausing.{is_cancelling, most_cancels}
 use Rattle.power_recovery.specs.Kept.{KeptState}
-use Rattle.bank_model.specs.declared.answer.WriteAnswer.{WriteAnswer}
-use Rattle.bank_model.specs.declared.answer.WriteAnswer.TheVariants as wrote
-use Rattle.bank_model.specs.declared.answer.ReadAnswer.{ReadAnswer}
-use Rattle.bank_model.specs.declared.answer.ReadAnswer.TheVariants as came
-use Rattle.bank_model.specs.declared.clock.Doing.TheVariants.{Beginning}
-use Rattle.bank_model.specs.declared.clock.Action.{Action}
+use Rattle.bank_shape.specs.declared.answer.WriteAnswer.{WriteAnswer}
+use Rattle.bank_shape.specs.declared.answer.WriteAnswer.TheVariants as wrote
+use Rattle.bank_shape.specs.declared.answer.ReadAnswer.{ReadAnswer}
+use Rattle.bank_shape.specs.declared.answer.ReadAnswer.TheVariants as came
+use Rattle.bank_shape.specs.declared.clock.Doing.TheVariants.{Beginning}
+use Rattle.bank_shape.specs.declared.clock.Action.{Action}
 use Rattle.bank_model.specs.Events.{Event, Write, Read, RowsBelow}
 use Rattle.bank_model.specs.Changes.{change_after}
 use Rattle.bank_model.specs.History.{queue, waits}
 use Rattle.bank_model.specs.After.{is_store_of}
-use Rattle.bank_model.specs.Timing.{Timed, Core, ends, is_doing, is_writing, is_empty, core, last_tick}
+use Rattle.bank_model.specs.Timing.{TimedEvent, Core, ends, is_doing, is_writing, is_empty, core, last_tick}
 use Rattle.bank_model.specs.Running.{drops_begin, left, running_at, cancels_after}
 use Rattle.bank_model.specs.Lawful.{IsArrival, IsForwarded, would_cancel}
 use Rattle.bank_model.specs.Told.{tick_of_row}
@@ -37,7 +38,7 @@ use Rattle.clock_laws.proofs.Ties.{agrees, same_reads}
 use Rattle.clock_laws.proofs.Controls.{control-kept}
 use Rattle.clock_laws.proofs.Stepping.{follows, stepped, leads-reaches, bank-leads}
 use Rattle.clock_laws.proofs.Putting.{told-on}
-use Rattle.clock_laws.proofs.Deciding.{or_left, or_right, turned}
+use Rattle.clock_laws.proofs.Deciding.{turned}
 
 -- Arrival ticks
 
@@ -50,9 +51,9 @@ module _ {n : ℕ} (row tick : ℕ) (ticks : ℕ → ℕ) where
   ticks-others : (es : List (Entry n)) → has_row es row ≡ false → map (λ entry. ticks entry.row) es ≡ map (λ entry. with_row row tick ticks entry.row) es
   ticks-others [] none = refl
   ticks-others (entry ∷ es) none =
-      let off : (row == entry.row) ≡ false = turned entry.row row (or_left (entry.row == row) (has_row es row) none) in
+      let off : (row == entry.row) ≡ false = turned entry.row row (neither_first (entry.row == row) (has_row es row) none) in
       ap (λ b. cond b tick (ticks entry.row) ∷ map (λ entry. ticks entry.row) es) (sym off)
-      ∙ ap (λ rest. with_row row tick ticks entry.row ∷ rest) (ticks-others es (or_right (entry.row == row) (has_row es row) none))
+      ∙ ap (λ rest. with_row row tick ticks entry.row ∷ rest) (ticks-others es (neither_second (entry.row == row) (has_row es row) none))
 
   -- an entry that comes last
   ticks-accepted : (es : List (Entry n)) (entry : Entry n) → entry.row ≡ row → has_row es row ≡ false
@@ -70,9 +71,9 @@ module _ {n : ℕ} (row tick : ℕ) (ticks : ℕ → ℕ) where
   not-at [] place none has = has
   not-at (entry ∷ es) zero none has =
       let is : (entry.row == row) ≡ true = eq-eqb entry.row row has in
-      let off : (entry.row == row) ≡ false = or_left (entry.row == row) (has_row es row) none in
+      let off : (entry.row == row) ≡ false = neither_first (entry.row == row) (has_row es row) none in
       cc
-  not-at (entry ∷ es) (suc place) none has = not-at es place (or_right (entry.row == row) (has_row es row) none) has
+  not-at (entry ∷ es) (suc place) none has = not-at es place (neither_second (entry.row == row) (has_row es row) none) has
 
   -- one that another is merged into
   ticks-merged : (old : ℕ) (bytes : List ℕ) (given : List Bool) (es : List (Entry n)) (place : ℕ) → has_row es row ≡ false → HasAt (merged old row bytes given es) place row
@@ -82,10 +83,10 @@ module _ {n : ℕ} (row tick : ℕ) (ticks : ℕ → ℕ) where
       by (entry.row == old) place (λ at. ticks-merged old bytes given es at rest) has
     where
       rest : has_row es row ≡ false
-      rest = or_right (entry.row == row) (has_row es row) none
+      rest = neither_second (entry.row == row) (has_row es row) none
 
       off : (entry.row == row) ≡ false
-      off = or_left (entry.row == row) (has_row es row) none
+      off = neither_first (entry.row == row) (has_row es row) none
 
       by : (b : Bool) (place : ℕ)
           → ((at : ℕ) → HasAt (merged old row bytes given es) at row → slice_set (map (λ entry. ticks entry.row) es) at tick ≡ map (λ entry. with_row row tick ticks entry.row) (merged old row bytes given es))
@@ -114,8 +115,8 @@ untouched tick array = record {
   log = λ after is. (after, is, sym (append-nil after));
 }
 
-module _ {n m e : ℕ} (xs : List (Timed n m)) (clock : ClockState n m e) (array : ArrayState n m) (leads : Leads xs clock array) where
-  pub arrives : (x : Timed n m) → x.first ≡ clock.tick → x.tick ≡ clock.tick → IsArrival clock.pace (running_at clock.bank.kept.shape clock.pace xs clock.tick) (last_tick xs) x
+module _ {n m e : ℕ} (xs : List (TimedEvent n m)) (clock : ClockState n m e) (array : ArrayState n m) (leads : Leads xs clock array) where
+  pub arrives : (x : TimedEvent n m) → x.first ≡ clock.tick → x.tick ≡ clock.tick → IsArrival clock.pace (running_at clock.bank.kept.shape clock.pace xs clock.tick) (last_tick xs) x
   arrives x first is = (
     first ∙ sym is,
     omega (arith, leads.told.now, is),
@@ -130,7 +131,7 @@ module _ {n m e : ℕ} (xs : List (Timed n m)) (clock : ClockState n m e) (array
   pub arrived-control : (bank : BankState n m e) → KeepsWork clock.bank bank → Control bank.kept clock.regs array
   arrived-control bank keeps = control-kept clock.bank.kept bank.kept clock.regs array keeps.shape keeps.items leads.control
 
-pub copies-on : {n m e : ℕ} (xs : List (Timed n m)) (old running : Option (Operation n m e)) (x : Timed n m) → running ≡ old → IfSome old (CopiesWhatItSensed xs)
+pub copies-on : {n m e : ℕ} (xs : List (TimedEvent n m)) (old running : Option (Operation n m e)) (x : TimedEvent n m) → running ≡ old → IfSome old (CopiesWhatItSensed xs)
     → ((op : Operation n m e) → CopiesWhatItSensed xs op → CopiesWhatItSensed (x ∷ xs) op) → IfSome running (CopiesWhatItSensed (x ∷ xs))
 copies-on {n} {m} {e} xs old running x is copying still = by running (subst (λ (r : Option (Operation n m e)). IfSome r (CopiesWhatItSensed xs)) (sym is) copying)
   where
@@ -139,7 +140,7 @@ copies-on {n} {m} {e} xs old running x is copying still = by running (subst (λ 
     by (Some op) own = still op own
 
 -- the arrival ticks of the queue after a write
-write-arrived : {n m : ℕ} (shape : BankShape) (xs : List (Timed n m)) (kept : KeptState n) (array : ArrayState n m) (row line place tick : ℕ) (bytes : List ℕ) (given : List Bool) (answer : WriteAnswer) (arrivals : List ℕ)
+write-arrived : {n m : ℕ} (shape : BankShape) (xs : List (TimedEvent n m)) (kept : KeptState n) (array : ArrayState n m) (row line place tick : ℕ) (bytes : List ℕ) (given : List Bool) (answer : WriteAnswer) (arrivals : List ℕ)
     → kept.entries ≡ queue shape (Write row line bytes given answer ∷ core xs) → IsPlaceOf kept row place answer → has_row (queue shape (core xs)) row ≡ false
     → arrivals ≡ map (λ entry. tick_of_row entry.row xs) (queue shape (core xs))
     → arrivals_after tick place answer arrivals
@@ -157,7 +158,7 @@ write-arrived shape xs kept array row line place tick bytes given wrote.Exhauste
     before ∙ ticks-others row tick (λ at. tick_of_row at xs) (queue shape (core xs)) none
 
 -- the action that runs behind a read
-drops-same : {n m e : ℕ} (xs : List (Timed n m)) (clock : ClockState n m e) (array : ArrayState n m) (line : ℕ) (action : Option Action) → Leads xs clock array
+drops-same : {n m e : ℕ} (xs : List (TimedEvent n m)) (clock : ClockState n m e) (array : ArrayState n m) (line : ℕ) (action : Option Action) → Leads xs clock array
     → drops clock.bank.kept clock.regs.change line action ≡ drops_begin clock.bank.kept.shape (core xs) (change_after clock.bank.kept.shape xs) line action
 drops-same xs clock array line action leads = by clock.regs.change (change_after clock.bank.kept.shape xs) leads.regs.change
   where
@@ -167,7 +168,7 @@ drops-same xs clock array line action leads = by clock.regs.change (change_after
     by (Some change) None is = absurd (cc)
     by (Some change) (Some item) is = refl
 
-read-left : {n m e : ℕ} (xs : List (Timed n m)) (clock : ClockState n m e) (array : ArrayState n m) (row line : ℕ) (answer : ReadAnswer n) → Leads xs clock array
+read-left : {n m e : ℕ} (xs : List (TimedEvent n m)) (clock : ClockState n m e) (array : ArrayState n m) (row line : ℕ) (answer : ReadAnswer n) → Leads xs clock array
     → action_after_read clock.bank.kept clock.regs.change line answer clock.action
     ≡ left clock.bank.kept.shape (core xs) (change_after clock.bank.kept.shape xs) (Read row line answer) (running_at clock.bank.kept.shape clock.pace xs clock.tick)
 read-left xs clock array row line came.Waiting leads =
@@ -211,7 +212,7 @@ twice_not : (a : Bool) → not (not a) ≡ a
 twice_not true = refl
 twice_not false = refl
 
-module _ {n m e : ℕ} (xs : List (Timed n m)) (clock : ClockState n m e) (array : ArrayState n m) (leads : Leads xs clock array) where
+module _ {n m e : ℕ} (xs : List (TimedEvent n m)) (clock : ClockState n m e) (array : ArrayState n m) (leads : Leads xs clock array) where
   -- what the bank and its clock say of it is what the history says
   would-same : (is_cancelling clock.pace.policy && (is_writing clock.action && (not (nat_lt 0 (length clock.bank.waiting)) && nat_lt clock.cancels most_cancels)))
       ≡ would_cancel clock.bank.kept.shape (core xs) clock.pace.policy (running_at clock.bank.kept.shape clock.pace xs clock.tick) (cancels_after xs)
@@ -247,7 +248,7 @@ answered_not {n = n} bank line answer is off = by (gives_all (layer_of bank.kept
 pub write_law : WriteLaw
 write_law n m e row line place bytes given answer xs clock bank array leads below keeps holds is_place =
     let event : Event n = Write row line bytes given answer in
-    let x : Timed n m = stepped (Core event) clock.tick clock.tick [] None array in
+    let x : TimedEvent n m = stepped (Core event) clock.tick clock.tick [] None array in
     bank-leads xs clock bank clock.regs event clock.tick clock.tick clock.action (arrivals_after clock.tick place answer clock.arrivals) clock.cancels false [] None array array (leads-reaches xs clock array leads)
     (record {
       asked = below;
@@ -276,7 +277,7 @@ write_law n m e row line place bytes given answer xs clock bank array leads belo
 pub read_law : ReadLaw
 read_law n m e row line answer xs clock bank array leads going answered below keeps holds =
     let event : Event n = Read row line answer in
-    let x : Timed n m = stepped (Core event) clock.tick clock.tick [] None array in
+    let x : TimedEvent n m = stepped (Core event) clock.tick clock.tick [] None array in
     bank-leads xs clock bank clock.regs event clock.tick clock.tick (action_after_read clock.bank.kept clock.regs.change line answer clock.action) clock.arrivals clock.cancels false [] None array array
     (leads-reaches xs clock array leads)
     (record {

@@ -9,14 +9,15 @@ use Rattle.pcm_cells.specs.Device.{ArrayState}
 use Rattle.ecp_line.specs.Reading.{decode}
 use Rattle.bank_shape.specs.declared.BankShape.{BankShape}
 use Rattle.bank_shape.specs.Shape.{controls_of, control_line}
-use Rattle.bank_model.specs.declared.answer.Step.TheVariants as did
-use Rattle.bank_model.specs.declared.clock.Doing.{Doing}
-use Rattle.bank_model.specs.declared.clock.Doing.TheVariants.{Serving, Beginning, Iterating}
-use Rattle.bank_model.specs.declared.clock.Action.{Action}
+use Rattle.bank_shape.specs.declared.answer.Step.TheVariants as did
+use Rattle.bank_shape.specs.declared.clock.Doing.{Doing}
+use Rattle.bank_shape.specs.declared.clock.Doing.TheVariants.{Serving, Beginning, Iterating}
+use Rattle.bank_shape.specs.declared.clock.Action.{Action}
 use Rattle.bank_model.specs.Events.{Event, Write, Read, Serve, Begin, Iterate, Cut, newest}
 use Rattle.bank_model.specs.History.{queue, begun, due_after}
 use Rattle.bank_model.specs.Changes.{change_after, line_of_change}
-use Rattle.bank_model.specs.Timing.{Pacing, Timed, Happens, Core, Regs, Keeping, KeepBegin, KeepIterate, KeepCut, ends, core}
+use Rattle.bank_shape.specs.declared.pace.Pace.{Pace}
+use Rattle.bank_model.specs.Timing.{TimedEvent, Happens, Core, Regs, Keeping, KeepBegin, KeepIterate, KeepCut, ends, core}
 use Rattle.bank_model.specs.Running.{left, cancels_by, cancels_with, running_at}
 use Rattle.bank_model.specs.Lawful.{IsAsked, IsOnTime, IsKeptOnTime}
 use Rattle.bank_model.specs.Sensing.{is_at, sensed_by, pulsed_by, read_again, kept_sensed, kept_pulsed, copied, begun_with}
@@ -45,13 +46,13 @@ ends-asked h (Iterate answer) doing is = tt
 ends-asked h (Cut tearing) doing is = absurd is
 
 -- it comes as the action ends
-doing_is : (pace : Pacing) (action : Action) (doing : Doing) (runs : Option Action) → action.doing ≡ doing → runs ≡ Some action
+doing_is : (pace : Pace) (action : Action) (doing : Doing) (runs : Option Action) → action.doing ≡ doing → runs ≡ Some action
     → (runs ≡ Some (record { doing = doing; first = action.first })) × (ends pace action ≡ ends pace (record { doing = doing; first = action.first }))
 doing_is pace action doing runs is run =
     let same : action ≡ record { doing = doing; first = action.first } = ap (λ (doing : Doing). record action { doing = doing }) is in
     (run ∙ ap (λ a. Some a) same, ap (λ a. ends pace a) same)
 
-ends-on_time : {n m : ℕ} (shape : BankShape) (pace : Pacing) (xs : List (Timed n m)) (event : Event n) (action : Action) (runs : Option Action) (senses : List (Sense n m)) (pulsed : Option ℕ)
+ends-on_time : {n m : ℕ} (shape : BankShape) (pace : Pace) (xs : List (TimedEvent n m)) (event : Event n) (action : Action) (runs : Option Action) (senses : List (Sense n m)) (pulsed : Option ℕ)
     → EndsDoing event action.doing → (change : Option Change) → IsAlone event change → item_of change ≡ change_after shape xs → runs ≡ Some action
     → IsOnTime shape pace runs xs (completion action.first (ends pace action) (Core event) senses pulsed) event
 ends-on_time shape pace xs (Write row line bytes given answer) action runs senses pulsed is change alone told run = absurd is
@@ -95,7 +96,7 @@ ticks-begun ticks (Some region) newest_of es = refl
 ticks-begun ticks None newest_of [] = refl
 ticks-begun ticks None newest_of (entry ∷ es) = refl
 
-module _ {n m : ℕ} (shape : BankShape) (xs : List (Timed n m)) where
+module _ {n m : ℕ} (shape : BankShape) (xs : List (TimedEvent n m)) where
   abbrev tick_at : Entry n → ℕ
   tick_at entry = tick_of_row entry.row xs
 
@@ -149,14 +150,14 @@ completion_law n m e event action xs clock bank regs old new leads next is later
 -- Steps of the writing of a change
 
 -- it comes as the action ends
-keeps-on_time : {n m : ℕ} (shape : BankShape) (pace : Pacing) (xs : List (Timed n m)) (event : Keeping) (action : Action) (runs : Option Action) (senses : List (Sense n m)) (pulsed : Option ℕ)
+keeps-on_time : {n m : ℕ} (shape : BankShape) (pace : Pace) (xs : List (TimedEvent n m)) (event : Keeping) (action : Action) (runs : Option Action) (senses : List (Sense n m)) (pulsed : Option ℕ)
     → EndsKeeping event action.doing → runs ≡ Some action → IsKeptOnTime shape pace runs xs (completion action.first (ends pace action) (Regs event) senses pulsed) event
 keeps-on_time shape pace xs (KeepBegin answer) action runs senses pulsed is run = (doing_is pace action Beginning runs is run, refl)
 keeps-on_time shape pace xs (KeepIterate answer) action runs senses pulsed is run = (doing_is pace action Iterating runs is run, refl)
 keeps-on_time shape pace xs (KeepCut tearing) action runs senses pulsed is run = absurd is
 
 -- a copy's source was sensed before
-pub copies-kept : {n m e : ℕ} (xs : List (Timed n m)) (x : Timed n m) (event : Keeping) (running : Option (Operation n m e)) → x.happens ≡ Regs event → IfSome running (CopiesWhatItSensed xs) → IfSome running (CopiesWhatItSensed (x ∷ xs))
+pub copies-kept : {n m e : ℕ} (xs : List (TimedEvent n m)) (x : TimedEvent n m) (event : Keeping) (running : Option (Operation n m e)) → x.happens ≡ Regs event → IfSome running (CopiesWhatItSensed xs) → IfSome running (CopiesWhatItSensed (x ∷ xs))
 copies-kept xs x event None is own = tt
 copies-kept {n} {m} {e} xs x event (Some op) is own = λ copies. subst (λ (h : Happens n). IsSomeAnd (begun_with h x.senses (copied xs)) (λ source. op.writer.bytes ≡ decode e source)) (sym is) (own copies)
 
@@ -171,7 +172,7 @@ kept-apart shape None (KeepCut true) line known own = refl
 kept-apart shape (Some item) (KeepCut true) line known own = ne_eqb (control_line shape item) line (λ same. omega (arith, own.1, same))
 
 -- so the bank holds over the array that it leaves
-pub kept-holds : {n m e : ℕ} (xs : List (Timed n m)) (clock : ClockState n m e) (event : Keeping) (tick : ℕ) (sensed : List ℕ) (tearing : Bool) (old new : ArrayState n m) → Reaches xs clock old
+pub kept-holds : {n m e : ℕ} (xs : List (TimedEvent n m)) (clock : ClockState n m e) (event : Keeping) (tick : ℕ) (sensed : List ℕ) (tearing : Bool) (old new : ArrayState n m) → Reaches xs clock old
     → Touches tick sensed (kept_pulsed (line_kept clock) event) tearing old new → Holds (core xs) clock.bank new
 kept-holds xs clock event tick sensed tearing old new r touches =
     holds-same (core xs) clock.bank old new r.holds touches.lines
@@ -181,7 +182,7 @@ pub keeping_law : KeepingLaw
 keeping_law n m e event action xs clock regs old new leads next is later stands may touches told control =
     let tick : ℕ = ends clock.pace action in
     let r : Reaches xs clock old = leads-reaches xs clock old leads in
-    let x : Timed n m = keep_completed clock action event new in
+    let x : TimedEvent n m = keep_completed clock action event new in
     let runs : running_at clock.bank.kept.shape clock.pace xs tick ≡ Some action = sym (next-runs xs clock old leads tick later) ∙ next in
     reaches-leads (x ∷ xs) (after_keep clock regs action event) new
     (kept-reaches xs clock clock.bank regs event action.first tick None clock.arrivals (cancels_with {n = n} (Regs event) false clock.cancels) false false (kept_sensed (line_kept clock) event) (kept_pulsed (line_kept clock) event) old new r

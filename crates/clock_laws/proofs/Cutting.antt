@@ -3,14 +3,14 @@ use Rattle.std.proofs.Common.{◌≡◌, ℕ, ◌+◌, ◌<◌, ◌&&◌, nat_lt
 use Rattle.std.specs.Prelude.{IfSome, is_some}
 use Rattle.bank_shape.specs.declared.BankShape.{BankShape}
 use Rattle.bank_shape.specs.Pausing.{is_cancelling, most_cancels}
-use Rattle.bank_model.specs.declared.answer.ReadAnswer.TheVariants as came
-use Rattle.bank_model.specs.declared.clock.Doing.{Doing}
-use Rattle.bank_model.specs.declared.clock.Doing.TheVariants.{Serving, Beginning, Iterating}
-use Rattle.bank_model.specs.declared.clock.Action.{Action}
+use Rattle.bank_shape.specs.declared.answer.ReadAnswer.TheVariants as came
+use Rattle.bank_shape.specs.declared.clock.Doing.{Doing}
+use Rattle.bank_shape.specs.declared.clock.Doing.TheVariants.{Serving, Beginning, Iterating}
+use Rattle.bank_shape.specs.declared.clock.Action.{Action}
 use Rattle.bank_model.specs.Events.{Event, Read, Cut}
 use Rattle.bank_model.specs.Changes.{change_after, change_by, keeping_after, keeping_by, halted_after, halted_by, line_of_change, all_controls}
 use Rattle.bank_model.specs.History.{waits}
-use Rattle.bank_model.specs.Timing.{Timed, Happens, Core, Regs, KeepCut, ends, same_doing, is_doing, is_empty, core}
+use Rattle.bank_model.specs.Timing.{TimedEvent, Happens, Core, Regs, KeepCut, ends, same_doing, is_doing, is_empty, core}
 use Rattle.bank_model.specs.Running.{busy_by, drops_begin, running_at, tears_bank, cancels_after}
 use Rattle.bank_model.specs.Sensing.{pulsed_by, torn_control, kept_sensed, kept_pulsed}
 use Rattle.bank_model.specs.Lawful.{would_cancel}
@@ -64,7 +64,7 @@ none-torn shape None action none = by (is_doing Iterating action)
 none-torn shape (Some item) action none = absurd (cc)
 
 -- a change stays, and is written no more, after a cut
-told-cut : {n m e : ℕ} (shape : BankShape) (xs : List (Timed n m)) (x : Timed n m) (regs : RegsState n m e) (h : Happens n) → x.happens ≡ h
+told-cut : {n m e : ℕ} (shape : BankShape) (xs : List (TimedEvent n m)) (x : TimedEvent n m) (regs : RegsState n m e) (h : Happens n) → x.happens ≡ h
     → change_by shape (core xs) h (change_after shape xs) ≡ change_after shape xs → keeping_by h (keeping_after xs) ≡ false → halted_by h (halted_after xs) ≡ halted_after xs
     → AreTold shape xs regs → AreTold shape (x ∷ xs) (broken_off regs)
 told-cut {n} shape xs x regs h is change keeping halted told = record {
@@ -78,7 +78,7 @@ pub power_cut_law : PowerCutLaw
 power_cut_law n m e xs clock bank old new leads fit holds shape stopped taken control touches =
     let kind : BankShape = clock.bank.kept.shape in
     let event : Event n = Cut (tears_now clock) in
-    let x : Timed n m = cut xs clock new in
+    let x : TimedEvent n m = cut xs clock new in
     let runs : Option Action = running_at kind clock.pace xs clock.tick in
     bank-leads xs clock bank (broken_off clock.regs) event clock.tick clock.tick None clock.arrivals 0 (is_doing Iterating clock.action) (all_controls kind) (torn_now xs clock) old new (leads-reaches xs clock old leads)
     (record {
@@ -121,7 +121,7 @@ cancel_law n m e line xs clock bank old new leads would none holds shape stopped
     let kind : BankShape = clock.bank.kept.shape in
     let tearing : Bool = is_doing Iterating clock.action in
     let event : Event n = Cut tearing in
-    let x : Timed n m = cancel xs clock in
+    let x : TimedEvent n m = cancel xs clock in
     let change : change_after kind xs ≡ None = sym leads.regs.change ∙ ap item_of none in
     let torn : torn_control kind (change_after kind xs) (running_at kind clock.pace xs clock.tick) ≡ None = none-torn kind (change_after kind xs) (running_at kind clock.pace xs clock.tick) change in
     bank-reaches xs clock bank clock.regs event clock.tick clock.tick None clock.arrivals (clock.cancels + 1) true tearing [] (pulsed_by kind (core xs) None event) old new (leads-reaches xs clock old leads)
@@ -157,7 +157,7 @@ pub keep_cancel_law : KeepCancelLaw
 keep_cancel_law n m e line xs clock old new leads would stands fit control touches =
     let kind : BankShape = clock.bank.kept.shape in
     let tearing : Bool = is_doing Iterating clock.action in
-    let x : Timed n m = keep_cancel clock in
+    let x : TimedEvent n m = keep_cancel clock in
     let r : Reaches xs clock old = leads-reaches xs clock old leads in
     kept-reaches xs clock clock.bank (broken_off clock.regs) (KeepCut tearing) clock.tick clock.tick None clock.arrivals (clock.cancels + 1) true tearing [] (kept_pulsed (line_kept clock) (KeepCut tearing)) old new r
     (record {
@@ -197,10 +197,10 @@ keep_cancel_law n m e line xs clock old new leads would stands fit control touch
 
 pub cancelled_read_law : CancelledReadLaw
 cancelled_read_law n m e row line y xs clock bank array r none at below keeps holds =
-    let ys : List (Timed n m) = y ∷ xs in
+    let ys : List (TimedEvent n m) = y ∷ xs in
     let kind : BankShape = clock.bank.kept.shape in
     let event : Event n = Read row line came.Waiting in
-    let x : Timed n m = stepped (Core event) clock.tick clock.tick [] None array in
+    let x : TimedEvent n m = stepped (Core event) clock.tick clock.tick [] None array in
     let runs : None ≡ running_at kind clock.pace ys clock.tick = sym none ∙ r.runs in
     bank-leads ys clock bank clock.regs event clock.tick clock.tick (action_after_read clock.bank.kept clock.regs.change line came.Waiting clock.action) clock.arrivals clock.cancels false [] None array array r
     (record {

@@ -4,15 +4,16 @@ use Rattle.std.specs.Prelude.{IsTrue, IfSome, IsSomeAnd, All}
 use Rattle.std.proofs.lemmas.List.Elements.{All-head, All-tail}
 use Rattle.pcm_cells.specs.Device.{ArrayState}
 use Rattle.bank_shape.specs.declared.BankShape.{BankShape}
-use Rattle.bank_model.specs.declared.clock.Doing.{Doing}
-use Rattle.bank_model.specs.declared.clock.Doing.TheVariants.{Serving, Beginning, Iterating}
-use Rattle.bank_model.specs.declared.clock.Action.{Action}
+use Rattle.bank_shape.specs.declared.clock.Doing.{Doing}
+use Rattle.bank_shape.specs.declared.clock.Doing.TheVariants.{Serving, Beginning, Iterating}
+use Rattle.bank_shape.specs.declared.clock.Action.{Action}
 use Rattle.bank_model.specs.Changes.{change_after}
 use Rattle.bank_model.specs.Events.{Write, Read, Serve, Begin, Iterate, Cut}
 use Rattle.bank_model.specs.History.{moved_in}
 use Rattle.bank_model.specs.Lawful.{Lawful, MayCome}
 use Rattle.bank_model.specs.Running.{started, left_by, running, running_at, chosen_after}
-use Rattle.bank_model.specs.Timing.{Pacing, Happens, Core, Regs, KeepBegin, KeepIterate, KeepCut, Timed, ends, core, last_tick}
+use Rattle.bank_shape.specs.declared.pace.Pace.{Pace}
+use Rattle.bank_model.specs.Timing.{Happens, Core, Regs, KeepBegin, KeepIterate, KeepCut, TimedEvent, ends, core, last_tick}
 use Rattle.bank_laws.specs.Laws.{IsSized}
 use Rattle.bank_laws.specs.Ticks.{ends_action}
 use Rattle.bank_laws.proofs.Ticks.{last-below}
@@ -38,7 +39,7 @@ begun-last None (Some doing) last tick a none is = by (nat_lt last tick) is
     by false is = absurd (cc)
 
 -- an action that runs at a later tick, and ends there, ends behind now
-ends-behind : (pace : Pacing) (r : Option Action) (d : Option Doing) (last now tick : ℕ) (a : Action) → last ≤ now → last < tick
+ends-behind : (pace : Pace) (r : Option Action) (d : Option Doing) (last now tick : ℕ) (a : Action) → last ≤ now → last < tick
     → IfSome (started r d last now) (λ a. now < ends pace a) → started r d last tick ≡ Some a → tick ≡ ends pace a → now < tick
 ends-behind pace (Some action) d last now tick a before later to_come is at =
     let same : action ≡ a = cc in
@@ -59,15 +60,15 @@ ends-behind pace None (Some doing) last now tick a before later to_come is at = 
     by true none to_come false is = absurd (cc)
     by false none to_come c is = let le : now ≤ last = none refl in omega (arith, le, later)
 
-module _ {n m : ℕ} (shape : BankShape) (pace : Pacing) (e : ℕ) where
+module _ {n m : ℕ} (shape : BankShape) (pace : Pace) (e : ℕ) where
   -- an event that ends an action: that action ran until its tick, and lasted so long
-  record IsAnEnd (xs : List (Timed n m)) (x : Timed n m) (ticks : ℕ) : Type 0 where
+  record IsAnEnd (xs : List (TimedEvent n m)) (x : TimedEvent n m) (ticks : ℕ) : Type 0 where
     doing : Doing
     runs : running_at shape pace xs x.tick ≡ Some (record { doing = doing; first = x.first })
     at : x.tick ≡ ends pace (record { doing = doing; first = x.first })
     long : x.tick ≡ x.first + ticks
 
-  an-end : (xs : List (Timed n m)) (x : Timed n m) (h : Happens n) → MayCome shape pace e xs x h → IsTrue (ends_action h)
+  an-end : (xs : List (TimedEvent n m)) (x : TimedEvent n m) (h : Happens n) → MayCome shape pace e xs x h → IsTrue (ends_action h)
       → IsAnEnd xs x (ticks_of pace h)
   an-end xs x (Core (Write row line bytes given answer)) may is = absurd (cc)
   an-end xs x (Core (Read row line answer)) may is = absurd (cc)
@@ -80,7 +81,7 @@ module _ {n m : ℕ} (shape : BankShape) (pace : Pacing) (e : ℕ) where
   an-end xs x (Regs (KeepIterate answer)) may is = record { doing = Iterating; runs = may.on_time.0.0; at = may.on_time.0.1; long = may.on_time.0.1 }
 
   -- no action runs behind it
-  none-runs : (y : Timed n m) (ys : List (Timed n m)) (h : Happens n) → IsTrue (ends_action h)
+  none-runs : (y : TimedEvent n m) (ys : List (TimedEvent n m)) (h : Happens n) → IsTrue (ends_action h)
       → left_by shape (core ys) (change_after shape ys) h (running_at shape pace ys y.tick) ≡ None
   none-runs y ys (Core (Write row line bytes given answer)) is = absurd (cc)
   none-runs y ys (Core (Read row line answer)) is = absurd (cc)
@@ -91,7 +92,7 @@ module _ {n m : ℕ} (shape : BankShape) (pace : Pacing) (e : ℕ) where
   none-runs y ys (Core (Iterate answer)) is = refl
 
   -- the next one begins at its tick
-  next-begun : (y : Timed n m) (ys : List (Timed n m)) (x : Timed n m) (ticks : ℕ) → IsTrue (ends_action y.happens)
+  next-begun : (y : TimedEvent n m) (ys : List (TimedEvent n m)) (x : TimedEvent n m) (ticks : ℕ) → IsTrue (ends_action y.happens)
       → IsAnEnd (y ∷ ys) x ticks → x.first ≡ y.tick
   next-begun y ys x ticks is end =
       begun-last (running shape pace (y ∷ ys)) (chosen_after shape pace (y ∷ ys)) y.tick x.tick (record { doing = end.doing; first = x.first }) (none-runs y ys y.happens is) end.runs
@@ -105,9 +106,9 @@ more-ticks : (a : Option Action) (tick next ticks more : ℕ) → next ≡ tick 
 more-ticks None tick next ticks more is some = some
 more-ticks (Some a) tick next ticks more is some = omega (arith, is, some)
 
-module _ {n m e : ℕ} (xs : List (Timed n m)) (clock : ClockState n m e) (array : ArrayState n m) (read : 1 ≤ clock.pace.read) (iter : 1 ≤ clock.pace.iter) (leads : Leads xs clock array) where
+module _ {n m e : ℕ} (xs : List (TimedEvent n m)) (clock : ClockState n m e) (array : ArrayState n m) (read : 1 ≤ clock.pace.read) (iter : 1 ≤ clock.pace.iter) (leads : Leads xs clock array) where
   -- the next event that ends an action ends the one that runs from now on
-  next-ends : (x : Timed n m) → Lawful clock.bank.kept.shape clock.pace e (x ∷ xs) → IsTrue (ends_action x.happens)
+  next-ends : (x : TimedEvent n m) → Lawful clock.bank.kept.shape clock.pace e (x ∷ xs) → IsTrue (ends_action x.happens)
       → (end : IsAnEnd clock.bank.kept.shape clock.pace e xs x (ticks_of clock.pace x.happens)) × (next_action clock ≡ Some (record { doing = end.doing; first = x.first }))
   next-ends x lawful is =
       let end : IsAnEnd clock.bank.kept.shape clock.pace e xs x (ticks_of clock.pace x.happens) =
@@ -121,7 +122,7 @@ module _ {n m e : ℕ} (xs : List (Timed n m)) (clock : ClockState n m e) (array
       (end, next-runs xs clock array leads x.tick later ∙ end.runs)
 
   -- it comes as that ends
-  pub ends-at : (x : Timed n m) (action : Action) → Lawful clock.bank.kept.shape clock.pace e (x ∷ xs) → IsTrue (ends_action x.happens)
+  pub ends-at : (x : TimedEvent n m) (action : Action) → Lawful clock.bank.kept.shape clock.pace e (x ∷ xs) → IsTrue (ends_action x.happens)
       → next_action clock ≡ Some action
       → x.tick ≡ ends clock.pace action
   ends-at x action lawful is next =
@@ -129,7 +130,7 @@ module _ {n m e : ℕ} (xs : List (Timed n m)) (clock : ClockState n m e) (array
       let same : record { doing = found.0.doing; first = x.first } ≡ action = some-same _ _ (sym found.1 ∙ next) in
       found.0.at ∙ ap (λ (a : Action). ends clock.pace a) same
 
-  no-gap : (x : Timed n m) (added : List (Timed n m)) → Lawful clock.bank.kept.shape clock.pace e (x ∷ (added ++ xs))
+  no-gap : (x : TimedEvent n m) (added : List (TimedEvent n m)) → Lawful clock.bank.kept.shape clock.pace e (x ∷ (added ++ xs))
       → All (λ y. IsTrue (ends_action y.happens)) (x ∷ added)
       → IsSomeAnd (next_action clock) (λ a. x.tick ≡ a.first + ticks_in clock.pace (x ∷ added))
   no-gap x [] lawful quiet =

@@ -14,7 +14,7 @@ use Rattle.power_recovery.specs.Kept.{KeptState, IsKept, array_line, stands_at, 
 use Rattle.bank_model.specs.Events.{Event}
 use Rattle.bank_model.specs.History.{Awaited, waits}
 use Rattle.bank_model.specs.Timing.{core}
-use Rattle.bank_invariant.specs.declared.Waiting.{Waiting}
+use Rattle.bank_shape.specs.declared.waiting.Waiting.{Waiting}
 use Rattle.bank_invariant.specs.State.{BankState, Operation, target_of}
 use Rattle.bank_invariant.specs.Tied.{decoded, IsSoundLine, IsWornLine, IsUnderWay, IsOf, IsRunning, AreSound, AreTied}
 use Rattle.bank_invariant.specs.Holds.{Holds}

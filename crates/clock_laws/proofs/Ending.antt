@@ -15,22 +15,22 @@ use Rattle.power_recovery.specs.Slots.{bank_lines}
 use Rattle.power_recovery.specs.Kept.{KeptState, slot_of, array_line, stands_at, due_region, next_work}
 use Rattle.power_recovery.specs.Events.{is_copy}
 use Rattle.power_recovery.proofs.Bundle.{head-known}
-use Rattle.bank_model.specs.declared.answer.Step.{Step}
-use Rattle.bank_model.specs.declared.answer.Step.TheVariants as did
-use Rattle.bank_model.specs.declared.clock.Doing.{Doing}
-use Rattle.bank_model.specs.declared.clock.Action.{Action}
+use Rattle.bank_shape.specs.declared.answer.Step.{Step}
+use Rattle.bank_shape.specs.declared.answer.Step.TheVariants as did
+use Rattle.bank_shape.specs.declared.clock.Doing.{Doing}
+use Rattle.bank_shape.specs.declared.clock.Action.{Action}
 use Rattle.bank_model.specs.Events.{Event, Write, Read, Serve, Begin, Iterate, Cut, newest, up_to, line_of_row}
 use Rattle.bank_model.specs.History.{Awaited, queue, waits}
 use Rattle.bank_model.specs.After.{work_after, sources_of, stands_at_after, target_after}
 use Rattle.bank_model.specs.Answers.{IsDone, IsIterated, MayAll, MayHappen}
-use Rattle.bank_model.specs.Timing.{Core, Timed, core, ends}
+use Rattle.bank_model.specs.Timing.{Core, TimedEvent, core, ends}
 use Rattle.bank_model.specs.Sensing.{is_at, most_steps, stand_of, sensed_by, pulsed_by, IsReadRight, IsLaid, copied, begun_with}
 use Rattle.bank_model.specs.Touching.{Touches, shown}
 use Rattle.bank_laws.specs.Pairs.{ArePaired}
 use Rattle.bank_laws.proofs.Pairs.{pair_law}
 use Rattle.reg_lines.specs.Regs.{RegsState}
 use Rattle.register_laws.specs.Telling.{AreTold}
-use Rattle.bank_invariant.specs.declared.Waiting.{Waiting}
+use Rattle.bank_shape.specs.declared.waiting.Waiting.{Waiting}
 use Rattle.bank_invariant.specs.State.{BankState, Operation, target_of}
 use Rattle.bank_invariant.specs.Tied.{decoded, IsOf}
 use Rattle.bank_invariant.specs.Holds.{waiting_of}
@@ -54,7 +54,7 @@ use Rattle.clock_laws.proofs.Freshness.{AreFresh, newest_at, queue-fresh, head-b
 
 -- What is sensed and pulsed
 
-module _ {n m e : ℕ} (xs : List (Timed n m)) (clock : ClockState n m e) (array : ArrayState n m) (leads : Leads xs clock array) where
+module _ {n m e : ℕ} (xs : List (TimedEvent n m)) (clock : ClockState n m e) (array : ArrayState n m) (leads : Leads xs clock array) where
   same_sources : (work : Work) → sources_of clock.bank.kept.shape (core xs) work ≡ sources clock.bank.kept work
   same_sources Nothing = refl
   same_sources (Store line slot) = refl
@@ -102,7 +102,7 @@ no_tear (Begin answer) pulsed doing is = refl
 no_tear (Iterate answer) pulsed doing is = refl
 no_tear (Cut tearing) pulsed doing is = absurd is
 
-module _ {n m e : ℕ} (xs : List (Timed n m)) (clock : ClockState n m e) (bank : BankState n m e) (regs : RegsState n m e) (event : Event n) (action : Action) (sensed : List ℕ) (pulsed : Option ℕ) (old new : ArrayState n m)
+module _ {n m e : ℕ} (xs : List (TimedEvent n m)) (clock : ClockState n m e) (bank : BankState n m e) (regs : RegsState n m e) (event : Event n) (action : Action) (sensed : List ℕ) (pulsed : Option ℕ) (old new : ArrayState n m)
     (leads : Leads xs clock old) (end : IsCompletion xs clock bank regs event action sensed pulsed old new) where
   -- it may happen
   may-end : MayHappen clock.bank.kept.shape (core xs) (most_steps e) event
@@ -115,7 +115,7 @@ module _ {n m e : ℕ} (xs : List (Timed n m)) (clock : ClockState n m e) (bank 
       → IsReadRight e clock.bank.kept.shape xs event (shown (ends clock.pace action) sensed new)
       → IfSome bank.running (CopiesWhatItSensed (completed xs clock action event new ∷ xs)) → GoesOn xs clock bank regs event action old new
   finish senses pulses right copies =
-      let x : Timed n m = completed xs clock action event new in
+      let x : TimedEvent n m = completed xs clock action event new in
       let touches : Touches (ends clock.pace action) (sensed_by clock.bank.kept.shape (core xs) [] event) (pulsed_by clock.bank.kept.shape (core xs) None event) false old new =
       subst (λ (sensed : List ℕ). Touches (ends clock.pace action) sensed (pulsed_by clock.bank.kept.shape (core xs) None event) false old new) senses
       (subst (λ (pulsed : Option ℕ). Touches (ends clock.pace action) sensed pulsed false old new) pulses end.touches) in
@@ -132,7 +132,7 @@ module _ {n m e : ℕ} (xs : List (Timed n m)) (clock : ClockState n m e) (bank 
       }
 
   -- no line write is left
-  none-copies : (x : Timed n m) → bank.running ≡ None → IfSome bank.running (CopiesWhatItSensed (x ∷ xs))
+  none-copies : (x : TimedEvent n m) → bank.running ≡ None → IfSome bank.running (CopiesWhatItSensed (x ∷ xs))
   none-copies x none = subst (λ (r : Option (Operation n m e)). IfSome r (CopiesWhatItSensed (x ∷ xs))) (sym none) tt
 
   -- a line that isn't pulsed is read as before
@@ -162,7 +162,7 @@ serve_ends_law n m e answer action w ws xs clock bank regs old new leads first e
 
 -- Stores
 
-module _ {n m e : ℕ} (xs : List (Timed n m)) (clock : ClockState n m e) (old : ArrayState n m) (leads : Leads xs clock old) where
+module _ {n m e : ℕ} (xs : List (TimedEvent n m)) (clock : ClockState n m e) (old : ArrayState n m) (leads : Leads xs clock old) where
   entries-fresh : AreFresh (newest_at (core xs)) (newest (core xs)) clock.bank.kept.entries
   entries-fresh =
       subst (λ (es : List (Entry n)). AreFresh (newest_at (core xs)) (newest (core xs)) es) (sym leads.holds.entries)
@@ -217,7 +217,7 @@ module _ {n m e : ℕ} (xs : List (Timed n m)) (clock : ClockState n m e) (old :
 
 -- Begins
 
-module _ {n m e : ℕ} (action : Action) (xs : List (Timed n m)) (clock : ClockState n m e) (bank : BankState n m e) (regs : RegsState n m e) (old new : ArrayState n m) (leads : Leads xs clock old) where
+module _ {n m e : ℕ} (action : Action) (xs : List (TimedEvent n m)) (clock : ClockState n m e) (bank : BankState n m e) (regs : RegsState n m e) (old new : ArrayState n m) (leads : Leads xs clock old) where
   -- a gap move that goes on writes what its begin sensed
   copies-begun : (work : Work) (bytes : List ℕ) (sensed : List ℕ) (tick : ℕ) → lines_sensed clock.bank.kept work ≡ sensed → ((line : ℕ) → decoded e new line ≡ decoded e old line)
       → WritesCopy e clock.bank.kept old bytes work → IsTrue (is_copy work)
@@ -294,7 +294,7 @@ begin_ends_law n m e did.Exhausted action work xs clock bank regs old new leads 
 
 -- Iterations
 
-module _ {n m e : ℕ} (action : Action) (op : Operation n m e) (xs : List (Timed n m)) (clock : ClockState n m e) (bank : BankState n m e) (regs : RegsState n m e) (old new : ArrayState n m) (leads : Leads xs clock old)
+module _ {n m e : ℕ} (action : Action) (op : Operation n m e) (xs : List (TimedEvent n m)) (clock : ClockState n m e) (bank : BankState n m e) (regs : RegsState n m e) (old new : ArrayState n m) (leads : Leads xs clock old)
     (is : clock.bank.running ≡ Some op) where
   own-copies : CopiesWhatItSensed xs op
   own-copies = subst (λ (r : Option (Operation n m e)). IfSome r (CopiesWhatItSensed xs)) is leads.copying

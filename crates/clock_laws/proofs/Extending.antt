@@ -6,7 +6,7 @@ use Rattle.pcm_cells.specs.Device.{counted}
 use Rattle.bank_shape.specs.declared.BankShape.{BankShape}
 use Rattle.bank_shape.specs.Shape.{lines_in}
 use Rattle.bank_model.specs.Events.{Event, Write, Read, Serve, Begin, Iterate, Cut}
-use Rattle.bank_model.specs.Timing.{Happens, Core, Regs, KeepBegin, KeepIterate, KeepCut, Timed}
+use Rattle.bank_model.specs.Timing.{Happens, Core, Regs, KeepBegin, KeepIterate, KeepCut, TimedEvent}
 use Rattle.bank_model.specs.Sensing.{is_at}
 use Rattle.bank_model.specs.Adding.{senses_of, pulses_on, torn_by, tears_on}
 use Rattle.clock_laws.specs.Extending.{NothingAddedLaw, OneAddedLaw, ArrivalAddedLaw, BothAddedLaw, is_tear}
@@ -81,15 +81,15 @@ arrival_added_law n m tick shape event array =
 -- Several events
 
 module _ {n m : ℕ} where
-  senses-both : (newer older : List (Timed n m)) → senses_of (newer ++ older) ≡ senses_of older ++ senses_of newer
+  senses-both : (newer older : List (TimedEvent n m)) → senses_of (newer ++ older) ≡ senses_of older ++ senses_of newer
   senses-both [] older = sym (append-nil (senses_of older))
   senses-both (x ∷ newer) older = ap (λ (senses : List (Sense n m)). senses ++ x.senses) (senses-both newer older) ∙ append_assoc (senses_of older) (senses_of newer) x.senses
 
-  pulses-both : (newer older : List (Timed n m)) (line count : ℕ) → pulses_on (newer ++ older) line count ≡ pulses_on newer line (pulses_on older line count)
+  pulses-both : (newer older : List (TimedEvent n m)) (line count : ℕ) → pulses_on (newer ++ older) line count ≡ pulses_on newer line (pulses_on older line count)
   pulses-both [] older line count = refl
   pulses-both (x ∷ newer) older line count = ap (λ pulses. cond (is_at x.pulsed line) (counted pulses) pulses) (pulses-both newer older line count)
 
-  tears-both : (newer older : List (Timed n m)) (count : ℕ) → tears_on (newer ++ older) count ≡ tears_on newer (tears_on older count)
+  tears-both : (newer older : List (TimedEvent n m)) (count : ℕ) → tears_on (newer ++ older) count ≡ tears_on newer (tears_on older count)
   tears-both [] older count = refl
   tears-both (x ∷ newer) older count = ap (λ tears. torn_by x.happens x.pulsed tears) (tears-both newer older count)
 

@@ -1,5 +1,7 @@
 -- What an action needs of its bank.
 use Rattle.std.proofs.Common.{◌≡◌, inl, inr, ℕ, ◌<◌, ◌==◌, ◌||◌, ◌&&◌, not, nat_lt, if◌then◌else◌, Bool, true, false, List, [], ◌∷◌, ◌++◌, length, Option, Some, None, is_some, refl, sym, ap, subst, ◌∙◌, arith, ltb-true, lt-ltb}
+use Rattle.std.proofs.lemmas.Bool.{and_from}
+use Rattle.masked_bytes.proofs.Truth.{and_first, and_second}
 use Rattle.std.specs.Prelude.{IfSome}
 use Rattle.std.specs.List.{list_any}
 use Rattle.std.proofs.lemmas.List.{length-append}
@@ -12,22 +14,24 @@ use Rattle.power_recovery.specs.Kept.{KeptState, next_work}
 use Rattle.power_recovery.specs.Events.{is_store, is_copy, accepted_kept}
 use Rattle.power_recovery.proofs.Frames.{next_work-accepted, next_work-due}
 use Rattle.power_recovery.proofs.Bundle.{next_work-store, next_work-copy}
-use Rattle.bank_model.specs.declared.clock.Doing.{Doing}
-use Rattle.bank_model.specs.declared.clock.Doing.TheVariants.{Serving, Beginning, Iterating}
-use Rattle.bank_model.specs.declared.clock.Action.{Action}
+use Rattle.bank_shape.specs.declared.clock.Doing.{Doing}
+use Rattle.bank_shape.specs.declared.clock.Doing.TheVariants.{Serving, Beginning, Iterating}
+use Rattle.bank_shape.specs.declared.clock.Action.{Action}
 use Rattle.bank_model.specs.After.{is_store_of}
-use Rattle.bank_model.specs.Running.{gives_way, choice, chosen_by, busy_by, ready_by}
+use Rattle.bank_shape.specs.Pausing.{gives_way}
+use Rattle.bank_shape.specs.Acting.{choice, chosen_by}
+use Rattle.bank_model.specs.Running.{busy_by, ready_by}
 use Rattle.reg_lines.specs.declared.Change.{Change}
 use Rattle.reg_lines.specs.Regs.{RegsState}
 use Rattle.register_laws.specs.Telling.{item_of}
-use Rattle.bank_invariant.specs.declared.Waiting.{Waiting}
+use Rattle.bank_shape.specs.declared.waiting.Waiting.{Waiting}
 use Rattle.bank_invariant.specs.State.{BankState, is_free, may_begin}
 use Rattle.bank_invariant.specs.Serving.{kept_with, waits_too}
 use Rattle.bank_invariant.specs.Writes.{taken}
 use Rattle.clock_laws.specs.State.{is_busy, may_start, or_else, started_at, chosen}
 use Rattle.clock_laws.specs.Arriving.{drops}
 use Rattle.clock_laws.specs.Fitting.{Fits, IsFit, HasEnded, NeedsLaw, ChosenLaw, RestLaw, FitWriteLaw, FitReadLaw}
-use Rattle.clock_laws.proofs.Deciding.{both, both_left, both_right, not_false, turned}
+use Rattle.clock_laws.proofs.Deciding.{not_false, turned}
 
 -- Choices
 
@@ -162,7 +166,7 @@ module _ {n : ℕ} where
 module _ {n m e : ℕ} where
   begin-taken : (bank : BankState n m e) (busy : Bool) (entry : Entry n) → may_begin bank ≡ true → may_begin (taken busy entry bank) ≡ true
   begin-taken bank busy entry own =
-      let free : is_free bank.waiting (next_work bank.kept) ≡ true = both_right (not (is_some bank.running)) _ own in
+      let free : is_free bank.waiting (next_work bank.kept) ≡ true = and_second (not (is_some bank.running)) _ own in
       let still : next_work (accepted_kept busy entry bank.kept) ≡ next_work bank.kept = next-stays bank.kept busy entry bank.waiting (next_work bank.kept) refl free in
       ap (λ work. not (is_some bank.running) && is_free bank.waiting work) still ∙ own
 
@@ -217,8 +221,8 @@ fit-waits {n} {m} {e} bank regs row line first Beginning own = by regs.change ow
     stays : (b : Bool) → is_store_of line (next_work bank.kept) ≡ b → may_begin bank ≡ true → IfSome (if b then None else Some first_action) (λ a. may_begin (waits_too bank row line) ≡ true)
     stays true is own = tt
     stays false is own =
-        both (not (is_some bank.running)) _ (both_left (not (is_some bank.running)) _ own)
-        (free-stays (next_work bank.kept) bank.waiting (kept_with row line (layer_of bank.kept.entries line)) is (both_right (not (is_some bank.running)) _ own))
+        and_from (not (is_some bank.running)) _ (and_first (not (is_some bank.running)) _ own)
+        (free-stays (next_work bank.kept) bank.waiting (kept_with row line (layer_of bank.kept.entries line)) is (and_second (not (is_some bank.running)) _ own))
 
     fits : (b : Bool) → (regs.change ≡ None) → IfSome (if b then None else Some first_action) (λ a. may_begin (waits_too bank row line) ≡ true)
         → IsFit (waits_too bank row line) regs (if b then None else Some first_action)

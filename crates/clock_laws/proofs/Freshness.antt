@@ -1,5 +1,7 @@
 -- Each entry of a history's queue gives the newest bytes of its line as of its own write.
 use Rattle.std.proofs.Common.{◌≡◌, ℕ, ◌==◌, ◌||◌, ◌&&◌, not, Bool, true, false, cond, if◌then◌else◌, List, [], ◌∷◌, ◌++◌, length, drop, slice_get, Option, Some, None, refl, sym, ap, subst, ◌∙◌, arith, eqb-true, eq-eqb}
+use Rattle.std.proofs.lemmas.Bool.{or_from, or_right}
+use Rattle.masked_bytes.proofs.Truth.{neither_first, neither_second}
 use Rattle.std.specs.Prelude.{IsTrue, IsSomeAnd}
 use Rattle.std.proofs.lemmas.List.{length-replicate}
 use Rattle.masked_bytes.specs.declared.entry.Entry.{Entry}
@@ -8,8 +10,8 @@ use Rattle.masked_bytes.specs.Entries.{Layer, no_layer, stacked, layer_by, layer
 use Rattle.masked_bytes.proofs.Layering.{length-laid, length-joined, laid-all_given, laid-none_given, all_given-gives_all, laid-laid}
 use Rattle.masked_bytes.proofs.Standing.{layer_of-head}
 use Rattle.bank_shape.specs.declared.BankShape.{BankShape}
-use Rattle.bank_model.specs.declared.answer.WriteAnswer.TheVariants as wrote
-use Rattle.bank_model.specs.declared.answer.Step.TheVariants as did
+use Rattle.bank_shape.specs.declared.answer.WriteAnswer.TheVariants as wrote
+use Rattle.bank_shape.specs.declared.answer.Step.TheVariants as did
 use Rattle.bank_model.specs.Events.{Event, Write, Read, Serve, Begin, Iterate, Cut, newest, up_to, RowsBelow}
 use Rattle.bank_model.specs.History.{queue, begun, due_after, has_exhausted}
 use Rattle.bank_model.specs.Answers.{MayAll, head_busy_after}
@@ -19,7 +21,7 @@ use Rattle.bank_laws.proofs.Standing.{stand_apart}
 use Rattle.bank_invariant.proofs.Taking.{answer_merged}
 use Rattle.clock_laws.specs.Newest.{GiveNewest, EntryLaw}
 use Rattle.bank_invariant.proofs.Awaiting.{length-newest}
-use Rattle.clock_laws.proofs.Deciding.{or_back, or_left, or_none, or_right, turned}
+use Rattle.clock_laws.proofs.Deciding.{turned}
 
 -- Bytes
 
@@ -72,9 +74,9 @@ module _ {n : ℕ} where
       → has_row es row ≡ false → AreFresh was now es → AreFresh after now es
   fresh-aside row was after now [] aside none fresh = tt
   fresh-aside row was after now (e ∷ es) aside none fresh =
-      let same : was e.row e.line ≡ after e.row e.line = sym (aside e.row e.line (turned e.row row (or_left (e.row == row) (has_row es row) none))) in (
+      let same : was e.row e.line ≡ after e.row e.line = sym (aside e.row e.line (turned e.row row (neither_first (e.row == row) (has_row es row) none))) in (
         subst (λ (bytes : List ℕ). IsFresh bytes (now e.line) (has_line es e.line) e) same fresh.0,
-        fresh-aside row was after now es aside (or_right (e.row == row) (has_row es row) none) fresh.1,
+        fresh-aside row was after now es aside (neither_second (e.row == row) (has_row es row) none) fresh.1,
       )
 
   module _ (row line : ℕ) (bytes : List ℕ) (given : List Bool) (was after : ℕ → ℕ → List ℕ) (now next : ℕ → List ℕ) (goes : Goes row line bytes given was after now next) where
@@ -105,23 +107,23 @@ module _ {n : ℕ} where
         )
     fresh-accepted (e ∷ es) none masked fresh = (
       fresh-one e (has_line es e.line) (has_line (es ++ record { row = row; line = line; bytes = bytes; given = given } ∷ []) e.line)
-          (or_left (e.row == row) (has_row es row) none) (λ off. off_push es e.line off) fresh.0,
-      fresh-accepted es (or_right (e.row == row) (has_row es row) none) masked fresh.1,
+          (neither_first (e.row == row) (has_row es row) none) (λ off. off_push es e.line off) fresh.0,
+      fresh-accepted es (neither_second (e.row == row) (has_row es row) none) masked fresh.1,
     )
       where
         off_push : (es : List (Entry n)) (at : ℕ) → has_line (es ++ record { row = row; line = line; bytes = bytes; given = given } ∷ []) at ≡ false → (has_line es at ≡ false) × ((line == at) ≡ false)
-        off_push [] at off = (refl, or_left (line == at) false off)
+        off_push [] at off = (refl, neither_first (line == at) false off)
         off_push (f ∷ es) at off =
-            let rest = off_push es at (or_right (f.line == at) _ off) in
-            (or_none (f.line == at) (has_line es at) (or_left (f.line == at) _ off) rest.0, rest.1)
+            let rest = off_push es at (neither_second (f.line == at) _ off) in
+            (or_from (f.line == at) (has_line es at) (neither_first (f.line == at) _ off) rest.0, rest.1)
 
     -- entries of other lines
     fresh-off : (es : List (Entry n)) → has_row es row ≡ false → has_line es line ≡ false → AreFresh was now es → AreFresh after next es
     fresh-off [] none off fresh = tt
     fresh-off (e ∷ es) none off fresh = (
-      fresh-one e (has_line es e.line) (has_line es e.line) (or_left (e.row == row) (has_row es row) none)
-          (λ behind. (behind, turned e.line line (or_left (e.line == line) (has_line es line) off))) fresh.0,
-      fresh-off es (or_right (e.row == row) (has_row es row) none) (or_right (e.line == line) (has_line es line) off) fresh.1,
+      fresh-one e (has_line es e.line) (has_line es e.line) (neither_first (e.row == row) (has_row es row) none)
+          (λ behind. (behind, turned e.line line (neither_first (e.line == line) (has_line es line) off))) fresh.0,
+      fresh-off es (neither_second (e.row == row) (has_row es row) none) (neither_second (e.line == line) (has_line es line) off) fresh.1,
     )
 
     -- the entry into which the write is merged
@@ -151,7 +153,7 @@ module _ {n : ℕ} where
       where
         by : (rest : Option ℕ) → (rest ≡ Some old → (has_row es old ≡ true) × (has_line es line ≡ true)) → (b : Bool) → (e.line == line) ≡ b
             → or_this rest (cond b (Some e.row) None) ≡ Some old → (has_row (e ∷ es) old ≡ true) × (has_line (e ∷ es) line ≡ true)
-        by (Some row) there b at is = let rest = there is in (or_back (e.row == old) (has_row es old) rest.0, or_back (e.line == line) (has_line es line) rest.1)
+        by (Some row) there b at is = let rest = there is in (or_right (e.row == old) (has_row es old) rest.0, or_right (e.line == line) (has_line es line) rest.1)
         by None there true at is =
             let same : e.row ≡ old = cc in
             (ap (λ b. b || has_row es old) (eq-eqb e.row old same), ap (λ b. b || has_line es line) at)
@@ -170,7 +172,7 @@ module _ {n : ℕ} where
         → ((at : ℕ) → length (now at) ≡ n) → AreFresh was now es → AreFresh after next (merged old row bytes given es)
     fresh-merged old [] is apart none masked len fresh = tt
     fresh-merged old (e ∷ es) is apart none masked len fresh =
-        by (newest_row es line) refl (λ at. fresh-merged old es at apart.1 (or_right (e.row == row) (has_row es row) none) masked len fresh.1) is
+        by (newest_row es line) refl (λ at. fresh-merged old es at apart.1 (neither_second (e.row == row) (has_row es row) none) masked len fresh.1) is
       where
         own : (b : Bool) → (e.line == line) ≡ b → newest_row es line ≡ None → cond b (Some e.row) None ≡ Some old → AreFresh after next (merged old row bytes given (e ∷ es))
         own true at alone is =
@@ -179,7 +181,7 @@ module _ {n : ℕ} where
             let off : has_line es line ≡ false = no_candidate-rest es line None (ap (λ r. or_this r None) alone) in
             subst (λ (b : Bool). AreFresh after next (if b then laid_on row bytes given e ∷ es else e ∷ merged old row bytes given es)) (sym (eq-eqb e.row old same)) (
               fresh-laid e (has_line es e.line) there (ap (λ at. has_line es at) there ∙ off) masked (len e.line) fresh.0,
-              fresh-off es (or_right (e.row == row) (has_row es row) none) off fresh.1,
+              fresh-off es (neither_second (e.row == row) (has_row es row) none) off fresh.1,
             )
         own false at alone is = cc
 
@@ -191,7 +193,7 @@ module _ {n : ℕ} where
             let there = newest_row-there es old here in
             let other : (e.row == old) ≡ false = not-same (e.row == old) (eqb-true e.row old) there.0 in
             subst (λ (b : Bool). AreFresh after next (if b then laid_on row bytes given e ∷ es else e ∷ merged old row bytes given es)) (sym other) (
-              fresh-one e (has_line es e.line) (has_line (merged old row bytes given es) e.line) (or_left (e.row == row) (has_row es row) none)
+              fresh-one e (has_line es e.line) (has_line (merged old row bytes given es) e.line) (neither_first (e.row == row) (has_row es row) none)
                   (λ off.
                   let still : has_line es e.line ≡ false = sym (line-merged old e.line es) ∙ off in
                   (still, not-line (line == e.line) (eqb-true line e.line) still there.1)) fresh.0,
@@ -334,8 +336,8 @@ module _ {n : ℕ} where
   no_line-layer : (es : List (Entry n)) (line : ℕ) → has_line es line ≡ false → layer_of es line ≡ no_layer n
   no_line-layer [] line off = refl
   no_line-layer (e ∷ es) line off =
-      ap (λ b. cond b (stacked (layer_of es line) (layer_by e)) (layer_of es line)) (or_left (e.line == line) (has_line es line) off)
-      ∙ no_line-layer es line (or_right (e.line == line) (has_line es line) off)
+      ap (λ b. cond b (stacked (layer_of es line) (layer_by e)) (layer_of es line)) (neither_first (e.line == line) (has_line es line) off)
+      ∙ no_line-layer es line (neither_second (e.line == line) (has_line es line) off)
 
   -- bytes over which the queue gives the newest ones of the head's line, and that the head doesn't change, were the newest as of its write
   pub head-under : (h : List (Event n)) (es : List (Entry n)) (under : List ℕ) → AreFresh (newest_at h) (newest h) es → ArePaired es → AllMasked es → length under ≡ n

@@ -3,12 +3,12 @@ use Rattle.std.proofs.Common.{◌≡◌, ◌≢◌, ℕ, ◌+◌, ◌<◌, ◌�
 use Rattle.std.specs.Prelude.{IfSome, IsSomeAnd, IsTrue}
 use Rattle.pcm_cells.specs.Device.{ArrayState}
 use Rattle.bank_shape.specs.Shape.{controls_from}
-use Rattle.bank_model.specs.declared.answer.Keep.{Keep}
-use Rattle.bank_model.specs.declared.answer.Keep.TheVariants as keep
-use Rattle.bank_model.specs.declared.clock.Doing.{Doing}
-use Rattle.bank_model.specs.declared.clock.Action.{Action}
+use Rattle.bank_shape.specs.declared.answer.Keep.{Keep}
+use Rattle.bank_shape.specs.declared.answer.Keep.TheVariants as keep
+use Rattle.bank_shape.specs.declared.clock.Doing.{Doing}
+use Rattle.bank_shape.specs.declared.clock.Action.{Action}
 use Rattle.bank_model.specs.Changes.{change_by, change_after, written_by, keeps_on, keeping_by, keeping_after, halted_by, halted_after, rounds_by, rounds_after, line_of_change}
-use Rattle.bank_model.specs.Timing.{Happens, Regs, Keeping, KeepBegin, KeepIterate, KeepCut, Timed, core, ends}
+use Rattle.bank_model.specs.Timing.{Happens, Regs, Keeping, KeepBegin, KeepIterate, KeepCut, TimedEvent, core, ends}
 use Rattle.bank_model.specs.Lawful.{MayKeep}
 use Rattle.bank_model.specs.Sensing.{most_steps, kept_sensed, kept_pulsed}
 use Rattle.bank_model.specs.Touching.{Touches}
@@ -45,7 +45,7 @@ halts_by keep.More old = old
 halts_by keep.Done old = old
 halts_by keep.Halted old = true
 
-module _ {n m e : ℕ} (xs : List (Timed n m)) (clock : ClockState n m e) (old : ArrayState n m) (leads : Leads xs clock old) where
+module _ {n m e : ℕ} (xs : List (TimedEvent n m)) (clock : ClockState n m e) (old : ArrayState n m) (leads : Leads xs clock old) where
   -- the line of the change is that of its item
   line_is : (change : Option Change) → (base : ℕ) → base ≡ controls_from clock.bank.kept.shape → line_by base change ≡ line_of_change clock.bank.kept.shape (item_of change)
   line_is None base is = refl
@@ -71,7 +71,7 @@ module _ {n m e : ℕ} (xs : List (Timed n m)) (clock : ClockState n m e) (old :
       → Touches (ends clock.pace action) sensed pulsed false old new → AreTold clock.bank.kept.shape (keep_completed clock action event new ∷ xs) regs → Control clock.bank.kept regs new
       → LeadsOn clock.bank.kept.shape xs (keep_completed clock action event new) (after_keep clock regs action event) old new
   keep-finish event action regs sensed pulsed new next is later stands may senses pulses touches told control =
-      let x : Timed n m = keep_completed clock action event new in
+      let x : TimedEvent n m = keep_completed clock action event new in
       let touched : Touches (ends clock.pace action) (kept_sensed (line_kept clock) event) (kept_pulsed (line_kept clock) event) false old new =
       subst (λ (sensed : List ℕ). Touches (ends clock.pace action) sensed (kept_pulsed (line_kept clock) event) false old new) senses
       (subst (λ (pulsed : Option ℕ). Touches (ends clock.pace action) sensed pulsed false old new) pulses touches) in
@@ -87,7 +87,7 @@ module _ {n m e : ℕ} (xs : List (Timed n m)) (clock : ClockState n m e) (old :
       never (KeepCut tearing) doing is = absurd is
 
   -- what a step leaves is told by the history
-  kept-told : (x : Timed n m) (event : Keeping) (answer : Keep) (writer : LineWriter n m e) (count : ℕ) → x.happens ≡ Regs event
+  kept-told : (x : TimedEvent n m) (event : Keeping) (answer : Keep) (writer : LineWriter n m e) (count : ℕ) → x.happens ≡ Regs event
       → change_by clock.bank.kept.shape (core xs) (Regs event) (change_after clock.bank.kept.shape xs) ≡ written_by answer (change_after clock.bank.kept.shape xs)
       → keeping_by {n = n} (Regs event) (keeping_after xs) ≡ keeps_on answer → halted_by {n = n} (Regs event) (halted_after xs) ≡ halts_by answer (halted_after xs)
       → rounds_by {n = n} (Regs event) (rounds_after xs) ≡ count → (answer ≡ keep.More → count + steps_left writer ≤ most_steps e)
@@ -138,7 +138,7 @@ some_steps {n} {m} {e} regs array writer held is =
 
 pub keep_begin_ends_law : KeepBeginEndsLaw
 keep_begin_ends_law n m e answer action writer xs clock regs old new leads idle going step not_halted few =
-    let x : Timed n m = keep_completed clock action (KeepBegin answer) new in
+    let x : TimedEvent n m = keep_completed clock action (KeepBegin answer) new in
     let told : AreTold clock.bank.kept.shape (x ∷ xs) regs =
     subst (λ (regs : RegsState n m e). AreTold clock.bank.kept.shape (x ∷ xs) regs) (sym step.leaves)
     (kept-told xs clock old leads x (KeepBegin answer) answer writer 0 refl refl refl (stays answer not_halted) refl (λ is. omega (arith, few))) in
@@ -158,7 +158,7 @@ keep_begin_ends_law n m e answer action writer xs clock regs old new leads idle 
 
 pub keep_iterate_ends_law : KeepIterateEndsLaw
 keep_iterate_ends_law n m e answer action before writer xs clock regs old new leads is step fewer =
-    let x : Timed n m = keep_completed clock action (KeepIterate answer) new in
+    let x : TimedEvent n m = keep_completed clock action (KeepIterate answer) new in
     let count : rounds_after xs + steps_left before ≤ most_steps e =
     subst (λ (w : Option (LineWriter n m e)). IfSome w (λ writer. rounds_after xs + steps_left writer ≤ most_steps e)) is leads.regs.steps in
     let some : 0 < steps_left before = some_steps clock.regs old before leads.control.held is in

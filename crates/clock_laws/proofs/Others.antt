@@ -1,5 +1,7 @@
 -- The rows that stand, and that no other outcome is touched.
 use Rattle.std.proofs.Common.{◌≡◌, ℕ, ◌==◌, ◌||◌, ◌&&◌, not, Bool, true, false, cond, if◌then◌else◌, List, [], ◌∷◌, ◌++◌, map, Option, Some, None, refl, sym, ap, subst, ◌∙◌, eqb-true, eq-eqb}
+use Rattle.std.proofs.lemmas.Bool.{or_right}
+use Rattle.masked_bytes.proofs.Truth.{neither_first, neither_second}
 use Rattle.std.specs.Prelude.{unwrap_or}
 use Rattle.result_rows.specs.declared.Outcome.{Outcome}
 use Rattle.result_rows.specs.declared.Outcome.TheVariants as out
@@ -7,26 +9,26 @@ use Rattle.masked_bytes.specs.declared.entry.Entry.{Entry}
 use Rattle.masked_bytes.specs.Entries.{or_this, newest_row, candidate, has_row, head_row}
 use Rattle.bank_shape.specs.declared.BankShape.{BankShape}
 use Rattle.bank_shape.specs.declared.Work.TheVariants.{Nothing}
-use Rattle.bank_model.specs.declared.answer.WriteAnswer.TheVariants as wrote
-use Rattle.bank_model.specs.declared.answer.ReadAnswer.TheVariants as came
-use Rattle.bank_model.specs.declared.answer.Served.{Served}
-use Rattle.bank_model.specs.declared.answer.Step.TheVariants as did
+use Rattle.bank_shape.specs.declared.answer.WriteAnswer.TheVariants as wrote
+use Rattle.bank_shape.specs.declared.answer.ReadAnswer.TheVariants as came
+use Rattle.bank_shape.specs.declared.answer.Served.{Served}
+use Rattle.bank_shape.specs.declared.answer.Step.TheVariants as did
 use Rattle.bank_model.specs.Events.{Event, Write, Read, Serve, Begin, Iterate, Cut}
 use Rattle.bank_model.specs.History.{Awaited, queue, waits, due_after, has_exhausted}
 use Rattle.bank_model.specs.After.{due_work}
 use Rattle.bank_model.specs.Answers.{MayHappen, IsServed, IsDone, head_busy_after}
-use Rattle.bank_model.specs.Timing.{Pacing, Happens, Core, Regs, Timed, core, core_of}
+use Rattle.bank_shape.specs.declared.pace.Pace.{Pace}
+use Rattle.bank_model.specs.Timing.{Happens, Core, Regs, TimedEvent, core, core_of}
 use Rattle.bank_model.specs.Lawful.{Lawful, MayCome}
 use Rattle.bank_model.specs.Sensing.{most_steps}
 use Rattle.bank_laws.specs.Outcomes.{outcome_by, outcome_with, on_row}
 use Rattle.bank_laws.specs.Standing.{has_wait, WaitsApart, AreRowsApart}
 use Rattle.bank_laws.proofs.Standing.{stand_apart}
-use Rattle.bank_invariant.specs.declared.Waiting.{Waiting}
+use Rattle.bank_shape.specs.declared.waiting.Waiting.{Waiting}
 use Rattle.bank_invariant.specs.Holds.{waiting_of}
 use Rattle.bank_invariant.proofs.Taking.{answer_merged}
 use Rattle.clock_laws.specs.Recording.{outcome_on}
 use Rattle.clock_laws.specs.Standing.{has_waiting, WaitingApart, AreApart, ApartLaw, is_arrival_of, arrives_with, OtherRowsLaw}
-use Rattle.clock_laws.proofs.Deciding.{or_back, or_left, or_right}
 use Rattle.clock_laws.proofs.Absent.{queue-lacks, waits-lack}
 
 -- Rows that stand
@@ -70,12 +72,12 @@ module _ {n : ℕ} where
       rest (f ∷ es) is = own (newest_row es line) (rest es) (f.line == line) is
         where
           own : (r : Option ℕ) → (r ≡ Some old → has_row es old ≡ true) → (b : Bool) → or_this r (if b then Some f.row else None) ≡ Some old → has_row (f ∷ es) old ≡ true
-          own (Some at) there b is = or_back (f.row == old) (has_row es old) (there is)
+          own (Some at) there b is = or_right (f.row == old) (has_row es old) (there is)
           own None there true is = let same : f.row ≡ old = cc in ap (λ b. b || has_row es old) (eq-eqb f.row old same)
           own None there false is = cc
 
       by : (r : Option ℕ) → (r ≡ Some old → has_row es old ≡ true) → (b : Bool) → or_this r (if b then Some e.row else None) ≡ Some old → has_row (e ∷ es) old ≡ true
-      by (Some at) there b is = or_back (e.row == old) (has_row es old) (there is)
+      by (Some at) there b is = or_right (e.row == old) (has_row es old) (there is)
       by None there true is = let same : e.row ≡ old = cc in ap (λ b. b || has_row es old) (eq-eqb e.row old same)
       by None there false is = cc
 
@@ -100,11 +102,11 @@ module _ {n : ℕ} where
     stored-other false None (e ∷ es) at place is done =
         let same : at ≡ e.row = done.0 ∙ ap (λ es. head_row es) is in
         let lacks : has_row (e ∷ es) row ≡ false = ap (λ es. has_row es row) (sym is) ∙ none in
-        ap (λ r. r == row) same ∙ or_left (e.row == row) (has_row es row) lacks
+        ap (λ r. r == row) same ∙ neither_first (e.row == row) (has_row es row) lacks
 
     served-other : (ws : List Awaited) (answer : Served n) → has_wait ws row ≡ false → IsServed shape h ws answer → (answer.row == row) ≡ false
     served-other [] answer lacks is = absurd is
-    served-other (w ∷ ws) answer lacks is = ap (λ r. r == row) is.0 ∙ or_left (w.row == row) _ lacks
+    served-other (w ∷ ws) answer lacks is = ap (λ r. r == row) is.0 ∙ neither_first (w.row == row) _ lacks
 
     no-outcome : (most tick : ℕ) (event : Event n) → MayHappen shape h most event → is_arrival_of (Core event) row ≡ false → outcome_by (waits shape h) event tick row ≡ None
     no-outcome most tick (Write at line bytes given wrote.Accepted) may off = refl
@@ -131,26 +133,26 @@ module _ {n : ℕ} where
     no-outcome most tick (Iterate did.Exhausted) may off = refl
     no-outcome most tick (Cut tearing) may off = ap (λ b. cond b (Some (out.Lost tick)) None) waits_not
 
-module _ {n m : ℕ} (shape : BankShape) (pace : Pacing) (e row : ℕ) (before : ℕ → Outcome n) where
+module _ {n m : ℕ} (shape : BankShape) (pace : Pace) (e row : ℕ) (before : ℕ → Outcome n) where
   -- a row that neither stands nor waits after events, and whose outcome is as before them
-  record IsAside (added xs : List (Timed n m)) : Type 0 where
+  record IsAside (added xs : List (TimedEvent n m)) : Type 0 where
     queued : has_row (queue shape (core (added ++ xs))) row ≡ false
     waiting : has_wait (waits shape (core (added ++ xs))) row ≡ false
     outcome : outcome_on shape added xs before row ≡ before row
 
-  aside : (added xs : List (Timed n m)) → Lawful shape pace e (added ++ xs) → has_row (queue shape (core xs)) row ≡ false → has_wait (waits shape (core xs)) row ≡ false
+  aside : (added xs : List (TimedEvent n m)) → Lawful shape pace e (added ++ xs) → has_row (queue shape (core xs)) row ≡ false → has_wait (waits shape (core xs)) row ≡ false
       → arrives_with added row ≡ false → IsAside added xs
   aside [] xs lawful none waits_not off = record { queued = none; waiting = waits_not; outcome = refl }
   aside (x ∷ added) xs lawful none waits_not off =
-      let rest : IsAside added xs = aside added xs lawful.1 none waits_not (or_right (is_arrival_of x.happens row) _ off) in
-      let one = by x.happens (added ++ xs) lawful.0 rest.queued rest.waiting (or_left (is_arrival_of x.happens row) _ off) in
+      let rest : IsAside added xs = aside added xs lawful.1 none waits_not (neither_second (is_arrival_of x.happens row) _ off) in
+      let one = by x.happens (added ++ xs) lawful.0 rest.queued rest.waiting (neither_first (is_arrival_of x.happens row) _ off) in
       record {
         queued = one.0;
         waiting = one.1;
         outcome = ap (λ outcome. unwrap_or outcome (outcome_on shape added xs before row)) one.2 ∙ rest.outcome;
       }
     where
-      by : (h : Happens n) (ys : List (Timed n m)) → MayCome shape pace e ys x h → has_row (queue shape (core ys)) row ≡ false → has_wait (waits shape (core ys)) row ≡ false
+      by : (h : Happens n) (ys : List (TimedEvent n m)) → MayCome shape pace e ys x h → has_row (queue shape (core ys)) row ≡ false → has_wait (waits shape (core ys)) row ≡ false
           → is_arrival_of h row ≡ false
           → (has_row (queue shape (core_of h (core ys))) row ≡ false) × (has_wait (waits shape (core_of h (core ys))) row ≡ false) × (outcome_with shape ys h x.tick row ≡ None)
       by (Core event) ys may none waits_not off = (

@@ -1,7 +1,7 @@
 -- A bank that was just made, and time that passes.
 use Rattle.std.proofs.Common.{◌+◌, ◌<◌, ◌≤◌, [], Option, None, is_some, sym, ap, subst, ◌∙◌, arith}
 use Rattle.std.specs.Prelude.{IfSome}
-use Rattle.bank_model.specs.declared.clock.Action.{Action}
+use Rattle.bank_shape.specs.declared.clock.Action.{Action}
 use Rattle.bank_model.specs.Timing.{ends}
 use Rattle.bank_model.specs.Running.{chosen_after, running_at}
 use Rattle.line_writer.specs.declared.writer.LineWriter.{LineWriter}

@@ -16,14 +16,14 @@ use Rattle.start_gap.specs.declared.Move.{Move}
 use Rattle.power_recovery.specs.Kept.{KeptState, due_region}
 use Rattle.power_recovery.specs.Events.{is_store, is_copy}
 use Rattle.power_recovery.proofs.Bundle.{next_work-store, next_work-copy}
-use Rattle.bank_model.specs.declared.answer.Step.{Step}
-use Rattle.bank_model.specs.declared.answer.Step.TheVariants as did
+use Rattle.bank_shape.specs.declared.answer.Step.{Step}
+use Rattle.bank_shape.specs.declared.answer.Step.TheVariants as did
 use Rattle.bank_model.specs.Events.{Write, Read, Serve, Begin, Iterate, Cut, line_of_row}
 use Rattle.bank_model.specs.History.{queue, stores, first_or}
 use Rattle.bank_model.specs.After.{work_after}
 use Rattle.bank_model.specs.Answers.{IsDone, MayHappen}
 use Rattle.bank_model.specs.Changes.{item_if, changed_by, change_by, change_after, keeping_by, keeping_after, rounds_by, rounds_after, halted_by, halted_after}
-use Rattle.bank_model.specs.Timing.{Timed, Happens, Core, core}
+use Rattle.bank_model.specs.Timing.{TimedEvent, Happens, Core, core}
 use Rattle.reg_lines.specs.declared.Change.{Change}
 use Rattle.reg_lines.specs.Regs.{RegsState, IsWritingOf}
 use Rattle.register_laws.specs.Telling.{AreTold, item_of}
@@ -63,7 +63,7 @@ due_is : (b : Bool) (at region : ℕ) → cond b (Some at) None ≡ Some region 
 due_is true at region is = cc
 due_is false at region is = absurd (cc)
 
-module _ {n m e : ℕ} (xs : List (Timed n m)) (clock : ClockState n m e) (array : ArrayState n m) (leads : Leads xs clock array) where
+module _ {n m e : ℕ} (xs : List (TimedEvent n m)) (clock : ClockState n m e) (array : ArrayState n m) (leads : Leads xs clock array) where
   done_store : (work : Work) (row place : ℕ) → IsDone clock.bank.kept.shape (core xs) work (did.Stored row place) → (is_store work ≡ true) × (row ≡ head_row (queue clock.bank.kept.shape (core xs)))
   done_store Nothing row place done = absurd done
   done_store (Store line slot) row place done = (refl, done.0)
@@ -124,7 +124,7 @@ module _ {n m e : ℕ} (xs : List (Timed n m)) (clock : ClockState n m e) (array
 
   -- What the history says of the control lines
 
-  pub put-told : (item : Option ℕ) (kept : KeptState n) (x : Timed n m) (h : Happens n) → x.happens ≡ h → clock.regs.change ≡ None
+  pub put-told : (item : Option ℕ) (kept : KeptState n) (x : TimedEvent n m) (h : Happens n) → x.happens ≡ h → clock.regs.change ≡ None
       → item_of (put_if item kept clock.regs).change ≡ change_by clock.bank.kept.shape (core xs) h (change_after clock.bank.kept.shape xs)
       → keeping_by h (keeping_after xs) ≡ false → halted_by h (halted_after xs) ≡ halted_after xs
       → AreTold clock.bank.kept.shape (x ∷ xs) (put_if item kept clock.regs)
@@ -139,7 +139,7 @@ module _ {n m e : ℕ} (xs : List (Timed n m)) (clock : ClockState n m e) (array
       }
 
 -- an event that changes nothing of them
-pub told-on : {n m e : ℕ} (shape : BankShape) (xs : List (Timed n m)) (x : Timed n m) (regs : RegsState n m e) (h : Happens n) → x.happens ≡ h
+pub told-on : {n m e : ℕ} (shape : BankShape) (xs : List (TimedEvent n m)) (x : TimedEvent n m) (regs : RegsState n m e) (h : Happens n) → x.happens ≡ h
     → change_by shape (core xs) h (change_after shape xs) ≡ change_after shape xs → keeping_by h (keeping_after xs) ≡ keeping_after xs → halted_by h (halted_after xs) ≡ halted_after xs
     → rounds_by h (rounds_after xs) ≡ rounds_after xs → AreTold shape xs regs → AreTold shape (x ∷ xs) regs
 told-on {n} {m} {e} shape xs x regs h is change keeping halted rounds told = record {

@@ -21,10 +21,10 @@ use Rattle.power_recovery.proofs.Bundle.{due_region-Some}
 use Rattle.bank_model.specs.Events.{Event, Write, Read, Serve, Begin, Iterate, Cut}
 use Rattle.bank_model.specs.History.{Awaited, waits}
 use Rattle.bank_model.specs.After.{work_after, target_after, sources_of}
-use Rattle.bank_model.specs.declared.clock.Doing.TheVariants.{Iterating}
-use Rattle.bank_model.specs.declared.clock.Action.{Action}
+use Rattle.bank_shape.specs.declared.clock.Doing.TheVariants.{Iterating}
+use Rattle.bank_shape.specs.declared.clock.Action.{Action}
 use Rattle.bank_model.specs.Changes.{line_of_change, numbers_from}
-use Rattle.bank_model.specs.Timing.{Timed, Keeping, KeepBegin, KeepIterate, KeepCut, is_doing}
+use Rattle.bank_model.specs.Timing.{TimedEvent, Keeping, KeepBegin, KeepIterate, KeepCut, is_doing}
 use Rattle.bank_model.specs.Sensing.{is_at, pulses_of, stand_of, sensed_by, pulsed_by, read_again, torn_control, kept_sensed, kept_pulsed}
 use Rattle.bank_model.specs.Touching.{Touches, shown}
 use Rattle.bank_invariant.specs.State.{BankState, target_of}
@@ -206,16 +206,16 @@ module _ {n m : ℕ} where
       by false is = ap (λ l. l.pulses) (touches.others line is) ∙ before
 
   -- the pulses of a bank's lines are those of the history
-  abbrev pub ArePulses : BankShape → List (Timed n m) → ArrayState n m → Type 0
+  abbrev pub ArePulses : BankShape → List (TimedEvent n m) → ArrayState n m → Type 0
   ArePulses shape xs array = (line : ℕ) → line < lines_in shape → (array.line (shape.base + line)).pulses ≡ pulses_of xs (shape.base + line)
 
-  pub pulses-at : (shape : BankShape) (xs : List (Timed n m)) (array : ArrayState n m) (line : ℕ) → ArePulses shape xs array → IsIn shape line
+  pub pulses-at : (shape : BankShape) (xs : List (TimedEvent n m)) (array : ArrayState n m) (line : ℕ) → ArePulses shape xs array → IsIn shape line
       → (array.line line).pulses ≡ pulses_of xs line
   pulses-at shape xs array line are is =
       let there : shape.base + (line - shape.base) ≡ line = omega (arith, is.0) in
       subst (λ (at : ℕ). (array.line at).pulses ≡ pulses_of xs at) there (are (line - shape.base) (omega (arith, is.0, is.1)))
 
-  pub pulses-next : (shape : BankShape) (xs : List (Timed n m)) (x : Timed n m) (sensed : List ℕ) (tearing : Bool) (old new : ArrayState n m)
+  pub pulses-next : (shape : BankShape) (xs : List (TimedEvent n m)) (x : TimedEvent n m) (sensed : List ℕ) (tearing : Bool) (old new : ArrayState n m)
       → ArePulses shape xs old → Touches x.tick sensed x.pulsed tearing old new → ArePulses shape (x ∷ xs) new
   pulses-next shape xs x sensed tearing old new are touches line below =
       touched x.tick sensed x.pulsed tearing old new (shape.base + line) (pulses_of xs (shape.base + line)) touches (are line below)

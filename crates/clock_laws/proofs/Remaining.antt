@@ -17,9 +17,9 @@ use Rattle.power_recovery.proofs.Bundle.{due_region-Some, due_region-None, next_
 use Rattle.bank_invariant.specs.State.{BankState, Operation}
 use Rattle.bank_invariant.specs.Retiring.{ended}
 use Rattle.bank_invariant.specs.Beginning.{begun_with}
-use Rattle.bank_invariant.specs.declared.Waiting.{Waiting}
+use Rattle.bank_shape.specs.declared.waiting.Waiting.{Waiting}
 use Rattle.line_writer.specs.declared.writer.LineWriter.{LineWriter}
-use Rattle.bank_model.specs.declared.answer.Keep.TheVariants as keep
+use Rattle.bank_shape.specs.declared.answer.Keep.TheVariants as keep
 use Rattle.bank_laws.proofs.Changing.{changed-idle}
 use Rattle.reg_lines.specs.declared.Change.{Change}
 use Rattle.reg_lines.specs.Regs.{RegsState}

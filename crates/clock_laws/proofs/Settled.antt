@@ -1,7 +1,7 @@
 -- Each row that came has its outcome, unless it stands or waits.
 use Rattle.std.proofs.Common.{◌≡◌, ◌≢◌, ◌⊎◌, inl, inr, ℕ, ◌<◌, ◌==◌, ◌||◌, Bool, true, false, cond, if◌then◌else◌, List, [], ◌∷◌, ◌++◌, drop, Option, Some, None, refl, sym, ap, subst, ◌∙◌, arith, eqb-true, eq-eqb}
 use Rattle.std.specs.Prelude.{unwrap_or}
-use Rattle.std.proofs.lemmas.Bool.{ne_eqb}
+use Rattle.std.proofs.lemmas.Bool.{ne_eqb, or_left, or_right}
 use Rattle.result_rows.specs.declared.Outcome.{Outcome}
 use Rattle.result_rows.specs.declared.Outcome.TheVariants as out
 use Rattle.masked_bytes.specs.declared.entry.Entry.{Entry}
@@ -9,16 +9,17 @@ use Rattle.masked_bytes.specs.Entries.{candidate, laid_on, merged, has_row, head
 use Rattle.bank_shape.specs.declared.BankShape.{BankShape}
 use Rattle.bank_shape.specs.declared.Work.{Work}
 use Rattle.bank_shape.specs.declared.Work.TheVariants.{Nothing, Store, Copy}
-use Rattle.bank_model.specs.declared.answer.WriteAnswer.{WriteAnswer}
-use Rattle.bank_model.specs.declared.answer.WriteAnswer.TheVariants as wrote
-use Rattle.bank_model.specs.declared.answer.ReadAnswer.TheVariants as came
-use Rattle.bank_model.specs.declared.answer.Served.{Served}
-use Rattle.bank_model.specs.declared.answer.Step.TheVariants as did
+use Rattle.bank_shape.specs.declared.answer.WriteAnswer.{WriteAnswer}
+use Rattle.bank_shape.specs.declared.answer.WriteAnswer.TheVariants as wrote
+use Rattle.bank_shape.specs.declared.answer.ReadAnswer.TheVariants as came
+use Rattle.bank_shape.specs.declared.answer.Served.{Served}
+use Rattle.bank_shape.specs.declared.answer.Step.TheVariants as did
 use Rattle.bank_model.specs.Events.{Event, Write, Read, Serve, Begin, Iterate, Cut, newest, RowsBelow}
 use Rattle.bank_model.specs.History.{Awaited, queue, waits, begun, due_after, has_exhausted}
 use Rattle.bank_model.specs.After.{work_after}
 use Rattle.bank_model.specs.Answers.{MayHappen, IsServed, IsDone, head_busy_after}
-use Rattle.bank_model.specs.Timing.{Pacing, Happens, Core, Regs, Timed, core, core_of}
+use Rattle.bank_shape.specs.declared.pace.Pace.{Pace}
+use Rattle.bank_model.specs.Timing.{Happens, Core, Regs, TimedEvent, core, core_of}
 use Rattle.bank_model.specs.Lawful.{Lawful, MayCome}
 use Rattle.bank_model.specs.Sensing.{most_steps}
 use Rattle.bank_model.specs.Told.{tick_by, tick_of_row}
@@ -27,7 +28,7 @@ use Rattle.bank_laws.specs.Standing.{has_wait}
 use Rattle.bank_invariant.proofs.Taking.{answer_merged}
 use Rattle.clock_laws.specs.Standing.{has_waiting, is_arrival_of, arrives_with, SettledLaw, LostRowsLaw, ArrivalTickLaw}
 use Rattle.clock_laws.proofs.Others.{same_wait, candidate-there}
-use Rattle.clock_laws.proofs.Deciding.{or_back, or_first, or_rest}
+use Rattle.clock_laws.proofs.Deciding.{or_rest}
 
 -- whether a row has its outcome
 abbrev is_set : {n : ℕ} → Outcome n → Bool
@@ -43,8 +44,8 @@ there-push (e ∷ es) x row h = by (e.row == row) h (there-push es x row)
     by false h rest = rest h
 
 there-new : {n : ℕ} (es : List (Entry n)) (x : Entry n) (row : ℕ) → (x.row == row) ≡ true → has_row (es ++ x ∷ []) row ≡ true
-there-new [] x row h = or_first (x.row == row) false h
-there-new (e ∷ es) x row h = or_back (e.row == row) _ (there-new es x row h)
+there-new [] x row h = or_left (x.row == row) false h
+there-new (e ∷ es) x row h = or_right (e.row == row) _ (there-new es x row h)
 
 there-begun : {n : ℕ} (due : Option ℕ) (newest_of : ℕ → List ℕ) (es : List (Entry n)) (row : ℕ) → has_row es row ≡ true → has_row (begun due newest_of es) row ≡ true
 there-begun (Some region) newest_of es row h = h
@@ -65,7 +66,7 @@ module _ {n : ℕ} (old at : ℕ) (bytes : List ℕ) (given : List Bool) where
           → has_row (if b then laid_on at bytes given e ∷ es else e ∷ merged old at bytes given es) row ≡ true
       by true is rest =
           let not-first : (e.row == row) ≡ false = ap (λ r. r == row) (is refl) ∙ off in
-          or_back (at == row) _ (or_rest (e.row == row) _ not-first h)
+          or_right (at == row) _ (or_rest (e.row == row) _ not-first h)
       by false is rest = own (e.row == row) h rest
 
   -- and the entry that was merged into has the new row
@@ -75,8 +76,8 @@ module _ {n : ℕ} (old at : ℕ) (bytes : List ℕ) (given : List Bool) where
     where
       by : (b : Bool) → (e.row == old) ≡ b → (has_row es old ≡ true → has_row (merged old at bytes given es) at ≡ true)
           → has_row (if b then laid_on at bytes given e ∷ es else e ∷ merged old at bytes given es) at ≡ true
-      by true is rest = or_first (at == at) _ (eq-eqb at at refl)
-      by false is rest = or_back (e.row == at) _ (rest (or_rest (e.row == old) _ is h))
+      by true is rest = or_left (at == at) _ (eq-eqb at at refl)
+      by false is rest = or_right (e.row == at) _ (rest (or_rest (e.row == old) _ is h))
 
 wait-push : (ws : List Awaited) (w : Awaited) (row : ℕ) → has_wait ws row ≡ true → has_wait (ws ++ w ∷ []) row ≡ true
 wait-push [] w row h = cc
@@ -87,8 +88,8 @@ wait-push (v ∷ ws) w row h = by (v.row == row) h (wait-push ws w row)
     by false h rest = rest h
 
 wait-new : (ws : List Awaited) (w : Awaited) (row : ℕ) → (w.row == row) ≡ true → has_wait (ws ++ w ∷ []) row ≡ true
-wait-new [] w row h = or_first (w.row == row) false h
-wait-new (v ∷ ws) w row h = or_back (v.row == row) _ (wait-new ws w row h)
+wait-new [] w row h = or_left (w.row == row) false h
+wait-new (v ∷ ws) w row h = or_right (v.row == row) _ (wait-new ws w row h)
 
 module _ {n : ℕ} (shape : BankShape) (h : List (Event n)) (row tick : ℕ) (before : Outcome n) where
   -- a row stands, waits or has its outcome
@@ -182,8 +183,8 @@ module _ {n : ℕ} (shape : BankShape) (h : List (Event n)) (row tick : ℕ) (be
   step most (Cut tearing) may (inr stands) =
       kept-by (has_wait (waits shape h) row) (out.Lost tick) (queue shape h) (queue shape h) (waits shape h) [] refl (λ off there. there) (λ off waiting. cc) stands
 
-module _ {n m : ℕ} (shape : BankShape) (pace : Pacing) (e row : ℕ) where
-  stands : (xs : List (Timed n m)) → Lawful shape pace e xs → arrives_with xs row ≡ true → Stands shape (core xs) row 0 (outcome_of shape xs row) (queue shape (core xs)) (waits shape (core xs)) (outcome_of shape xs row)
+module _ {n m : ℕ} (shape : BankShape) (pace : Pace) (e row : ℕ) where
+  stands : (xs : List (TimedEvent n m)) → Lawful shape pace e xs → arrives_with xs row ≡ true → Stands shape (core xs) row 0 (outcome_of shape xs row) (queue shape (core xs)) (waits shape (core xs)) (outcome_of shape xs row)
   stands [] lawful came = cc
   stands (x ∷ xs) lawful came = by x.happens lawful.0 (which (is_arrival_of x.happens row) came (stands xs lawful.1))
     where
@@ -223,7 +224,7 @@ lost_rows_law n m e row tick tearing xs clock array leads =
 
 module _ {n m : ℕ} where
   -- a row that came is below the bound of all
-  came-below : (row line : ℕ) (bytes : List ℕ) (given : List Bool) (answer : WriteAnswer) (later xs : List (Timed n m)) (x : Timed n m) (bound : ℕ) → RowsBelow (core (later ++ x ∷ xs)) bound
+  came-below : (row line : ℕ) (bytes : List ℕ) (given : List Bool) (answer : WriteAnswer) (later xs : List (TimedEvent n m)) (x : TimedEvent n m) (bound : ℕ) → RowsBelow (core (later ++ x ∷ xs)) bound
       → x.happens ≡ Core (Write row line bytes given answer) → (row < bound) × (tick_of_row row (later ++ x ∷ xs) ≡ x.tick)
   came-below row line bytes given answer [] xs x bound below is =
       let P : Happens n → Type 0 = λ h. RowsBelow (core_of h (core xs)) bound in

@@ -4,12 +4,13 @@ use Rattle.std.specs.Prelude.{All, IfSome, IsTrue}
 use Rattle.pcm_cells.specs.Device.{ArrayState}
 use Rattle.bank_shape.specs.declared.BankShape.{BankShape}
 use Rattle.bank_shape.specs.Shape.{controls_of}
-use Rattle.bank_model.specs.declared.clock.Action.{Action}
+use Rattle.bank_shape.specs.declared.clock.Action.{Action}
 use Rattle.bank_model.specs.Events.{Event}
 use Rattle.bank_model.specs.History.{queue}
 use Rattle.bank_model.specs.Answers.{MayAll}
 use Rattle.bank_model.specs.Changes.{change_after, line_of_change}
-use Rattle.bank_model.specs.Timing.{Pacing, Timed, Happens, Core, Regs, Keeping, ends, core}
+use Rattle.bank_shape.specs.declared.pace.Pace.{Pace}
+use Rattle.bank_model.specs.Timing.{TimedEvent, Happens, Core, Regs, Keeping, ends, core}
 use Rattle.bank_model.specs.Running.{left_by, running_at, running, chosen_after, cancels_with}
 use Rattle.bank_model.specs.Lawful.{IsAsked, IsOnTime, IsKeptOnTime, IsUncancelled, MayKeep, MayCome, Lawful, FollowsCancel}
 use Rattle.bank_model.specs.Sensing.{most_steps, pulses_of, sensed_by, pulsed_by, read_again, torn_control, kept_sensed, kept_pulsed, IsReadRight}
@@ -28,25 +29,25 @@ use Rattle.clock_laws.proofs.Controls.{change-known}
 use Rattle.clock_laws.proofs.Ranges.{AreIn, ArePulses, controls-in, sensed-in, kept-sensed-in, change-in, pulses-at, pulses-next, shown-all, shown-lines}
 
 -- the last event is no cancel, so nothing has to follow it
-pub follows : {n m : ℕ} (shape : BankShape) (pace : Pacing) (xs : List (Timed n m)) (tick : ℕ) (event : Event n) → IsWhole xs → FollowsCancel shape pace xs tick event
+pub follows : {n m : ℕ} (shape : BankShape) (pace : Pace) (xs : List (TimedEvent n m)) (tick : ℕ) (event : Event n) → IsWhole xs → FollowsCancel shape pace xs tick event
 follows shape pace [] tick event whole = tt
 follows shape pace (x ∷ xs) tick event whole = λ is. absurd (cc)
 
-pub uncancelled : {n m : ℕ} (shape : BankShape) (pace : Pacing) (xs : List (Timed n m)) → IsWhole xs → IsUncancelled shape pace xs
+pub uncancelled : {n m : ℕ} (shape : BankShape) (pace : Pace) (xs : List (TimedEvent n m)) → IsWhole xs → IsUncancelled shape pace xs
 uncancelled shape pace [] whole = tt
 uncancelled shape pace (x ∷ xs) whole = whole
 
 -- what happens, with the lines that it sensed and pulsed
-abbrev pub stepped_as : {n m : ℕ} → Bool → Happens n → ℕ → ℕ → List ℕ → Option ℕ → ArrayState n m → Timed n m
+abbrev pub stepped_as : {n m : ℕ} → Bool → Happens n → ℕ → ℕ → List ℕ → Option ℕ → ArrayState n m → TimedEvent n m
 stepped_as cancels happens first tick sensed pulsed array =
     record { happens = happens; tick = tick; first = first; senses = shown tick sensed array; pulsed = pulsed; cancels = cancels }
 
 -- that is no cancel
-abbrev pub stepped : {n m : ℕ} → Happens n → ℕ → ℕ → List ℕ → Option ℕ → ArrayState n m → Timed n m
+abbrev pub stepped : {n m : ℕ} → Happens n → ℕ → ℕ → List ℕ → Option ℕ → ArrayState n m → TimedEvent n m
 stepped happens first tick sensed pulsed array = stepped_as false happens first tick sensed pulsed array
 
 -- what is sensed shows the pulses that the history then counts
-senses-all : {n m : ℕ} (shape : BankShape) (xs : List (Timed n m)) (x : Timed n m) (sensed : List ℕ) (array : ArrayState n m) → AreIn shape sensed → ArePulses shape (x ∷ xs) array
+senses-all : {n m : ℕ} (shape : BankShape) (xs : List (TimedEvent n m)) (x : TimedEvent n m) (sensed : List ℕ) (array : ArrayState n m) → AreIn shape sensed → ArePulses shape (x ∷ xs) array
     → All (λ s. (s.tick ≡ x.tick) × (s.pulses ≡ pulses_of (x ∷ xs) s.line)) (shown x.tick sensed array)
 senses-all shape xs x sensed array own pulses =
     shown-all shape x.tick sensed array (λ sense. (sense.tick ≡ x.tick) × (sense.pulses ≡ pulses_of (x ∷ xs) sense.line)) own
@@ -59,7 +60,7 @@ module _ {n m e : ℕ} where
       record { bank = bank; regs = regs; pace = clock.pace; tick = tick; action = action; arrivals = arrivals; cancels = count; drained = clock.drained }
 
   -- what has to be known of any event
-  pub record Steps (xs : List (Timed n m)) (clock : ClockState n m e) (bank : BankState n m e) (regs : RegsState n m e) (x : Timed n m) (action : Option Action)
+  pub record Steps (xs : List (TimedEvent n m)) (clock : ClockState n m e) (bank : BankState n m e) (regs : RegsState n m e) (x : TimedEvent n m) (action : Option Action)
       (arrivals : List ℕ) (count : ℕ) (new : ArrayState n m) : Type 0 where
     pub holds : Holds (core (x ∷ xs)) bank new
     pub shape : bank.kept.shape ≡ clock.bank.kept.shape
@@ -73,7 +74,7 @@ module _ {n m e : ℕ} where
     pub control : Control bank.kept regs new
 
   -- of an event of the bank
-  pub record StepsBank (xs : List (Timed n m)) (clock : ClockState n m e) (event : Event n) (first tick : ℕ) (flag tearing : Bool) (sensed : List ℕ) (pulsed : Option ℕ)
+  pub record StepsBank (xs : List (TimedEvent n m)) (clock : ClockState n m e) (event : Event n) (first tick : ℕ) (flag tearing : Bool) (sensed : List ℕ) (pulsed : Option ℕ)
       (old new : ArrayState n m) : Type 0 where
     pub asked : IsAsked (core xs) event
     pub on_time : IsOnTime clock.bank.kept.shape clock.pace (running_at clock.bank.kept.shape clock.pace xs tick) xs (stepped_as flag (Core event) first tick sensed pulsed new) event
@@ -86,7 +87,7 @@ module _ {n m e : ℕ} where
     pub touches : Touches tick sensed pulsed tearing old new
 
   -- of an event of the change that stands
-  pub record StepsKept (xs : List (Timed n m)) (clock : ClockState n m e) (event : Keeping) (first tick : ℕ) (flag tearing : Bool) (sensed : List ℕ) (pulsed : Option ℕ)
+  pub record StepsKept (xs : List (TimedEvent n m)) (clock : ClockState n m e) (event : Keeping) (first tick : ℕ) (flag tearing : Bool) (sensed : List ℕ) (pulsed : Option ℕ)
       (old new : ArrayState n m) : Type 0 where
     pub stands : IsTrue (is_some clock.regs.change)
     pub may : MayKeep clock.bank.kept.shape clock.pace (most_steps e) xs event
@@ -96,7 +97,7 @@ module _ {n m e : ℕ} where
     pub pulses : pulsed ≡ kept_pulsed (line_of_change clock.bank.kept.shape (item_of clock.regs.change)) event
     pub touches : Touches tick sensed pulsed tearing old new
 
-  module _ (xs : List (Timed n m)) (clock : ClockState n m e) (old new : ArrayState n m) (reached : Reaches xs clock old) where
+  module _ (xs : List (TimedEvent n m)) (clock : ClockState n m e) (old new : ArrayState n m) (reached : Reaches xs clock old) where
     change_known : IfSome (item_of clock.regs.change) (λ item. item < controls_of clock.bank.kept.shape)
     change_known = change-known clock.bank.kept clock.regs reached.control
 
@@ -105,7 +106,7 @@ module _ {n m e : ℕ} where
         → Holds (event ∷ core xs) bank new → bank.kept.shape ≡ clock.bank.kept.shape → StepsBank xs clock event first tick flag tearing sensed pulsed old new
         → MayCome clock.bank.kept.shape clock.pace e xs (stepped_as flag (Core event) first tick sensed pulsed new) (Core event)
     bank-comes bank event first tick flag tearing sensed pulsed holds same s =
-        let x : Timed n m = stepped_as flag (Core event) first tick sensed pulsed new in
+        let x : TimedEvent n m = stepped_as flag (Core event) first tick sensed pulsed new in
         let past : MayAll clock.bank.kept.shape (most_steps e) (event ∷ core xs) = subst (λ (shape : BankShape). MayAll shape (most_steps e) (event ∷ core xs)) same holds.past in
         let own : AreIn clock.bank.kept.shape sensed =
         subst (λ (lines : List ℕ). AreIn clock.bank.kept.shape lines) (sym s.senses)
@@ -125,7 +126,7 @@ module _ {n m e : ℕ} where
     pub kept-comes : (event : Keeping) (first tick : ℕ) (flag tearing : Bool) (sensed : List ℕ) (pulsed : Option ℕ) → StepsKept xs clock event first tick flag tearing sensed pulsed old new
         → MayCome clock.bank.kept.shape clock.pace e xs (stepped_as flag (Regs event) first tick sensed pulsed new) (Regs event)
     kept-comes event first tick flag tearing sensed pulsed s =
-        let x : Timed n m = stepped_as flag (Regs event) first tick sensed pulsed new in
+        let x : TimedEvent n m = stepped_as flag (Regs event) first tick sensed pulsed new in
         let own : AreIn clock.bank.kept.shape sensed =
         subst (λ (lines : List ℕ). AreIn clock.bank.kept.shape lines) (sym s.senses)
         (kept-sensed-in clock.bank.kept.shape (line_of_change clock.bank.kept.shape (item_of clock.regs.change)) event
@@ -144,7 +145,7 @@ module _ {n m e : ℕ} where
         some None is = absurd (cc)
         some (Some change) is = refl
 
-  module _ (xs : List (Timed n m)) (clock : ClockState n m e) (bank : BankState n m e) (regs : RegsState n m e) (x : Timed n m) (action : Option Action) (arrivals : List ℕ) (count : ℕ)
+  module _ (xs : List (TimedEvent n m)) (clock : ClockState n m e) (bank : BankState n m e) (regs : RegsState n m e) (x : TimedEvent n m) (action : Option Action) (arrivals : List ℕ) (count : ℕ)
       (old new : ArrayState n m) (reached : Reaches xs clock old) (comes : MayCome clock.bank.kept.shape clock.pace e xs x x.happens) (pulses : ArePulses clock.bank.kept.shape (x ∷ xs) new)
       (s : Steps xs clock bank regs x action arrivals count new) where
     -- what depends on the shape
@@ -186,7 +187,7 @@ module _ {n m e : ℕ} where
         }
 
   -- what leads somewhere reaches it
-  pub leads-reaches : (xs : List (Timed n m)) (clock : ClockState n m e) (array : ArrayState n m) → Leads xs clock array → Reaches xs clock array
+  pub leads-reaches : (xs : List (TimedEvent n m)) (clock : ClockState n m e) (array : ArrayState n m) → Leads xs clock array → Reaches xs clock array
   leads-reaches xs clock array leads = record {
     lawful = leads.lawful;
     holds = leads.holds;
@@ -203,7 +204,7 @@ module _ {n m e : ℕ} where
   }
 
   -- and what reaches it whole leads there
-  pub reaches-leads : (xs : List (Timed n m)) (clock : ClockState n m e) (array : ArrayState n m) → Reaches xs clock array → IsWhole xs → Leads xs clock array
+  pub reaches-leads : (xs : List (TimedEvent n m)) (clock : ClockState n m e) (array : ArrayState n m) → Reaches xs clock array → IsWhole xs → Leads xs clock array
   reaches-leads xs clock array r whole = record {
     lawful = r.lawful;
     holds = r.holds;
@@ -216,7 +217,7 @@ module _ {n m e : ℕ} where
   }
 
   -- an event of the bank
-  pub bank-reaches : (xs : List (Timed n m)) (clock : ClockState n m e) (bank : BankState n m e) (regs : RegsState n m e) (event : Event n) (first tick : ℕ) (action : Option Action)
+  pub bank-reaches : (xs : List (TimedEvent n m)) (clock : ClockState n m e) (bank : BankState n m e) (regs : RegsState n m e) (event : Event n) (first tick : ℕ) (action : Option Action)
       (arrivals : List ℕ) (count : ℕ) (flag tearing : Bool) (sensed : List ℕ) (pulsed : Option ℕ) (old new : ArrayState n m) → Reaches xs clock old
       → StepsBank xs clock event first tick flag tearing sensed pulsed old new
       → Steps xs clock bank regs (stepped_as flag (Core event) first tick sensed pulsed new) action arrivals count new
@@ -226,7 +227,7 @@ module _ {n m e : ℕ} where
       (bank-comes xs clock old new reached bank event first tick flag tearing sensed pulsed s.holds s.shape b)
       (pulses-next clock.bank.kept.shape xs (stepped_as flag (Core event) first tick sensed pulsed new) sensed tearing old new reached.pulses b.touches) s
 
-  pub bank-leads : (xs : List (Timed n m)) (clock : ClockState n m e) (bank : BankState n m e) (regs : RegsState n m e) (event : Event n) (first tick : ℕ) (action : Option Action)
+  pub bank-leads : (xs : List (TimedEvent n m)) (clock : ClockState n m e) (bank : BankState n m e) (regs : RegsState n m e) (event : Event n) (first tick : ℕ) (action : Option Action)
       (arrivals : List ℕ) (count : ℕ) (tearing : Bool) (sensed : List ℕ) (pulsed : Option ℕ) (old new : ArrayState n m) → Reaches xs clock old
       → StepsBank xs clock event first tick false tearing sensed pulsed old new
       → Steps xs clock bank regs (stepped (Core event) first tick sensed pulsed new) action arrivals count new
@@ -236,7 +237,7 @@ module _ {n m e : ℕ} where
       (bank-reaches xs clock bank regs event first tick action arrivals count false tearing sensed pulsed old new reached b s) refl
 
   -- an event of the change that stands
-  pub kept-reaches : (xs : List (Timed n m)) (clock : ClockState n m e) (bank : BankState n m e) (regs : RegsState n m e) (event : Keeping) (first tick : ℕ) (action : Option Action)
+  pub kept-reaches : (xs : List (TimedEvent n m)) (clock : ClockState n m e) (bank : BankState n m e) (regs : RegsState n m e) (event : Keeping) (first tick : ℕ) (action : Option Action)
       (arrivals : List ℕ) (count : ℕ) (flag tearing : Bool) (sensed : List ℕ) (pulsed : Option ℕ) (old new : ArrayState n m) → Reaches xs clock old
       → StepsKept xs clock event first tick flag tearing sensed pulsed old new
       → Steps xs clock bank regs (stepped_as flag (Regs event) first tick sensed pulsed new) action arrivals count new

@@ -3,14 +3,14 @@ use Rattle.std.proofs.Common.{◌≡◌, ◌⊎◌, inl, inr, ℕ, ◌+◌, ◌|
 use Rattle.std.specs.Prelude.{IsTrue}
 use Rattle.pcm_cells.specs.Device.{ArrayState}
 use Rattle.bank_shape.specs.declared.BankShape.{BankShape}
-use Rattle.bank_model.specs.declared.clock.Doing.{Doing}
-use Rattle.bank_model.specs.declared.clock.Doing.TheVariants.{Serving, Beginning, Iterating}
-use Rattle.bank_model.specs.declared.clock.Action.{Action}
+use Rattle.bank_shape.specs.declared.clock.Doing.{Doing}
+use Rattle.bank_shape.specs.declared.clock.Doing.TheVariants.{Serving, Beginning, Iterating}
+use Rattle.bank_shape.specs.declared.clock.Action.{Action}
 use Rattle.bank_model.specs.Events.{Event, Cut}
 use Rattle.bank_model.specs.History.{in_progress}
 use Rattle.bank_model.specs.Answers.{MayAll, MayHappen}
 use Rattle.bank_model.specs.Changes.{line_of_change, all_controls}
-use Rattle.bank_model.specs.Timing.{KeepCut, Timed, core, same_doing, is_doing}
+use Rattle.bank_model.specs.Timing.{KeepCut, TimedEvent, core, same_doing, is_doing}
 use Rattle.bank_model.specs.Running.{busy_by, tears_bank}
 use Rattle.bank_model.specs.Sensing.{most_steps, pulsed_by, torn_control, kept_pulsed}
 use Rattle.bank_model.specs.Touching.{Touches}
@@ -49,7 +49,7 @@ fits_some bank regs (Some action) fit is = by action.doing fit is
 
 -- Cuts
 
-module _ {n m e : ℕ} (xs : List (Timed n m)) (clock : ClockState n m e) (old : ArrayState n m) (leads : Leads xs clock old) where
+module _ {n m e : ℕ} (xs : List (TimedEvent n m)) (clock : ClockState n m e) (old : ArrayState n m) (leads : Leads xs clock old) where
   -- the line that a cut tears is that of the history
   torn : (tearing : Bool) (r : Option (Operation n m e)) → clock.bank.running ≡ r → clock.regs.change ≡ None → IsTrue (not tearing || in_progress (core xs))
       → torn_line tearing clock.regs None r ≡ pulsed_by clock.bank.kept.shape (core xs) None (Cut tearing)

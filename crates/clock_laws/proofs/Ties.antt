@@ -3,13 +3,16 @@ use Rattle.std.proofs.Common.{◌≡◌, ℕ, ◌<◌, ◌≤◌, ◌||◌, not,
 use Rattle.std.specs.Prelude.{IfSome}
 use Rattle.std.proofs.lemmas.Bool.{le-ltb}
 use Rattle.pcm_cells.specs.Device.{ArrayState}
-use Rattle.bank_model.specs.declared.clock.Doing.{Doing}
-use Rattle.bank_model.specs.declared.clock.Doing.TheVariants.{Serving, Beginning, Iterating}
-use Rattle.bank_model.specs.declared.clock.Action.{Action}
+use Rattle.bank_shape.specs.declared.clock.Doing.{Doing}
+use Rattle.bank_shape.specs.declared.clock.Doing.TheVariants.{Serving, Beginning, Iterating}
+use Rattle.bank_shape.specs.declared.clock.Action.{Action}
 use Rattle.bank_model.specs.History.{Awaited, waits}
 use Rattle.bank_model.specs.Changes.{change_after, keeping_after, halted_after}
-use Rattle.bank_model.specs.Timing.{Timed, lasts, ends, core, is_empty, last_tick}
-use Rattle.bank_model.specs.Running.{gives_way, choice, chosen_by, busy_by, ready_by, busy_after, ready_after, started, chosen_after, running, running_at}
+use Rattle.bank_shape.specs.Acting.{lasts}
+use Rattle.bank_model.specs.Timing.{TimedEvent, ends, core, is_empty, last_tick}
+use Rattle.bank_shape.specs.Pausing.{gives_way}
+use Rattle.bank_shape.specs.Acting.{choice, chosen_by}
+use Rattle.bank_model.specs.Running.{busy_by, ready_by, busy_after, ready_after, started, chosen_after, running, running_at}
 use Rattle.bank_invariant.specs.State.{may_begin}
 use Rattle.bank_invariant.specs.Holds.{waiting_of}
 use Rattle.bank_invariant.specs.Bridge.{AgreesWith}
@@ -55,7 +58,7 @@ pub same_reads : (n : ℕ) (ws : List Awaited) → nat_lt 0 (length (map (waitin
 same_reads n [] = refl
 same_reads n (w ∷ ws) = lt-ltb 0 (length (map (waiting_of {n = n}) (w ∷ ws))) (omega arith)
 
-module _ {n m e : ℕ} (xs : List (Timed n m)) (clock : ClockState n m e) (array : ArrayState n m) (leads : Leads xs clock array) where
+module _ {n m e : ℕ} (xs : List (TimedEvent n m)) (clock : ClockState n m e) (array : ArrayState n m) (leads : Leads xs clock array) where
   -- the bank is that of its history
   pub agrees : AgreesWith (core xs) clock.bank
   agrees = agree_law n m e (core xs) clock.bank array leads.holds

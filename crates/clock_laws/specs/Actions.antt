@@ -7,17 +7,17 @@ use Rattle.bank_shape.specs.declared.Work.{Work}
 use Rattle.bank_shape.specs.declared.Work.TheVariants.{Nothing, Store, Copy}
 use Rattle.bank_shape.specs.Shape.{slot_at}
 use Rattle.power_recovery.specs.Kept.{KeptState, array_line, stands_at, next_work}
-use Rattle.bank_model.specs.declared.answer.Served.{Served}
-use Rattle.bank_model.specs.declared.answer.Step.{Step}
-use Rattle.bank_model.specs.declared.answer.Step.TheVariants as did
-use Rattle.bank_model.specs.declared.answer.Keep.{Keep}
-use Rattle.bank_model.specs.declared.answer.Keep.TheVariants as keep
-use Rattle.bank_model.specs.declared.clock.Doing.{Doing}
-use Rattle.bank_model.specs.declared.clock.Doing.TheVariants.{Beginning, Iterating}
-use Rattle.bank_model.specs.declared.clock.Action.{Action}
+use Rattle.bank_shape.specs.declared.answer.Served.{Served}
+use Rattle.bank_shape.specs.declared.answer.Step.{Step}
+use Rattle.bank_shape.specs.declared.answer.Step.TheVariants as did
+use Rattle.bank_shape.specs.declared.answer.Keep.{Keep}
+use Rattle.bank_shape.specs.declared.answer.Keep.TheVariants as keep
+use Rattle.bank_shape.specs.declared.clock.Doing.{Doing}
+use Rattle.bank_shape.specs.declared.clock.Doing.TheVariants.{Beginning, Iterating}
+use Rattle.bank_shape.specs.declared.clock.Action.{Action}
 use Rattle.bank_model.specs.Events.{Event, Serve, Begin, Iterate, Cut}
 use Rattle.bank_model.specs.Changes.{all_controls}
-use Rattle.bank_model.specs.Timing.{Timed, KeepBegin, KeepIterate, core, ends, is_doing}
+use Rattle.bank_model.specs.Timing.{TimedEvent, KeepBegin, KeepIterate, core, ends, is_doing}
 use Rattle.bank_model.specs.Touching.{Touches}
 use Rattle.bank_model.specs.Adding.{Adds}
 use Rattle.line_writer.specs.declared.writer.LineWriter.{LineWriter}
@@ -27,7 +27,7 @@ use Rattle.reg_lines.specs.Regs.{RegsState}
 use Rattle.reg_lines.specs.Keeping.{kept_on, broken_off}
 use Rattle.reg_lines.specs.Keeping as writing
 use Rattle.register_laws.specs.Control.{Control}
-use Rattle.bank_invariant.specs.declared.Waiting.{Waiting}
+use Rattle.bank_shape.specs.declared.waiting.Waiting.{Waiting}
 use Rattle.bank_invariant.specs.State.{BankState, Operation, target_of}
 use Rattle.bank_invariant.specs.Tied.{decoded}
 use Rattle.bank_invariant.specs.Holds.{Holds}
@@ -41,14 +41,14 @@ use Rattle.clock_laws.specs.Fitting.{IsFit}
 use Rattle.clock_laws.specs.Cutting.{tears_now, cut, after_cut, cancel, keep_cancel, after_cancel}
 
 -- a history leads on to this clock and this array by one more event, which adds what it touched
-pub record LeadsOn {n m e : ℕ} (shape : BankShape) (xs : List (Timed n m)) (x : Timed n m) (clock : ClockState n m e) (old new : ArrayState n m) : Type 0 where
+pub record LeadsOn {n m e : ℕ} (shape : BankShape) (xs : List (TimedEvent n m)) (x : TimedEvent n m) (clock : ClockState n m e) (old new : ArrayState n m) : Type 0 where
   pub leads : Leads (x ∷ xs) clock new
   pub adds : Adds shape (x ∷ []) old new
 
 module _ {n m e : ℕ} where
   -- the action that runs from now on ends by an event, which leaves this bank, these control lines and this array: it pulsed this
   -- line, and then sensed these. The change that it brings is put, and the control lines hold what the bank now keeps
-  pub record IsCompletion (xs : List (Timed n m)) (clock : ClockState n m e) (bank : BankState n m e) (regs : RegsState n m e) (event : Event n) (action : Action)
+  pub record IsCompletion (xs : List (TimedEvent n m)) (clock : ClockState n m e) (bank : BankState n m e) (regs : RegsState n m e) (event : Event n) (action : Action)
       (sensed : List ℕ) (pulsed : Option ℕ) (old new : ArrayState n m) : Type 0 where
     pub next : next_action clock ≡ Some action
     pub doing : EndsDoing event action.doing
@@ -62,7 +62,7 @@ module _ {n m e : ℕ} where
     pub control : Control bank.kept regs new
 
   -- the history goes on by that event
-  abbrev pub GoesOn : List (Timed n m) → ClockState n m e → BankState n m e → RegsState n m e → Event n → Action → ArrayState n m → ArrayState n m → Type 0
+  abbrev pub GoesOn : List (TimedEvent n m) → ClockState n m e → BankState n m e → RegsState n m e → Event n → Action → ArrayState n m → ArrayState n m → Type 0
   GoesOn xs clock bank regs event action old new =
       LeadsOn clock.bank.kept.shape xs (completed xs clock action event new) (after_action clock bank regs action event) old new
 
@@ -71,7 +71,7 @@ module _ {n m e : ℕ} where
 -- a serve of the first read that waits, whose bytes are those kept with it over what its array line is read as
 abbrev pub ServeEndsLaw : Type 0
 ServeEndsLaw =
-    (n m e : ℕ) (answer : Served n) (action : Action) (w : Waiting n) (ws : List (Waiting n)) (xs : List (Timed n m))
+    (n m e : ℕ) (answer : Served n) (action : Action) (w : Waiting n) (ws : List (Waiting n)) (xs : List (TimedEvent n m))
     (clock : ClockState n m e) (bank : BankState n m e) (regs : RegsState n m e) (old new : ArrayState n m)
     → Leads xs clock old → clock.bank.waiting ≡ w ∷ ws
     → IsCompletion xs clock bank regs (Serve answer) action (stands_at clock.bank.kept w.line ∷ []) None old new
@@ -102,7 +102,7 @@ module _ {n m : ℕ} where
 -- a begin of the next work
 abbrev pub BeginEndsLaw : Type 0
 BeginEndsLaw =
-    (n m e : ℕ) (answer : Step) (action : Action) (work : Work) (xs : List (Timed n m))
+    (n m e : ℕ) (answer : Step) (action : Action) (work : Work) (xs : List (TimedEvent n m))
     (clock : ClockState n m e) (bank : BankState n m e) (regs : RegsState n m e) (old new : ArrayState n m)
     → Leads xs clock old → next_work clock.bank.kept ≡ work
     → IsCompletion xs clock bank regs (Begin answer) action (lines_sensed clock.bank.kept work) None old new
@@ -124,7 +124,7 @@ module _ {n m e : ℕ} where
 -- an iteration of the line write in progress
 abbrev pub IterateEndsLaw : Type 0
 IterateEndsLaw =
-    (n m e : ℕ) (answer : Step) (action : Action) (op : Operation n m e) (xs : List (Timed n m))
+    (n m e : ℕ) (answer : Step) (action : Action) (op : Operation n m e) (xs : List (TimedEvent n m))
     (clock : ClockState n m e) (bank : BankState n m e) (regs : RegsState n m e) (old new : ArrayState n m)
     → Leads xs clock old → clock.bank.running ≡ Some op
     → IsCompletion xs clock bank regs (Iterate answer) action (op.target ∷ []) (Some op.target) old new
@@ -149,7 +149,7 @@ module _ {n m e : ℕ} where
 -- a begin of it, which never halts
 abbrev pub KeepBeginEndsLaw : Type 0
 KeepBeginEndsLaw =
-    (n m e : ℕ) (answer : Keep) (action : Action) (writer : LineWriter n m e) (xs : List (Timed n m))
+    (n m e : ℕ) (answer : Keep) (action : Action) (writer : LineWriter n m e) (xs : List (TimedEvent n m))
     (clock : ClockState n m e) (regs : RegsState n m e) (old new : ArrayState n m)
     → Leads xs clock old → clock.regs.writer ≡ None → clock.regs.halted ≡ false
     → IsKeepStep clock regs Beginning action answer writer (writing.line_of clock.regs clock.regs.change) None old new
@@ -159,7 +159,7 @@ KeepBeginEndsLaw =
 -- an iteration of it, after which fewer steps are left
 abbrev pub KeepIterateEndsLaw : Type 0
 KeepIterateEndsLaw =
-    (n m e : ℕ) (answer : Keep) (action : Action) (before writer : LineWriter n m e) (xs : List (Timed n m))
+    (n m e : ℕ) (answer : Keep) (action : Action) (before writer : LineWriter n m e) (xs : List (TimedEvent n m))
     (clock : ClockState n m e) (regs : RegsState n m e) (old new : ArrayState n m)
     → Leads xs clock old → clock.regs.writer ≡ Some before
     → IsKeepStep clock regs Iterating action answer writer (writing.line_of clock.regs clock.regs.change) (writing.target_of clock.regs clock.regs.change) old new
@@ -187,7 +187,7 @@ CutTouchesLaw =
 -- a power cut, which tears exactly where an iteration runs, and after which every control line is read again
 abbrev pub CutEndsLaw : Type 0
 CutEndsLaw =
-    (n m e : ℕ) (tearing : Bool) (xs : List (Timed n m)) (clock : ClockState n m e) (bank : BankState n m e) (old new : ArrayState n m)
+    (n m e : ℕ) (tearing : Bool) (xs : List (TimedEvent n m)) (clock : ClockState n m e) (bank : BankState n m e) (old new : ArrayState n m)
     → Leads xs clock old → IsFit clock.bank clock.regs clock.action → tearing ≡ is_doing Iterating clock.action
     → Holds (Cut (tears_now clock) ∷ core xs) bank new → bank.kept.shape ≡ clock.bank.kept.shape → bank.running ≡ None → bank.lost ≡ []
     → Control bank.kept (broken_off clock.regs) new
@@ -195,14 +195,14 @@ CutEndsLaw =
     → LeadsOn clock.bank.kept.shape xs (cut xs clock new) (after_cut clock bank) old new
 
 -- a history reaches this clock and this array by a cancel, which adds what it touched
-pub record ReachesBy {n m e : ℕ} (shape : BankShape) (xs : List (Timed n m)) (x : Timed n m) (clock : ClockState n m e) (old new : ArrayState n m) : Type 0 where
+pub record ReachesBy {n m e : ℕ} (shape : BankShape) (xs : List (TimedEvent n m)) (x : TimedEvent n m) (clock : ClockState n m e) (old new : ArrayState n m) : Type 0 where
   pub reaches : Reaches (x ∷ xs) clock new
   pub adds : Adds shape (x ∷ []) old new
 
 -- a cancel of the bank's line write
 abbrev pub CancelEndsLaw : Type 0
 CancelEndsLaw =
-    (n m e line : ℕ) (tearing : Bool) (xs : List (Timed n m)) (clock : ClockState n m e) (bank : BankState n m e) (old new : ArrayState n m)
+    (n m e line : ℕ) (tearing : Bool) (xs : List (TimedEvent n m)) (clock : ClockState n m e) (bank : BankState n m e) (old new : ArrayState n m)
     → Leads xs clock old → IsTrue (cancels_for clock line) → clock.regs.change ≡ None → tearing ≡ is_doing Iterating clock.action
     → Holds (Cut tearing ∷ core xs) bank new → bank.kept.shape ≡ clock.bank.kept.shape → bank.running ≡ None → bank.lost ≡ []
     → Control bank.kept clock.regs new
@@ -212,7 +212,7 @@ CancelEndsLaw =
 -- a cancel of the writing of the change that stands
 abbrev pub KeepCancelEndsLaw : Type 0
 KeepCancelEndsLaw =
-    (n m e line : ℕ) (tearing : Bool) (xs : List (Timed n m)) (clock : ClockState n m e) (old new : ArrayState n m)
+    (n m e line : ℕ) (tearing : Bool) (xs : List (TimedEvent n m)) (clock : ClockState n m e) (old new : ArrayState n m)
     → Leads xs clock old → IsTrue (cancels_for clock line) → IsTrue (is_some clock.regs.change) → IsFit clock.bank clock.regs clock.action
     → tearing ≡ is_doing Iterating clock.action → Control clock.bank.kept (broken_off clock.regs) new
     → Touches clock.tick [] (torn_line tearing clock.regs clock.regs.change clock.bank.running) tearing old new

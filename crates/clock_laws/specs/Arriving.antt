@@ -6,15 +6,15 @@ use Rattle.masked_bytes.specs.Entries.{layer_of}
 use Rattle.bank_shape.specs.Pausing.{is_cancelling, most_cancels}
 use Rattle.bank_invariant.specs.Serving.{read_from}
 use Rattle.power_recovery.specs.Kept.{KeptState, next_work}
-use Rattle.bank_model.specs.declared.answer.WriteAnswer.{WriteAnswer}
-use Rattle.bank_model.specs.declared.answer.WriteAnswer.TheVariants as wrote
-use Rattle.bank_model.specs.declared.answer.ReadAnswer.{ReadAnswer}
-use Rattle.bank_model.specs.declared.answer.ReadAnswer.TheVariants as came
-use Rattle.bank_model.specs.declared.clock.Doing.TheVariants.{Beginning}
-use Rattle.bank_model.specs.declared.clock.Action.{Action}
+use Rattle.bank_shape.specs.declared.answer.WriteAnswer.{WriteAnswer}
+use Rattle.bank_shape.specs.declared.answer.WriteAnswer.TheVariants as wrote
+use Rattle.bank_shape.specs.declared.answer.ReadAnswer.{ReadAnswer}
+use Rattle.bank_shape.specs.declared.answer.ReadAnswer.TheVariants as came
+use Rattle.bank_shape.specs.declared.clock.Doing.TheVariants.{Beginning}
+use Rattle.bank_shape.specs.declared.clock.Action.{Action}
 use Rattle.bank_model.specs.Events.{Event, Write, Read, RowsBelow}
 use Rattle.bank_model.specs.After.{is_store_of}
-use Rattle.bank_model.specs.Timing.{Timed, Core, core, is_doing, is_writing}
+use Rattle.bank_model.specs.Timing.{TimedEvent, Core, core, is_doing, is_writing}
 use Rattle.reg_lines.specs.declared.Change.{Change}
 use Rattle.register_laws.specs.Items.{item_values}
 use Rattle.bank_invariant.specs.State.{BankState}
@@ -23,7 +23,7 @@ use Rattle.clock_laws.specs.State.{ClockState}
 use Rattle.clock_laws.specs.Leads.{Leads}
 
 -- an event that arrives at a tick: nothing is sensed and nothing is pulsed
-abbrev pub arrival : {n m : ℕ} → ℕ → Event n → Timed n m
+abbrev pub arrival : {n m : ℕ} → ℕ → Event n → TimedEvent n m
 arrival tick event = record { happens = Core event; tick = tick; first = tick; senses = []; pulsed = None; cancels = false }
 
 -- a bank has the shape, the values of each item, the line write in progress and the lost rows of another
@@ -77,7 +77,7 @@ cancels_for clock line =
 -- a write that arrives now extends the history by its event
 abbrev pub WriteLaw : Type 0
 WriteLaw =
-    (n m e row line place : ℕ) (bytes : List ℕ) (given : List Bool) (answer : WriteAnswer) (xs : List (Timed n m))
+    (n m e row line place : ℕ) (bytes : List ℕ) (given : List Bool) (answer : WriteAnswer) (xs : List (TimedEvent n m))
     (clock : ClockState n m e) (bank : BankState n m e) (array : ArrayState n m)
     → Leads xs clock array → RowsBelow (core xs) row → KeepsWork clock.bank bank
     → Holds (Write row line bytes given answer ∷ core xs) bank array → IsPlaceOf bank.kept row place answer
@@ -86,7 +86,7 @@ WriteLaw =
 -- so does a read that doesn't cancel, answered as the queue and the waiting reads say
 abbrev pub ReadLaw : Type 0
 ReadLaw =
-    (n m e row line : ℕ) (answer : ReadAnswer n) (xs : List (Timed n m)) (clock : ClockState n m e) (bank : BankState n m e) (array : ArrayState n m)
+    (n m e row line : ℕ) (answer : ReadAnswer n) (xs : List (TimedEvent n m)) (clock : ClockState n m e) (bank : BankState n m e) (array : ArrayState n m)
     → Leads xs clock array → cancels_for clock line ≡ false → answer ≡ read_from clock.bank line → RowsBelow (core xs) row → KeepsWork clock.bank bank
     → Holds (Read row line answer ∷ core xs) bank array
     → Leads (arrival clock.tick (Read row line answer) ∷ xs) (after_read clock bank line answer) array

@@ -2,15 +2,15 @@
 use Rattle.std.specs.Prelude.{◌≡◌, ℕ, ◌<◌, false, IsTrue, List, [], ◌∷◌, drop, Option, Some, None, IfSome, is_some}
 use Rattle.pcm_cells.specs.declared.array.Sense.{Sense}
 use Rattle.pcm_cells.specs.Device.{ArrayState}
-use Rattle.bank_model.specs.declared.answer.Step.{Step}
-use Rattle.bank_model.specs.declared.answer.Step.TheVariants as did
-use Rattle.bank_model.specs.declared.clock.Doing.{Doing}
-use Rattle.bank_model.specs.declared.clock.Doing.TheVariants.{Serving, Beginning, Iterating}
-use Rattle.bank_model.specs.declared.clock.Action.{Action}
+use Rattle.bank_shape.specs.declared.answer.Step.{Step}
+use Rattle.bank_shape.specs.declared.answer.Step.TheVariants as did
+use Rattle.bank_shape.specs.declared.clock.Doing.{Doing}
+use Rattle.bank_shape.specs.declared.clock.Doing.TheVariants.{Serving, Beginning, Iterating}
+use Rattle.bank_shape.specs.declared.clock.Action.{Action}
 use Rattle.bank_model.specs.Events.{Event, Serve, Begin, Iterate}
 use Rattle.bank_model.specs.Changes.{line_of_change}
 use Rattle.bank_model.specs.Running.{cancels_by, cancels_with}
-use Rattle.bank_model.specs.Timing.{Timed, Happens, Core, Regs, Keeping, KeepBegin, KeepIterate, KeepCut, core, ends}
+use Rattle.bank_model.specs.Timing.{TimedEvent, Happens, Core, Regs, Keeping, KeepBegin, KeepIterate, KeepCut, core, ends}
 use Rattle.bank_model.specs.Lawful.{MayKeep}
 use Rattle.bank_model.specs.Sensing.{most_steps, sensed_by, pulsed_by, kept_sensed, kept_pulsed, IsReadRight}
 use Rattle.bank_model.specs.Touching.{Touches, shown}
@@ -24,7 +24,7 @@ use Rattle.clock_laws.specs.State.{ClockState, next_action}
 use Rattle.clock_laws.specs.Leads.{Leads, CopiesWhatItSensed}
 
 -- what ends an action, which started at its first tick
-abbrev pub completion : {n m : ℕ} → ℕ → ℕ → Happens n → List (Sense n m) → Option ℕ → Timed n m
+abbrev pub completion : {n m : ℕ} → ℕ → ℕ → Happens n → List (Sense n m) → Option ℕ → TimedEvent n m
 completion first tick happens senses pulsed =
     record { happens = happens; tick = tick; first = first; senses = senses; pulsed = pulsed; cancels = false }
 
@@ -59,7 +59,7 @@ arrivals_with _ arrivals = arrivals
 
 module _ {n m e : ℕ} where
   -- the event that ends an action of a bank, with what it senses and pulses
-  abbrev pub completed : List (Timed n m) → ClockState n m e → Action → Event n → ArrayState n m → Timed n m
+  abbrev pub completed : List (TimedEvent n m) → ClockState n m e → Action → Event n → ArrayState n m → TimedEvent n m
   completed xs clock action event array =
       let shape = clock.bank.kept.shape in
       let tick = ends clock.pace action in
@@ -75,7 +75,7 @@ module _ {n m e : ℕ} where
   line_kept clock = line_of_change clock.bank.kept.shape (item_of clock.regs.change)
 
   -- the step of the writing of that change which ends an action
-  abbrev pub keep_completed : ClockState n m e → Action → Keeping → ArrayState n m → Timed n m
+  abbrev pub keep_completed : ClockState n m e → Action → Keeping → ArrayState n m → TimedEvent n m
   keep_completed clock action event array =
       let tick = ends clock.pace action in
       completion action.first tick (Regs event) (shown tick (kept_sensed (line_kept clock) event) array) (kept_pulsed (line_kept clock) event)
@@ -90,7 +90,7 @@ module _ {n m e : ℕ} where
 -- bank keeps, are premises
 abbrev pub CompletionLaw : Type 0
 CompletionLaw =
-    (n m e : ℕ) (event : Event n) (action : Action) (xs : List (Timed n m)) (clock : ClockState n m e) (bank : BankState n m e) (regs : RegsState n m e) (old new : ArrayState n m)
+    (n m e : ℕ) (event : Event n) (action : Action) (xs : List (TimedEvent n m)) (clock : ClockState n m e) (bank : BankState n m e) (regs : RegsState n m e) (old new : ArrayState n m)
     → Leads xs clock old → next_action clock ≡ Some action → EndsDoing event action.doing → clock.tick < ends clock.pace action
     → IsAlone event clock.regs.change
     → Holds (event ∷ core xs) bank new → bank.kept.shape ≡ clock.bank.kept.shape → bank.lost ≡ []
@@ -104,7 +104,7 @@ CompletionLaw =
 -- so it does where it is a step of the writing of the change that stands, which leaves the bank as it was
 abbrev pub KeepingLaw : Type 0
 KeepingLaw =
-    (n m e : ℕ) (event : Keeping) (action : Action) (xs : List (Timed n m)) (clock : ClockState n m e) (regs : RegsState n m e) (old new : ArrayState n m)
+    (n m e : ℕ) (event : Keeping) (action : Action) (xs : List (TimedEvent n m)) (clock : ClockState n m e) (regs : RegsState n m e) (old new : ArrayState n m)
     → Leads xs clock old → next_action clock ≡ Some action → EndsKeeping event action.doing → clock.tick < ends clock.pace action
     → IsTrue (is_some clock.regs.change) → MayKeep clock.bank.kept.shape clock.pace (most_steps e) xs event
     → Touches (ends clock.pace action) (kept_sensed (line_kept clock) event) (kept_pulsed (line_kept clock) event) false old new

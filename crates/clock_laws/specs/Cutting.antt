@@ -1,12 +1,12 @@
 -- The laws of a power cut and of a cancel.
 use Rattle.std.specs.Prelude.{◌≡◌, ℕ, ◌+◌, Bool, true, IsTrue, List, [], ◌∷◌, Option, None, is_some}
 use Rattle.pcm_cells.specs.Device.{ArrayState}
-use Rattle.bank_model.specs.declared.clock.Doing.TheVariants.{Iterating}
-use Rattle.bank_model.specs.declared.answer.ReadAnswer.TheVariants as came
+use Rattle.bank_shape.specs.declared.clock.Doing.TheVariants.{Iterating}
+use Rattle.bank_shape.specs.declared.answer.ReadAnswer.TheVariants as came
 use Rattle.bank_model.specs.Events.{Read, Cut, RowsBelow}
 use Rattle.bank_model.specs.Changes.{all_controls}
 use Rattle.bank_model.specs.Running.{tears_bank}
-use Rattle.bank_model.specs.Timing.{Timed, Core, Regs, KeepCut, core, is_doing}
+use Rattle.bank_model.specs.Timing.{TimedEvent, Core, Regs, KeepCut, core, is_doing}
 use Rattle.bank_model.specs.Sensing.{pulsed_by, torn_control, kept_pulsed}
 use Rattle.bank_model.specs.Touching.{Touches, shown}
 use Rattle.reg_lines.specs.Regs.{RegsState}
@@ -26,12 +26,12 @@ module _ {n m e : ℕ} where
   abbrev pub tears_now : ClockState n m e → Bool
   tears_now clock = tears_bank (item_of clock.regs.change) clock.action
 
-  abbrev pub torn_now : List (Timed n m) → ClockState n m e → Option ℕ
+  abbrev pub torn_now : List (TimedEvent n m) → ClockState n m e → Option ℕ
   torn_now xs clock =
       pulsed_by clock.bank.kept.shape (core xs) (torn_control clock.bank.kept.shape (item_of clock.regs.change) clock.action) (Cut (tears_now clock))
 
   -- a power cut at a tick, with the line that it tears, and behind it the senses of all control lines
-  abbrev pub cut : List (Timed n m) → ClockState n m e → ArrayState n m → Timed n m
+  abbrev pub cut : List (TimedEvent n m) → ClockState n m e → ArrayState n m → TimedEvent n m
   cut xs clock array =
       completion clock.tick clock.tick (Core (Cut (tears_now clock))) (shown clock.tick (all_controls clock.bank.kept.shape) array) (torn_now xs clock)
 
@@ -43,7 +43,7 @@ module _ {n m e : ℕ} where
 -- a cut, which tears exactly where an iteration runs, and after which the control lines are read again, extends the history by its event
 abbrev pub PowerCutLaw : Type 0
 PowerCutLaw =
-    (n m e : ℕ) (xs : List (Timed n m)) (clock : ClockState n m e) (bank : BankState n m e) (old new : ArrayState n m)
+    (n m e : ℕ) (xs : List (TimedEvent n m)) (clock : ClockState n m e) (bank : BankState n m e) (old new : ArrayState n m)
     → Leads xs clock old → IsFit clock.bank clock.regs clock.action
     → Holds (Cut (tears_now clock) ∷ core xs) bank new → bank.kept.shape ≡ clock.bank.kept.shape → bank.running ≡ None → bank.lost ≡ []
     → Control bank.kept (broken_off clock.regs) new
@@ -52,12 +52,12 @@ PowerCutLaw =
 
 module _ {n m e : ℕ} where
   -- a cut of the bank's line write that a read makes
-  abbrev pub cancel : List (Timed n m) → ClockState n m e → Timed n m
+  abbrev pub cancel : List (TimedEvent n m) → ClockState n m e → TimedEvent n m
   cancel xs clock =
       record { happens = Core (Cut (is_doing Iterating clock.action)); tick = clock.tick; first = clock.tick; senses = []; pulsed = pulsed_by clock.bank.kept.shape (core xs) None (Cut (is_doing Iterating clock.action)); cancels = true }
 
   -- one of the writing of the change that stands
-  abbrev pub keep_cancel : ClockState n m e → Timed n m
+  abbrev pub keep_cancel : ClockState n m e → TimedEvent n m
   keep_cancel clock =
       record { happens = Regs (KeepCut (is_doing Iterating clock.action)); tick = clock.tick; first = clock.tick; senses = []; pulsed = kept_pulsed (line_kept clock) (KeepCut (is_doing Iterating clock.action)); cancels = true }
 
@@ -69,7 +69,7 @@ module _ {n m e : ℕ} where
 -- a cancel extends the history where a read of this line would cancel, and no change stands; its read is still to come
 abbrev pub CancelLaw : Type 0
 CancelLaw =
-    (n m e line : ℕ) (xs : List (Timed n m)) (clock : ClockState n m e) (bank : BankState n m e) (old new : ArrayState n m)
+    (n m e line : ℕ) (xs : List (TimedEvent n m)) (clock : ClockState n m e) (bank : BankState n m e) (old new : ArrayState n m)
     → Leads xs clock old → IsTrue (cancels_for clock line) → clock.regs.change ≡ None
     → Holds (Cut (is_doing Iterating clock.action) ∷ core xs) bank new → bank.kept.shape ≡ clock.bank.kept.shape → bank.running ≡ None → bank.lost ≡ []
     → Control bank.kept clock.regs new
@@ -79,7 +79,7 @@ CancelLaw =
 -- while a change stands it is one of the change's writing, and leaves the bank as it was
 abbrev pub KeepCancelLaw : Type 0
 KeepCancelLaw =
-    (n m e line : ℕ) (xs : List (Timed n m)) (clock : ClockState n m e) (old new : ArrayState n m)
+    (n m e line : ℕ) (xs : List (TimedEvent n m)) (clock : ClockState n m e) (old new : ArrayState n m)
     → Leads xs clock old → IsTrue (cancels_for clock line) → IsTrue (is_some clock.regs.change) → IsFit clock.bank clock.regs clock.action
     → Control clock.bank.kept (broken_off clock.regs) new
     → Touches clock.tick [] (kept_pulsed (line_kept clock) (KeepCut (is_doing Iterating clock.action))) (is_doing Iterating clock.action) old new
@@ -88,7 +88,7 @@ KeepCancelLaw =
 -- the read that made a cancel, which then waits, makes the history whole
 abbrev pub CancelledReadLaw : Type 0
 CancelledReadLaw =
-    (n m e row line : ℕ) (x : Timed n m) (xs : List (Timed n m)) (clock : ClockState n m e) (bank : BankState n m e) (array : ArrayState n m)
+    (n m e row line : ℕ) (x : TimedEvent n m) (xs : List (TimedEvent n m)) (clock : ClockState n m e) (bank : BankState n m e) (array : ArrayState n m)
     → Reaches (x ∷ xs) clock array → clock.action ≡ None → clock.tick ≡ x.tick → RowsBelow (core (x ∷ xs)) row → KeepsWork clock.bank bank
     → Holds (Read row line came.Waiting ∷ core (x ∷ xs)) bank array
     → Leads (arrival clock.tick (Read row line came.Waiting) ∷ x ∷ xs) (after_read clock bank line came.Waiting) array

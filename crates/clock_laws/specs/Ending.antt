@@ -3,7 +3,7 @@ use Rattle.std.specs.Prelude.{ℕ, List}
 use Rattle.pcm_cells.specs.Device.{ArrayState}
 use Rattle.line_writer.specs.Untouched.{AreUntouched}
 use Rattle.bank_shape.specs.Shape.{lines_in}
-use Rattle.bank_model.specs.Timing.{Timed}
+use Rattle.bank_model.specs.Timing.{TimedEvent}
 use Rattle.bank_laws.specs.Laws.{LeavesArray}
 use Rattle.clock_laws.specs.State.{ClockState}
 use Rattle.clock_laws.specs.Leads.{Leads}
@@ -11,11 +11,11 @@ use Rattle.clock_laws.specs.Leads.{Leads}
 -- a history that leads to a bank over an array leaves that array with its pulses, and with its retired lines worn
 abbrev pub LeavingLaw : Type 0
 LeavingLaw =
-    (n m e : ℕ) (xs : List (Timed n m)) (clock : ClockState n m e) (array : ArrayState n m)
+    (n m e : ℕ) (xs : List (TimedEvent n m)) (clock : ClockState n m e) (array : ArrayState n m)
     → Leads xs clock array → LeavesArray e clock.bank.kept.shape xs array
 
 -- and every unused check cell of the bank's lines, its control lines among them, untouched
 abbrev pub UntouchedLaw : Type 0
 UntouchedLaw =
-    (n m e : ℕ) (xs : List (Timed n m)) (clock : ClockState n m e) (array : ArrayState n m)
+    (n m e : ℕ) (xs : List (TimedEvent n m)) (clock : ClockState n m e) (array : ArrayState n m)
     → Leads xs clock array → AreUntouched e array clock.bank.kept.shape.base (lines_in clock.bank.kept.shape)

@@ -4,7 +4,7 @@ use Rattle.pcm_cells.specs.Device.{ArrayState}
 use Rattle.bank_shape.specs.declared.BankShape.{BankShape}
 use Rattle.bank_shape.specs.Shape.{lines_in, controls_of, control_line}
 use Rattle.bank_model.specs.Events.{Event, Cut}
-use Rattle.bank_model.specs.Timing.{Timed, Happens, Core, Regs, KeepCut}
+use Rattle.bank_model.specs.Timing.{TimedEvent, Happens, Core, Regs, KeepCut}
 use Rattle.bank_model.specs.Touching.{Touches, shown}
 use Rattle.bank_model.specs.Adding.{Adds}
 use Rattle.bank_invariant.specs.State.{BankState, Operation}
@@ -26,7 +26,7 @@ is_tear happens pulsed = false
 -- one event adds what it touches, where it pulses a line of the bank or none
 abbrev pub OneAddedLaw : Type 0
 OneAddedLaw =
-    (n m : ℕ) (shape : BankShape) (x : Timed n m) (sensed : List ℕ) (tearing : Bool) (old new : ArrayState n m)
+    (n m : ℕ) (shape : BankShape) (x : TimedEvent n m) (sensed : List ℕ) (tearing : Bool) (old new : ArrayState n m)
     → x.senses ≡ shown x.tick sensed new
     → IfSome x.pulsed (λ line. (shape.base ≤ line) × (line < shape.base + lines_in shape))
     → tearing ≡ is_tear x.happens x.pulsed
@@ -39,13 +39,13 @@ ArrivalAddedLaw = (n m tick : ℕ) (shape : BankShape) (event : Event n) (array 
 -- the events of two calls add up
 abbrev pub BothAddedLaw : Type 0
 BothAddedLaw =
-    (n m : ℕ) (shape : BankShape) (newer older : List (Timed n m)) (first between last : ArrayState n m)
+    (n m : ℕ) (shape : BankShape) (newer older : List (TimedEvent n m)) (first between last : ArrayState n m)
     → Adds shape older first between → Adds shape newer between last → Adds shape (newer ++ older) first last
 
 -- a history leads to a bank over any other array in which each line of the bank is the same, and of as many lines
 abbrev pub ElsewhereLaw : Type 0
 ElsewhereLaw =
-    (n m e : ℕ) (xs : List (Timed n m)) (clock : ClockState n m e) (old new : ArrayState n m)
+    (n m e : ℕ) (xs : List (TimedEvent n m)) (clock : ClockState n m e) (old new : ArrayState n m)
     → Leads xs clock old → new.lines ≡ old.lines
     → ((line : ℕ) → clock.bank.kept.shape.base ≤ line → line < clock.bank.kept.shape.base + lines_in clock.bank.kept.shape → new.line line ≡ old.line line)
     → Leads xs clock new
@@ -65,7 +65,7 @@ BehindLaw =
 -- a step of the bank's line write, or its cut, leaves the control lines as they were
 abbrev pub ControlsStayLaw : Type 0
 ControlsStayLaw =
-    (n m e tick item : ℕ) (sensed : List ℕ) (tearing : Bool) (op : Operation n m e) (xs : List (Timed n m)) (clock : ClockState n m e) (old new : ArrayState n m)
+    (n m e tick item : ℕ) (sensed : List ℕ) (tearing : Bool) (op : Operation n m e) (xs : List (TimedEvent n m)) (clock : ClockState n m e) (old new : ArrayState n m)
     → Leads xs clock old → clock.bank.running ≡ Some op → item < controls_of clock.bank.kept.shape → Touches tick sensed (Some op.target) tearing old new
     → new.line (clock.regs.base + item) ≡ old.line (clock.regs.base + item)
 

@@ -3,10 +3,10 @@ use Rattle.std.specs.Prelude.{◌≡◌, ◌⊎◌, ℕ, ◌<◌, false, IsTrue,
 use Rattle.bank_shape.specs.declared.Work.TheVariants.{Nothing}
 use Rattle.power_recovery.specs.Kept.{next_work}
 use Rattle.masked_bytes.specs.declared.entry.Entry.{Entry}
-use Rattle.bank_model.specs.declared.answer.ReadAnswer.TheVariants as came
-use Rattle.bank_model.specs.declared.clock.Doing.{Doing}
-use Rattle.bank_model.specs.declared.clock.Doing.TheVariants.{Serving, Beginning, Iterating}
-use Rattle.bank_model.specs.declared.clock.Action.{Action}
+use Rattle.bank_shape.specs.declared.answer.ReadAnswer.TheVariants as came
+use Rattle.bank_shape.specs.declared.clock.Doing.{Doing}
+use Rattle.bank_shape.specs.declared.clock.Doing.TheVariants.{Serving, Beginning, Iterating}
+use Rattle.bank_shape.specs.declared.clock.Action.{Action}
 use Rattle.reg_lines.specs.Regs.{RegsState}
 use Rattle.bank_invariant.specs.State.{BankState, may_begin, is_storing}
 use Rattle.bank_invariant.specs.Serving.{waits_too}

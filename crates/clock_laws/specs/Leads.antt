@@ -6,7 +6,7 @@ use Rattle.bank_shape.specs.Shape.{lines_in}
 use Rattle.power_recovery.specs.Events.{is_copy}
 use Rattle.bank_model.specs.History.{queue}
 use Rattle.bank_model.specs.Running.{running_at, cancels_after}
-use Rattle.bank_model.specs.Timing.{Timed, ends, core, last_tick}
+use Rattle.bank_model.specs.Timing.{TimedEvent, ends, core, last_tick}
 use Rattle.bank_model.specs.Lawful.{Lawful}
 use Rattle.bank_model.specs.Sensing.{pulses_of, copied}
 use Rattle.bank_model.specs.Told.{IsTold, tick_of_row}
@@ -17,13 +17,13 @@ use Rattle.register_laws.specs.Telling.{AreTold}
 use Rattle.clock_laws.specs.State.{ClockState}
 
 -- a gap move in progress writes what the line that it copies was read as when its begin sensed it
-abbrev pub CopiesWhatItSensed : {n m e : ℕ} → List (Timed n m) → Operation n m e → Type 0
+abbrev pub CopiesWhatItSensed : {n m e : ℕ} → List (TimedEvent n m) → Operation n m e → Type 0
 CopiesWhatItSensed {e = e} xs op = IsTrue (is_copy op.work) → IsSomeAnd (copied xs) (λ source. op.writer.bytes ≡ decode e source)
 
 -- the history is one that the bank may have, what the bank, its control lines and its clock keep is what the history leaves, the
 -- control lines hold what the bank keeps, each line of the bank has the pulses that the history counts, and no row that a cut took
 -- away is left to take
-pub record Leads {n m e : ℕ} (xs : List (Timed n m)) (clock : ClockState n m e) (array : ArrayState n m) : Type 0 where
+pub record Leads {n m e : ℕ} (xs : List (TimedEvent n m)) (clock : ClockState n m e) (array : ArrayState n m) : Type 0 where
   pub lawful : Lawful clock.bank.kept.shape clock.pace e xs
   pub holds : Holds (core xs) clock.bank array
   pub told : IsTold clock.bank.kept.shape clock.pace xs clock.tick clock.action clock.arrivals clock.cancels
@@ -35,7 +35,7 @@ pub record Leads {n m e : ℕ} (xs : List (Timed n m)) (clock : ClockState n m e
   pub taken : clock.bank.lost ≡ []
 
 -- the same but that the last event may be a cancel, whose read is still to come
-pub record Reaches {n m e : ℕ} (xs : List (Timed n m)) (clock : ClockState n m e) (array : ArrayState n m) : Type 0 where
+pub record Reaches {n m e : ℕ} (xs : List (TimedEvent n m)) (clock : ClockState n m e) (array : ArrayState n m) : Type 0 where
   pub lawful : Lawful clock.bank.kept.shape clock.pace e xs
   pub holds : Holds (core xs) clock.bank array
   pub now : last_tick xs ≤ clock.tick

@@ -1,8 +1,8 @@
 -- The laws of time that passes in which no event comes, and of a bank that has nothing left to do.
 use Rattle.std.specs.Prelude.{◌≡◌, ℕ, ◌<◌, ◌≤◌, List, Option, None, IfSome}
 use Rattle.pcm_cells.specs.Device.{ArrayState}
-use Rattle.bank_model.specs.declared.clock.Action.{Action}
-use Rattle.bank_model.specs.Timing.{Timed, ends}
+use Rattle.bank_shape.specs.declared.clock.Action.{Action}
+use Rattle.bank_model.specs.Timing.{TimedEvent, ends}
 use Rattle.bank_model.specs.Lawful.{IsIdle}
 use Rattle.clock_laws.specs.State.{ClockState, next_action}
 use Rattle.clock_laws.specs.Leads.{Leads}
@@ -15,14 +15,14 @@ at_tick tick action clock =
 -- a history leads to its bank at a later tick too, where the action that runs from now on hasn't ended by then
 abbrev pub PassingLaw : Type 0
 PassingLaw =
-    (n m e to : ℕ) (xs : List (Timed n m)) (clock : ClockState n m e) (array : ArrayState n m)
+    (n m e to : ℕ) (xs : List (TimedEvent n m)) (clock : ClockState n m e) (array : ArrayState n m)
     → Leads xs clock array → clock.tick < to → IfSome (next_action clock) (λ a. to < ends clock.pace a)
     → Leads xs (at_tick to (next_action clock) clock) array
 
 -- a bank in which no action runs and none is chosen has nothing left to do after its history
 abbrev pub IdleLaw : Type 0
 IdleLaw =
-    (n m e : ℕ) (xs : List (Timed n m)) (clock : ClockState n m e) (array : ArrayState n m)
+    (n m e : ℕ) (xs : List (TimedEvent n m)) (clock : ClockState n m e) (array : ArrayState n m)
     → Leads xs clock array → next_action clock ≡ None → IsIdle clock.bank.kept.shape clock.pace xs
 
 -- the action that runs from now on ends later, where senses and iterations last

@@ -4,13 +4,13 @@ use Rattle.masked_bytes.specs.Entries.{head_line}
 use Rattle.pcm_cells.specs.Device.{ArrayState}
 use Rattle.spare_pool.specs.Table.{used_by}
 use Rattle.power_recovery.specs.Kept.{KeptState, due_region}
-use Rattle.bank_model.specs.declared.answer.Step.{Step}
-use Rattle.bank_model.specs.declared.answer.Step.TheVariants as did
+use Rattle.bank_shape.specs.declared.answer.Step.{Step}
+use Rattle.bank_shape.specs.declared.answer.Step.TheVariants as did
 use Rattle.bank_model.specs.Answers.{MayHappen}
 use Rattle.bank_model.specs.Changes.{item_if}
 use Rattle.bank_model.specs.Events.{Event, Begin, Iterate}
 use Rattle.bank_model.specs.Sensing.{most_steps}
-use Rattle.bank_model.specs.Timing.{Timed, Core, core}
+use Rattle.bank_model.specs.Timing.{TimedEvent, Core, core}
 use Rattle.reg_lines.specs.Regs.{RegsState}
 use Rattle.reg_lines.specs.Keeping.{with_change}
 use Rattle.register_laws.specs.Items.{item_values}
@@ -18,7 +18,7 @@ use Rattle.register_laws.specs.Telling.{AreTold}
 use Rattle.clock_laws.specs.State.{ClockState}
 use Rattle.clock_laws.specs.Leads.{Leads}
 use Rattle.clock_laws.specs.Completing.{EndsDoing, IsAlone}
-use Rattle.bank_model.specs.declared.clock.Doing.{Doing}
+use Rattle.bank_shape.specs.declared.clock.Doing.{Doing}
 
 -- the region that is due to move
 abbrev pub region_due : Option ℕ → ℕ
@@ -48,6 +48,6 @@ put_if (Some item) kept regs = with_change (record { item = item; values = item_
 -- the control lines with the change of the item that an event changes are told by the history
 abbrev pub PutLaw : Type 0
 PutLaw =
-    (n m e : ℕ) (event : Event n) (doing : Doing) (x : Timed n m) (xs : List (Timed n m)) (clock : ClockState n m e) (kept : KeptState n) (array : ArrayState n m)
+    (n m e : ℕ) (event : Event n) (doing : Doing) (x : TimedEvent n m) (xs : List (TimedEvent n m)) (clock : ClockState n m e) (kept : KeptState n) (array : ArrayState n m)
     → Leads xs clock array → MayHappen clock.bank.kept.shape (core xs) (most_steps e) event → EndsDoing event doing → IsAlone event clock.regs.change
     → x.happens ≡ Core event → AreTold clock.bank.kept.shape (x ∷ xs) (put_if (item_with clock.bank.kept event) kept clock.regs)

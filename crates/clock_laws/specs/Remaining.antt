@@ -13,8 +13,8 @@ use Rattle.bank_invariant.specs.Beginning.{begun_with}
 use Rattle.bank_invariant.specs.Storing.{resting}
 use Rattle.bank_invariant.specs.Moving.{moved}
 use Rattle.bank_invariant.specs.Retiring.{ended}
-use Rattle.bank_model.specs.Timing.{Timed}
-use Rattle.bank_model.specs.declared.answer.Keep.TheVariants as keep
+use Rattle.bank_model.specs.Timing.{TimedEvent}
+use Rattle.bank_shape.specs.declared.answer.Keep.TheVariants as keep
 use Rattle.reg_lines.specs.Regs.{RegsState}
 use Rattle.reg_lines.specs.Keeping.{kept_on}
 use Rattle.register_laws.specs.Telling.{item_of}
@@ -94,5 +94,5 @@ FallingLaw = (n m e : ℕ) (bank : BankState n m e) (regs : RegsState n m e) →
 -- while a change stands, no line write of the bank is in progress
 abbrev pub OneWriteLaw : Type 0
 OneWriteLaw =
-    (n m e : ℕ) (xs : List (Timed n m)) (clock : ClockState n m e) (array : ArrayState n m)
+    (n m e : ℕ) (xs : List (TimedEvent n m)) (clock : ClockState n m e) (array : ArrayState n m)
     → Leads xs clock array → IsTrue (is_some clock.regs.change) → clock.bank.running ≡ None

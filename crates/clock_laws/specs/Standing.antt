@@ -8,12 +8,12 @@ use Rattle.masked_bytes.specs.declared.entry.Entry.{Entry}
 use Rattle.masked_bytes.specs.Entries.{completed, has_row, RowsApart}
 use Rattle.protected_queue.specs.Queue.{accepted}
 use Rattle.bank_model.specs.Events.{Write, Read, Cut, RowsBelow}
-use Rattle.bank_model.specs.declared.answer.WriteAnswer.{WriteAnswer}
-use Rattle.bank_model.specs.Timing.{Happens, Core, Timed, core}
+use Rattle.bank_shape.specs.declared.answer.WriteAnswer.{WriteAnswer}
+use Rattle.bank_model.specs.Timing.{Happens, Core, TimedEvent, core}
 use Rattle.bank_model.specs.Lawful.{Lawful}
 use Rattle.bank_model.specs.Told.{tick_of_row}
 use Rattle.bank_laws.specs.Outcomes.{outcome_of, outcome_with}
-use Rattle.bank_invariant.specs.declared.Waiting.{Waiting}
+use Rattle.bank_shape.specs.declared.waiting.Waiting.{Waiting}
 use Rattle.clock_laws.specs.State.{ClockState}
 use Rattle.clock_laws.specs.Leads.{Leads}
 use Rattle.clock_laws.specs.Recording.{outcome_on}
@@ -39,7 +39,7 @@ module _ {n : ℕ} where
 -- so are those of a bank to which a history leads
 abbrev pub ApartLaw : Type 0
 ApartLaw =
-    (n m e : ℕ) (xs : List (Timed n m)) (clock : ClockState n m e) (array : ArrayState n m)
+    (n m e : ℕ) (xs : List (TimedEvent n m)) (clock : ClockState n m e) (array : ArrayState n m)
     → Leads xs clock array → AreApart clock.bank.kept.entries clock.bank.waiting clock.bank.rows_below
 
 -- rows that are apart stay so: while the bound rises, after a write that the queue takes, a read that begins to wait or the first
@@ -63,13 +63,13 @@ is_arrival_of (Core (Read at line answer)) row = at == row
 is_arrival_of happens row = false
 
 -- whether a row arrives with one of these events
-abbrev pub arrives_with : {n m : ℕ} → List (Timed n m) → ℕ → Bool
+abbrev pub arrives_with : {n m : ℕ} → List (TimedEvent n m) → ℕ → Bool
 arrives_with added row = list_any (λ x. is_arrival_of x.happens row) added
 
 -- events leave the outcome of each row that neither stood in the queue, nor waited, nor came with them
 abbrev pub OtherRowsLaw : Type 0
 OtherRowsLaw =
-    (n m e row : ℕ) (added xs : List (Timed n m)) (clock : ClockState n m e) (array : ArrayState n m) (before : ℕ → Outcome n)
+    (n m e row : ℕ) (added xs : List (TimedEvent n m)) (clock : ClockState n m e) (array : ArrayState n m) (before : ℕ → Outcome n)
     → Leads xs clock array → Lawful clock.bank.kept.shape clock.pace e (added ++ xs)
     → has_row clock.bank.kept.entries row ≡ false → has_waiting clock.bank.waiting row ≡ false → arrives_with added row ≡ false
     → outcome_on clock.bank.kept.shape added xs before row ≡ before row
@@ -77,19 +77,19 @@ OtherRowsLaw =
 -- each row that came, and neither stands in the queue nor waits, has its outcome
 abbrev pub SettledLaw : Type 0
 SettledLaw =
-    (n m e row : ℕ) (xs : List (Timed n m)) (clock : ClockState n m e) (array : ArrayState n m)
+    (n m e row : ℕ) (xs : List (TimedEvent n m)) (clock : ClockState n m e) (array : ArrayState n m)
     → Leads xs clock array → arrives_with xs row ≡ true → has_row clock.bank.kept.entries row ≡ false → has_waiting clock.bank.waiting row ≡ false
     → outcome_of clock.bank.kept.shape xs row ≢ out.Unset
 
 -- a cut makes lost just the reads that wait at the bank
 abbrev pub LostRowsLaw : Type 0
 LostRowsLaw =
-    (n m e row tick : ℕ) (tearing : Bool) (xs : List (Timed n m)) (clock : ClockState n m e) (array : ArrayState n m)
+    (n m e row tick : ℕ) (tearing : Bool) (xs : List (TimedEvent n m)) (clock : ClockState n m e) (array : ArrayState n m)
     → Leads xs clock array
     → outcome_with clock.bank.kept.shape xs (Core (Cut tearing)) tick row ≡ (if has_waiting clock.bank.waiting row then Some (out.Lost tick) else None)
 
 -- the arrival tick of a row is that of its write
 abbrev pub ArrivalTickLaw : Type 0
 ArrivalTickLaw =
-    (n m row line bound : ℕ) (bytes : List ℕ) (given : List Bool) (answer : WriteAnswer) (later xs : List (Timed n m)) (x : Timed n m)
+    (n m row line bound : ℕ) (bytes : List ℕ) (given : List Bool) (answer : WriteAnswer) (later xs : List (TimedEvent n m)) (x : TimedEvent n m)
     → RowsBelow (core (later ++ x ∷ xs)) bound → x.happens ≡ Core (Write row line bytes given answer) → tick_of_row row (later ++ x ∷ xs) ≡ x.tick

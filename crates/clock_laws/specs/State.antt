@@ -1,9 +1,11 @@
 -- What contracts see of a bank with its clock.
 use Rattle.std.specs.Prelude.{ℕ, ◌||◌, Bool, nat_lt, List, length, Option, Some, None, is_some}
-use Rattle.bank_model.specs.declared.clock.Doing.{Doing}
-use Rattle.bank_model.specs.declared.clock.Action.{Action}
-use Rattle.bank_model.specs.Timing.{Pacing}
-use Rattle.bank_model.specs.Running.{gives_way, chosen_by, choice, busy_by, ready_by}
+use Rattle.bank_shape.specs.declared.clock.Doing.{Doing}
+use Rattle.bank_shape.specs.declared.clock.Action.{Action}
+use Rattle.bank_shape.specs.declared.pace.Pace.{Pace}
+use Rattle.bank_shape.specs.Pausing.{gives_way}
+use Rattle.bank_shape.specs.Acting.{chosen_by, choice}
+use Rattle.bank_model.specs.Running.{busy_by, ready_by}
 use Rattle.reg_lines.specs.Regs.{RegsState}
 use Rattle.register_laws.specs.Telling.{item_of}
 use Rattle.bank_invariant.specs.State.{BankState, may_begin}
@@ -14,7 +16,7 @@ use Rattle.bank_invariant.specs.State.{BankState, may_begin}
 pub record ClockState (n m e : ℕ) : Type 0 where
   pub bank : BankState n m e
   pub regs : RegsState n m e
-  pub pace : Pacing
+  pub pace : Pace
   pub tick : ℕ
   pub action : Option Action
   pub arrivals : List ℕ

@@ -7,8 +7,8 @@ use Rattle.trace_gen.specs.declared.mix.Mix.{Mix}
 use Rattle.pcm_cells.specs.declared.array.Wear.{Wear}
 use Rattle.bank_shape.specs.declared.Home.{Home}
 use Rattle.bank_shape.specs.declared.Home.TheVariants as home
-use Rattle.pace.specs.declared.Policy.{Policy}
-use Rattle.pace.specs.declared.Policy.TheVariants as policy
+use Rattle.bank_shape.specs.declared.pace.Policy.{Policy}
+use Rattle.bank_shape.specs.declared.pace.Policy.TheVariants as policy
 use Rattle.module_shape.specs.declared.raw.Field.{Field}
 use Rattle.module_shape.specs.declared.raw.RawShape.{RawShape}
 use Rattle.module_shape.specs.Limits.{shape_fault}

@@ -1,35 +1,36 @@
 -- What becomes of the line that a slot had: the slot has it still, or a later spare, and then it is worn.
 use Rattle.std.proofs.Common.{◌≡◌, ℕ, ◌+◌, ◌*◌, ◌/◌, ◌<◌, ◌≤◌, ◌==◌, ◌⊎◌, inl, inr, Bool, true, false, List, [], ◌∷◌, ◌++◌, length, length-append, refl, sym, ap, ◌∙◌, subst, arith, cond, append_assoc}
-use Rattle.std.proofs.lemmas.Bool.{eq-eqb, le-leb, lt-ltb}
+use Rattle.std.proofs.lemmas.Bool.{eq-eqb, le-leb, lt-ltb, and_from, or_left, or_right}
 use Rattle.result_rows.specs.declared.Outcome.{Outcome}
 use Rattle.result_rows.specs.declared.Outcome.TheVariants as out
 use Rattle.pcm_cells.specs.Device.{ArrayState}
 use Rattle.spare_pool.specs.Table.{Table, line_from}
 use Rattle.spare_pool.proofs.Lines.{line_from-more, line_by-within, line_by-apart}
-use Rattle.row_laws.specs.declared.Row.{Row}
-use Rattle.row_laws.specs.Answers.{stored_before}
+use Rattle.row_rules.specs.declared.Row.{Row}
+use Rattle.row_rules.specs.Answers.{stored_before}
 use Rattle.bank_shape.specs.declared.BankShape.{BankShape}
 use Rattle.bank_shape.specs.Shape.{slots_of, slot_moved}
 use Rattle.power_recovery.specs.Kept.{array_line}
-use Rattle.bank_model.specs.declared.answer.Step.TheVariants as did
+use Rattle.bank_shape.specs.declared.answer.Step.TheVariants as did
 use Rattle.bank_model.specs.Events.{Event, Write, Read, Serve, Begin, Iterate, Cut}
 use Rattle.bank_model.specs.History.{retired, moved_in, stored_in}
 use Rattle.bank_model.specs.After.{slot_after, array_line_after, stands_at_after}
 use Rattle.bank_model.specs.Sensing.{most_steps}
-use Rattle.bank_model.specs.Timing.{Pacing, Happens, Core, Regs, Timed, core, core_of}
+use Rattle.bank_shape.specs.declared.pace.Pace.{Pace}
+use Rattle.bank_model.specs.Timing.{Happens, Core, Regs, TimedEvent, core, core_of}
 use Rattle.bank_model.specs.Lawful.{Lawful}
 use Rattle.bank_laws.specs.Laws.{IsSized, LeavesArray, is_worn_at}
 use Rattle.bank_laws.specs.Outcomes.{outcome_of, ended, row_with, rows_from}
 use Rattle.bank_laws.specs.Places.{region_stores}
 use Rattle.bank_laws.proofs.Settling.{lawful_before, above_all}
 use Rattle.bank_laws.proofs.Waiting.{may_all}
-use Rattle.bank_laws.proofs.Walking.{Passes, walk, rows_after, and_both}
+use Rattle.bank_laws.proofs.Walking.{Passes, walk, rows_after}
 use Rattle.place_laws.proofs.Asked.{Asked, asked-within, wrote-asked, queue-wrote}
 use Rattle.place_laws.proofs.Moves.{keeps, none-due}
 use Rattle.place_laws.proofs.Tables.{between}
 use Rattle.place_laws.proofs.Slots.{slot_moved-within}
 use Rattle.place_laws.proofs.Splits.{IsStoredAt, stored-at}
-use Rattle.place_laws.proofs.Placed.{or_one, or_other, between_products, asked-later, SumsUp, stores-below, same_line}
+use Rattle.place_laws.proofs.Placed.{between_products, asked-later, SumsUp, stores-below, same_line}
 use Rattle.end_laws.specs.Ends.{has_place, outcome_ends, is_still_there}
 use Rattle.end_laws.specs.EndLaws.{StillThereLaw}
 use Rattle.end_laws.proofs.Leaving.{agreeing, recounted, leaves}
@@ -88,7 +89,7 @@ module _ (slots slot : ℕ) (before : List ℕ) (exists : slot < slots) where
     follows-event (Iterate (did.Retired at line)) h f = follows-retired (retired h) at f
     follows-event (Iterate did.Exhausted) h f = f
 
-pub follows-later : {n m : ℕ} (slots slot : ℕ) (later zs : List (Timed n m)) → slot < slots → Follows slots slot (retired (core zs)) (retired (core (later ++ zs)))
+pub follows-later : {n m : ℕ} (slots slot : ℕ) (later zs : List (TimedEvent n m)) → slot < slots → Follows slots slot (retired (core zs)) (retired (core (later ++ zs)))
 follows-later slots slot [] zs exists = follows-same slots slot (retired (core zs)) exists
 follows-later {n} slots slot (x ∷ later) zs exists = by x.happens (follows-later slots slot later zs exists)
   where
@@ -96,10 +97,10 @@ follows-later {n} slots slot (x ∷ later) zs exists = by x.happens (follows-lat
     by (Core event) f = follows-event slots slot (retired (core zs)) exists event (core (later ++ zs)) f
     by (Regs event) f = f
 
-module _ {n m : ℕ} (shape : BankShape) (pace : Pacing) (e : ℕ) (all : List (Timed n m)) (array : ArrayState n m) (sized : IsSized shape pace) (l : Lawful shape pace e all) (left : LeavesArray e shape all array)
+module _ {n m : ℕ} (shape : BankShape) (pace : Pace) (e : ℕ) (all : List (TimedEvent n m)) (array : ArrayState n m) (sized : IsSized shape pace) (l : Lawful shape pace e all) (left : LeavesArray e shape all array)
     (table : ℕ → ℕ) (is_table : (slot : ℕ) → table slot ≡ array_line_after shape (core all) slot) where
   -- the line that a slot had at some time has its place by the table of the end
-  had_place : (later zs : List (Timed n m)) (slot : ℕ) → all ≡ later ++ zs → slot < slots_of shape
+  had_place : (later zs : List (TimedEvent n m)) (slot : ℕ) → all ≡ later ++ zs → slot < slots_of shape
       → has_place (shape.base + slots_of shape) (is_worn_at e array) (table slot) (array_line_after shape (core zs) slot) ≡ true
   had_place later zs slot same exists =
       ap (λ now. has_place (shape.base + slots_of shape) (is_worn_at e array) now (array_line_after shape (core zs) slot)) (is_table slot) ∙ by f.own
@@ -108,7 +109,7 @@ module _ {n m : ℕ} (shape : BankShape) (pace : Pacing) (e : ℕ) (all : List (
       slots = slots_of shape
 
       f : Follows slots slot (retired (core zs)) (retired (core all))
-      f = subst (λ (xs : List (Timed n m)). Follows slots slot (retired (core zs)) (retired (core xs))) (sym same) (follows-later slots slot later zs exists)
+      f = subst (λ (xs : List (TimedEvent n m)). Follows slots slot (retired (core zs)) (retired (core xs))) (sym same) (follows-later slots slot later zs exists)
 
       was : ℕ
       was = line_from slots slot (retired (core zs)) slot
@@ -125,15 +126,15 @@ module _ {n m : ℕ} (shape : BankShape) (pace : Pacing) (e : ℕ) (all : List (
           omega (arith, here, less))
 
       by : (now ≡ was) ⊎ ((was < now) × (slots ≤ now)) → has_place (shape.base + slots) (is_worn_at e array) (shape.base + now) (shape.base + was) ≡ true
-      by (inl is) = or_one _ _ (eq-eqb (shape.base + now) (shape.base + was) (ap (λ k. shape.base + k) is))
+      by (inl is) = or_left _ _ (eq-eqb (shape.base + now) (shape.base + was) (ap (λ k. shape.base + k) is))
       by (inr up) =
-          or_other _ _ (and_both _ _ (lt-ltb (shape.base + was) (shape.base + now) (omega (arith, up.0)))
-          (and_both _ _ (le-leb (shape.base + slots) (shape.base + now) (omega (arith, up.1))) (gone up.0)))
+          or_right _ _ (and_from _ _ (lt-ltb (shape.base + was) (shape.base + now) (omega (arith, up.0)))
+          (and_from _ _ (le-leb (shape.base + slots) (shape.base + now) (omega (arith, up.1))) (gone up.0)))
 
   still_there : (rows : List (Row n)) (row line u p : ℕ) → SumsUp shape pace e all array sized l left rows → Asked (core all) row line → IsStoredAt shape all row u p
       → has_place (shape.base + slots_of shape) (is_worn_at e array) (table (slot_moved shape line (region_stores (stored_before u) shape (line / shape.lines) rows / shape.psi))) p ≡ true
   still_there rows row line u p sums asked s =
-      let whole : Lawful shape pace e (s.later ++ s.event ∷ s.before) = subst (λ (xs : List (Timed n m)). Lawful shape pace e xs) s.same l in
+      let whole : Lawful shape pace e (s.later ++ s.event ∷ s.before) = subst (λ (xs : List (TimedEvent n m)). Lawful shape pace e xs) s.same l in
       let before : Lawful shape pace e s.before = (lawful_before shape pace e s.later (s.event ∷ s.before) whole).1 in
       let may = may_all shape pace e s.before before in
       let bound = above_all shape pace e s.before before in
@@ -166,9 +167,9 @@ module _ {n m : ℕ} (shape : BankShape) (pace : Pacing) (e : ℕ) (all : List (
   ended-ends tick line rows (out.Stored u p) is = is
   ended-ends tick line rows _ is = refl
 
-  pub still_at : (later : List (Timed n m)) (x : Timed n m) (ys : List (Timed n m)) → all ≡ later ++ x ∷ ys
+  pub still_at : (later : List (TimedEvent n m)) (x : TimedEvent n m) (ys : List (TimedEvent n m)) → all ≡ later ++ x ∷ ys
       → Passes (is_still_there shape (is_worn_at e array) table) (rows_from shape all ys) (row_with shape all x.happens x.tick x.cancels) (rows_after shape all later)
-  still_at later x ys same = by x.happens x.cancels (λ f. between shape all f later x ys same) (λ row line a. subst (λ (xs : List (Timed n m)). Asked (core xs) row line) (sym same) (asked-later shape later (x ∷ ys) row line a))
+  still_at later x ys same = by x.happens x.cancels (λ f. between shape all f later x ys same) (λ row line a. subst (λ (xs : List (TimedEvent n m)). Asked (core xs) row line) (sym same) (asked-later shape later (x ∷ ys) row line a))
     where
       by : (h : Happens n) (cancels : Bool) → SumsUp shape pace e all array sized l left (rows_from shape all ys ++ (row_with shape all h x.tick cancels ++ rows_after shape all later))
           → ((row line : ℕ) → Asked (core_of h (core ys)) row line → Asked (core all) row line)

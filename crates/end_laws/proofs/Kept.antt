@@ -1,24 +1,25 @@
 -- What the queue gives of a line is what its writes that were not stored give, but for a head that gives every byte; so the rest is in the array.
 use Rattle.std.proofs.Common.{◌≡◌, ℕ, ◌==◌, ◌||◌, ◌⊎◌, inl, inr, Bool, true, false, List, [], ◌∷◌, Some, None, refl, sym, ap, ◌∙◌, subst, arith, cond, eqb, eqb-true}
+use Rattle.std.proofs.lemmas.Bool.{or_left, or_right}
 use Rattle.result_rows.specs.declared.Outcome.{Outcome}
 use Rattle.result_rows.specs.declared.Outcome.TheVariants as out
 use Rattle.masked_bytes.specs.declared.entry.Entry.{Entry}
 use Rattle.masked_bytes.specs.Masked.{laid, gives_all}
 use Rattle.masked_bytes.specs.Entries.{layer_of}
-use Rattle.row_laws.specs.Answers.{is_stored}
-use Rattle.row_laws.specs.Rows as rows
-use Rattle.row_laws.specs.Queueing.{unstored}
+use Rattle.row_rules.specs.Answers.{is_stored}
+use Rattle.row_rules.specs.Rows as rows
+use Rattle.row_rules.specs.Queueing.{unstored}
 use Rattle.bank_shape.specs.declared.BankShape.{BankShape}
 use Rattle.power_recovery.specs.Kept.{array_line}
 use Rattle.bank_model.specs.History.{queue, moved_in}
 use Rattle.bank_model.specs.Sensing.{most_steps}
-use Rattle.bank_model.specs.Timing.{Pacing, Timed, core, last_tick}
+use Rattle.bank_shape.specs.declared.pace.Pace.{Pace}
+use Rattle.bank_model.specs.Timing.{TimedEvent, core, last_tick}
 use Rattle.bank_model.specs.Lawful.{Lawful}
 use Rattle.bank_laws.specs.Laws.{IsSized}
 use Rattle.bank_laws.specs.Pairs.{has_line, ArePaired}
 use Rattle.bank_laws.specs.Outcomes.{outcome_of, ended, table_of}
 use Rattle.bank_laws.proofs.Entries.{either}
-use Rattle.bank_laws.proofs.Fates.{or_first, or_second}
 use Rattle.bank_laws.proofs.Settling.{opens}
 use Rattle.bank_laws.proofs.Pairs.{AllLong, KeepsPairs, keeps_pairs}
 use Rattle.bank_laws.proofs.Serves.{same_bytes-same, newest_same}
@@ -71,7 +72,7 @@ module _ {n : ℕ} where
   ended-stored tick out.Unset = refl
   ended-stored tick _ = refl
 
-module _ {n m : ℕ} (shape : BankShape) (pace : Pacing) (e : ℕ) (all : List (Timed n m)) (sized : IsSized shape pace) (l : Lawful shape pace e all) where
+module _ {n m : ℕ} (shape : BankShape) (pace : Pace) (e : ℕ) (all : List (TimedEvent n m)) (sized : IsSized shape pace) (l : Lawful shape pace e all) where
   -- which bytes of a line the rows show as not stored
   unstored-since : (line : ℕ) → unstored is_stored line (table_of shape all) ≡ since (core all) line (floor_of (outcome_of shape all) (core all) line)
   unstored-since line =
@@ -115,5 +116,5 @@ kept_law n m e pace xs bank array line sized l holds exists = by (is_excepted (w
 
     by : (b : Bool) → is_excepted (whole_head bank.kept.entries) line ≡ b
         → (is_excepted (whole_head bank.kept.entries) line || is_kept_line (table_of bank.kept.shape xs) line (decoded e array at)) ≡ true
-    by true is = or_first _ _ is
-    by false free = or_second _ _ (there free)
+    by true is = or_left _ _ is
+    by false free = or_right _ _ (there free)

@@ -5,7 +5,7 @@ use Rattle.pcm_cells.specs.Device.{ArrayState}
 use Rattle.spare_pool.specs.Table.{Table, line_by, used_by}
 use Rattle.bank_model.specs.Events.{Event}
 use Rattle.bank_model.specs.Sensing.{pulses_of}
-use Rattle.bank_model.specs.Timing.{Timed, core}
+use Rattle.bank_model.specs.Timing.{TimedEvent, core}
 use Rattle.bank_laws.specs.Laws.{LeavesArray, is_worn_at}
 use Rattle.bank_invariant.specs.State.{BankState}
 use Rattle.bank_invariant.specs.Holds.{Holds}
@@ -18,7 +18,7 @@ module _ {n m e : ℕ} (h : List (Event n)) (bank : BankState n m e) (array : Ar
   pub agreeing : AgreesWith h bank
   agreeing = agree_law n m e h bank array holds
 
-module _ {n m : ℕ} (e : ℕ) (xs : List (Timed n m)) (bank : BankState n m e) (array : ArrayState n m) (holds : Holds (core xs) bank array)
+module _ {n m : ℕ} (e : ℕ) (xs : List (TimedEvent n m)) (bank : BankState n m e) (array : ArrayState n m) (holds : Holds (core xs) bank array)
     (halted : IsHaltedWorn e bank.kept.shape xs array) where
   -- the array with the pulses that the history counts, whatever it counted itself: its cells are the same
   abbrev pub recounted : ArrayState n m

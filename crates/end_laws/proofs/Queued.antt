@@ -1,32 +1,31 @@
 -- The line of a head that gives every byte has a write that is queued in the end.
 use Rattle.std.proofs.Common.{◌≡◌, ℕ, ◌&&◌, inl, inr, Bool, true, false, List, [], ◌∷◌, ◌++◌, Some, None, refl, sym, ap, ◌∙◌, subst, cond}
 use Rattle.std.specs.List.{list_any}
-use Rattle.std.proofs.lemmas.Bool.{eq-eqb}
+use Rattle.std.proofs.lemmas.Bool.{eq-eqb, and_from, or_left, or_right}
 use Rattle.masked_bytes.specs.declared.entry.Entry.{Entry}
 use Rattle.masked_bytes.specs.Masked.{gives_all}
 use Rattle.result_rows.specs.declared.Outcome.TheVariants as out
-use Rattle.row_laws.specs.declared.Row.{Row}
-use Rattle.row_laws.specs.Answers.{is_queued}
-use Rattle.row_laws.specs.Rows.{write_of}
+use Rattle.row_rules.specs.declared.Row.{Row}
+use Rattle.row_rules.specs.Answers.{is_queued}
+use Rattle.row_rules.specs.Rows.{write_of}
 use Rattle.bank_shape.specs.declared.BankShape.{BankShape}
 use Rattle.bank_model.specs.Events.{Write, Read, Serve, Begin, Iterate, Cut}
 use Rattle.bank_model.specs.History.{queue}
 use Rattle.bank_model.specs.Sensing.{most_steps}
-use Rattle.bank_model.specs.Timing.{Pacing, Happens, Core, Regs, Timed, core, core_of}
+use Rattle.bank_shape.specs.declared.pace.Pace.{Pace}
+use Rattle.bank_model.specs.Timing.{Happens, Core, Regs, TimedEvent, core, core_of}
 use Rattle.bank_model.specs.Lawful.{Lawful}
 use Rattle.bank_laws.specs.Outcomes.{outcome_of, ended, row_with, rows_from, table_of}
-use Rattle.bank_laws.proofs.Fates.{or_first, or_second}
 use Rattle.bank_laws.proofs.Lines.{Stands, stands-row}
 use Rattle.bank_laws.proofs.Settling.{opens, above_all}
 use Rattle.bank_laws.proofs.Waiting.{may_all}
-use Rattle.bank_laws.proofs.Walking.{and_both}
 use Rattle.place_laws.proofs.Asked.{Wrote, queue-wrote}
 use Rattle.end_laws.specs.Ends.{is_excused}
 use Rattle.end_laws.specs.EndLaws.{QueuedLaw, whole_head}
 
-module _ {n m : ℕ} (shape : BankShape) (all : List (Timed n m)) where
+module _ {n m : ℕ} (shape : BankShape) (all : List (TimedEvent n m)) where
   -- a row that was written and has no outcome is queued in the end
-  any_queued : (row line : ℕ) → outcome_of shape all row ≡ out.Unset → (ys : List (Timed n m)) → Wrote (core ys) row line
+  any_queued : (row line : ℕ) → outcome_of shape all row ≡ out.Unset → (ys : List (TimedEvent n m)) → Wrote (core ys) row line
       → list_any (λ (r : Row n). write_of line r && is_queued r.outcome) (rows_from shape all ys) ≡ true
   any_queued row line unset [] w = absurd w
   any_queued row line unset (y ∷ ys) w = by y.happens y.cancels w (λ w. any_queued row line unset ys w)
@@ -35,8 +34,8 @@ module _ {n m : ℕ} (shape : BankShape) (all : List (Timed n m)) where
           → (Wrote (core ys) row line → list_any (λ (r : Row n). write_of line r && is_queued r.outcome) (rows_from shape all ys) ≡ true)
           → list_any (λ (r : Row n). write_of line r && is_queued r.outcome) (row_with shape all h y.tick cancels ++ rows_from shape all ys) ≡ true
       by (Core (Write at of bytes given answer)) cancels (inl w) go =
-          or_first _ _ (and_both _ _ (eq-eqb of line w.1) (ap (λ o. is_queued (ended y.tick o)) (ap (outcome_of shape all) w.0 ∙ unset)))
-      by (Core (Write at of bytes given answer)) cancels (inr w) go = or_second _ _ (go w)
+          or_left _ _ (and_from _ _ (eq-eqb of line w.1) (ap (λ o. is_queued (ended y.tick o)) (ap (outcome_of shape all) w.0 ∙ unset)))
+      by (Core (Write at of bytes given answer)) cancels (inr w) go = or_right _ _ (go w)
       by (Core (Read at of answer)) cancels w go = go w
       by (Core (Serve answer)) cancels w go = go w
       by (Regs event) cancels w go = go w
@@ -45,7 +44,7 @@ module _ {n m : ℕ} (shape : BankShape) (all : List (Timed n m)) where
       by (Core (Cut tearing)) true w go = go w
       by (Core (Cut tearing)) false w go = go w
 
-module _ {n m : ℕ} (shape : BankShape) (pace : Pacing) (e : ℕ) (all : List (Timed n m)) (l : Lawful shape pace e all) where
+module _ {n m : ℕ} (shape : BankShape) (pace : Pace) (e : ℕ) (all : List (TimedEvent n m)) (l : Lawful shape pace e all) where
   stands-queued : (row line : ℕ) → Stands (queue shape (core all)) row line → list_any (λ (r : Row n). write_of line r && is_queued r.outcome) (table_of shape all) ≡ true
   stands-queued row line s =
       let bound = above_all shape pace e all l in

@@ -5,14 +5,15 @@ use Rattle.masked_bytes.specs.Entries.{layer_of}
 use Rattle.masked_bytes.specs.declared.entry.Entry.{Entry}
 use Rattle.start_gap.specs.Rotation.{StandsFor}
 use Rattle.pcm_cells.specs.Device.{ArrayState}
-use Rattle.row_laws.specs.Rows.{each_row, newest}
+use Rattle.row_rules.specs.Rows.{each_row, newest}
 use Rattle.bank_shape.specs.declared.BankShape.{BankShape}
 use Rattle.bank_shape.specs.Shape.{slots_of, control_line}
 use Rattle.power_recovery.specs.Kept.{KeptState, region_at, array_line}
 use Rattle.bank_model.specs.Events.{Event}
 use Rattle.bank_model.specs.History.{moved_in}
 use Rattle.bank_model.specs.Changes.{change_after, halted_after}
-use Rattle.bank_model.specs.Timing.{Pacing, Timed, core}
+use Rattle.bank_shape.specs.declared.pace.Pace.{Pace}
+use Rattle.bank_model.specs.Timing.{TimedEvent, core}
 use Rattle.bank_model.specs.Lawful.{Lawful, IsIdle}
 use Rattle.bank_invariant.specs.State.{BankState}
 use Rattle.bank_invariant.specs.Tied.{decoded}
@@ -38,7 +39,7 @@ abbrev pub end_of : {n : ℕ} → KeptState n → List (Event n) → BankEnd
 end_of kept h = record { table = array_line kept; moves = moved_in kept.shape.lines h; excepted = whole_head kept.entries }
 
 -- where the writing of the change that stands has halted, its control line is worn
-abbrev pub IsHaltedWorn : {n m : ℕ} → ℕ → BankShape → List (Timed n m) → ArrayState n m → Type 0
+abbrev pub IsHaltedWorn : {n m : ℕ} → ℕ → BankShape → List (TimedEvent n m) → ArrayState n m → Type 0
 IsHaltedWorn e shape xs array = IsTrue (halted_after xs) → IfSome (change_after shape xs) (λ item. IsTrue (is_worn_at e array (control_line shape item)))
 
 -- each slot has an array line of its own: its first, or a spare where that is worn
@@ -50,7 +51,7 @@ RemappedLaw =
 -- each region has moved once for so many stores; or once less, where the bank is worn out before a move that is due
 abbrev pub GapsLaw : Type 0
 GapsLaw =
-    (n m e : ℕ) (pace : Pacing) (xs : List (Timed n m)) (bank : BankState n m e) (array : ArrayState n m) (region : ℕ)
+    (n m e : ℕ) (pace : Pace) (xs : List (TimedEvent n m)) (bank : BankState n m e) (array : ArrayState n m) (region : ℕ)
     → IsSized bank.kept.shape pace → Lawful bank.kept.shape pace e xs → IsIdle bank.kept.shape pace xs → Holds (core xs) bank array
     → IsHaltedWorn e bank.kept.shape xs array
     → IsTrue (is_moved bank.kept.shape (is_worn_at e array) (table_of bank.kept.shape xs) region (moved_in bank.kept.shape.lines (core xs) region))
@@ -58,7 +59,7 @@ GapsLaw =
 -- the newest bytes of each line but one stand in the array line that the table gives it, or are of writes that were not stored
 abbrev pub KeptLaw : Type 0
 KeptLaw =
-    (n m e : ℕ) (pace : Pacing) (xs : List (Timed n m)) (bank : BankState n m e) (array : ArrayState n m) (line : ℕ)
+    (n m e : ℕ) (pace : Pace) (xs : List (TimedEvent n m)) (bank : BankState n m e) (array : ArrayState n m) (line : ℕ)
     → IsSized bank.kept.shape pace → Lawful bank.kept.shape pace e xs → Holds (core xs) bank array → line < bank.kept.shape.regions * bank.kept.shape.lines
     → IsTrue (is_excepted (whole_head bank.kept.entries) line
     || is_kept_line (table_of bank.kept.shape xs) line (decoded e array (place_by_table bank.kept.shape (moved_in bank.kept.shape.lines (core xs)) (array_line bank.kept) line)))
@@ -66,7 +67,7 @@ KeptLaw =
 -- what the queue's entries of a line give, over what the array line that the table gives it is read as, is the line's newest bytes
 abbrev pub StandsLaw : Type 0
 StandsLaw =
-    (n m e : ℕ) (pace : Pacing) (xs : List (Timed n m)) (bank : BankState n m e) (array : ArrayState n m) (line : ℕ)
+    (n m e : ℕ) (pace : Pace) (xs : List (TimedEvent n m)) (bank : BankState n m e) (array : ArrayState n m) (line : ℕ)
     → Lawful bank.kept.shape pace e xs → Holds (core xs) bank array → line < bank.kept.shape.regions * bank.kept.shape.lines
     → laid (layer_of bank.kept.entries line).bytes (layer_of bank.kept.entries line).given
     (decoded e array (place_by_table bank.kept.shape (moved_in bank.kept.shape.lines (core xs)) (array_line bank.kept) line))
@@ -75,14 +76,14 @@ StandsLaw =
 -- the line whose write gives every byte at the head of the queue has a row that is queued
 abbrev pub QueuedLaw : Type 0
 QueuedLaw =
-    (n m e : ℕ) (pace : Pacing) (xs : List (Timed n m)) (bank : BankState n m e) (array : ArrayState n m)
+    (n m e : ℕ) (pace : Pace) (xs : List (TimedEvent n m)) (bank : BankState n m e) (array : ArrayState n m)
     → Lawful bank.kept.shape pace e xs → Holds (core xs) bank array
     → IsTrue (is_excused (whole_head bank.kept.entries) (table_of bank.kept.shape xs))
 
 -- the slot of each stored row has the row's place still, or a later spare where that place is worn
 abbrev pub StillThereLaw : Type 0
 StillThereLaw =
-    (n m e : ℕ) (pace : Pacing) (xs : List (Timed n m)) (bank : BankState n m e) (array : ArrayState n m)
+    (n m e : ℕ) (pace : Pace) (xs : List (TimedEvent n m)) (bank : BankState n m e) (array : ArrayState n m)
     → IsSized bank.kept.shape pace → Lawful bank.kept.shape pace e xs → Holds (core xs) bank array
     → IsHaltedWorn e bank.kept.shape xs array
     → IsTrue (each_row (is_still_there bank.kept.shape (is_worn_at e array) (array_line bank.kept)) (table_of bank.kept.shape xs) [])
@@ -91,7 +92,7 @@ StillThereLaw =
 -- bytes where its own registers and its own table say, or still in its queue
 abbrev pub EndLaw : Type 0
 EndLaw =
-    (n m e : ℕ) (pace : Pacing) (xs : List (Timed n m)) (bank : BankState n m e) (array : ArrayState n m)
+    (n m e : ℕ) (pace : Pace) (xs : List (TimedEvent n m)) (bank : BankState n m e) (array : ArrayState n m)
     → IsSized bank.kept.shape pace → Lawful bank.kept.shape pace e xs → IsIdle bank.kept.shape pace xs → Holds (core xs) bank array
     → IsHaltedWorn e bank.kept.shape xs array
     → (end : BankEnd) × IsEndOf bank.kept end

@@ -4,11 +4,11 @@ use Rattle.std.specs.List.{list_any}
 use Rattle.masked_bytes.specs.Masked.{laid}
 use Rattle.result_rows.specs.declared.Outcome.{Outcome}
 use Rattle.result_rows.specs.declared.Outcome.TheVariants as out
-use Rattle.row_laws.specs.declared.Row.{Row}
-use Rattle.row_laws.specs.Answers.{is_stored, is_queued, stored_before}
-use Rattle.row_laws.specs.Rows.{RowTest, each_row, line_of, write_of, newest}
-use Rattle.row_laws.specs.Queueing.{unstored}
-use Rattle.row_laws.specs.Serving.{same_bytes}
+use Rattle.row_rules.specs.declared.Row.{Row}
+use Rattle.row_rules.specs.Answers.{is_stored, is_queued, stored_before}
+use Rattle.row_rules.specs.Rows.{RowTest, each_row, line_of, write_of, newest}
+use Rattle.row_rules.specs.Queueing.{unstored}
+use Rattle.row_rules.specs.Serving.{same_bytes}
 use Rattle.bank_shape.specs.declared.BankShape.{BankShape}
 use Rattle.bank_shape.specs.Shape.{slots_of, slot_moved}
 use Rattle.bank_laws.specs.Places.{region_stores, is_moved}

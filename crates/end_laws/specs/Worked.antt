@@ -1,8 +1,8 @@
 -- Worked ends of a small bank, whose four lines stand in the array lines of their numbers. The newest row is first.
 use Rattle.std.specs.Prelude.{ℕ, ◌==◌, Bool, if◌then◌else◌, List, [], ◌∷◌}
 use Rattle.result_rows.specs.declared.Outcome.TheVariants as out
-use Rattle.row_laws.specs.declared.Row.{Row}
-use Rattle.row_laws.specs.Worked.{W, M}
+use Rattle.row_rules.specs.declared.Row.{Row}
+use Rattle.row_rules.specs.Worked.{W, M}
 
 -- line 3 is stored
 abbrev pub stored_rows : List (Row 2)

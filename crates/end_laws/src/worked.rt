@@ -2,8 +2,8 @@
 //! nothing to run.
 
 ghost use Rattle.std.specs.Prelude.{◌≡◌, ◌∷◌, [], Some, None, true, false};
-ghost use Rattle.row_laws.specs.Rows.{each_row};
-ghost use Rattle.row_laws.specs.Worked.{whole};
+ghost use Rattle.row_rules.specs.Rows.{each_row};
+ghost use Rattle.row_rules.specs.Worked.{whole};
 ghost use Rattle.bank_laws.specs.Worked.{none_worn};
 ghost use Rattle.bank_model.specs.Worked.{small};
 ghost use Rattle.end_laws.specs.Ends.{is_excused, is_kept_line, is_still_there};

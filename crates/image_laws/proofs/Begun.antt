@@ -1,14 +1,15 @@
 -- Whether a store of the queue's head was begun: never where a gap move is due, and always where a line write is in progress or found no
 -- spare and none is due.
 use Rattle.std.proofs.Common.{◌≡◌, ℕ, ◌==◌, ◌&&◌, ◌||◌, ◌⊎◌, inl, inr, Bool, true, false, List, [], ◌∷◌, ◌++◌, drop, Option, Some, None, refl, sym, ◌∙◌, subst, cond, eqb-true}
+use Rattle.masked_bytes.proofs.Truth.{and_first, and_second}
 use Rattle.std.specs.Prelude.{is_none}
 use Rattle.std.proofs.lemmas.Bool.{eq-eqb}
 use Rattle.masked_bytes.specs.declared.entry.Entry.{Entry}
 use Rattle.masked_bytes.specs.Entries.{candidate, laid_on, merged}
 use Rattle.bank_shape.specs.declared.BankShape.{BankShape}
 use Rattle.bank_shape.specs.declared.Work.TheVariants.{Nothing}
-use Rattle.bank_model.specs.declared.answer.WriteAnswer.TheVariants as wrote
-use Rattle.bank_model.specs.declared.answer.Step.TheVariants as did
+use Rattle.bank_shape.specs.declared.answer.WriteAnswer.TheVariants as wrote
+use Rattle.bank_shape.specs.declared.answer.Step.TheVariants as did
 use Rattle.bank_model.specs.Events.{Event, Write, Read, Serve, Begin, Iterate, Cut, newest}
 use Rattle.bank_model.specs.History.{begun, queue, due_after, has_exhausted, in_progress}
 use Rattle.bank_model.specs.After.{due_work, is_store, work_after}
@@ -87,14 +88,6 @@ module _ {n : ℕ} (shape : BankShape) where
 
 -- Two writes of one line stand in the queue only where a store of the first was begun.
 
-and-first : (a b : Bool) → (a && b) ≡ true → a ≡ true
-and-first true b is = refl
-and-first false b is = absurd (cc)
-
-and-second : (a b : Bool) → (a && b) ≡ true → b ≡ true
-and-second true b is = is
-and-second false b is = absurd (cc)
-
 -- another entry of the head's line stands only where this is so
 abbrev pub Again : {n : ℕ} → List (Entry n) → Bool → Type 0
 Again [] begun = Unit {0}
@@ -148,8 +141,8 @@ module _ {n : ℕ} (shape : BankShape) where
       by (inr same) =
           let none = subst (λ (q : List (Entry n)). candidate (head_busy_after shape h) q x.line ≡ None) is (accepted-none shape h x.line accepts) in
           let busy : head_busy_after shape h ≡ true = no_candidate-head (head_busy_after shape h) e es x.line none (eq-eqb x.line e.line same) in
-          (keeps-begun shape most h may).working (and-first (in_progress h) _ busy)
-          (store-now h (has_exhausted h) (due_after shape h) (queue shape h) (and-second (in_progress h) _ busy))
+          (keeps-begun shape most h may).working (and_first (in_progress h) _ busy)
+          (store-now h (has_exhausted h) (due_after shape h) (queue shape h) (and_second (in_progress h) _ busy))
 
   pub begun-again : (most : ℕ) (h : List (Event n)) → MayAll shape most h → Again (queue shape h) (is_head_begun shape h)
   begun-again most [] may = tt

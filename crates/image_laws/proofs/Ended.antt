@@ -6,14 +6,15 @@ use Rattle.std.proofs.Math.Nat.{div-add-mod}
 use Rattle.std.proofs.Math.ListN.{get_or-map}
 use Rattle.pcm_cells.specs.Device.{ArrayState}
 use Rattle.start_gap.specs.Rotation.{Rotation, StandsFor, turn}
-use Rattle.row_laws.specs.declared.Row.{Row}
-use Rattle.row_laws.specs.Answers.{is_stored}
+use Rattle.row_rules.specs.declared.Row.{Row}
+use Rattle.row_rules.specs.Answers.{is_stored}
 use Rattle.bank_shape.specs.declared.BankShape.{BankShape}
 use Rattle.bank_shape.specs.Shape.{slots_of}
 use Rattle.power_recovery.specs.Kept.{KeptState, region_at, no_region as no_kept}
 use Rattle.bank_model.specs.History.{moved_in, stored_in}
 use Rattle.bank_model.specs.Sensing.{most_steps}
-use Rattle.bank_model.specs.Timing.{Pacing, Timed, core}
+use Rattle.bank_shape.specs.declared.pace.Pace.{Pace}
+use Rattle.bank_model.specs.Timing.{TimedEvent, core}
 use Rattle.bank_model.specs.Lawful.{Lawful}
 use Rattle.bank_invariant.specs.State.{BankState}
 use Rattle.bank_invariant.specs.Holds.{Holds}
@@ -105,7 +106,7 @@ moves-near shape worn rows region moves own psi is few near = by moved counted
     by (inr a) (inl b) = inr (inl (omega (arith, a, b)))
     by (inr a) (inr b) = inl (omega (arith, a, b))
 
-module _ {n m e : ℕ} (raw : RawShape) (seed bank : ℕ) (pace : Pacing) (xs : List (Timed n m)) (state : BankState n m e) (array : ArrayState n m) (end : BankEnd)
+module _ {n m e : ℕ} (raw : RawShape) (seed bank : ℕ) (pace : Pace) (xs : List (TimedEvent n m)) (state : BankState n m e) (array : ArrayState n m) (end : BankEnd)
     (shape : state.kept.shape ≡ bank_shape (module_of raw) bank) (psi : 1 ≤ raw.psi) (l : Lawful state.kept.shape pace e xs) (holds : Holds (core xs) state array) (ends : IsEndOf state.kept end)
     (moved : (region : ℕ) → region < raw.regions → is_moved state.kept.shape (is_worn_at e array) (table_of state.kept.shape xs) region (end.moves region) ≡ true) where
   abbrev kept : KeptState n

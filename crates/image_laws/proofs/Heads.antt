@@ -7,9 +7,9 @@ use Rattle.masked_bytes.specs.Masked.{laid, gives_all, IsMasked}
 use Rattle.masked_bytes.specs.Entries.{Layer, stacked, laid_on, merged, or_this, newest_row, has_row, RowsApart}
 use Rattle.masked_bytes.proofs.Layering.{length-laid, length-joined, laid-laid, laid-all_given, all_given-gives_all}
 use Rattle.bank_shape.specs.declared.BankShape.{BankShape}
-use Rattle.bank_model.specs.declared.answer.WriteAnswer.TheVariants as wrote
-use Rattle.bank_model.specs.declared.answer.Step.{Step}
-use Rattle.bank_model.specs.declared.answer.Step.TheVariants as did
+use Rattle.bank_shape.specs.declared.answer.WriteAnswer.TheVariants as wrote
+use Rattle.bank_shape.specs.declared.answer.Step.{Step}
+use Rattle.bank_shape.specs.declared.answer.Step.TheVariants as did
 use Rattle.bank_model.specs.Events.{Event, Write, Read, Serve, Begin, Iterate, Cut, newest, up_to, RowsBelow}
 use Rattle.bank_model.specs.History.{begun, queue, due_after}
 use Rattle.bank_model.specs.Answers.{MayAll, head_busy_after, write_answer}

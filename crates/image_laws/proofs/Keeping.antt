@@ -1,5 +1,6 @@
 -- What is saved of a bank is in range, and has the registers and the table of its end.
 use Rattle.std.proofs.Common.{◌≡◌, ℕ, ◌+◌, ◌*◌, ◌^◌, ◌<◌, ◌≤◌, ◌&&◌, Bool, true, false, nat_le, List, [], ◌∷◌, length, get_or, refl, sym, ap, subst, ◌∙◌, arith}
+use Rattle.std.proofs.lemmas.Bool.{and_from}
 use Rattle.std.specs.Prelude.{All, map, if◌then◌else◌}
 use Rattle.std.proofs.lemmas.List.{length-map}
 use Rattle.std.proofs.lemmas.List.Elements.{All-nil, All-cons, All-from_get_or}
@@ -26,17 +27,12 @@ use Rattle.pcm_image.specs.Standing.{rotation_of, table_of, no_region}
 use Rattle.image_laws.specs.Saving.{head_of, home_number, saved_bank, saved_entry, saved_region}
 use Rattle.image_laws.proofs.Factors.{first-test, second-test, third-test}
 
-both : (a b : Bool) → a ≡ true → b ≡ true → (a && b) ≡ true
-both true true p q = refl
-both false b p q = absurd cc
-both true false p q = absurd cc
-
 le-test : (a b : ℕ) → a ≤ b → nat_le a b ≡ true
 le-test a b h = grind (arith, nat_tests)
 
 within : (least most n : ℕ) → is_power_of_two n ≡ true → least ≤ n → n ≤ most → is_power_between least most n ≡ true
 within least most n power low high =
-    both (is_power_of_two n) (nat_le least n && nat_le n most) power (both (nat_le least n) (nat_le n most) (le-test least n low) (le-test n most high))
+    and_from (is_power_of_two n) (nat_le least n && nat_le n most) power (and_from (nat_le least n) (nat_le n most) (le-test least n low) (le-test n most high))
 
 home-low : (h : Home) → home_number h < 2
 home-low home.Guarded = omega arith
@@ -48,7 +44,7 @@ head-right raw seed is low =
     record {
       banks = within 1 16 raw.banks (first-test _ raw.banks raw.regions raw.lines power) is.some_banks is.few_banks;
       regions = within 1 16 raw.regions (second-test _ raw.banks raw.regions raw.lines power) is.some_regions is.few_regions;
-      lines = both (is_power_between 4 4096 raw.lines) (nat_le (raw.banks * raw.regions * raw.lines) 65536)
+      lines = and_from (is_power_between 4 4096 raw.lines) (nat_le (raw.banks * raw.regions * raw.lines) 65536)
           (within 4 4096 raw.lines (third-test _ raw.banks raw.regions raw.lines power) is.some_lines is.few_lines)
           (le-test (raw.banks * raw.regions * raw.lines) 65536 is.few_in_all);
       spares = is.few_spares;

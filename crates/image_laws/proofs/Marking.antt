@@ -10,10 +10,10 @@ use Rattle.result_rows.specs.declared.Outcome.TheVariants as out
 use Rattle.masked_bytes.specs.declared.entry.Entry.{Entry}
 use Rattle.masked_bytes.specs.Entries.{has_row}
 use Rattle.pcm_cells.specs.Device.{ArrayState}
-use Rattle.row_laws.specs.declared.Row.{Row}
-use Rattle.row_laws.specs.Answers.{accepts, is_merged, is_queued, is_worn}
-use Rattle.row_laws.specs.Rows.{asks_write}
-use Rattle.row_laws.specs.Wearing.{worn_row}
+use Rattle.row_rules.specs.declared.Row.{Row}
+use Rattle.row_rules.specs.Answers.{accepts, is_merged, is_queued, is_worn}
+use Rattle.row_rules.specs.Rows.{asks_write}
+use Rattle.row_rules.specs.Wearing.{worn_row}
 use Rattle.bank_shape.specs.declared.BankShape.{BankShape}
 use Rattle.bank_shape.specs.Shape.{controls_from, controls_of, control_line}
 use Rattle.power_recovery.specs.Kept.{KeptState, region_at, no_region as no_kept}
@@ -23,7 +23,8 @@ use Rattle.bank_model.specs.History.{queue, due_after, has_exhausted}
 use Rattle.bank_model.specs.Changes.{change_after, halted_after}
 use Rattle.bank_model.specs.Running.{is_over, over_by}
 use Rattle.bank_model.specs.Sensing.{most_steps}
-use Rattle.bank_model.specs.Timing.{Pacing, Happens, Core, Regs, Timed, core}
+use Rattle.bank_shape.specs.declared.pace.Pace.{Pace}
+use Rattle.bank_model.specs.Timing.{Happens, Core, Regs, TimedEvent, core}
 use Rattle.bank_model.specs.Lawful.{Lawful, IsIdle, MayCome}
 use Rattle.bank_laws.specs.Laws.{IsSized, LeavesArray, is_worn_at}
 use Rattle.bank_laws.specs.Outcomes.{outcome_of, ended, row_with, rows_from, table_of}
@@ -141,20 +142,20 @@ module _ {n : ℕ} where
       by true false is ih = ih ∙ ap (λ b. b || list_any queued_row rows) (sym (refused-unqueued r.outcome is))
       by false b is ih = ih
 
-  any-alike : {m : ℕ} (shape : BankShape) (all : List (Timed n m)) (pace : Pacing) (e : ℕ) (l : Lawful shape pace e all) (es : List (Entry n)) (ws : List (QueuedWrite n))
+  any-alike : {m : ℕ} (shape : BankShape) (all : List (TimedEvent n m)) (pace : Pace) (e : ℕ) (l : Lawful shape pace e all) (es : List (Entry n)) (ws : List (QueuedWrite n))
       → Alike shape all pace e l es ws → (es ≡ [] → ws ≡ []) × ((f : Entry n) (fs : List (Entry n)) → es ≡ f ∷ fs → (w : QueuedWrite n) × (rest : List (QueuedWrite n)) × (ws ≡ w ∷ rest))
   any-alike shape all pace e l [] [] a = (λ is. refl, λ f fs is. absurd (cc))
   any-alike shape all pace e l [] (w ∷ ws) a = absurd a
   any-alike shape all pace e l (f ∷ es) [] a = absurd a
   any-alike shape all pace e l (f ∷ es) (w ∷ ws) a = (λ is. absurd (cc), λ g gs is. (w, ws, refl))
 
-module _ {n m : ℕ} (shape : BankShape) (pace : Pacing) (e : ℕ) (all : List (Timed n m)) (l : Lawful shape pace e all) where
+module _ {n m : ℕ} (shape : BankShape) (pace : Pace) (e : ℕ) (all : List (TimedEvent n m)) (l : Lawful shape pace e all) where
   -- a write that was refused as worn came when the bank was exhausted
-  refused : (later zs : List (Timed n m)) → all ≡ later ++ zs → list_any worn_row (rows_from shape all zs) ≡ true → has_exhausted (core all) ≡ true
+  refused : (later zs : List (TimedEvent n m)) → all ≡ later ++ zs → list_any worn_row (rows_from shape all zs) ≡ true → has_exhausted (core all) ≡ true
   refused later [] same is = absurd (cc)
   refused later (x ∷ zs) same is =
       by x.happens x.cancels (may_at shape pace e all later x zs l same) (onwards_at shape pace e all later x zs l same)
-      (λ ex. subst (λ (xs : List (Timed n m)). has_exhausted (core xs) ≡ true) (sym before) (exhausted_later shape pace e (later ++ x ∷ []) zs ex))
+      (λ ex. subst (λ (xs : List (TimedEvent n m)). has_exhausted (core xs) ≡ true) (sym before) (exhausted_later shape pace e (later ++ x ∷ []) zs ex))
       (refused (later ++ x ∷ []) zs before) is
     where
       before : all ≡ (later ++ x ∷ []) ++ zs
@@ -207,7 +208,7 @@ module _ {n m : ℕ} (shape : BankShape) (pace : Pacing) (e : ℕ) (all : List (
       by None exists ex halts = inl ex
       by (Some item) exists halted halts = inr (worn_control shape pace e all array sized l leaves item exists (halts halted))
 
-module _ {n m e : ℕ} (pace : Pacing) (all : List (Timed n m)) (bank : BankState n m e) (array : ArrayState n m) (sized : IsSized bank.kept.shape pace)
+module _ {n m e : ℕ} (pace : Pace) (all : List (TimedEvent n m)) (bank : BankState n m e) (array : ArrayState n m) (sized : IsSized bank.kept.shape pace)
     (l : Lawful bank.kept.shape pace e all) (idle : IsIdle bank.kept.shape pace all) (holds : Holds (core all) bank array) (agrees : AgreesWith (core all) bank)
     (leaves : LeavesArray e bank.kept.shape all array) where
   abbrev kept : KeptState n

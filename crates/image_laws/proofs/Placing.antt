@@ -1,9 +1,10 @@
 -- The accepted writes of a history by their places, each with the number of its row; those that stand are the queue's, in its order.
 use Rattle.std.proofs.Common.{◌≡◌, ℕ, ◌==◌, ◌&&◌, ◌||◌, ◌⊎◌, inl, inr, Bool, true, false, List, [], ◌∷◌, ◌++◌, Option, Some, None, refl, sym, ap, ◌∙◌, subst, cond, eqb, eqb-true}
+use Rattle.masked_bytes.proofs.Truth.{and_first}
 use Rattle.std.proofs.lemmas.Bool.{eq-eqb}
 use Rattle.masked_bytes.specs.declared.entry.Entry.{Entry}
 use Rattle.masked_bytes.specs.Entries.{has_row, laid_on, merged, completed_by}
-use Rattle.row_laws.specs.Answers.{is_merged}
+use Rattle.row_rules.specs.Answers.{is_merged}
 use Rattle.bank_model.specs.History.{begun}
 use Rattle.bank_laws.proofs.Lines.{Stands}
 use Rattle.image_laws.specs.Queued.{QueuedWrite, merging, in_place}
@@ -12,10 +13,6 @@ use Rattle.image_laws.specs.Queued.{QueuedWrite, merging, in_place}
 pub record Numbered (n : ℕ) : Type 0 where
   pub row : ℕ
   pub write : QueuedWrite n
-
-and-left : (a b : Bool) → (a && b) ≡ true → a ≡ true
-and-left true b is = refl
-and-left false b is = absurd (cc)
 
 or-left : (a b : Bool) → a ≡ false → (a || b) ≡ true → b ≡ true
 or-left true b none is = absurd (cc)
@@ -152,7 +149,7 @@ module _ {n : ℕ} where
               → Stands (m.0 ∷ m.1) old w.write.line → fits w.write.line v ≡ eqb m.0.row old
               → Match after (cond b (laid_on w.row bytes given m.0 ∷ m.1) (m.0 ∷ merged old w.row bytes given m.1)) (put w (v ∷ ws))
           by true is go s only_v =
-              let at : w.write.line ≡ v.write.line = sym (eqb-true v.write.line w.write.line (and-left (v.write.line == w.write.line) (is_merged v.write.outcome) (only_v ∙ is))) in
+              let at : w.write.line ≡ v.write.line = sym (eqb-true v.write.line w.write.line (and_first (v.write.line == w.write.line) (is_merged v.write.outcome) (only_v ∙ is))) in
               subst (λ b. Match after (laid_on w.row bytes given m.0 ∷ m.1) (cond b (merging_as w v ∷ ws) (v ∷ put w ws))) (sym (only_v ∙ is))
               (inr (laid_on w.row bytes given m.0, m.1, refl, refl, m.4 ∙ sym at, match-stays m.1 ws m.5))
           by false is go s only_v =

@@ -1,23 +1,24 @@
 -- The queue that a lawful history leaves holds the writes that are queued by its rows, in their order.
 use Rattle.std.proofs.Common.{◌≡◌, ℕ, ◌==◌, ◌&&◌, ◌||◌, ◌⊎◌, inl, inr, Bool, true, false, List, [], ◌∷◌, ◌++◌, map, filter, Some, drop, refl, sym, ap, ◌∙◌, subst, cond, eqb, eqb-true, append_assoc}
 use Rattle.std.specs.List.{list_any}
-use Rattle.std.proofs.lemmas.Bool.{eq-eqb}
+use Rattle.std.proofs.lemmas.Bool.{eq-eqb, and_right, or_right}
 use Rattle.result_rows.specs.declared.Outcome.{Outcome}
 use Rattle.result_rows.specs.declared.Outcome.TheVariants as out
 use Rattle.masked_bytes.specs.declared.entry.Entry.{Entry}
 use Rattle.masked_bytes.specs.Entries.{Layer, has_row, RowsApart, stacked}
 use Rattle.masked_bytes.proofs.Layering.{all_given-gives_all}
-use Rattle.row_laws.specs.declared.Asks.TheVariants.{Writes}
-use Rattle.row_laws.specs.declared.Row.{Row}
-use Rattle.row_laws.specs.Answers.{accepts, is_merged, is_queued}
-use Rattle.row_laws.specs.Rows as rows
+use Rattle.row_rules.specs.declared.Asks.TheVariants.{Writes}
+use Rattle.row_rules.specs.declared.Row.{Row}
+use Rattle.row_rules.specs.Answers.{accepts, is_merged, is_queued}
+use Rattle.row_rules.specs.Rows as rows
 use Rattle.bank_shape.specs.declared.BankShape.{BankShape}
-use Rattle.bank_model.specs.declared.answer.WriteAnswer.{WriteAnswer}
-use Rattle.bank_model.specs.declared.answer.WriteAnswer.TheVariants as wrote
-use Rattle.bank_model.specs.declared.answer.Step.TheVariants as did
+use Rattle.bank_shape.specs.declared.answer.WriteAnswer.{WriteAnswer}
+use Rattle.bank_shape.specs.declared.answer.WriteAnswer.TheVariants as wrote
+use Rattle.bank_shape.specs.declared.answer.Step.TheVariants as did
 use Rattle.bank_model.specs.Events.{Event, Write, Read, Serve, Begin, Iterate, Cut, RowsBelow, newest, up_to}
 use Rattle.bank_model.specs.History.{begun, queue, due_after}
-use Rattle.bank_model.specs.Timing.{Pacing, Happens, Core, Regs, Timed, core, core_of}
+use Rattle.bank_shape.specs.declared.pace.Pace.{Pace}
+use Rattle.bank_model.specs.Timing.{Happens, Core, Regs, TimedEvent, core, core_of}
 use Rattle.bank_model.specs.Lawful.{Lawful, MayCome}
 use Rattle.bank_model.specs.Sensing.{most_steps}
 use Rattle.bank_laws.specs.Outcomes.{outcome_of, ended, row_with, rows_from, table_of}
@@ -42,31 +43,23 @@ use Rattle.image_laws.proofs.Begun.{Again}
 use Rattle.image_laws.proofs.Heads.{above, same-row, written-below, HeadWhole, head-whole}
 use Rattle.image_laws.proofs.Placing.{Numbered, fits, merging_as, put, writes, writes-put, Each, each-map, each-both, Match, match-stands, match-stays, match-accepted, match-drop, match-begun, match-merged, each-accepted, each-merged}
 
-or-right : (a b : Bool) → b ≡ true → (a || b) ≡ true
-or-right true b is = refl
-or-right false b is = is
-
-and-none : (a b : Bool) → b ≡ false → (a && b) ≡ false
-and-none true b is = is
-and-none false b is = refl
-
-module _ {n m : ℕ} (shape : BankShape) (all : List (Timed n m)) where
+module _ {n m : ℕ} (shape : BankShape) (all : List (TimedEvent n m)) where
   abbrev row_of : ℕ → ℕ → ℕ → List ℕ → List Bool → Row n
   row_of row tick line bytes given = record { tick = tick; asks = Writes line bytes given; outcome = ended tick (outcome_of shape all row) }
 
   -- the accepted writes of these events by their places, where `all` is the whole history
-  abbrev numbered_by : List (Timed n m) → Happens n → ℕ → List (Numbered n) → List (Numbered n)
+  abbrev numbered_by : List (TimedEvent n m) → Happens n → ℕ → List (Numbered n) → List (Numbered n)
   numbered_by zs (Core (Write row line bytes given answer)) tick ws =
       cond (accepts (ended tick (outcome_of shape all row)))
       (put (record { row = row; write = coming (rows_from shape all zs) (row_of row tick line bytes given) }) ws) ws
   numbered_by zs happens tick ws = ws
 
-  abbrev numbered : List (Timed n m) → List (Numbered n)
+  abbrev numbered : List (TimedEvent n m) → List (Numbered n)
   numbered [] = []
   numbered (x ∷ zs) = numbered_by zs x.happens x.tick (numbered zs)
 
   -- without the numbers they are those of the rows
-  numbered-rows : (zs : List (Timed n m)) → writes (numbered zs) ≡ by_place (rows_from shape all zs)
+  numbered-rows : (zs : List (TimedEvent n m)) → writes (numbered zs) ≡ by_place (rows_from shape all zs)
   numbered-rows [] = refl
   numbered-rows (x ∷ zs) = by x.happens x.cancels (numbered-rows zs)
     where
@@ -146,13 +139,13 @@ module _ {n m : ℕ} (shape : BankShape) (all : List (Timed n m)) where
     each : Each (λ w. IsItem past w) ws
     match : Match gone (queue shape past) ws
 
-  abbrev IsStored : List (Timed n m) → ℕ → Type 0
+  abbrev IsStored : List (TimedEvent n m) → ℕ → Type 0
   IsStored zs row = (u : ℕ) × (p : ℕ) × (outcome_of shape zs row ≡ out.Stored u p)
 
-  abbrev Placed : List (Timed n m) → Type 0
+  abbrev Placed : List (TimedEvent n m) → Type 0
   Placed zs = PlacedIn (core zs) (IsStored zs) (numbered zs)
 
-  abbrev PlacedBy : List (Timed n m) → Happens n → ℕ → Type 0
+  abbrev PlacedBy : List (TimedEvent n m) → Happens n → ℕ → Type 0
   PlacedBy zs h tick = PlacedIn (core_of h (core zs)) (StoredBy shape zs tick h) (numbered_by zs h tick (numbered zs))
 
   merged-stored : (tick u p : ℕ) (row : ℕ) → outcome_of shape all row ≡ out.Stored u p → is_merged (ended tick (outcome_of shape all row)) ≡ false
@@ -161,29 +154,29 @@ module _ {n m : ℕ} (shape : BankShape) (all : List (Timed n m)) where
   merged-open : (tick row : ℕ) → outcome_of shape all row ≡ out.Unset → is_merged (ended tick (outcome_of shape all row)) ≡ false
   merged-open tick row is = ap (λ (o : Outcome n). is_merged (ended tick o)) is
 
-  module _ (pace : Pacing) (e : ℕ) (l : Lawful shape pace e all) where
+  module _ (pace : Pace) (e : ℕ) (l : Lawful shape pace e all) where
     -- a write behind which another of its line stands is never merged
-    covers : (later zs : List (Timed n m)) → all ≡ later ++ zs → (row line tick : ℕ) → Covered (queue shape (core zs)) row line
+    covers : (later zs : List (TimedEvent n m)) → all ≡ later ++ zs → (row line tick : ℕ) → Covered (queue shape (core zs)) row line
         → is_merged (ended tick (outcome_of shape all row)) ≡ false
-    covers later zs same row line tick c = by (subst (λ (xs : List (Timed n m)). Covered (queue shape (core xs)) row line ⊎ IsStored xs row) (sym same) (covered_on shape pace e later zs row line (subst (λ (xs : List (Timed n m)). Lawful shape pace e xs) same l) c))
+    covers later zs same row line tick c = by (subst (λ (xs : List (TimedEvent n m)). Covered (queue shape (core xs)) row line ⊎ IsStored xs row) (sym same) (covered_on shape pace e later zs row line (subst (λ (xs : List (TimedEvent n m)). Lawful shape pace e xs) same l) c))
       where
         by : Covered (queue shape (core all)) row line ⊎ IsStored all row → is_merged (ended tick (outcome_of shape all row)) ≡ false
         by (inl still) = merged-open tick row ((opens shape pace e all l).queued row (stands-row (queue shape (core all)) row line (covered-stands (queue shape (core all)) row line still)))
         by (inr stored) = merged-stored tick stored.0 stored.1 row stored.2
 
     -- what is stored before an event is stored in the end, and was not merged
-    stored-ends : (later zs : List (Timed n m)) → all ≡ later ++ zs → (row tick : ℕ) → IsStored zs row → is_merged (ended tick (outcome_of shape all row)) ≡ false
+    stored-ends : (later zs : List (TimedEvent n m)) → all ≡ later ++ zs → (row tick : ℕ) → IsStored zs row → is_merged (ended tick (outcome_of shape all row)) ≡ false
     stored-ends later zs same row tick s =
         merged-stored tick s.0 s.1 row
         (ap (λ xs. outcome_of shape xs row) same
-        ∙ stays shape pace e later zs row (subst (λ (xs : List (Timed n m)). Lawful shape pace e xs) same l) (λ un. let k : ◌≡◌ {A = Outcome n} (out.Stored s.0 s.1) out.Unset = sym s.2 ∙ un in absurd (cc)) ∙ s.2)
+        ∙ stays shape pace e later zs row (subst (λ (xs : List (TimedEvent n m)). Lawful shape pace e xs) same l) (λ un. let k : ◌≡◌ {A = Outcome n} (out.Stored s.0 s.1) out.Unset = sym s.2 ∙ un in absurd (cc)) ∙ s.2)
 
     merged-by : (w : Numbered n) → (tick : ℕ) × (w.write.outcome ≡ ended tick (outcome_of shape all w.row)) → ((tick : ℕ) → is_merged (ended tick (outcome_of shape all w.row)) ≡ false)
         → is_merged w.write.outcome ≡ false
     merged-by w ends never = ap is_merged ends.1 ∙ never ends.0
 
     -- one event more
-    module _ (later : List (Timed n m)) (x : Timed n m) (zs : List (Timed n m)) (same : all ≡ later ++ x ∷ zs) (here : Lawful shape pace e (x ∷ zs)) (placed : Placed zs) where
+    module _ (later : List (TimedEvent n m)) (x : TimedEvent n m) (zs : List (TimedEvent n m)) (same : all ≡ later ++ x ∷ zs) (here : Lawful shape pace e (x ∷ zs)) (placed : Placed zs) where
       open_zs : AreOpen shape zs
       open_zs = opens shape pace e zs here.1
 
@@ -224,7 +217,7 @@ module _ {n m : ℕ} (shape : BankShape) (all : List (Timed n m)) where
       none-fit at line bytes given k w is = by is.0
         where
           by : Stands (queue shape (core zs)) w.row w.write.line ⊎ IsStored zs w.row → fits line w ≡ false
-          by (inr stored) = and-none (w.write.line == line) _ (merged-by w is.1.ends (λ tick. stored-ends (later ++ x ∷ []) zs before w.row tick stored))
+          by (inr stored) = and_right (w.write.line == line) _ (merged-by w is.1.ends (λ tick. stored-ends (later ++ x ∷ []) zs before w.row tick stored))
           by (inl stands) = own (w.write.line == line) refl
             where
               own : (b : Bool) → eqb w.write.line line ≡ b → (b && is_merged w.write.outcome) ≡ false
@@ -244,7 +237,7 @@ module _ {n m : ℕ} (shape : BankShape) (all : List (Timed n m)) where
 
           by : Stands (queue shape (core zs)) w.row w.write.line ⊎ IsStored zs w.row → fits line w ≡ eqb w.row old
           by (inr stored) =
-              and-none (w.write.line == line) _ (merged-by w is.1.ends (λ tick. stored-ends (later ++ x ∷ []) zs before w.row tick stored))
+              and_right (w.write.line == line) _ (merged-by w is.1.ends (λ tick. stored-ends (later ++ x ∷ []) zs before w.row tick stored))
               ∙ sym (gone-unlike old (stands-row (queue shape (core zs)) old line there) w.row stored)
           by (inl stands) = own (eqb w.row old) refl
             where
@@ -416,10 +409,10 @@ module _ {n m : ℕ} (shape : BankShape) (all : List (Timed n m)) where
         covered = λ row line tick c. covers later (x ∷ zs) same row line tick c;
       }
 
-    placed : (later zs : List (Timed n m)) → all ≡ later ++ zs → Placed zs
+    placed : (later zs : List (TimedEvent n m)) → all ≡ later ++ zs → Placed zs
     placed later [] same = record { each = tt; match = refl }
     placed later (x ∷ zs) same =
-        let here : Lawful shape pace e (x ∷ zs) = lawful_before shape pace e later (x ∷ zs) (subst (λ (xs : List (Timed n m)). Lawful shape pace e xs) same l) in
+        let here : Lawful shape pace e (x ∷ zs) = lawful_before shape pace e later (x ∷ zs) (subst (λ (xs : List (TimedEvent n m)). Lawful shape pace e xs) same l) in
         let was = placed (later ++ x ∷ []) zs (same ∙ sym (append_assoc later (x ∷ []) zs)) in
         let now = step later x zs same here was x.happens (known later x zs same here was) in
         record { each = now.each; match = now.match }
@@ -461,7 +454,7 @@ module _ {n m : ℕ} (shape : BankShape) (all : List (Timed n m)) where
             gives = ap (λ r. given_by r (core all)) m.3 ∙ each.0.gives;
             newest_is = ap (λ r. newest (up_to r (core all)) m.0.line) m.3 ∙ ap (λ k. newest (up_to w.row (core all)) k) m.4 ∙ each.0.newest_is;
           },
-          alike m.1 ws (λ row t. among row (ap (λ (q : List (Entry n)). has_row q row) m.2 ∙ or-right (m.0.row == row) (has_row m.1 row) t)) each.1 m.5,
+          alike m.1 ws (λ row t. among row (ap (λ (q : List (Entry n)). has_row q row) m.2 ∙ or_right (m.0.row == row) (has_row m.1 row) t)) each.1 m.5,
         ))
 
     pub queue-alike : Alike (queue shape (core all)) (queued_writes (table_of shape all))

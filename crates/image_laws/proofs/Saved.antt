@@ -9,11 +9,12 @@ use Rattle.std.proofs.lemmas.List.FromFn.{get_or-map-range_with_len, length-map-
 use Rattle.pcm_cells.specs.Rows.{zero_row}
 use Rattle.pcm_cells.specs.Device.{ArrayState, LineState}
 use Rattle.ecp_line.specs.Reading.{is_worn_line}
-use Rattle.row_laws.specs.declared.Row.{Row}
-use Rattle.row_laws.specs.Rows.{newest}
+use Rattle.row_rules.specs.declared.Row.{Row}
+use Rattle.row_rules.specs.Rows.{newest}
 use Rattle.bank_shape.specs.declared.BankShape.{BankShape}
 use Rattle.power_recovery.specs.Kept.{KeptState}
-use Rattle.bank_model.specs.Timing.{Pacing, Timed, core}
+use Rattle.bank_shape.specs.declared.pace.Pace.{Pace}
+use Rattle.bank_model.specs.Timing.{TimedEvent, core}
 use Rattle.bank_laws.specs.Laws.{IsSized, LeavesArray, is_worn_at}
 use Rattle.bank_laws.specs.Places.{is_moved}
 use Rattle.bank_model.specs.Lawful.{IsIdle}
@@ -103,7 +104,7 @@ module _ (laws : ImageLaws) {n m : ℕ} (e : ℕ) (raw : RawShape) (seed : ℕ) 
     abbrev clock : ClockState n m e
     clock = left.banks bank
 
-    abbrev xs : List (Timed n m)
+    abbrev xs : List (TimedEvent n m)
     xs = left.history bank
 
     leads : Leads xs clock left.before
@@ -120,11 +121,11 @@ module _ (laws : ImageLaws) {n m : ℕ} (e : ℕ) (raw : RawShape) (seed : ℕ) 
 
     sized-bank : IsSized (kept bank).shape clock.pace
     sized-bank =
-        subst (λ (s : BankShape). IsSized s clock.pace) (sym same) (subst (λ (p : Pacing). IsSized shape p) (sym (left.finished.paces bank exists)) (sized raw bank is))
+        subst (λ (s : BankShape). IsSized s clock.pace) (sym same) (subst (λ (p : Pace). IsSized shape p) (sym (left.finished.paces bank exists)) (sized raw bank is))
 
     idle : IsIdle (kept bank).shape clock.pace xs
     idle =
-        subst (λ (s : BankShape). IsIdle s clock.pace xs) (sym same) (subst (λ (p : Pacing). IsIdle shape p xs) (sym (left.finished.paces bank exists)) (left.finished.idle bank exists))
+        subst (λ (s : BankShape). IsIdle s clock.pace xs) (sym same) (subst (λ (p : Pace). IsIdle shape p xs) (sym (left.finished.paces bank exists)) (left.finished.idle bank exists))
 
     leaves : LeavesArray e (kept bank).shape xs left.before
     leaves = laws.leaving n m e xs clock left.before leads

@@ -5,11 +5,12 @@ use Rattle.std.proofs.Math.Path.{fun_ext}
 use Rattle.std.proofs.lemmas.List.Elements.{All-filter, All-from_get_or, All-get_or, filter-append}
 use Rattle.pcm_cells.specs.Device.{ArrayState, LineState, sense_of}
 use Rattle.pcm_cells.specs.declared.array.Sense.{Sense}
-use Rattle.row_laws.specs.declared.Row.{Row}
+use Rattle.row_rules.specs.declared.Row.{Row}
 use Rattle.bank_shape.specs.declared.BankShape.{BankShape}
 use Rattle.bank_shape.specs.Shape.{lines_in}
 use Rattle.bank_model.specs.Adding.{senses_of}
-use Rattle.bank_model.specs.Timing.{Pacing, Timed}
+use Rattle.bank_shape.specs.declared.pace.Pace.{Pace}
+use Rattle.bank_model.specs.Timing.{TimedEvent}
 use Rattle.bank_model.specs.Lawful.{Lawful}
 use Rattle.bank_laws.specs.Laws.{IsSized, KeepsLog, LeavesArray, log_of}
 use Rattle.bank_laws.specs.Outcomes.{table_of}
@@ -66,13 +67,13 @@ module _ (logs : WholeLogLaw) (leaving : LeavingLaw) (by_bank : BankTableLaw) {n
     abbrev shape : BankShape
     shape = bank_shape (module_of raw) bank
 
-    abbrev xs : List (Timed n m)
+    abbrev xs : List (TimedEvent n m)
     xs = left.history bank
 
     lawful : Lawful shape (pacing_in raw) e xs
     lawful =
         subst (λ (t : BankShape). Lawful t (pacing_in raw) e xs) (left.finished.shapes bank exists)
-        (subst (λ (p : Pacing). Lawful (left.banks bank).bank.kept.shape p e xs) (left.finished.paces bank exists) (left.finished.leads bank exists).lawful)
+        (subst (λ (p : Pace). Lawful (left.banks bank).bank.kept.shape p e xs) (left.finished.paces bank exists) (left.finished.leads bank exists).lawful)
 
     leaves : LeavesArray e shape xs left.before
     leaves =

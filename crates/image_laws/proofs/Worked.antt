@@ -1,9 +1,9 @@
 -- Worked queues of a small bank, whose lines have two bytes, by their rows, the newest of them first.
 use Rattle.std.proofs.Common.{◌≡◌, true, false, List, [], ◌∷◌, refl}
 use Rattle.result_rows.specs.declared.Outcome.TheVariants as out
-use Rattle.row_laws.specs.declared.Asks.TheVariants.{Writes}
-use Rattle.row_laws.specs.declared.Row.{Row}
-use Rattle.row_laws.specs.Worked.{W, M, whole, both}
+use Rattle.row_rules.specs.declared.Asks.TheVariants.{Writes}
+use Rattle.row_rules.specs.declared.Row.{Row}
+use Rattle.row_rules.specs.Worked.{W, M, whole, both}
 use Rattle.image_laws.specs.Queued.{entries_by, queued_writes}
 
 -- the write of line 1 at tick 6 was merged into that of tick 9, whose entry stands in its place

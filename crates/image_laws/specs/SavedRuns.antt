@@ -7,15 +7,15 @@ use Rattle.pcm_cells.specs.Rows.{zero_row}
 use Rattle.pcm_cells.specs.Device.{ArrayState, sense_of}
 use Rattle.pcm_cells.specs.declared.array.Sense.{Sense}
 use Rattle.result_rows.specs.declared.Outcome.{Outcome}
-use Rattle.row_laws.specs.declared.Row.{Row}
-use Rattle.row_laws.specs.Answers.{is_stored, is_queued}
-use Rattle.row_laws.specs.Rows.{asks_write, newest}
-use Rattle.row_laws.specs.Wearing.{worn_row}
+use Rattle.row_rules.specs.declared.Row.{Row}
+use Rattle.row_rules.specs.Answers.{is_stored, is_queued}
+use Rattle.row_rules.specs.Rows.{asks_write, newest}
+use Rattle.row_rules.specs.Wearing.{worn_row}
 use Rattle.bank_shape.specs.declared.BankShape.{BankShape}
 use Rattle.bank_shape.specs.Shape.{slots_of, controls_from, controls_of}
 use Rattle.bank_laws.specs.Laws.{is_worn_at}
 use Rattle.bank_laws.specs.Places.{region_stores, worn_among, is_worn_out}
-use Rattle.bank_model.specs.Timing.{Timed}
+use Rattle.bank_model.specs.Timing.{TimedEvent}
 use Rattle.module_shape.specs.declared.raw.RawShape.{RawShape}
 use Rattle.module_shape.specs.Limits.{IsShape, total_of}
 use Rattle.module_shape.specs.Addresses.{module_of, bank_shape}
@@ -45,7 +45,7 @@ pub record SensedSince {n m : ℕ} (before after : ArrayState n m) : Type 0 wher
 -- a saved module is what a finished run leaves: histories of its banks that asked for the rows and gave them their outcomes lead to
 -- what it says that the banks keep, over an array that was only sensed since
 pub record IsLeft {n m : ℕ} (e : ℕ) (raw : RawShape) (seed : ℕ) (rows : List (Row n)) (array : ArrayState n m) (s : Saved n m) : Type 0 where
-  pub history : ℕ → List (Timed n m)
+  pub history : ℕ → List (TimedEvent n m)
   pub trace : List (Asked n)
   pub outcome : ℕ → Outcome n
   pub banks : ℕ → ClockState n m e

@@ -5,9 +5,9 @@ use Rattle.std.specs.List.{list_any}
 use Rattle.std.proofs.lemmas.Bool.{cases_lt}
 use Rattle.std.proofs.lemmas.Nat.{le-div}
 use Rattle.std.proofs.Math.Nat.{div-add-mod, mul-div-le, mul-le-mul_left}
-use Rattle.row_laws.specs.declared.Row.{Row}
-use Rattle.row_laws.specs.Answers.{is_stored}
-use Rattle.row_laws.specs.Rows.{asks_write, line_of, is_cut}
+use Rattle.row_rules.specs.declared.Row.{Row}
+use Rattle.row_rules.specs.Answers.{is_stored}
+use Rattle.row_rules.specs.Rows.{asks_write, line_of, is_cut}
 use Rattle.bank_shape.specs.declared.BankShape.{BankShape}
 use Rattle.bank_shape.specs.Shape.{slot_moved}
 use Rattle.bank_laws.specs.Places.{region_stores}

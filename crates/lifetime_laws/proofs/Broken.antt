@@ -5,20 +5,23 @@ use Rattle.std.specs.Prelude.{count_by, is_some}
 use Rattle.std.proofs.lemmas.Bool.{eqb-true, eq-eqb}
 use Rattle.std.proofs.lemmas.Nat.{le-div}
 use Rattle.start_gap.specs.Rotation.{gap_after}
-use Rattle.row_laws.specs.declared.Row.{Row}
-use Rattle.row_laws.specs.Answers.{is_stored}
-use Rattle.row_laws.specs.Rows.{is_cut}
-use Rattle.row_laws.specs.Ticking.{tries}
-use Rattle.bank_shape.specs.Pausing.{Pausing, Pause, Plain, Cancel, is_cancelling}
+use Rattle.row_rules.specs.declared.Row.{Row}
+use Rattle.row_rules.specs.Answers.{is_stored}
+use Rattle.row_rules.specs.Rows.{is_cut}
+use Rattle.row_rules.specs.Ticking.{tries}
+use Rattle.bank_shape.specs.declared.pace.Policy.{Policy}
+use Rattle.bank_shape.specs.declared.pace.Policy.TheVariants.{Pause, Plain, Cancel}
+use Rattle.bank_shape.specs.Pausing.{is_cancelling}
 use Rattle.bank_shape.specs.declared.BankShape.{BankShape}
-use Rattle.bank_model.specs.declared.answer.Step.TheVariants as did
+use Rattle.bank_shape.specs.declared.answer.Step.TheVariants as did
 use Rattle.bank_model.specs.Events.{Event, Write, Read, Serve, Begin, Iterate, Cut}
 use Rattle.bank_model.specs.History.{in_progress, goes_on, moved_in, stored_in}
 use Rattle.bank_model.specs.After.{target_after}
 use Rattle.bank_model.specs.Changes.{change_after, change_by}
 use Rattle.bank_model.specs.Running.{cancels_after, cancels_with}
 use Rattle.bank_model.specs.Sensing.{most_steps}
-use Rattle.bank_model.specs.Timing.{Pacing, Happens, Core, Regs, Timed, core, core_of}
+use Rattle.bank_shape.specs.declared.pace.Pace.{Pace}
+use Rattle.bank_model.specs.Timing.{Happens, Core, Regs, TimedEvent, core, core_of}
 use Rattle.bank_model.specs.Lawful.{Lawful, MayCome}
 use Rattle.bank_laws.specs.Outcomes.{table_of}
 use Rattle.bank_laws.specs.Places.{region_stores}
@@ -100,11 +103,11 @@ module _ {n : ℕ} (shape : BankShape) (at : ℕ) where
   goes : (event : Event n) (h : List (Event n)) → spares_work event ≡ true → IsItsWork h → IsItsWork (event ∷ h)
   goes event h spares its = let same = target-same shape event h spares its.0 in (same.0, same.1 ∙ its.1)
 
-module _ {n m : ℕ} (shape : BankShape) (pace : Pacing) (e at : ℕ) where
-  abbrev Broken : List (Timed n m) → Type 0
+module _ {n m : ℕ} (shape : BankShape) (pace : Pace) (e at : ℕ) where
+  abbrev Broken : List (TimedEvent n m) → Type 0
   Broken xs = IsBroken (cut_tally shape at (core xs)) (ended_tally shape at (core xs)) (cuts_in xs) (cancels_after xs) (change_after shape xs) (IsItsWork shape at (core xs))
 
-  broken-off : (xs : List (Timed n m)) → Lawful shape pace e xs → Broken xs
+  broken-off : (xs : List (TimedEvent n m)) → Lawful shape pace e xs → Broken xs
   broken-off [] l = record { held = 0; few = omega arith; under = omega arith; alone = λ is. refl; own = λ le. absurd (omega (arith, le)) }
   broken-off (x ∷ xs) l = by x.happens x.cancels refl l.0 (broken-off xs l.1)
     where
@@ -144,7 +147,7 @@ module _ {n m : ℕ} (shape : BankShape) (pace : Pacing) (e at : ℕ) where
       by (Regs event) c is may k = broken-stands _ _ _ _ _ _ k _ _ may.stands
 
   -- where reads don't cancel, the cuts that break off a line write of an array line are cuts of the power
-  cuts-few : is_cancelling pace.policy ≡ false → (xs : List (Timed n m)) → Lawful shape pace e xs → cut_tally shape at (core xs) ≤ cuts_in xs
+  cuts-few : is_cancelling pace.policy ≡ false → (xs : List (TimedEvent n m)) → Lawful shape pace e xs → cut_tally shape at (core xs) ≤ cuts_in xs
   cuts-few plain [] l = omega arith
   cuts-few plain (x ∷ xs) l = by x.happens x.cancels refl l.0 (cuts-few plain xs l.1)
     where
@@ -164,7 +167,7 @@ module _ {n m : ℕ} (shape : BankShape) (pace : Pacing) (e at : ℕ) where
       by (Core (Cut tearing)) false is may few = omega (arith, few, one-few (in_progress (core xs) && target_after shape (core xs) == at))
 
 -- all line writes, as often as each may be begun, where one more would end if one is at hand
-pub by-policy : (policy : Pausing) (works ended broken cuts held most : ℕ) → works ≡ ended + broken → ended + cuts ≤ most → (is_cancelling policy ≡ false → broken ≤ cuts)
+pub by-policy : (policy : Policy) (works ended broken cuts held most : ℕ) → works ≡ ended + broken → ended + cuts ≤ most → (is_cancelling policy ≡ false → broken ≤ cuts)
     → broken ≤ 4 * (ended + cuts) + cuts + held → held ≤ 4 → (1 ≤ held → ended + cuts + 1 ≤ most) → works ≤ tries policy * most
 by-policy Pause works ended broken cuts held most is few plain more four room = omega (arith, is, few, plain refl)
 by-policy Plain works ended broken cuts held most is few plain more four room = omega (arith, is, few, plain refl)

@@ -5,23 +5,25 @@ use Rattle.std.specs.Prelude.{count_by, nat_lt}
 use Rattle.std.proofs.lemmas.Bool.{ne_eqb, ltb-true, ltb-false, cases_eq}
 use Rattle.std.proofs.lemmas.Nat.{div_below, le-div}
 use Rattle.std.proofs.Math.Nat.{mul-le-mul_left}
-use Rattle.row_laws.specs.declared.Row.{Row}
-use Rattle.row_laws.specs.Answers.{is_stored}
-use Rattle.row_laws.specs.Rows.{is_cut}
-use Rattle.row_laws.specs.Ticking.{tries}
+use Rattle.row_rules.specs.declared.Row.{Row}
+use Rattle.row_rules.specs.Answers.{is_stored}
+use Rattle.row_rules.specs.Rows.{is_cut}
+use Rattle.row_rules.specs.Ticking.{tries}
 use Rattle.bank_shape.specs.declared.BankShape.{BankShape}
 use Rattle.bank_shape.specs.declared.Home.{Home}
 use Rattle.bank_shape.specs.declared.Home.TheVariants as home
 use Rattle.bank_shape.specs.Shape.{slots_of, control_line}
-use Rattle.bank_model.specs.declared.answer.Step.TheVariants as did
+use Rattle.bank_shape.specs.declared.answer.Step.TheVariants as did
 use Rattle.bank_model.specs.Events.{Event, Write, Read, Serve, Begin, Iterate, Cut, line_of_row}
 use Rattle.bank_model.specs.History.{first_or, stores, stored_in, moved_in, retired, has_exhausted, in_progress, waits}
 use Rattle.bank_model.specs.After.{work_after}
 use Rattle.bank_model.specs.Answers.{MayAll}
 use Rattle.bank_model.specs.Changes.{item_if, change_after, keeping_after, rounds_after, halted_after}
-use Rattle.bank_model.specs.Running.{busy_by, busy_after, gives_way, choice_after}
+use Rattle.bank_shape.specs.Pausing.{gives_way}
+use Rattle.bank_model.specs.Running.{busy_by, busy_after, choice_after}
 use Rattle.bank_model.specs.Sensing.{most_steps, pulses_of}
-use Rattle.bank_model.specs.Timing.{Pacing, Timed, core, is_empty}
+use Rattle.bank_shape.specs.declared.pace.Pace.{Pace}
+use Rattle.bank_model.specs.Timing.{TimedEvent, core, is_empty}
 use Rattle.bank_model.specs.Lawful.{Lawful}
 use Rattle.bank_laws.specs.Laws.{IsSized}
 use Rattle.bank_laws.specs.Outcomes.{table_of}
@@ -156,7 +158,7 @@ module _ {n : ℕ} (shape : BankShape) (some : 1 ≤ shape.regions) (lines : 1 �
       at_most true = omega arith
       at_most false = omega arith
 
-module _ {n m : ℕ} (shape : BankShape) (pace : Pacing) (e item : ℕ) (sized : IsSized shape pace) (xs : List (Timed n m)) (l : Lawful shape pace e xs) where
+module _ {n m : ℕ} (shape : BankShape) (pace : Pace) (e item : ℕ) (sized : IsSized shape pace) (xs : List (TimedEvent n m)) (l : Lawful shape pace e xs) where
   changes-few : changes_of shape item (core xs) ≤ most_changes shape (table_of shape xs) item
   changes-few = by (nat_lt item shape.regions) refl
     where

@@ -1,5 +1,6 @@
 -- The pulses of one control line, by the changes of its item.
 use Rattle.std.proofs.Common.{◌≡◌, ℕ, ◌+◌, ◌*◌, ◌<◌, ◌≤◌, ◌==◌, ◌&&◌, not, Bool, true, false, List, [], ◌∷◌, inl, inr, Option, Some, None, refl, sym, ap, ◌∙◌, subst, arith, cond}
+use Rattle.masked_bytes.proofs.Truth.{and_first}
 use Rattle.std.specs.Prelude.{is_some}
 use Rattle.std.proofs.lemmas.Bool.{eqb-true, eq-eqb, ne_eqb, cases_eq}
 use Rattle.spare_pool.specs.Table.{Table}
@@ -7,17 +8,18 @@ use Rattle.spare_pool.proofs.Lines.{line_by-within}
 use Rattle.bank_shape.specs.Pausing.{is_cancelling}
 use Rattle.bank_shape.specs.declared.BankShape.{BankShape}
 use Rattle.bank_shape.specs.Shape.{slots_of, control_line}
-use Rattle.bank_model.specs.declared.answer.Step.{Step}
-use Rattle.bank_model.specs.declared.answer.Keep.TheVariants as keep
-use Rattle.bank_model.specs.declared.clock.Action.{Action}
-use Rattle.bank_model.specs.declared.clock.Doing.TheVariants.{Iterating}
+use Rattle.bank_shape.specs.declared.answer.Step.{Step}
+use Rattle.bank_shape.specs.declared.answer.Keep.TheVariants as keep
+use Rattle.bank_shape.specs.declared.clock.Action.{Action}
+use Rattle.bank_shape.specs.declared.clock.Doing.TheVariants.{Iterating}
 use Rattle.bank_model.specs.Events.{Event, Write, Read, Serve, Begin, Iterate, Cut}
 use Rattle.bank_model.specs.History.{retired}
 use Rattle.bank_model.specs.After.{work_after, slot_of_work, target_after}
 use Rattle.bank_model.specs.Changes.{change_after, change_by, changed_by, keeping_after, keeping_by, rounds_after, rounds_by, halted_after, halted_by, line_of_change}
 use Rattle.bank_model.specs.Running.{running_at, cancels_after, cancels_with}
 use Rattle.bank_model.specs.Sensing.{is_at, most_steps, pulses_of, pulsed_by, torn_control, kept_pulsed}
-use Rattle.bank_model.specs.Timing.{Pacing, Happens, Core, Regs, KeepBegin, KeepIterate, KeepCut, Timed, is_doing, core, core_of}
+use Rattle.bank_shape.specs.declared.pace.Pace.{Pace}
+use Rattle.bank_model.specs.Timing.{Happens, Core, Regs, KeepBegin, KeepIterate, KeepCut, TimedEvent, is_doing, core, core_of}
 use Rattle.bank_model.specs.Lawful.{Lawful, MayCome}
 use Rattle.bank_laws.specs.Laws.{IsSized}
 use Rattle.bank_laws.proofs.Changing.{halted-stops}
@@ -361,19 +363,15 @@ begun-item : {n : ℕ} (shape : BankShape) (item : ℕ) (h : List (Event n)) (an
 begun-item shape item h answer None is = refl
 begun-item shape item h answer (Some other) is = absurd (cc (is))
 
-first-of : (a b : Bool) → (a && b) ≡ true → a ≡ true
-first-of true b is = refl
-first-of false b is = absurd (cc (is))
-
-module _ {n m : ℕ} (shape : BankShape) (pace : Pacing) (e item : ℕ) where
-  abbrev pub Kept : List (Timed n m) → Type 0
+module _ {n m : ℕ} (shape : BankShape) (pace : Pace) (e item : ℕ) where
+  abbrev pub Kept : List (TimedEvent n m) → Type 0
   Kept xs =
       IsKept (most_steps e) (pulses_of xs (control_line shape item)) (rounds_after xs) (changes_of shape item (core xs)) (cuts_in xs) (cancels_after xs)
       (is_item item (change_after shape xs)) (keeping_after xs) (halted_after xs) (is_cancelling pace.policy)
 
-module _ {n m : ℕ} (shape : BankShape) (pace : Pacing) (e item : ℕ) (sized : IsSized shape pace) where
+module _ {n m : ℕ} (shape : BankShape) (pace : Pace) (e item : ℕ) (sized : IsSized shape pace) where
   -- the bank's own line write writes no control line
-  target-low : (xs : List (Timed n m)) → Lawful shape pace e xs → target_after shape (core xs) < control_line shape item
+  target-low : (xs : List (TimedEvent n m)) → Lawful shape pace e xs → target_after shape (core xs) < control_line shape item
   target-low xs l =
       let may = may_all shape pace e xs l in
       let b = above_all shape pace e xs l in
@@ -381,7 +379,7 @@ module _ {n m : ℕ} (shape : BankShape) (pace : Pacing) (e item : ℕ) (sized :
       let table : Table = record { slots = slots_of shape; spares = shape.spares; replaced = retired (core xs) } in
       omega (arith, line_by-within table (slot_of_work shape (core xs) (work_after shape (core xs))) own, retired-few shape (most_steps e) (core xs) may)
 
-  pub kept : (xs : List (Timed n m)) → Lawful shape pace e xs → Kept shape pace e item xs
+  pub kept : (xs : List (TimedEvent n m)) → Lawful shape pace e xs → Kept shape pace e item xs
   kept [] l = record {
     ended = 0;
     broken = 0;
@@ -477,7 +475,7 @@ module _ {n m : ℕ} (shape : BankShape) (pace : Pacing) (e item : ℕ) (sized :
           (spent-iterate _ _ _ _ _ _ _ _ _ _ k (pulses_of (x ∷ xs) at) (on_change may.pulsed) may.may.0 may.may.1) (unhalted may.may.0) four
       by (Regs (KeepCut tearing)) c is may k =
           kept-broken _ _ _ _ _ _ _ _ _ _ k (pulses_of (x ∷ xs) at) (is_at (kept_pulsed (line_of_change shape (change_after shape xs)) (KeepCut tearing)) at)
-          (is_item item (change_after shape xs) && keeping_after xs) refl (more _ may.pulsed) (torn tearing may.may) unhalted (first-of (is_cancelling pace.policy) _ may.on_time.3)
+          (is_item item (change_after shape xs) && keeping_after xs) refl (more _ may.pulsed) (torn tearing may.may) unhalted (and_first (is_cancelling pace.policy) _ may.on_time.3)
         where
           torn : (tearing : Bool) → (tearing ≡ true → keeping_after xs ≡ true) → is_at (kept_pulsed (line_of_change shape (change_after shape xs)) (KeepCut tearing)) at ≡ true
               → (is_item item (change_after shape xs) && keeping_after xs) ≡ true

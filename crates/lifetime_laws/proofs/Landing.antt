@@ -3,16 +3,17 @@ use Rattle.std.proofs.Common.{◌≡◌, ℕ, ◌+◌, ◌==◌, ◌&&◌, Bool,
 use Rattle.std.specs.Prelude.{unwrap_or}
 use Rattle.result_rows.specs.declared.Outcome.{Outcome}
 use Rattle.result_rows.specs.declared.Outcome.TheVariants as out
-use Rattle.row_laws.specs.Rows.{asks_write, asks_write_of}
+use Rattle.row_rules.specs.Rows.{asks_write, asks_write_of}
 use Rattle.bank_shape.specs.declared.BankShape.{BankShape}
-use Rattle.bank_model.specs.declared.answer.WriteAnswer.TheVariants as wrote
-use Rattle.bank_model.specs.declared.answer.ReadAnswer.TheVariants as came
-use Rattle.bank_model.specs.declared.answer.Step.{Step}
-use Rattle.bank_model.specs.declared.answer.Step.TheVariants as did
+use Rattle.bank_shape.specs.declared.answer.WriteAnswer.TheVariants as wrote
+use Rattle.bank_shape.specs.declared.answer.ReadAnswer.TheVariants as came
+use Rattle.bank_shape.specs.declared.answer.Step.{Step}
+use Rattle.bank_shape.specs.declared.answer.Step.TheVariants as did
 use Rattle.bank_model.specs.Events.{Event, Write, Read, Serve, Begin, Iterate, Cut, line_of_row}
 use Rattle.bank_model.specs.History.{queue, waits}
 use Rattle.bank_model.specs.Sensing.{most_steps}
-use Rattle.bank_model.specs.Timing.{Pacing, Happens, Core, Regs, Timed, core, core_of}
+use Rattle.bank_shape.specs.declared.pace.Pace.{Pace}
+use Rattle.bank_model.specs.Timing.{Happens, Core, Regs, TimedEvent, core, core_of}
 use Rattle.bank_model.specs.Lawful.{Lawful, MayCome}
 use Rattle.bank_laws.specs.Standing.{has_wait}
 use Rattle.bank_laws.specs.Settling.{AreOpen}
@@ -65,12 +66,12 @@ module _ {n : ℕ} (on : ℕ) where
   ended-on tick out.Unset = refl
   ended-on tick _ = refl
 
-module _ {n m : ℕ} (shape : BankShape) (pace : Pacing) (e : ℕ) (keep : ℕ → Bool) (on : ℕ) where
-  abbrev landed : List (Timed n m) → ℕ
+module _ {n m : ℕ} (shape : BankShape) (pace : Pace) (e : ℕ) (keep : ℕ → Bool) (on : ℕ) where
+  abbrev landed : List (TimedEvent n m) → ℕ
   landed zs = writes_with keep (λ row. is_stored_on on (outcome_of shape zs row)) (core zs)
 
   -- one more store
-  store-landed : (zs : List (Timed n m)) (tick row place : ℕ) → Lawful shape pace e zs → IsStoreOf shape (core zs) row place
+  store-landed : (zs : List (TimedEvent n m)) (tick row place : ℕ) → Lawful shape pace e zs → IsStoreOf shape (core zs) row place
       → landed zs ≡ stored_tally keep on (core zs)
       → writes_with keep (λ r. is_stored_on on (unwrap_or (on_row row r (out.Stored tick place)) (outcome_of shape zs r))) (core zs) ≡ one_if (keep (line_of_row row (core zs)) && place == on) + stored_tally keep on (core zs)
   store-landed zs tick row place l store ih = by (place == on) refl
@@ -98,7 +99,7 @@ module _ {n m : ℕ} (shape : BankShape) (pace : Pacing) (e : ℕ) (keep : ℕ �
           omega (arith, same, none, ih)
 
   -- as many writes are stored on the array line by their outcomes as by the events
-  pub stored-landed : (zs : List (Timed n m)) → Lawful shape pace e zs → landed zs ≡ stored_tally keep on (core zs)
+  pub stored-landed : (zs : List (TimedEvent n m)) → Lawful shape pace e zs → landed zs ≡ stored_tally keep on (core zs)
   stored-landed [] l = refl
   stored-landed (x ∷ zs) l = by x.happens l.0 (opens shape pace e zs l.1) (stored-landed zs l.1)
     where
@@ -149,7 +150,7 @@ module _ {n m : ℕ} (shape : BankShape) (pace : Pacing) (e : ℕ) (keep : ℕ �
       by (Core (Cut tearing)) may o ih =
           none_more _ _ (same (Core (Cut tearing)) (λ row. lost_kept on (has_wait (waits shape (core zs)) row) x.tick (outcome_of shape zs row) (o.waiting row)) ih)
 
-pub stores-landed : {n m : ℕ} (shape : BankShape) (pace : Pacing) (e on : ℕ) (xs : List (Timed n m)) → Lawful shape pace e xs → stores_at on (table_of shape xs) ≡ stored_tally any on (core xs)
+pub stores-landed : {n m : ℕ} (shape : BankShape) (pace : Pace) (e on : ℕ) (xs : List (TimedEvent n m)) → Lawful shape pace e xs → stores_at on (table_of shape xs) ≡ stored_tally any on (core xs)
 stores-landed shape pace e on xs l =
     rows-counted shape xs (λ q. asks_write q.asks && is_stored_on on q.outcome) any (is_stored_on on) (record {
       writes = λ tick line bytes given o. ended-on on tick o;
@@ -158,7 +159,7 @@ stores-landed shape pace e on xs l =
     }) xs
     ∙ stored-landed shape pace e any on xs l
 
-pub stores-of-landed : {n m : ℕ} (shape : BankShape) (pace : Pacing) (e line on : ℕ) (xs : List (Timed n m)) → Lawful shape pace e xs → stores_on line on (table_of shape xs) ≡ stored_tally (λ at. at == line) on (core xs)
+pub stores-of-landed : {n m : ℕ} (shape : BankShape) (pace : Pace) (e line on : ℕ) (xs : List (TimedEvent n m)) → Lawful shape pace e xs → stores_on line on (table_of shape xs) ≡ stored_tally (λ at. at == line) on (core xs)
 stores-of-landed shape pace e line on xs l =
     rows-counted shape xs (λ q. asks_write_of line q.asks && is_stored_on on q.outcome) (λ at. at == line) (is_stored_on on) (record {
       writes = λ tick at bytes given o. ap (λ b. at == line && b) (ended-on on tick o);

@@ -8,20 +8,21 @@ use Rattle.std.proofs.Math.Nat.{mul-le-mul_left}
 use Rattle.result_rows.specs.declared.Outcome.{Outcome}
 use Rattle.result_rows.specs.declared.Outcome.TheVariants as out
 use Rattle.start_gap.specs.Rotation.{place_after}
-use Rattle.row_laws.specs.declared.Asks.{Asks}
-use Rattle.row_laws.specs.declared.Asks.TheVariants.{Reads, Writes, Cuts}
-use Rattle.row_laws.specs.declared.Row.{Row}
-use Rattle.row_laws.specs.Answers.{is_stored, stored_before}
-use Rattle.row_laws.specs.Rows.{each_row, asks_write, asks_write_of, line_of}
-use Rattle.row_laws.specs.Rules.{Rules}
-use Rattle.row_laws.specs.Ticking.{is_in_time, tries}
+use Rattle.row_rules.specs.declared.Asks.{Asks}
+use Rattle.row_rules.specs.declared.Asks.TheVariants.{Reads, Writes, Cuts}
+use Rattle.row_rules.specs.declared.Row.{Row}
+use Rattle.row_rules.specs.Answers.{is_stored, stored_before}
+use Rattle.row_rules.specs.Rows.{each_row, asks_write, asks_write_of, line_of}
+use Rattle.row_rules.specs.declared.Rules.{Rules}
+use Rattle.row_rules.specs.Ticking.{is_in_time, tries}
 use Rattle.bank_shape.specs.declared.BankShape.{BankShape}
 use Rattle.bank_shape.specs.Shape.{slots_of, slot_moved}
 use Rattle.bank_model.specs.Timing.{core}
 use Rattle.bank_model.specs.History.{in_progress, iterated, waits}
 use Rattle.bank_model.specs.After.{target_after}
 use Rattle.bank_model.specs.Changes.{change_after, keeping_after}
-use Rattle.bank_model.specs.Running.{busy_by, busy_after, gives_way, choice_after}
+use Rattle.bank_shape.specs.Pausing.{gives_way}
+use Rattle.bank_model.specs.Running.{busy_by, busy_after, choice_after}
 use Rattle.bank_laws.proofs.Changing.{changed-idle}
 use Rattle.bank_model.specs.Timing.{is_empty}
 use Rattle.bank_laws.specs.Places.{region_stores, is_place_after, is_placed}

@@ -5,17 +5,18 @@ use Rattle.pcm_cells.specs.Device.{counted}
 use Rattle.std.proofs.lemmas.Bool.{ne_eqb}
 use Rattle.bank_shape.specs.declared.BankShape.{BankShape}
 use Rattle.bank_shape.specs.Shape.{controls_from, control_line}
-use Rattle.bank_model.specs.declared.answer.Step.{Step}
-use Rattle.bank_model.specs.declared.answer.Step.TheVariants as did
+use Rattle.bank_shape.specs.declared.answer.Step.{Step}
+use Rattle.bank_shape.specs.declared.answer.Step.TheVariants as did
 use Rattle.bank_model.specs.Events.{Event, Write, Read, Serve, Begin, Iterate, Cut}
 use Rattle.bank_model.specs.History.{goes_on, in_progress, iterated}
 use Rattle.bank_model.specs.After.{target_after}
 use Rattle.bank_model.specs.Sensing.{is_at, most_steps, pulses_of, pulsed_by, torn_control, kept_pulsed}
 use Rattle.bank_model.specs.Changes.{change_after, line_of_change}
 use Rattle.bank_model.specs.Running.{running_at}
-use Rattle.bank_model.specs.declared.clock.Action.{Action}
-use Rattle.bank_model.specs.declared.clock.Doing.TheVariants.{Iterating}
-use Rattle.bank_model.specs.Timing.{Pacing, Happens, Core, Regs, Keeping, KeepBegin, KeepIterate, KeepCut, Timed, core, core_of, is_doing}
+use Rattle.bank_shape.specs.declared.clock.Action.{Action}
+use Rattle.bank_shape.specs.declared.clock.Doing.TheVariants.{Iterating}
+use Rattle.bank_shape.specs.declared.pace.Pace.{Pace}
+use Rattle.bank_model.specs.Timing.{Happens, Core, Regs, Keeping, KeepBegin, KeepIterate, KeepCut, TimedEvent, core, core_of, is_doing}
 use Rattle.bank_model.specs.Lawful.{Lawful, MayCome}
 use Rattle.bank_laws.proofs.Waiting.{may_all}
 use Rattle.place_laws.proofs.Pulsing.{begins-idle}
@@ -102,11 +103,11 @@ module _ (shape : BankShape) (at : ℕ) (low : at < controls_from shape) where
       by true = change-elsewhere change
       by false = refl
 
-module _ {n m : ℕ} (shape : BankShape) (pace : Pacing) (e at : ℕ) (low : at < controls_from shape) where
-  abbrev Few : List (Timed n m) → Type 0
+module _ {n m : ℕ} (shape : BankShape) (pace : Pace) (e at : ℕ) (low : at < controls_from shape) where
+  abbrev Few : List (TimedEvent n m) → Type 0
   Few xs = pulses_of xs at ≤ most_steps e * works_on shape at (core xs) + held_on shape at (core xs)
 
-  room : (xs : List (Timed n m)) → Lawful shape pace e xs → Room (most_steps e) (core xs)
+  room : (xs : List (TimedEvent n m)) → Lawful shape pace e xs → Room (most_steps e) (core xs)
   room [] l = λ is. absurd (cc (is))
   room (x ∷ xs) l = by x.happens l.0 (room xs l.1)
     where
@@ -120,7 +121,7 @@ module _ {n m : ℕ} (shape : BankShape) (pace : Pacing) (e at : ℕ) (low : at 
       by (Regs event) may r = r
 
   -- an event that leaves a line write in progress leaves its target
-  held-same : (xs : List (Timed n m)) (event : Event n) → Lawful shape pace e xs → spares_work event ≡ true
+  held-same : (xs : List (TimedEvent n m)) (event : Event n) → Lawful shape pace e xs → spares_work event ≡ true
       → in_progress (event ∷ core xs) ≡ in_progress (core xs) → iterated (event ∷ core xs) ≡ iterated (core xs)
       → held_on shape at (event ∷ core xs) ≡ held_on shape at (core xs)
   held-same xs event l spares busy count = by (in_progress (core xs)) refl
@@ -136,7 +137,7 @@ module _ {n m : ℕ} (shape : BankShape) (pace : Pacing) (e at : ℕ) (low : at 
           ap (λ b. cond (b && (target_after shape (event ∷ core xs) == at)) (iterated (event ∷ core xs)) 0) (busy ∙ is)
           ∙ sym (ap (λ b. cond (b && (target_after shape (core xs) == at)) (iterated (core xs)) 0) is)
 
-  pub pulses-few : (xs : List (Timed n m)) → Lawful shape pace e xs → Few xs
+  pub pulses-few : (xs : List (TimedEvent n m)) → Lawful shape pace e xs → Few xs
   pulses-few [] l = omega arith
   pulses-few (x ∷ xs) l = by x.happens l.0 (pulses-few xs l.1)
     where

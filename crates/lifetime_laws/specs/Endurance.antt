@@ -3,11 +3,11 @@ use Rattle.std.specs.Prelude.{◌≡◌, ℕ, ◌+◌, ◌<◌, ◌&&◌, not, B
 use Rattle.pcm_cells.specs.Device.{ArrayState}
 use Rattle.pcm_cells.specs.Endurance.{EnduresAtLeast}
 use Rattle.ecp_line.specs.Layout.{IsLayout}
-use Rattle.row_laws.specs.declared.Row.{Row}
-use Rattle.row_laws.specs.Answers.{is_queued}
-use Rattle.row_laws.specs.Rows.{RowTest, each_row, asks_write}
-use Rattle.row_laws.specs.Rules.{Rules}
-use Rattle.row_laws.specs.Wearing.{worn_row}
+use Rattle.row_rules.specs.declared.Row.{Row}
+use Rattle.row_rules.specs.Answers.{is_queued}
+use Rattle.row_rules.specs.Rows.{RowTest, each_row, asks_write}
+use Rattle.row_rules.specs.declared.Rules.{Rules}
+use Rattle.row_rules.specs.Wearing.{worn_row}
 use Rattle.bank_shape.specs.declared.BankShape.{BankShape}
 use Rattle.bank_shape.specs.Shape.{slots_of, controls_of, control_line}
 use Rattle.bank_laws.specs.Laws.{KeepsPlaces, is_worn_at}

@@ -4,15 +4,16 @@ use Rattle.std.specs.List.{list_any}
 use Rattle.pcm_cells.specs.Device.{ArrayState}
 use Rattle.pcm_cells.specs.Endurance.{EnduresAtLeast}
 use Rattle.ecp_line.specs.Layout.{IsLayout}
-use Rattle.row_laws.specs.declared.Row.{Row}
-use Rattle.row_laws.specs.Answers.{is_stored}
-use Rattle.row_laws.specs.Rows.{each_row, asks_write, asks_write_of, line_of, is_cut}
-use Rattle.row_laws.specs.Rules.{Rules}
-use Rattle.row_laws.specs.Table.{KeepsRows}
-use Rattle.row_laws.specs.Ticking.{is_in_time}
+use Rattle.row_rules.specs.declared.Row.{Row}
+use Rattle.row_rules.specs.Answers.{is_stored}
+use Rattle.row_rules.specs.Rows.{each_row, asks_write, asks_write_of, line_of, is_cut}
+use Rattle.row_rules.specs.declared.Rules.{Rules}
+use Rattle.row_rules.specs.Table.{KeepsRows}
+use Rattle.row_rules.specs.Ticking.{is_in_time}
 use Rattle.bank_shape.specs.declared.BankShape.{BankShape}
 use Rattle.bank_shape.specs.Shape.{slots_of, lines_in, controls_of, control_line}
-use Rattle.bank_model.specs.Timing.{Pacing, Timed}
+use Rattle.bank_shape.specs.declared.pace.Pace.{Pace}
+use Rattle.bank_model.specs.Timing.{TimedEvent}
 use Rattle.bank_model.specs.Lawful.{Lawful, IsIdle}
 use Rattle.bank_laws.specs.Laws.{IsSized, LeavesArray, KeepsPlaces, is_worn_at, rules_of}
 use Rattle.bank_laws.specs.Outcomes.{table_of}
@@ -61,7 +62,7 @@ pub record KeepsLines {n m : ℕ} (shape : BankShape) (array : ArrayState n m) (
 -- so it is for every history of a bank
 abbrev pub KeptLinesLaw : Type 0
 KeptLinesLaw =
-    (n m e : ℕ) (shape : BankShape) (pace : Pacing) (xs : List (Timed n m)) (array : ArrayState n m)
+    (n m e : ℕ) (shape : BankShape) (pace : Pace) (xs : List (TimedEvent n m)) (array : ArrayState n m)
     → IsSized shape pace → Lawful shape pace e xs → IsIdle shape pace xs → LeavesArray e shape xs array
     → KeepsLines shape array (rules_of e shape pace) (table_of shape xs)
 

@@ -2,15 +2,16 @@
 use Rattle.std.specs.Prelude.{◌≡◌, ℕ, zero, suc, ◌+◌, ◌*◌, ◌/◌, ◌%◌, ◌<◌, ◌≤◌, ◌==◌, ◌&&◌, Bool, false, if◌then◌else◌, min, List, [], count_by, IsTrue}
 use Rattle.result_rows.specs.declared.Outcome.{Outcome}
 use Rattle.result_rows.specs.declared.Outcome.TheVariants as out
-use Rattle.row_laws.specs.declared.Row.{Row}
-use Rattle.row_laws.specs.Answers.{is_stored}
-use Rattle.row_laws.specs.Rows.{each_row, asks_write_of}
-use Rattle.row_laws.specs.Rules.{Rules}
-use Rattle.row_laws.specs.Ticking.{is_in_time}
+use Rattle.row_rules.specs.declared.Row.{Row}
+use Rattle.row_rules.specs.Answers.{is_stored}
+use Rattle.row_rules.specs.Rows.{each_row, asks_write_of}
+use Rattle.row_rules.specs.declared.Rules.{Rules}
+use Rattle.row_rules.specs.Ticking.{is_in_time}
 use Rattle.start_gap.specs.Rotation.{turn, gap_after}
 use Rattle.bank_shape.specs.declared.BankShape.{BankShape}
 use Rattle.bank_shape.specs.Shape.{slots_of, slot_moved}
-use Rattle.bank_model.specs.Timing.{Pacing, Timed}
+use Rattle.bank_shape.specs.declared.pace.Pace.{Pace}
+use Rattle.bank_model.specs.Timing.{TimedEvent}
 use Rattle.bank_model.specs.Lawful.{Lawful}
 use Rattle.bank_laws.specs.Laws.{IsSized}
 use Rattle.bank_laws.specs.Outcomes.{table_of}
@@ -101,7 +102,7 @@ SpreadLaw =
 -- no array line of the bank, a slot's own or a spare, takes more of the stores of one line
 abbrev pub AnyLineLaw : Type 0
 AnyLineLaw =
-    (n m e : ℕ) (shape : BankShape) (pace : Pacing) (xs : List (Timed n m)) (line at : ℕ)
+    (n m e : ℕ) (shape : BankShape) (pace : Pace) (xs : List (TimedEvent n m)) (line at : ℕ)
     → IsSized shape pace → Lawful shape pace e xs
     → stores_on line at (table_of shape xs)
     ≤ most_at shape.lines shape.psi (region_stores is_stored shape (line / shape.lines) (table_of shape xs))

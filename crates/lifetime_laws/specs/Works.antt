@@ -2,19 +2,20 @@
 -- of its own.
 use Rattle.std.specs.Prelude.{ℕ, ◌+◌, ◌*◌, ◌/◌, ◌<◌, ◌≤◌, ◌==◌, ◌&&◌, not, nat_lt, Bool, if◌then◌else◌, List, [], ◌∷◌, count_by}
 use Rattle.pcm_cells.specs.Device.{ArrayState}
-use Rattle.row_laws.specs.declared.Row.{Row}
-use Rattle.row_laws.specs.Answers.{is_stored}
-use Rattle.row_laws.specs.Rows.{asks_write, is_cut}
-use Rattle.row_laws.specs.Rules.{Rules}
-use Rattle.row_laws.specs.Ticking.{tries}
+use Rattle.row_rules.specs.declared.Row.{Row}
+use Rattle.row_rules.specs.Answers.{is_stored}
+use Rattle.row_rules.specs.Rows.{asks_write, is_cut}
+use Rattle.row_rules.specs.declared.Rules.{Rules}
+use Rattle.row_rules.specs.Ticking.{tries}
 use Rattle.bank_shape.specs.declared.BankShape.{BankShape}
 use Rattle.bank_shape.specs.Shape.{slots_of, controls_from, controls_of, control_line}
-use Rattle.bank_model.specs.declared.answer.Step.{Step}
+use Rattle.bank_shape.specs.declared.answer.Step.{Step}
 use Rattle.bank_model.specs.Events.{Event, Begin, Iterate, Cut}
 use Rattle.bank_model.specs.History.{goes_on, in_progress, iterated}
 use Rattle.bank_model.specs.After.{target_after}
 use Rattle.bank_model.specs.Sensing.{most_steps, pulses_of}
-use Rattle.bank_model.specs.Timing.{Pacing, Timed, core}
+use Rattle.bank_shape.specs.declared.pace.Pace.{Pace}
+use Rattle.bank_model.specs.Timing.{TimedEvent, core}
 use Rattle.bank_model.specs.Lawful.{Lawful, IsIdle}
 use Rattle.bank_laws.specs.Laws.{IsSized, LeavesArray, rules_of}
 use Rattle.bank_laws.specs.Outcomes.{table_of}
@@ -58,20 +59,20 @@ most_each rules = tries rules.policy * rules.steps
 -- each array line but the control lines has at most so many pulses for each line write that ended on it, and those of the one in progress
 abbrev pub PulsesOnLaw : Type 0
 PulsesOnLaw =
-    (n m e : ℕ) (shape : BankShape) (pace : Pacing) (xs : List (Timed n m)) (at : ℕ) → Lawful shape pace e xs → at < controls_from shape
+    (n m e : ℕ) (shape : BankShape) (pace : Pace) (xs : List (TimedEvent n m)) (at : ℕ) → Lawful shape pace e xs → at < controls_from shape
     → pulses_of xs at ≤ most_steps e * works_on shape at (core xs) + held_on shape at (core xs)
 
 -- the line writes of a slot's own array line, by the rows
 abbrev pub WorksLaw : Type 0
 WorksLaw =
-    (n m e : ℕ) (shape : BankShape) (pace : Pacing) (xs : List (Timed n m)) (slot : ℕ)
+    (n m e : ℕ) (shape : BankShape) (pace : Pace) (xs : List (TimedEvent n m)) (slot : ℕ)
     → IsSized shape pace → Lawful shape pace e xs → slot < slots_of shape
     → works_on shape (shape.base + slot) (core xs) ≤ tries pace.policy * most_works shape (table_of shape xs) slot
 
 -- so the pulses of a slot's own array line
 abbrev pub LinePulsesLaw : Type 0
 LinePulsesLaw =
-    (n m e : ℕ) (shape : BankShape) (pace : Pacing) (xs : List (Timed n m)) (array : ArrayState n m) (slot : ℕ)
+    (n m e : ℕ) (shape : BankShape) (pace : Pace) (xs : List (TimedEvent n m)) (array : ArrayState n m) (slot : ℕ)
     → IsSized shape pace → Lawful shape pace e xs → IsIdle shape pace xs → LeavesArray e shape xs array → slot < slots_of shape
     → (array.line (shape.base + slot)).pulses ≤ most_each (rules_of e shape pace) * most_works shape (table_of shape xs) slot
 
@@ -91,6 +92,6 @@ most_kept shape rows item = most_changes shape rows item + count_by is_cut rows
 -- the pulses of a control line
 abbrev pub ControlPulsesLaw : Type 0
 ControlPulsesLaw =
-    (n m e : ℕ) (shape : BankShape) (pace : Pacing) (xs : List (Timed n m)) (array : ArrayState n m) (item : ℕ)
+    (n m e : ℕ) (shape : BankShape) (pace : Pace) (xs : List (TimedEvent n m)) (array : ArrayState n m) (item : ℕ)
     → IsSized shape pace → Lawful shape pace e xs → IsIdle shape pace xs → LeavesArray e shape xs array → item < controls_of shape
     → (array.line (control_line shape item)).pulses ≤ most_each (rules_of e shape pace) * most_kept shape (table_of shape xs) item

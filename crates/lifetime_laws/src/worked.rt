@@ -2,11 +2,11 @@
 //! run.
 
 ghost use Rattle.std.specs.Prelude.{◌≡◌, ◌+◌, ◌*◌, ◌/◌, true, []};
-ghost use Rattle.row_laws.specs.Rows.{each_row};
-ghost use Rattle.row_laws.specs.Answers.{is_stored};
-ghost use Rattle.row_laws.specs.Ticking.{is_in_time};
-ghost use Rattle.row_laws.specs.Worked.{small};
-ghost use Rattle.bank_shape.specs.Pausing.{Pause};
+ghost use Rattle.row_rules.specs.Rows.{each_row};
+ghost use Rattle.row_rules.specs.Answers.{is_stored};
+ghost use Rattle.row_rules.specs.Ticking.{is_in_time};
+ghost use Rattle.row_rules.specs.Worked.{small};
+ghost use Rattle.bank_shape.specs.declared.pace.Policy.TheVariants.{Pause};
 ghost use Rattle.bank_laws.specs.Places.{is_placed, region_stores};
 ghost use Rattle.lifetime_laws.specs.Spread.{most_at, most_moves, stores_on};
 ghost use Rattle.lifetime_laws.specs.Works.{stores_at};

@@ -1,16 +1,16 @@
 -- The senses of one line, one after the other.
 use Rattle.std.proofs.Common.{◌≡◌, ℕ, ◌+◌, ◌==◌, ◌&&◌, ◌||◌, not, Bool, true, false, List, [], ◌∷◌, ◌++◌, refl, sym, ap, ◌∙◌, subst, eq-eqb}
+use Rattle.std.proofs.lemmas.Bool.{and_from, or_left, or_right}
+use Rattle.masked_bytes.proofs.Truth.{and_first, and_second}
 use Rattle.std.proofs.lemmas.List.Elements.{All-head, All-tail}
 use Rattle.std.specs.Prelude.{nat_le, nat_lt, All}
 use Rattle.std.specs.List.{list_any}
 use Rattle.pcm_cells.specs.declared.array.Sense.{Sense}
-use Rattle.row_laws.specs.declared.Row.{Row}
-use Rattle.row_laws.specs.Rules.{Rules}
-use Rattle.row_laws.specs.Wearing.{worn_row}
+use Rattle.row_rules.specs.declared.Row.{Row}
+use Rattle.row_rules.specs.declared.Rules.{Rules}
+use Rattle.row_rules.specs.Wearing.{worn_row}
 use Rattle.bank_laws.specs.Logs.{is_broken, follows, follow_on, begins_unpulsed}
-use Rattle.bank_laws.proofs.Fates.{eqb-same, or_first, or_second}
-use Rattle.bank_laws.proofs.Walking.{and_both}
-use Rattle.bank_laws.proofs.Pairs.{and_left, and_right}
+use Rattle.bank_laws.proofs.Fates.{eqb-same}
 
 -- the last sense of a list that begins with this one
 abbrev pub last_of : {n m : ℕ} → Sense n m → List (Sense n m) → Sense n m
@@ -27,14 +27,14 @@ last_of-all P s (t ∷ ts) p a = last_of-all P t ts (All-head P t ts a) (All-tai
 
 module _ {n m : ℕ} (rules : Rules) (rows : List (Row n)) (wears : Bool) where
   pub same_follows : (s t : Sense n m) → s.pulses ≡ t.pulses → follows rules rows wears s t ≡ true
-  same_follows s t is = or_first (s.pulses == t.pulses) _ (eq-eqb s.pulses t.pulses is)
+  same_follows s t is = or_left (s.pulses == t.pulses) _ (eq-eqb s.pulses t.pulses is)
 
   -- a sense after one more pulse
   pub step_follows : (s t : Sense n m) → s.pulses + 1 ≡ t.pulses → (nat_le (s.tick + rules.iter) t.tick || is_broken rules rows s.tick t.tick) ≡ true
       → (wears && list_any (λ r. worn_row r && nat_lt r.tick t.tick) rows) ≡ false → follows rules rows wears s t ≡ true
   step_follows s t up apart fine =
-      or_second (s.pulses == t.pulses) _ (and_both (s.pulses + 1 == t.pulses) _ (eq-eqb (s.pulses + 1) t.pulses up)
-      (and_both (nat_le (s.tick + rules.iter) t.tick || is_broken rules rows s.tick t.tick) _ apart (ap not fine)))
+      or_right (s.pulses == t.pulses) _ (and_from (s.pulses + 1 == t.pulses) _ (eq-eqb (s.pulses + 1) t.pulses up)
+      (and_from (nat_le (s.tick + rules.iter) t.tick || is_broken rules rows s.tick t.tick) _ apart (ap not fine)))
 
   -- each of these senses follows the one before
   abbrev pub Follow : Sense n m → List (Sense n m) → Type 0
@@ -42,36 +42,36 @@ module _ {n m : ℕ} (rules : Rules) (rows : List (Row n)) (wears : Bool) where
 
   follow-one : (s : Sense n m) (ss : List (Sense n m)) (t : Sense n m) → Follow s ss → follows rules rows wears (last_of s ss) t ≡ true
       → follow_on rules rows wears t.pulses s (ss ++ t ∷ []) ≡ true
-  follow-one s [] t f k = and_both (follows rules rows wears s t) _ k (eqb-same t.pulses)
+  follow-one s [] t f k = and_from (follows rules rows wears s t) _ k (eqb-same t.pulses)
   follow-one s (r ∷ ss) t f k =
-      and_both (follows rules rows wears s r) _ (and_left (follows rules rows wears s r) _ f) (follow-one r ss t (and_right (follows rules rows wears s r) _ f) k)
+      and_from (follows rules rows wears s r) _ (and_first (follows rules rows wears s r) _ f) (follow-one r ss t (and_second (follows rules rows wears s r) _ f) k)
 
   same_chain : (p : ℕ) (s : Sense n m) (ts : List (Sense n m)) → s.pulses ≡ p → All (λ t. t.pulses ≡ p) ts → follow_on rules rows wears p s ts ≡ true
   same_chain p s [] is a = eq-eqb s.pulses p is
   same_chain p s (t ∷ ts) is a =
       let here : t.pulses ≡ p = All-head (λ (t : Sense n m). t.pulses ≡ p) t ts a in
-      and_both (follows rules rows wears s t) _ (same_follows s t (is ∙ sym here)) (same_chain p t ts here (All-tail (λ (t : Sense n m). t.pulses ≡ p) t ts a))
+      and_from (follows rules rows wears s t) _ (same_follows s t (is ∙ sym here)) (same_chain p t ts here (All-tail (λ (t : Sense n m). t.pulses ≡ p) t ts a))
 
   -- more senses with the same pulses
   pub follow-same : (p : ℕ) (s : Sense n m) (ss ts : List (Sense n m)) → Follow s ss → (last_of s ss).pulses ≡ p → All (λ t. t.pulses ≡ p) ts
       → follow_on rules rows wears p s (ss ++ ts) ≡ true
   follow-same p s [] ts f is a = same_chain p s ts is a
   follow-same p s (r ∷ ss) ts f is a =
-      and_both (follows rules rows wears s r) _ (and_left (follows rules rows wears s r) _ f) (follow-same p r ss ts (and_right (follows rules rows wears s r) _ f) is a)
+      and_from (follows rules rows wears s r) _ (and_first (follows rules rows wears s r) _ f) (follow-same p r ss ts (and_second (follows rules rows wears s r) _ f) is a)
 
   -- more senses of one event
   pub follow-more : (p : ℕ) (s : Sense n m) (ss : List (Sense n m)) (t : Sense n m) (ts : List (Sense n m)) → Follow s ss
       → follows rules rows wears (last_of s ss) t ≡ true → t.pulses ≡ p → All (λ t. t.pulses ≡ p) ts → follow_on rules rows wears p s (ss ++ t ∷ ts) ≡ true
-  follow-more p s [] t ts f k is a = and_both (follows rules rows wears s t) _ k (same_chain p t ts is a)
+  follow-more p s [] t ts f k is a = and_from (follows rules rows wears s t) _ k (same_chain p t ts is a)
   follow-more p s (r ∷ ss) t ts f k is a =
-      and_both (follows rules rows wears s r) _ (and_left (follows rules rows wears s r) _ f) (follow-more p r ss t ts (and_right (follows rules rows wears s r) _ f) k is a)
+      and_from (follows rules rows wears s r) _ (and_first (follows rules rows wears s r) _ f) (follow-more p r ss t ts (and_second (follows rules rows wears s r) _ f) k is a)
 
   -- the first senses of a line
   pub begin-same : (p : ℕ) (ts : List (Sense n m)) → p ≡ 0 → All (λ t. t.pulses ≡ p) ts → begins_unpulsed rules rows wears p ts ≡ true
   begin-same p [] is a = eq-eqb p 0 is
   begin-same p (t ∷ ts) is a =
       let here : t.pulses ≡ p = All-head (λ (t : Sense n m). t.pulses ≡ p) t ts a in
-      and_both (t.pulses == 0) _ (eq-eqb t.pulses 0 (here ∙ is)) (same_chain p t ts here (All-tail (λ (t : Sense n m). t.pulses ≡ p) t ts a))
+      and_from (t.pulses == 0) _ (eq-eqb t.pulses 0 (here ∙ is)) (same_chain p t ts here (All-tail (λ (t : Sense n m). t.pulses ≡ p) t ts a))
 
   -- senses that are alike
   pub follow-alike : (p : ℕ) (t : Sense n m) (ts : List (Sense n m)) → t.pulses ≡ p → All (λ t. t.pulses ≡ p) ts → Follow t ts

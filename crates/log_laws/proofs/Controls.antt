@@ -1,5 +1,6 @@
 -- Each cut has read every control line.
 use Rattle.std.proofs.Common.{◌≡◌, ℕ, ◌+◌, ◌==◌, ◌&&◌, ◌||◌, Bool, true, false, List, [], ◌∷◌, ◌++◌, refl, sym, ap, ◌∙◌, subst, cond, eq-eqb}
+use Rattle.std.proofs.lemmas.Bool.{and_from, or_left, or_right}
 use Rattle.std.specs.Prelude.{All, map, nat_le, nat_lt}
 use Rattle.std.specs.List.{list_any, list_all}
 use Rattle.std.proofs.lemmas.List.Elements.{All-head, All-tail}
@@ -11,14 +12,14 @@ use Rattle.bank_model.specs.Events.{Write, Read, Serve, Begin, Iterate, Cut}
 use Rattle.bank_model.specs.Adding.{senses_of}
 use Rattle.bank_model.specs.Changes.{all_controls}
 use Rattle.bank_model.specs.Sensing.{pulses_of, read_again}
-use Rattle.bank_model.specs.Timing.{Pacing, Happens, Core, Regs, Timed}
+use Rattle.bank_shape.specs.declared.pace.Pace.{Pace}
+use Rattle.bank_model.specs.Timing.{Happens, Core, Regs, TimedEvent}
 use Rattle.bank_model.specs.Lawful.{Lawful, MayCome}
 use Rattle.bank_laws.specs.Laws.{log_of}
 use Rattle.bank_laws.specs.Logs.{has_controls}
 use Rattle.bank_laws.specs.Outcomes.{row_with, rows_from}
-use Rattle.bank_laws.proofs.Fates.{or_first, or_second}
 use Rattle.bank_laws.proofs.Serves.{may_at}
-use Rattle.bank_laws.proofs.Walking.{Passes, walk, rows_after, and_both}
+use Rattle.bank_laws.proofs.Walking.{Passes, walk, rows_after}
 use Rattle.log_laws.specs.Laws.{ControlsLaw}
 use Rattle.log_laws.proofs.Owning.{among}
 use Rattle.log_laws.proofs.Sensed.{any-filter}
@@ -27,7 +28,7 @@ use Rattle.log_laws.proofs.Sensed.{any-filter}
 all-among : (p : ℕ → Bool) (ls : List ℕ) → ((line : ℕ) → among line ls ≡ true → p line ≡ true) → list_all p ls ≡ true
 all-among p [] each = refl
 all-among p (l ∷ ls) each =
-    and_both (p l) _ (each l (or_first (l == l) _ (eq-eqb l l refl))) (all-among p ls (λ line there. each line (or_second (l == line) _ there)))
+    and_from (p l) _ (each l (or_left (l == l) _ (eq-eqb l l refl))) (all-among p ls (λ line there. each line (or_right (l == line) _ there)))
 
 module _ {n m : ℕ} where
   abbrev pub at_tick : ℕ → ℕ → Sense n m → Bool
@@ -42,20 +43,20 @@ module _ {n m : ℕ} where
     where
       by : (b : Bool) → (s.tick == tick) ≡ true → (b || among line (map (λ s. s.line) ss)) ≡ true → (among line (map (λ s. s.line) ss) ≡ true → list_any (at_tick line tick) ss ≡ true)
           → ((b && s.tick == tick) || list_any (at_tick line tick) ss) ≡ true
-      by true at there rest = or_first (s.tick == tick) _ at
+      by true at there rest = or_left (s.tick == tick) _ at
       by false at there rest = rest there
 
-  any-later : (p : Sense n m → Bool) (later : List (Timed n m)) (x : Timed n m) (ys : List (Timed n m)) → list_any p x.senses ≡ true → list_any p (senses_of (later ++ x ∷ ys)) ≡ true
-  any-later p [] x ys there = list_any-append p (senses_of ys) x.senses ∙ or_second (list_any p (senses_of ys)) _ there
-  any-later p (y ∷ later) x ys there = list_any-append p (senses_of (later ++ x ∷ ys)) y.senses ∙ or_first (list_any p (senses_of (later ++ x ∷ ys))) _ (any-later p later x ys there)
+  any-later : (p : Sense n m → Bool) (later : List (TimedEvent n m)) (x : TimedEvent n m) (ys : List (TimedEvent n m)) → list_any p x.senses ≡ true → list_any p (senses_of (later ++ x ∷ ys)) ≡ true
+  any-later p [] x ys there = list_any-append p (senses_of ys) x.senses ∙ or_right (list_any p (senses_of ys)) _ there
+  any-later p (y ∷ later) x ys there = list_any-append p (senses_of (later ++ x ∷ ys)) y.senses ∙ or_left (list_any p (senses_of (later ++ x ∷ ys))) _ (any-later p later x ys there)
 
-module _ {n m : ℕ} (shape : BankShape) (pace : Pacing) (e : ℕ) (all : List (Timed n m)) (log extra : List (Sense n m)) (l : Lawful shape pace e all) (shown : log_of shape log ≡ senses_of all ++ extra) where
+module _ {n m : ℕ} (shape : BankShape) (pace : Pace) (e : ℕ) (all : List (TimedEvent n m)) (log extra : List (Sense n m)) (l : Lawful shape pace e all) (shown : log_of shape log ≡ senses_of all ++ extra) where
   in-log : (p : Sense n m → Bool) → list_any p (senses_of all) ≡ true → list_any p log ≡ true
   in-log p there =
       any-filter p (λ s. nat_le shape.base s.line && nat_lt s.line (shape.base + lines_in shape)) log
-      (ap (λ ss. list_any p ss) shown ∙ list_any-append p (senses_of all) extra ∙ or_first (list_any p (senses_of all)) _ there)
+      (ap (λ ss. list_any p ss) shown ∙ list_any-append p (senses_of all) extra ∙ or_left (list_any p (senses_of all)) _ there)
 
-  controls_at : (later : List (Timed n m)) (x : Timed n m) (ys : List (Timed n m)) → all ≡ later ++ x ∷ ys
+  controls_at : (later : List (TimedEvent n m)) (x : TimedEvent n m) (ys : List (TimedEvent n m)) → all ≡ later ++ x ∷ ys
       → Passes (has_controls shape log) (rows_from shape all ys) (row_with shape all x.happens x.tick x.cancels) (rows_after shape all later)
   controls_at later x ys same = by x.happens x.cancels refl (may_at shape pace e all later x ys l same)
     where
@@ -71,7 +72,7 @@ module _ {n m : ℕ} (shape : BankShape) (pace : Pacing) (e : ℕ) (all : List (
       by (Core (Cut tearing)) false is may =
           all-among (λ line. list_any (at_tick line x.tick) log) (all_controls shape) (λ line there.
           in-log (at_tick line x.tick)
-          (subst (λ (xs : List (Timed n m)). list_any (at_tick line x.tick) (senses_of xs) ≡ true) (sym same)
+          (subst (λ (xs : List (TimedEvent n m)). list_any (at_tick line x.tick) (senses_of xs) ≡ true) (sym same)
           (any-later (at_tick line x.tick) later x ys
           (sensed-there line x.tick (λ l. pulses_of (x ∷ ys) l) x.senses may.senses
           (ap (among line) (may.lines ∙ ap (read_again shape) is) ∙ there)))))

@@ -4,7 +4,7 @@ use Rattle.std.proofs.Math.Nat.{min-le_right}
 use Rattle.std.specs.Prelude.{min}
 use Rattle.std.proofs.lemmas.Bool.{cases_lt}
 use Rattle.pcm_cells.specs.Device.{counted}
-use Rattle.bank_model.specs.Timing.{Timed}
+use Rattle.bank_model.specs.Timing.{TimedEvent}
 use Rattle.bank_model.specs.Sensing.{is_at, pulses_of}
 
 -- one more up to a bound is one more, or the same at the bound
@@ -18,7 +18,7 @@ bounded most p le = by (cases_lt p most)
 pub counted-cases : (p : ℕ) → p ≤ 2 ^ 64 - 1 → (counted p ≡ p) ⊎ (counted p ≡ p + 1)
 counted-cases p le = bounded (2 ^ 64 - 1) p le
 
-pub pulses-few : {n m : ℕ} (xs : List (Timed n m)) (line : ℕ) → pulses_of xs line ≤ 2 ^ 64 - 1
+pub pulses-few : {n m : ℕ} (xs : List (TimedEvent n m)) (line : ℕ) → pulses_of xs line ≤ 2 ^ 64 - 1
 pulses-few [] line = omega arith
 pulses-few (x ∷ xs) line = by (is_at x.pulsed line) (pulses-few xs line)
   where

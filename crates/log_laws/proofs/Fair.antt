@@ -1,15 +1,19 @@
 -- The senses of each of a bank's lines are fair.
 use Rattle.std.proofs.Common.{◌≡◌, ℕ, ◌+◌, ◌-◌, ◌<◌, ◌==◌, ◌&&◌, ◌||◌, ◌⊎◌, inl, inr, Bool, true, false, List, [], ◌∷◌, ◌++◌, Option, Some, None, refl, sym, ap, ◌∙◌, subst, arith, cond, append_assoc}
+use Rattle.std.proofs.lemmas.Bool.{and_from}
 use Rattle.std.specs.Prelude.{All, nat_lt, not}
 use Rattle.std.proofs.lemmas.List.Elements.{filter-append}
 use Rattle.pcm_cells.specs.declared.array.Sense.{Sense}
 use Rattle.bank_shape.specs.declared.BankShape.{BankShape}
 use Rattle.bank_shape.specs.Shape.{slots_of, lines_in, controls_from}
-use Rattle.bank_model.specs.declared.clock.Doing.TheVariants.{Serving}
+use Rattle.bank_shape.specs.declared.clock.Doing.TheVariants.{Serving}
 use Rattle.bank_model.specs.History.{waits}
-use Rattle.bank_model.specs.Timing.{Pacing, Timed, core, is_empty}
+use Rattle.bank_shape.specs.declared.pace.Pace.{Pace}
+use Rattle.bank_model.specs.Timing.{TimedEvent, core, is_empty}
 use Rattle.bank_model.specs.After.{may_begin_after}
-use Rattle.bank_model.specs.Running.{Choice, chosen_by, gives_way, choice_after, ready_by, ready_after}
+use Rattle.bank_shape.specs.Pausing.{gives_way}
+use Rattle.bank_shape.specs.Acting.{Choice, chosen_by}
+use Rattle.bank_model.specs.Running.{choice_after, ready_by, ready_after}
 use Rattle.bank_model.specs.Changes.{change_after, keeping_after, halted_after, line_of_change}
 use Rattle.bank_model.specs.Adding.{senses_of}
 use Rattle.bank_model.specs.Sensing.{pulses_of}
@@ -20,7 +24,6 @@ use Rattle.bank_laws.specs.Outcomes.{rows_from, table_of}
 use Rattle.bank_laws.specs.Settling.{AreOpen}
 use Rattle.bank_laws.proofs.Serves.{idle-waits}
 use Rattle.bank_laws.proofs.Settling.{opens}
-use Rattle.bank_laws.proofs.Walking.{and_both}
 use Rattle.log_laws.specs.Laws.{PulseStepsLaw}
 use Rattle.log_laws.proofs.Chains.{last_of, follow-same, begin-same}
 use Rattle.log_laws.proofs.Owning.{own, own-kept, own-log}
@@ -39,15 +42,15 @@ none-begins way reads c is = by (way && reads) c.busy reads c.ready is
     by false false false true is = absurd (cc)
     by false false false false is = refl
 
-module _ {n m : ℕ} (e : ℕ) (shape : BankShape) (pace : Pacing) (wears : Bool) (line : ℕ) (wears_is : wears ≡ nat_lt line (controls_from shape)) (all : List (Timed n m)) (sized : IsSized shape pace) (lawful : Lawful shape pace e all) where
-  abbrev Known : List (Timed n m) → Type 0
+module _ {n m : ℕ} (e : ℕ) (shape : BankShape) (pace : Pace) (wears : Bool) (line : ℕ) (wears_is : wears ≡ nat_lt line (controls_from shape)) (all : List (TimedEvent n m)) (sized : IsSized shape pace) (lawful : Lawful shape pace e all) where
+  abbrev Known : List (TimedEvent n m) → Type 0
   Known zs = Shown shape pace (rules_of e shape pace) (rows_from shape all all) wears line all zs
 
   idle-first : Busy shape pace (rules_of e shape pace) (rows_from shape all all) wears line all [] → ⊥
   idle-first (inl k) = absurd (cc (k.1))
   idle-first (inr k) = absurd (cc (k.1))
 
-  known : AreOpen shape all → (pre xs : List (Timed n m)) → all ≡ pre ++ xs → Known xs
+  known : AreOpen shape all → (pre xs : List (TimedEvent n m)) → all ≡ pre ++ xs → Known xs
   known o pre [] same = inl (record { none = refl; unpulsed = refl; untouched = λ b. idle-first b })
   known o pre (x ∷ xs) same =
       step e shape pace wears line wears_is all sized lawful o pre x xs same (known o (pre ++ x ∷ []) xs (same ∙ sym (append_assoc pre (x ∷ []) xs)))
@@ -75,7 +78,7 @@ module _ {n m : ℕ} (e : ℕ) (shape : BankShape) (pace : Pacing) (wears : Bool
       (begin-same (rules_of e shape pace) (rows_from shape all all) wears (pulses_of all line) more u.unpulsed are)
   shown_in_end idle more are (inr v) =
       subst (λ (ss : List (Sense n m)). begins_unpulsed (rules_of e shape pace) (rows_from shape all all) wears (pulses_of all line) (ss ++ more) ≡ true) (sym v.2.is)
-      (and_both (v.0.pulses == 0) _ (subst (λ p. (p == 0) ≡ true) (sym v.2.first) refl)
+      (and_from (v.0.pulses == 0) _ (subst (λ p. (p == 0) ≡ true) (sym v.2.first) refl)
       (follow-same (rules_of e shape pace) (rows_from shape all all) wears (pulses_of all line) v.0 v.1 more v.2.follow (last v.2.now) are))
     where
       last : (pulses_of all line ≡ (last_of v.0 v.1).pulses) ⊎ Torn shape pace (rules_of e shape pace) (rows_from shape all all) wears line all all (last_of v.0 v.1)

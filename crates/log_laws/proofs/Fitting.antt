@@ -1,5 +1,7 @@
 -- The queue's entries give of a line what its accepted writes give, down to the last that is out.
 use Rattle.std.proofs.Common.{◌≡◌, ℕ, ◌==◌, ◌||◌, ◌⊎◌, inl, inr, Bool, true, false, List, [], ◌∷◌, ◌++◌, Option, Some, None, length, sym, ap, ◌∙◌, subst, cond, eqb, eqb-true}
+use Rattle.std.proofs.lemmas.Bool.{or_from, or_left, or_right}
+use Rattle.masked_bytes.proofs.Truth.{neither_first, neither_second}
 use Rattle.masked_bytes.specs.declared.entry.Entry.{Entry}
 use Rattle.masked_bytes.specs.Masked.{joined, none_given, all_given, gives_all}
 use Rattle.masked_bytes.specs.Entries.{newest_row, merged, laid_on, has_row, RowsApart}
@@ -7,8 +9,7 @@ use Rattle.masked_bytes.proofs.Layering.{joined-all_given, gives_all-all_given}
 use Rattle.bank_model.specs.History.{begun}
 use Rattle.bank_laws.specs.Pairs.{has_line}
 use Rattle.bank_laws.proofs.Pairs.{AllLong, gives_all-joined}
-use Rattle.bank_laws.proofs.Entries.{or_none, or_left, or_right}
-use Rattle.bank_laws.proofs.Fates.{or_first, or_second, eqb-same}
+use Rattle.bank_laws.proofs.Fates.{eqb-same}
 use Rattle.log_laws.proofs.Given.{given_of, length-given, given-lacks, given-push, given-push_other, NewestOf, newest-of, given-merged, given-merged_other}
 
 -- these rows, and one more if so said
@@ -16,15 +17,15 @@ abbrev pub out_with : Bool → (ℕ → Bool) → ℕ → ℕ → Bool
 out_with b out row = cond b (λ x. out x || row == x) out
 
 pub out_with-not : (b : Bool) (out : ℕ → Bool) (row r : ℕ) → out r ≡ false → (row == r) ≡ false → out_with b out row r ≡ false
-out_with-not true out row r h k = or_none (out r) (row == r) h k
+out_with-not true out row r h k = or_from (out r) (row == r) h k
 out_with-not false out row r h k = h
 
 pub out_with-kept : (b : Bool) (out : ℕ → Bool) (row r : ℕ) → out r ≡ true → out_with b out row r ≡ true
-out_with-kept true out row r h = or_first (out r) (row == r) h
+out_with-kept true out row r h = or_left (out r) (row == r) h
 out_with-kept false out row r h = h
 
 pub out_with-new : (b : Bool) (out : ℕ → Bool) (row : ℕ) → b ≡ true → out_with b out row row ≡ true
-out_with-new true out row is = or_second (out row) (row == row) (eqb-same row)
+out_with-new true out row is = or_right (out row) (row == row) (eqb-same row)
 out_with-new false out row is = absurd (cc)
 
 -- what the writes of a line give, by the rows that are out
@@ -66,7 +67,7 @@ module _ {n : ℕ} where
   tails-none u out line row [] gone lacks is = gone out is
   tails-none u out line row (e ∷ es) gone lacks is = (
     given-lacks (e ∷ es) line lacks ∙ sym (gone out is),
-    tails-none u (out_with (e.line == line) out e.row) line row es gone (or_right (e.line == line) _ lacks) (out_with-kept (e.line == line) out e.row row is),
+    tails-none u (out_with (e.line == line) out e.row) line row es gone (neither_second (e.line == line) _ lacks) (out_with-kept (e.line == line) out e.row row is),
   )
 
   -- A new entry
@@ -79,8 +80,8 @@ module _ {n : ℕ} where
   )
   tails-push new old out line x (e ∷ es) g long len own lacks fresh t = (
     given-push (e ∷ es) x line long len own ∙ ap (joined x.given) t.0 ∙ sym (g.more out fresh),
-    tails-push new old (out_with (e.line == line) out e.row) line x es g long.1 len own (or_right (e.row == x.row) _ lacks)
-        (out_with-not (e.line == line) out e.row x.row fresh (or_left (e.row == x.row) _ lacks)) t.1,
+    tails-push new old (out_with (e.line == line) out e.row) line x es g long.1 len own (neither_second (e.row == x.row) _ lacks)
+        (out_with-not (e.line == line) out e.row x.row fresh (neither_first (e.row == x.row) _ lacks)) t.1,
   )
 
   pub fits-push : (new old : Uncovered) (out : ℕ → Bool) (line : ℕ) (x : Entry n) (es : List (Entry n)) → Grows n new old x.row x.given → AllLong es → length x.given ≡ n → (x.line == line) ≡ true → has_row es x.row ≡ false → out x.row ≡ false
@@ -88,8 +89,8 @@ module _ {n : ℕ} where
   fits-push new old out line x [] g long len own lacks fresh t = tails-fit new out line (x ∷ []) (tails-push new old out line x [] g long len own lacks fresh t)
   fits-push new old out line x (e ∷ es) g long len own lacks fresh t = (
     more_fits x.given (given_of (e ∷ es) line) (given_of (e ∷ es ++ x ∷ []) line) (old out) (new out) (len ∙ sym (length-given (e ∷ es) line long)) (given-push (e ∷ es) x line long len own) (g.more out fresh) t.0,
-    tails-push new old (out_with (e.line == line) out e.row) line x es g long.1 len own (or_right (e.row == x.row) _ lacks)
-        (out_with-not (e.line == line) out e.row x.row fresh (or_left (e.row == x.row) _ lacks)) t.1,
+    tails-push new old (out_with (e.line == line) out e.row) line x es g long.1 len own (neither_second (e.row == x.row) _ lacks)
+        (out_with-not (e.line == line) out e.row x.row fresh (neither_first (e.row == x.row) _ lacks)) t.1,
   )
 
   tails-push_other : (u : Uncovered) (out : ℕ → Bool) (line : ℕ) (x : Entry n) (es : List (Entry n)) → (x.line == line) ≡ false → Tails u out line es → Tails u out line (es ++ x ∷ [])
@@ -110,8 +111,8 @@ module _ {n : ℕ} where
   tails-merged new old out line at row bytes given [] g long len apart is lacks fresh t = absurd (cc)
   tails-merged new old out line at row bytes given (e ∷ es) g long len apart is lacks fresh t =
       by (newest-of e es line at apart is)
-      (λ there. tails-merged new old (out_with (e.line == line) out e.row) line at row bytes given es g long.1 len apart.1 there (or_right (e.row == row) _ lacks)
-      (out_with-not (e.line == line) out e.row row fresh (or_left (e.row == row) _ lacks)) t.1)
+      (λ there. tails-merged new old (out_with (e.line == line) out e.row) line at row bytes given es g long.1 len apart.1 there (neither_second (e.row == row) _ lacks)
+      (out_with-not (e.line == line) out e.row row fresh (neither_first (e.row == row) _ lacks)) t.1)
     where
       whole : given_of (merged at row bytes given (e ∷ es)) line ≡ new out
       whole = given-merged at row bytes given (e ∷ es) line long len apart is ∙ ap (joined given) t.0 ∙ sym (g.more out fresh)
@@ -133,8 +134,8 @@ module _ {n : ℕ} where
   fits-merged new old out line at row bytes given [] g long len apart is lacks fresh t = absurd (cc)
   fits-merged new old out line at row bytes given (e ∷ es) g long len apart is lacks fresh t =
       by (newest-of e es line at apart is)
-      (λ there. tails-merged new old (out_with (e.line == line) out e.row) line at row bytes given es g long.1 len apart.1 there (or_right (e.row == row) _ lacks)
-      (out_with-not (e.line == line) out e.row row fresh (or_left (e.row == row) _ lacks)) t.1)
+      (λ there. tails-merged new old (out_with (e.line == line) out e.row) line at row bytes given es g long.1 len apart.1 there (neither_second (e.row == row) _ lacks)
+      (out_with-not (e.line == line) out e.row row fresh (neither_first (e.row == row) _ lacks)) t.1)
     where
       whole : (gives_all (given_of (merged at row bytes given (e ∷ es)) line) ≡ true) ⊎ (given_of (merged at row bytes given (e ∷ es)) line ≡ new out)
       whole =

@@ -1,5 +1,6 @@
 -- Which bytes the queue's entries of a line give, through each change of the queue.
 use Rattle.std.proofs.Common.{◌≡◌, ℕ, ◌==◌, ◌⊎◌, inl, inr, Bool, true, false, List, [], ◌∷◌, ◌++◌, Option, Some, None, length, refl, sym, ap, ◌∙◌, subst, cond, eqb, eq-eqb, eqb-true}
+use Rattle.masked_bytes.proofs.Truth.{neither_first, neither_second}
 use Rattle.std.proofs.lemmas.List.{length-replicate}
 use Rattle.masked_bytes.specs.declared.entry.Entry.{Entry}
 use Rattle.masked_bytes.specs.Masked.{joined, none_given}
@@ -8,7 +9,6 @@ use Rattle.masked_bytes.proofs.Layering.{length-joined, joined-none_given, joine
 use Rattle.bank_laws.specs.Pairs.{has_line}
 use Rattle.bank_laws.proofs.Pairs.{AllLong}
 use Rattle.bank_laws.proofs.Answering.{newest_row-there}
-use Rattle.bank_laws.proofs.Entries.{or_left, or_right}
 use Rattle.bank_laws.proofs.Lines.{newest-line}
 
 module _ {n : ℕ} where
@@ -36,7 +36,7 @@ module _ {n : ℕ} where
   pub given-lacks : (es : List (Entry n)) (line : ℕ) → has_line es line ≡ false → given_of es line ≡ none_given n
   given-lacks [] line lacks = refl
   given-lacks (e ∷ es) line lacks =
-      ap (λ b. cond b (joined (given_of es line) e.given) (given_of es line)) (or_left (e.line == line) _ lacks) ∙ given-lacks es line (or_right (e.line == line) _ lacks)
+      ap (λ b. cond b (joined (given_of es line) e.given) (given_of es line)) (neither_first (e.line == line) _ lacks) ∙ given-lacks es line (neither_second (e.line == line) _ lacks)
 
   -- more over an entry's bytes, or over those behind it
   more_under : (b : Bool) (given top below : List Bool) (e : Entry n) → length given ≡ n → length below ≡ n → length e.given ≡ n → top ≡ joined given below

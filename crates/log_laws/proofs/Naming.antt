@@ -1,11 +1,12 @@
 -- The row of each of the queue's entries is that of a write of its line.
 use Rattle.std.proofs.Common.{◌≡◌, ℕ, ◌<◌, ◌≤◌, ◌==◌, inl, inr, Bool, false, List, [], ◌∷◌, ◌++◌, Option, Some, None, drop, sym, ap, ◌∙◌, subst, arith, cond, eqb, eqb-true}
+use Rattle.masked_bytes.proofs.Truth.{neither_first, neither_second}
 use Rattle.masked_bytes.specs.declared.entry.Entry.{Entry}
 use Rattle.masked_bytes.specs.Entries.{newest_row, merged, laid_on, has_row, RowsApart}
-use Rattle.bank_model.specs.declared.answer.WriteAnswer.{WriteAnswer}
+use Rattle.bank_shape.specs.declared.answer.WriteAnswer.{WriteAnswer}
 use Rattle.bank_model.specs.Events.{Event, Write, Read, Serve, Begin, Iterate, Cut, RowsBelow, line_of_row, up_to}
 use Rattle.bank_model.specs.History.{begun}
-use Rattle.bank_laws.proofs.Entries.{differ_back, differ_sym, or_left, or_right}
+use Rattle.bank_laws.proofs.Entries.{differ_back, differ_sym}
 use Rattle.bank_laws.proofs.Fates.{eqb-same}
 use Rattle.log_laws.proofs.Given.{NewestOf, newest-of}
 
@@ -32,8 +33,8 @@ module _ {n : ℕ} where
   pub named-too : (f : ℕ → ℕ) (row line : ℕ) (es : List (Entry n)) → has_row es row ≡ false → Named f es → Named (λ r. cond (row == r) line (f r)) es
   named-too f row line [] lacks k = tt
   named-too f row line (e ∷ es) lacks k = (
-    ap (λ b. cond b line (f e.row)) (differ_sym e.row row (or_left (e.row == row) _ lacks)) ∙ k.0,
-    named-too f row line es (or_right (e.row == row) _ lacks) k.1,
+    ap (λ b. cond b line (f e.row)) (differ_sym e.row row (neither_first (e.row == row) _ lacks)) ∙ k.0,
+    named-too f row line es (neither_second (e.row == row) _ lacks) k.1,
   )
 
   pub named-merged : (f : ℕ → ℕ) (of at row : ℕ) (bytes : List ℕ) (given : List Bool) (es : List (Entry n)) → RowsApart es → newest_row es of ≡ Some at → f row ≡ of → Named f es → Named f (merged at row bytes given es)

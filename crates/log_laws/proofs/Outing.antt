@@ -1,24 +1,25 @@
 -- A write of a line is out of the queue exactly where its row was stored.
 use Rattle.std.proofs.Common.{◌≡◌, ℕ, ◌==◌, ◌⊎◌, inl, inr, Bool, true, false, List, [], ◌∷◌, ◌++◌, Some, None, refl, sym, ap, ◌∙◌, subst, arith, cond, eqb, eq-eqb, eqb-true}
+use Rattle.std.proofs.lemmas.Bool.{or_right}
 use Rattle.std.specs.Prelude.{unwrap_or}
 use Rattle.result_rows.specs.declared.Outcome.{Outcome}
 use Rattle.result_rows.specs.declared.Outcome.TheVariants as out
-use Rattle.row_laws.specs.Answers.{is_stored}
+use Rattle.row_rules.specs.Answers.{is_stored}
 use Rattle.bank_shape.specs.declared.BankShape.{BankShape}
-use Rattle.bank_model.specs.declared.answer.WriteAnswer.{WriteAnswer}
-use Rattle.bank_model.specs.declared.answer.WriteAnswer.TheVariants as wrote
-use Rattle.bank_model.specs.declared.answer.ReadAnswer.TheVariants as came
-use Rattle.bank_model.specs.declared.answer.Step.TheVariants as did
+use Rattle.bank_shape.specs.declared.answer.WriteAnswer.{WriteAnswer}
+use Rattle.bank_shape.specs.declared.answer.WriteAnswer.TheVariants as wrote
+use Rattle.bank_shape.specs.declared.answer.ReadAnswer.TheVariants as came
+use Rattle.bank_shape.specs.declared.answer.Step.TheVariants as did
 use Rattle.bank_model.specs.Events.{Event, Write, Read, Serve, Begin, Iterate, Cut, RowsBelow, line_of_row, up_to}
 use Rattle.bank_model.specs.History.{waits}
 use Rattle.bank_model.specs.Sensing.{most_steps}
-use Rattle.bank_model.specs.Timing.{Pacing, Happens, Core, Regs, Timed, core, core_of}
+use Rattle.bank_shape.specs.declared.pace.Pace.{Pace}
+use Rattle.bank_model.specs.Timing.{Happens, Core, Regs, TimedEvent, core, core_of}
 use Rattle.bank_model.specs.Lawful.{Lawful, MayCome}
 use Rattle.bank_laws.specs.Outcomes.{on_row, outcome_with, outcome_of}
 use Rattle.bank_laws.specs.Standing.{has_wait}
 use Rattle.bank_laws.specs.Ticks.{ends_action}
 use Rattle.bank_laws.proofs.Entries.{either}
-use Rattle.bank_laws.proofs.Fates.{or_second}
 use Rattle.bank_laws.proofs.Settling.{opens, above_all, step_stays}
 use Rattle.bank_laws.proofs.Waiting.{may_all}
 use Rattle.bank_laws.proofs.Wears.{stored_by}
@@ -26,7 +27,7 @@ use Rattle.log_laws.proofs.Covering.{out_in, out-fresh}
 use Rattle.log_laws.proofs.Fitting.{out_with, out_with-not, out_with-kept}
 use Rattle.log_laws.proofs.Naming.{line-kept, up_to-kept}
 
-pub core-append : {n m : ℕ} (mid ys : List (Timed n m)) → core (mid ++ ys) ≡ core mid ++ core ys
+pub core-append : {n m : ℕ} (mid ys : List (TimedEvent n m)) → core (mid ++ ys) ≡ core mid ++ core ys
 core-append [] ys = refl
 core-append {n} {m} (x ∷ mid) ys = by x.happens (core-append mid ys)
   where
@@ -70,7 +71,7 @@ module _ {n : ℕ} where
   on_row-out line h at row tick place o is was none = by (eqb at row) refl
     where
       own : (b : Bool) → b ≡ true → eqb at row ≡ true → true ≡ out_with b (out_in line h) at row
-      own true k same = sym (or_second (out_in line h row) _ same)
+      own true k same = sym (or_right (out_in line h row) _ same)
       own false k same = absurd (cc)
 
       by : (b : Bool) → eqb at row ≡ b → is_stored (unwrap_or (cond b (Some (out.Stored tick place)) None) o) ≡ out_with (line_of_row at h == line) (out_in line h) at row
@@ -90,9 +91,9 @@ module _ {n : ℕ} where
   not_stored (out.Lost tick) isnt = refl
   not_stored (out.Cut tick) isnt = refl
 
-module _ {n m : ℕ} (shape : BankShape) (pace : Pacing) (e : ℕ) where
+module _ {n m : ℕ} (shape : BankShape) (pace : Pace) (e : ℕ) where
   -- over one more event
-  step_out : (zs : List (Timed n m)) (y : Timed n m) (h : Happens n) (row line : ℕ) → Lawful shape pace e zs → MayCome shape pace e zs y h → line_of_row row (core zs) ≡ line
+  step_out : (zs : List (TimedEvent n m)) (y : TimedEvent n m) (h : Happens n) (row line : ℕ) → Lawful shape pace e zs → MayCome shape pace e zs y h → line_of_row row (core zs) ≡ line
       → is_stored (outcome_of shape zs row) ≡ out_in line (core zs) row
       → is_stored (unwrap_or (outcome_with shape zs h y.tick row) (outcome_of shape zs row)) ≡ out_in line (core_of h (core zs)) row
   step_out zs y h row line l may is same = either (is_stored (outcome_of shape zs row)) (λ there. stay h may there) (λ isnt. by h isnt (sym same ∙ isnt))
@@ -130,17 +131,17 @@ module _ {n m : ℕ} (shape : BankShape) (pace : Pacing) (e : ℕ) where
       by (Core (Iterate did.Exhausted)) isnt none = isnt ∙ sym none
       by (Core (Cut tearing)) isnt none = lost-not (has_wait (waits shape (core zs)) row) y.tick o isnt ∙ sym none
 
-  module _ (x : Timed n m) (ys : List (Timed n m)) (row line : ℕ) (bytes : List ℕ) (given : List Bool) (answer : WriteAnswer) (is : x.happens ≡ Core (Write row line bytes given answer)) where
-    whole : (mid : List (Timed n m)) → core (mid ++ x ∷ ys) ≡ core mid ++ Write row line bytes given answer ∷ core ys
+  module _ (x : TimedEvent n m) (ys : List (TimedEvent n m)) (row line : ℕ) (bytes : List ℕ) (given : List Bool) (answer : WriteAnswer) (is : x.happens ≡ Core (Write row line bytes given answer)) where
+    whole : (mid : List (TimedEvent n m)) → core (mid ++ x ∷ ys) ≡ core mid ++ Write row line bytes given answer ∷ core ys
     whole mid = core-append mid (x ∷ ys) ∙ ap (λ h. core mid ++ core_of h (core ys)) is
 
     -- a write's line and its history, among all events
-    pub line-in : (mid : List (Timed n m)) → Lawful shape pace e (mid ++ x ∷ ys) → line_of_row row (core (mid ++ x ∷ ys)) ≡ line
+    pub line-in : (mid : List (TimedEvent n m)) → Lawful shape pace e (mid ++ x ∷ ys) → line_of_row row (core (mid ++ x ∷ ys)) ≡ line
     line-in mid l =
         let b = above_all shape pace e (mid ++ x ∷ ys) l in
         ap (line_of_row row) (whole mid) ∙ line-kept (core mid) row line bytes given answer (core ys) b.0 (subst (λ h. RowsBelow h b.0) (whole mid) b.1)
 
-    pub up_to-in : (mid : List (Timed n m)) → Lawful shape pace e (mid ++ x ∷ ys) → up_to row (core (mid ++ x ∷ ys)) ≡ Write row line bytes given answer ∷ core ys
+    pub up_to-in : (mid : List (TimedEvent n m)) → Lawful shape pace e (mid ++ x ∷ ys) → up_to row (core (mid ++ x ∷ ys)) ≡ Write row line bytes given answer ∷ core ys
     up_to-in mid l =
         let b = above_all shape pace e (mid ++ x ∷ ys) l in
         ap (up_to row) (whole mid) ∙ up_to-kept (core mid) row line bytes given answer (core ys) b.0 (subst (λ h. RowsBelow h b.0) (whole mid) b.1)
@@ -157,7 +158,7 @@ module _ {n m : ℕ} (shape : BankShape) (pace : Pacing) (e : ℕ) where
         by u p (inl k) = absurd (cc (sym k.0 ∙ ap ends_action is))
         by u p (inr s) = let j : ◌≡◌ {A = Outcome n} out.Unset (out.Stored u p) = sym unset ∙ s in absurd (cc)
 
-    pub out-same : (mid : List (Timed n m)) → Lawful shape pace e (mid ++ x ∷ ys) → is_stored (outcome_of shape (mid ++ x ∷ ys) row) ≡ out_in line (core (mid ++ x ∷ ys)) row
+    pub out-same : (mid : List (TimedEvent n m)) → Lawful shape pace e (mid ++ x ∷ ys) → is_stored (outcome_of shape (mid ++ x ∷ ys) row) ≡ out_in line (core (mid ++ x ∷ ys)) row
     out-same [] l =
         unstored-first l
         ∙ sym (ap (λ h. out_in line h row) (whole []) ∙ out-fresh shape (most_steps e) (core ys) row line row (may_all shape pace e ys l.1) (subst (λ h. MayCome shape pace e ys x h) is l.0).asked (omega arith))

@@ -2,15 +2,13 @@
 use Rattle.std.proofs.Common.{◌≡◌, ℕ, ◌==◌, ◌||◌, ◌&&◌, ◌≤◌, ◌<◌, ◌+◌, Bool, true, false, List, [], ◌∷◌, refl, sym, ap, ◌∙◌, subst, arith, cond, eq-eqb, eqb-true}
 use Rattle.std.specs.Prelude.{zero, suc, All, map, filter, nat_le, nat_lt}
 use Rattle.std.specs.List.{list_any}
-use Rattle.std.proofs.lemmas.Bool.{le-leb, lt-ltb}
+use Rattle.std.proofs.lemmas.Bool.{le-leb, lt-ltb, and_from, or_left, or_right}
 use Rattle.std.proofs.lemmas.List.Elements.{All-nil, All-cons, All-head, All-tail}
 use Rattle.pcm_cells.specs.declared.array.Sense.{Sense}
 use Rattle.bank_shape.specs.declared.BankShape.{BankShape}
 use Rattle.bank_shape.specs.Shape.{lines_in}
 use Rattle.bank_model.specs.Changes.{numbers_from}
 use Rattle.bank_laws.specs.Laws.{log_of}
-use Rattle.bank_laws.proofs.Fates.{or_first, or_second}
-use Rattle.bank_laws.proofs.Walking.{and_both}
 
 -- the senses of a line
 abbrev pub own : {n m : ℕ} → ℕ → List (Sense n m) → List (Sense n m)
@@ -73,7 +71,7 @@ module _ {n m : ℕ} (line : ℕ) where
           let same : s.line ≡ line = eqb-true s.line line is in
           let inside : (nat_le shape.base s.line && nat_lt s.line (shape.base + lines_in shape)) ≡ true =
           subst (λ l. (nat_le shape.base l && nat_lt l (shape.base + lines_in shape)) ≡ true) (sym same)
-          (and_both (nat_le shape.base line) _ (le-leb shape.base line le) (lt-ltb line (shape.base + lines_in shape) lt)) in
+          (and_from (nat_le shape.base line) _ (le-leb shape.base line le) (lt-ltb line (shape.base + lines_in shape) lt)) in
           absurd (cc)
 
 -- the lines from one on are those from it up to their count
@@ -87,9 +85,9 @@ numbers-from from (suc count) line h = by (from == line) refl h (λ k. numbers-f
 
 pub numbers-all : (from count item : ℕ) → item < count → among (from + item) (numbers_from from count) ≡ true
 numbers-all from zero item lt = absurd (omega arith)
-numbers-all from (suc count) zero lt = or_first (from == from + 0) _ (eq-eqb from (from + 0) (omega arith))
+numbers-all from (suc count) zero lt = or_left (from == from + 0) _ (eq-eqb from (from + 0) (omega arith))
 numbers-all from (suc count) (suc item) lt =
-    or_second (from == from + suc item) _ (subst (λ k. among k (numbers_from (from + 1) count) ≡ true) (next from item) (numbers-all (from + 1) count item (omega (arith, lt))))
+    or_right (from == from + suc item) _ (subst (λ k. among k (numbers_from (from + 1) count) ≡ true) (next from item) (numbers-all (from + 1) count item (omega (arith, lt))))
   where
     next : (from item : ℕ) → (from + 1) + item ≡ from + suc item
     next from item = omega arith

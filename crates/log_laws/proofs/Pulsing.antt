@@ -6,12 +6,13 @@ use Rattle.std.proofs.lemmas.List.{append-nil}
 use Rattle.std.proofs.lemmas.List.Elements.{All-head, All-tail, All-weaker, filter-append}
 use Rattle.pcm_cells.specs.declared.array.Sense.{Sense}
 use Rattle.pcm_cells.specs.Device.{counted}
-use Rattle.row_laws.specs.declared.Row.{Row}
-use Rattle.row_laws.specs.Rules.{Rules}
+use Rattle.row_rules.specs.declared.Row.{Row}
+use Rattle.row_rules.specs.declared.Rules.{Rules}
 use Rattle.bank_shape.specs.declared.BankShape.{BankShape}
 use Rattle.bank_model.specs.History.{in_progress}
 use Rattle.bank_model.specs.After.{target_after}
-use Rattle.bank_model.specs.Timing.{Pacing, Timed, core, last_tick}
+use Rattle.bank_shape.specs.declared.pace.Pace.{Pace}
+use Rattle.bank_model.specs.Timing.{TimedEvent, core, last_tick}
 use Rattle.bank_model.specs.Running.{running}
 use Rattle.bank_model.specs.Changes.{change_after, keeping_after, halted_after, line_of_change}
 use Rattle.bank_model.specs.Sensing.{pulses_of}
@@ -22,34 +23,34 @@ use Rattle.log_laws.proofs.Targets.{WorkAfter}
 use Rattle.log_laws.proofs.Firsts.{BeganFrom}
 use Rattle.log_laws.proofs.Owning.{own}
 
-module _ {n m : ℕ} (shape : BankShape) (pace : Pacing) (rules : Rules) (rows : List (Row n)) (wears : Bool) (line : ℕ) (all : List (Timed n m)) where
+module _ {n m : ℕ} (shape : BankShape) (pace : Pace) (rules : Rules) (rows : List (Row n)) (wears : Bool) (line : ℕ) (all : List (TimedEvent n m)) where
   -- the line is that of the line write that is to be begun: the bank's, or that of the change that stands
-  abbrev pub Due : List (Timed n m) → Type 0
+  abbrev pub Due : List (TimedEvent n m) → Type 0
   Due xs =
       ((change_after shape xs ≡ None) × WorkAfter shape (core xs) × (in_progress (core xs) ≡ false) × (target_after shape (core xs) ≡ line))
       ⊎ ((line_of_change shape (change_after shape xs) ≡ Some line) × (keeping_after xs ≡ false) × (halted_after xs ≡ false))
 
   -- or that of the line write that is in progress
-  abbrev pub Busy : List (Timed n m) → Type 0
+  abbrev pub Busy : List (TimedEvent n m) → Type 0
   Busy xs =
       ((change_after shape xs ≡ None) × (in_progress (core xs) ≡ true) × (target_after shape (core xs) ≡ line))
       ⊎ ((line_of_change shape (change_after shape xs) ≡ Some line) × (keeping_after xs ≡ true))
 
   -- the line was torn behind this sense: it is that of the line write that is next
-  pub record Torn (xs : List (Timed n m)) (s : Sense n m) : Type 0 where
+  pub record Torn (xs : List (TimedEvent n m)) (s : Sense n m) : Type 0 where
     pub up : pulses_of xs line ≡ counted s.pulses
     pub few : s.pulses ≤ 2 ^ 64 - 1
     pub due : Due xs
-    pub broken : (pre : List (Timed n m)) (z : Timed n m) → all ≡ pre ++ z ∷ xs → (t : ℕ) → last_tick xs ≤ t → is_broken rules rows s.tick t ≡ true
+    pub broken : (pre : List (TimedEvent n m)) (z : TimedEvent n m) → all ≡ pre ++ z ∷ xs → (t : ℕ) → last_tick xs ≤ t → is_broken rules rows s.tick t ≡ true
 
   -- a line that wasn't sensed has no pulses, and is no target of a line write in progress
-  pub record Unseen (xs : List (Timed n m)) : Type 0 where
+  pub record Unseen (xs : List (TimedEvent n m)) : Type 0 where
     pub none : own line (senses_of xs) ≡ []
     pub unpulsed : pulses_of xs line ≡ 0
     pub untouched : Busy xs → ⊥
 
   -- the senses of a line
-  pub record Seen (xs : List (Timed n m)) (s : Sense n m) (ss : List (Sense n m)) : Type 0 where
+  pub record Seen (xs : List (TimedEvent n m)) (s : Sense n m) (ss : List (Sense n m)) : Type 0 where
     pub is : own line (senses_of xs) ≡ s ∷ ss
     pub first : s.pulses ≡ 0
     pub follow : Follow rules rows wears s ss
@@ -57,17 +58,17 @@ module _ {n m : ℕ} (shape : BankShape) (pace : Pacing) (rules : Rules) (rows :
     pub before : BeganFrom ((last_of s ss).tick) (running shape pace xs)
     pub now : (pulses_of xs line ≡ (last_of s ss).pulses) ⊎ Torn xs (last_of s ss)
 
-  abbrev pub Shown : List (Timed n m) → Type 0
+  abbrev pub Shown : List (TimedEvent n m) → Type 0
   Shown xs = Unseen xs ⊎ ((s : Sense n m) × (ss : List (Sense n m)) × Seen xs s ss)
 
-  own-more : (xs : List (Timed n m)) (x : Timed n m) → own line (senses_of (x ∷ xs)) ≡ own line (senses_of xs) ++ own line x.senses
+  own-more : (xs : List (TimedEvent n m)) (x : TimedEvent n m) → own line (senses_of (x ∷ xs)) ≡ own line (senses_of xs) ++ own line x.senses
   own-more xs x = filter-append (λ (s : Sense n m). s.line == line) (senses_of xs) x.senses
 
-  own-quiet : (xs : List (Timed n m)) (x : Timed n m) → own line x.senses ≡ [] → own line (senses_of (x ∷ xs)) ≡ own line (senses_of xs)
+  own-quiet : (xs : List (TimedEvent n m)) (x : TimedEvent n m) → own line x.senses ≡ [] → own line (senses_of (x ∷ xs)) ≡ own line (senses_of xs)
   own-quiet xs x none = own-more xs x ∙ ap (λ ss. own line (senses_of xs) ++ ss) none ∙ append-nil (own line (senses_of xs))
 
   -- an event that neither senses nor pulses the line
-  pub quiet : (xs : List (Timed n m)) (x : Timed n m) → own line x.senses ≡ [] → pulses_of (x ∷ xs) line ≡ pulses_of xs line → last_tick xs ≤ x.tick
+  pub quiet : (xs : List (TimedEvent n m)) (x : TimedEvent n m) → own line x.senses ≡ [] → pulses_of (x ∷ xs) line ≡ pulses_of xs line → last_tick xs ≤ x.tick
       → ((p : ℕ) → p ≤ last_tick xs → BeganFrom p (running shape pace xs) → BeganFrom p (running shape pace (x ∷ xs)))
       → ((s : Sense n m) → Torn xs s → Torn (x ∷ xs) s) → (Unseen xs → Busy (x ∷ xs) → ⊥)
       → Shown xs → Shown (x ∷ xs)
@@ -92,7 +93,7 @@ module _ {n m : ℕ} (shape : BankShape) (pace : Pacing) (rules : Rules) (rows :
       by (inr t) = inr (torn (last_of v.0 v.1) t)
 
   -- an event that senses the line, once it has pulsed it or not
-  pub noted : (xs : List (Timed n m)) (x : Timed n m) (t : Sense n m) (ts : List (Sense n m)) → own line x.senses ≡ t ∷ ts
+  pub noted : (xs : List (TimedEvent n m)) (x : TimedEvent n m) (t : Sense n m) (ts : List (Sense n m)) → own line x.senses ≡ t ∷ ts
       → All (λ s. (s.tick ≡ x.tick) × (s.pulses ≡ pulses_of (x ∷ xs) line)) (t ∷ ts) → running shape pace (x ∷ xs) ≡ None
       → (Unseen xs → pulses_of (x ∷ xs) line ≡ 0) → ((s : Sense n m) (ss : List (Sense n m)) → Seen xs s ss → follows rules rows wears (last_of s ss) t ≡ true)
       → Shown xs → Shown (x ∷ xs)
@@ -159,7 +160,7 @@ module _ {n m : ℕ} (shape : BankShape) (pace : Pacing) (rules : Rules) (rows :
           )
 
   -- an event that tears the line
-  pub tears : (xs : List (Timed n m)) (x : Timed n m) → own line x.senses ≡ [] → last_tick xs ≤ x.tick → running shape pace (x ∷ xs) ≡ None → (Unseen xs → ⊥)
+  pub tears : (xs : List (TimedEvent n m)) (x : TimedEvent n m) → own line x.senses ≡ [] → last_tick xs ≤ x.tick → running shape pace (x ∷ xs) ≡ None → (Unseen xs → ⊥)
       → ((s : Sense n m) → s.tick ≤ last_tick xs → (pulses_of xs line ≡ s.pulses) ⊎ Torn xs s → Torn (x ∷ xs) s) → Shown xs → Shown (x ∷ xs)
   tears xs x none rises ends unseen torn (inl u) = absurd (unseen u)
   tears xs x none rises ends unseen torn (inr v) =

@@ -1,5 +1,6 @@
 -- A row that was read has a sense of its place at its tick, over which the bytes of the queue give those that were read.
 use Rattle.std.proofs.Common.{◌≡◌, ◌≢◌, ℕ, ◌<◌, ◌≤◌, ◌==◌, ◌⊎◌, inl, inr, Bool, true, false, List, [], ◌∷◌, ◌++◌, Some, None, drop, refl, sym, ap, ◌∙◌, subst, arith, cond, eqb, eq-eqb, eqb-true}
+use Rattle.masked_bytes.proofs.Truth.{neither_first, neither_second}
 use Rattle.std.specs.Prelude.{All, map, unwrap_or}
 use Rattle.std.proofs.lemmas.List.Elements.{All-head}
 use Rattle.pcm_cells.specs.declared.array.Sense.{Sense}
@@ -7,24 +8,24 @@ use Rattle.ecp_line.specs.Reading.{decode}
 use Rattle.masked_bytes.specs.Masked.{laid}
 use Rattle.result_rows.specs.declared.Outcome.{Outcome}
 use Rattle.result_rows.specs.declared.Outcome.TheVariants as out
-use Rattle.row_laws.specs.Serving.{same_bytes}
+use Rattle.row_rules.specs.Serving.{same_bytes}
 use Rattle.bank_shape.specs.declared.BankShape.{BankShape}
-use Rattle.bank_model.specs.declared.answer.Served.{Served}
-use Rattle.bank_model.specs.declared.answer.WriteAnswer.TheVariants as wrote
-use Rattle.bank_model.specs.declared.answer.ReadAnswer.TheVariants as came
-use Rattle.bank_model.specs.declared.answer.Step.TheVariants as did
+use Rattle.bank_shape.specs.declared.answer.Served.{Served}
+use Rattle.bank_shape.specs.declared.answer.WriteAnswer.TheVariants as wrote
+use Rattle.bank_shape.specs.declared.answer.ReadAnswer.TheVariants as came
+use Rattle.bank_shape.specs.declared.answer.Step.TheVariants as did
 use Rattle.bank_model.specs.Events.{Write, Read, Serve, Begin, Iterate, Cut, RowsBelow}
 use Rattle.bank_model.specs.History.{Awaited, waits}
 use Rattle.bank_model.specs.After.{stands_at_after}
 use Rattle.bank_model.specs.Answers.{IsServed}
 use Rattle.bank_model.specs.Adding.{senses_of}
 use Rattle.bank_model.specs.Sensing.{pulses_of, stand_of, IsLaid, IsReadRight}
-use Rattle.bank_model.specs.Timing.{Pacing, Happens, Core, Regs, Timed, core, core_of}
+use Rattle.bank_shape.specs.declared.pace.Pace.{Pace}
+use Rattle.bank_model.specs.Timing.{Happens, Core, Regs, TimedEvent, core, core_of}
 use Rattle.bank_model.specs.Lawful.{Lawful, MayCome}
 use Rattle.bank_laws.specs.Logs.{is_sensed}
 use Rattle.bank_laws.specs.Outcomes.{on_row, outcome_with, outcome_of}
 use Rattle.bank_laws.specs.Standing.{has_wait}
-use Rattle.bank_laws.proofs.Entries.{or_left, or_right}
 use Rattle.bank_laws.proofs.Serves.{same_bytes-same}
 use Rattle.bank_laws.proofs.Settling.{opens}
 use Rattle.bank_laws.proofs.Standing.{stand_apart}
@@ -62,8 +63,8 @@ only-drop mine (w ∷ ws) k = k.1
 only-lacks : (mine : Awaited) (ws : List Awaited) → has_wait ws mine.row ≡ false → OnlyOne mine ws
 only-lacks mine [] lacks = tt
 only-lacks mine (w ∷ ws) lacks = (
-  λ same. absurd (cc (eq-eqb w.row mine.row same, or_left (w.row == mine.row) _ lacks)),
-  only-lacks mine ws (or_right (w.row == mine.row) _ lacks),
+  λ same. absurd (cc (eq-eqb w.row mine.row same, neither_first (w.row == mine.row) _ lacks)),
+  only-lacks mine ws (neither_second (w.row == mine.row) _ lacks),
 )
 
 module _ {n : ℕ} where
@@ -89,11 +90,11 @@ module _ {n : ℕ} where
 
 module _ {n m : ℕ} (shape : BankShape) where
   -- the event answers the row, at its tick
-  abbrev pub AnswersNow : Timed n m → Happens n → ℕ → ℕ → ℕ → List ℕ → Type 0
+  abbrev pub AnswersNow : TimedEvent n m → Happens n → ℕ → ℕ → ℕ → List ℕ → Type 0
   AnswersNow y (Core (Serve answer)) row u p bytes = (answer.row ≡ row) × (y.tick ≡ u) × (answer.place ≡ p) × (answer.bytes ≡ bytes)
   AnswersNow y h row u p bytes = ⊥
 
-  answers-now : (zs : List (Timed n m)) (y : Timed n m) (h : Happens n) (row u p : ℕ) (bytes : List ℕ) → unwrap_or (outcome_with shape zs h y.tick row) (outcome_of shape zs row) ≡ out.Read u p bytes
+  answers-now : (zs : List (TimedEvent n m)) (y : TimedEvent n m) (h : Happens n) (row u p : ℕ) (bytes : List ℕ) → unwrap_or (outcome_with shape zs h y.tick row) (outcome_of shape zs row) ≡ out.Read u p bytes
       → AnswersNow y h row u p bytes ⊎ (outcome_of shape zs row ≡ out.Read u p bytes)
   answers-now zs y (Core (Write at line some given wrote.Accepted)) row u p bytes s = inr s
   answers-now zs y (Core (Write at line some given (wrote.Merged old))) row u p bytes s = inr (not_read old row _ _ u p bytes (λ is. absurd (cc)) s)
@@ -116,9 +117,9 @@ module _ {n m : ℕ} (shape : BankShape) where
   answers-now zs y (Core (Iterate did.Exhausted)) row u p bytes s = inr s
   answers-now zs y (Core (Cut tearing)) row u p bytes s = inr (lost_not_read (has_wait (waits shape (core zs)) row) y.tick _ u p bytes s)
 
-module _ {n m : ℕ} (shape : BankShape) (pace : Pacing) (e : ℕ) (mine : Awaited) where
+module _ {n m : ℕ} (shape : BankShape) (pace : Pace) (e : ℕ) (mine : Awaited) where
   -- a read's row is above those before, so its wait stays the only one
-  only-next : (zs : List (Timed n m)) (y : Timed n m) (h : Happens n) → MayCome shape pace e zs y h → ((row : ℕ) → RowsBelow (core zs) row → mine.row < row) → OnlyOne mine (waits shape (core zs)) → OnlyOne mine (waits shape (core_of h (core zs)))
+  only-next : (zs : List (TimedEvent n m)) (y : TimedEvent n m) (h : Happens n) → MayCome shape pace e zs y h → ((row : ℕ) → RowsBelow (core zs) row → mine.row < row) → OnlyOne mine (waits shape (core zs)) → OnlyOne mine (waits shape (core_of h (core zs)))
   only-next zs y (Core (Write row line bytes given answer)) may above k = k
   only-next zs y (Core (Read row line came.Waiting)) may above k =
       only-push mine _ (waits shape (core zs)) k (λ same. let lt : mine.row < row = above row may.asked in absurd (omega (arith, same, lt)))
@@ -131,7 +132,7 @@ module _ {n m : ℕ} (shape : BankShape) (pace : Pacing) (e : ℕ) (mine : Await
   only-next zs y (Core (Cut tearing)) may above k = tt
 
   -- what the serve of a read sensed
-  record ServedSense (y : Timed n m) (p : ℕ) (bytes : List ℕ) : Type 0 where
+  record ServedSense (y : TimedEvent n m) (p : ℕ) (bytes : List ℕ) : Type 0 where
     sense : Sense n m
     are : y.senses ≡ sense ∷ []
     line : sense.line ≡ p
@@ -139,7 +140,7 @@ module _ {n m : ℕ} (shape : BankShape) (pace : Pacing) (e : ℕ) (mine : Await
     over : bytes ≡ laid mine.kept mine.given (decode e sense.cells)
     owed : bytes ≡ mine.newest
 
-  served_first : (zs : List (Timed n m)) (y : Timed n m) (answer : Served n) (ws : List Awaited) → IsServed shape (core zs) ws answer → OnlyOne mine ws → answer.row ≡ mine.row
+  served_first : (zs : List (TimedEvent n m)) (y : TimedEvent n m) (answer : Served n) (ws : List Awaited) → IsServed shape (core zs) ws answer → OnlyOne mine ws → answer.row ≡ mine.row
       → map (λ s. s.line) y.senses ≡ stand_of shape (core zs) ws → All (λ s. (s.tick ≡ y.tick) × (s.pulses ≡ pulses_of (y ∷ zs) s.line)) y.senses
       → ((s : Sense n m) → y.senses ≡ s ∷ [] → IsLaid e ws answer.bytes s.cells) → ServedSense y answer.place answer.bytes
   served_first zs y answer [] served only same lines all right = absurd served
@@ -155,7 +156,7 @@ module _ {n m : ℕ} (shape : BankShape) (pace : Pacing) (e : ℕ) (mine : Await
         owed = served.2 ∙ ap (λ (w : Awaited). w.newest) is;
       }
 
-  served-sense : (zs : List (Timed n m)) (y : Timed n m) (h : Happens n) (u p : ℕ) (bytes : List ℕ) → MayCome shape pace e zs y h → OnlyOne mine (waits shape (core zs)) → AnswersNow shape y h mine.row u p bytes → (y.tick ≡ u) × ServedSense y p bytes
+  served-sense : (zs : List (TimedEvent n m)) (y : TimedEvent n m) (h : Happens n) (u p : ℕ) (bytes : List ℕ) → MayCome shape pace e zs y h → OnlyOne mine (waits shape (core zs)) → AnswersNow shape y h mine.row u p bytes → (y.tick ≡ u) × ServedSense y p bytes
   served-sense zs y (Core (Serve answer)) u p bytes may only s = (
     s.1,
     subst (λ b. ServedSense y p b) s.3
@@ -169,11 +170,11 @@ module _ {n m : ℕ} (shape : BankShape) (pace : Pacing) (e : ℕ) (mine : Await
   served-sense zs y (Core (Iterate answer)) u p bytes may only s = absurd s
   served-sense zs y (Core (Cut tearing)) u p bytes may only s = absurd s
 
-  module _ (x : Timed n m) (ys : List (Timed n m)) (line : ℕ) (is : x.happens ≡ Core (Read mine.row line came.Waiting)) (waiting : waits shape (core (x ∷ ys)) ≡ waits shape (core ys) ++ mine ∷ []) where
+  module _ (x : TimedEvent n m) (ys : List (TimedEvent n m)) (line : ℕ) (is : x.happens ≡ Core (Read mine.row line came.Waiting)) (waiting : waits shape (core (x ∷ ys)) ≡ waits shape (core ys) ++ mine ∷ []) where
     asked : Lawful shape pace e (x ∷ ys) → RowsBelow (core ys) mine.row
     asked l = (subst (λ h. MayCome shape pace e ys x h) is l.0).asked
 
-    only-in : (mid : List (Timed n m)) → Lawful shape pace e (mid ++ x ∷ ys) → OnlyOne mine (waits shape (core (mid ++ x ∷ ys)))
+    only-in : (mid : List (TimedEvent n m)) → Lawful shape pace e (mid ++ x ∷ ys) → OnlyOne mine (waits shape (core (mid ++ x ∷ ys)))
     only-in [] l =
         subst (λ ws. OnlyOne mine ws) (sym waiting)
         (only-push mine mine (waits shape (core ys)) (only-lacks mine (waits shape (core ys)) ((stand_apart shape (core ys) mine.row (asked l)).waiting_below mine.row (omega arith))) (λ same. refl))
@@ -187,7 +188,7 @@ module _ {n m : ℕ} (shape : BankShape) (pace : Pacing) (e : ℕ) (mine : Await
         omega (arith, lt, le)) (only-in mid l.1)
 
     -- a read that waited and was read has its sense
-    pub read-sensed : (mid : List (Timed n m)) → Lawful shape pace e (mid ++ x ∷ ys) → (u p : ℕ) (bytes : List ℕ) → outcome_of shape (mid ++ x ∷ ys) mine.row ≡ out.Read u p bytes
+    pub read-sensed : (mid : List (TimedEvent n m)) → Lawful shape pace e (mid ++ x ∷ ys) → (u p : ℕ) (bytes : List ℕ) → outcome_of shape (mid ++ x ∷ ys) mine.row ≡ out.Read u p bytes
         → is_sensed (decode e) (senses_of (mid ++ x ∷ ys)) p u (λ under. same_bytes bytes (laid mine.newest mine.given under)) ≡ true
     read-sensed [] l u p bytes s =
         by (answers-now shape ys x (Core (Read mine.row line came.Waiting)) mine.row u p bytes (subst (λ h. unwrap_or (outcome_with shape ys h x.tick mine.row) (outcome_of shape ys mine.row) ≡ out.Read u p bytes) is s))

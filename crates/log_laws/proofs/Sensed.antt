@@ -1,5 +1,6 @@
 -- Each row that was stored or read has its sense in the log.
 use Rattle.std.proofs.Common.{◌≡◌, ℕ, ◌+◌, ◌==◌, ◌&&◌, ◌||◌, inl, inr, Bool, true, false, List, [], ◌∷◌, ◌++◌, refl, sym, ap, ◌∙◌, subst, cond, length, append_assoc}
+use Rattle.std.proofs.lemmas.Bool.{or_left}
 use Rattle.std.specs.Prelude.{filter, nat_le, nat_lt}
 use Rattle.std.specs.List.{list_any}
 use Rattle.std.proofs.lemmas.List.Folds.{list_any-append}
@@ -9,21 +10,22 @@ use Rattle.result_rows.specs.declared.Outcome.{Outcome}
 use Rattle.result_rows.specs.declared.Outcome.TheVariants as out
 use Rattle.masked_bytes.specs.Masked.{laid, gives_all}
 use Rattle.masked_bytes.specs.Entries.{layer_of}
-use Rattle.row_laws.specs.declared.Row.{Row}
-use Rattle.row_laws.specs.declared.Asks.TheVariants.{Reads, Writes}
-use Rattle.row_laws.specs.Queueing.{cover}
-use Rattle.row_laws.specs.Rows as rows
-use Rattle.row_laws.specs.Rows.{each_row}
-use Rattle.row_laws.specs.Serving.{may_have, same_bytes}
+use Rattle.row_rules.specs.declared.Row.{Row}
+use Rattle.row_rules.specs.declared.Asks.TheVariants.{Reads, Writes}
+use Rattle.row_rules.specs.Queueing.{cover}
+use Rattle.row_rules.specs.Rows as rows
+use Rattle.row_rules.specs.Rows.{each_row}
+use Rattle.row_rules.specs.Serving.{may_have, same_bytes}
 use Rattle.bank_shape.specs.declared.BankShape.{BankShape}
 use Rattle.bank_shape.specs.Shape.{lines_in}
-use Rattle.bank_model.specs.declared.answer.WriteAnswer.{WriteAnswer}
-use Rattle.bank_model.specs.declared.answer.ReadAnswer.{ReadAnswer}
-use Rattle.bank_model.specs.declared.answer.ReadAnswer.TheVariants as came
+use Rattle.bank_shape.specs.declared.answer.WriteAnswer.{WriteAnswer}
+use Rattle.bank_shape.specs.declared.answer.ReadAnswer.{ReadAnswer}
+use Rattle.bank_shape.specs.declared.answer.ReadAnswer.TheVariants as came
 use Rattle.bank_model.specs.Events.{Write, Read, Serve, Begin, Iterate, Cut, newest}
 use Rattle.bank_model.specs.History.{Awaited, awaited, queue, waits}
 use Rattle.bank_model.specs.Adding.{senses_of}
-use Rattle.bank_model.specs.Timing.{Pacing, Happens, Core, Regs, Timed, core, core_of}
+use Rattle.bank_shape.specs.declared.pace.Pace.{Pace}
+use Rattle.bank_model.specs.Timing.{Happens, Core, Regs, TimedEvent, core, core_of}
 use Rattle.bank_model.specs.Lawful.{Lawful, MayCome}
 use Rattle.bank_laws.specs.Laws.{IsSized, log_of}
 use Rattle.bank_laws.specs.Logs.{is_sensed, outcome_sensed, has_sense}
@@ -31,7 +33,7 @@ use Rattle.bank_laws.specs.Outcomes.{outcome_of, ended, row_with, rows_from}
 use Rattle.bank_laws.specs.Settling.{AreOpen}
 use Rattle.bank_laws.specs.Ticks.{ends_action}
 use Rattle.bank_laws.proofs.Ending.{Onwards, own_answer, outcome-may, write_outcome}
-use Rattle.bank_laws.proofs.Fates.{Awaits, IsSettled, ReadFate, awaits-new, or_first}
+use Rattle.bank_laws.proofs.Fates.{Awaits, IsSettled, ReadFate, awaits-new}
 use Rattle.bank_laws.proofs.Serves.{idle-waits, may_at, newest_same, onwards_at}
 use Rattle.bank_laws.proofs.Settling.{opens}
 use Rattle.bank_laws.proofs.Walking.{Passes, walk, rows_after}
@@ -55,16 +57,16 @@ waits-some : {n : ℕ} (all full : Bool) (bytes : List ℕ) → ◌≡◌ {A = R
 waits-some true full bytes is = absurd (cc)
 waits-some false full bytes is = refl
 
-module _ {n m : ℕ} (shape : BankShape) (pace : Pacing) (e : ℕ) (all : List (Timed n m)) (log extra : List (Sense n m)) (sized : IsSized shape pace) (l : Lawful shape pace e all) (o : AreOpen shape all) (shown : log_of shape log ≡ senses_of all ++ extra) where
+module _ {n m : ℕ} (shape : BankShape) (pace : Pace) (e : ℕ) (all : List (TimedEvent n m)) (log extra : List (Sense n m)) (sized : IsSized shape pace) (l : Lawful shape pace e all) (o : AreOpen shape all) (shown : log_of shape log ≡ senses_of all ++ extra) where
   -- what the history sensed is in the log
   in-log : (place tick : ℕ) (gives : List ℕ → Bool) → is_sensed (decode e) (senses_of all) place tick gives ≡ true → is_sensed (decode e) log place tick gives ≡ true
   in-log place tick gives there =
       any-filter (λ (s : Sense n m). s.line == place && (s.tick == tick && gives (decode e s.cells))) (λ s. nat_le shape.base s.line && nat_lt s.line (shape.base + lines_in shape)) log
-      (ap (λ ss. is_sensed (decode e) ss place tick gives) shown ∙ list_any-append _ (senses_of all) extra ∙ or_first (is_sensed (decode e) (senses_of all) place tick gives) _ there)
+      (ap (λ ss. is_sensed (decode e) ss place tick gives) shown ∙ list_any-append _ (senses_of all) extra ∙ or_left (is_sensed (decode e) (senses_of all) place tick gives) _ there)
 
-  module _ (later : List (Timed n m)) (x : Timed n m) (ys : List (Timed n m)) (same : all ≡ later ++ x ∷ ys) where
+  module _ (later : List (TimedEvent n m)) (x : TimedEvent n m) (ys : List (TimedEvent n m)) (same : all ≡ later ++ x ∷ ys) where
     whole : Lawful shape pace e (later ++ x ∷ ys)
-    whole = subst (λ (xs : List (Timed n m)). Lawful shape pace e xs) same l
+    whole = subst (λ (xs : List (TimedEvent n m)). Lawful shape pace e xs) same l
 
     written : (row line : ℕ) (bytes : List ℕ) (given : List Bool) (answer : WriteAnswer) (r : Row n) (after : List (Row n)) (k : Outcome n) → x.happens ≡ Core (Write row line bytes given answer)
         → rows.newest (r ∷ rows_from shape all ys) (rows.line_of r.asks) ≡ newest (Write row line bytes given answer ∷ core ys) line
@@ -73,7 +75,7 @@ module _ {n m : ℕ} (shape : BankShape) (pace : Pacing) (e : ℕ) (all : List (
     written row line bytes given answer r after out.Unset is newest_is may of = refl
     written row line bytes given answer r after (out.Stored u p) is newest_is may of =
         in-log p u (same_bytes (rows.newest (r ∷ rows_from shape all ys) (rows.line_of r.asks)))
-        (subst (λ (xs : List (Timed n m)). is_sensed (decode e) (senses_of xs) p u (same_bytes (rows.newest (r ∷ rows_from shape all ys) (rows.line_of r.asks))) ≡ true) (sym same)
+        (subst (λ (xs : List (TimedEvent n m)). is_sensed (decode e) (senses_of xs) p u (same_bytes (rows.newest (r ∷ rows_from shape all ys) (rows.line_of r.asks))) ≡ true) (sym same)
         (subst (λ b. is_sensed (decode e) (senses_of (later ++ x ∷ ys)) p u (same_bytes b) ≡ true) (sym newest_is)
         (stored-sensed shape pace e later x ys row line bytes given answer is whole u p (sym (ap (λ xs. outcome_of shape xs row) same) ∙ of))))
     written row line bytes given answer r after (out.Merged at) is newest_is may of = refl
@@ -95,7 +97,7 @@ module _ {n m : ℕ} (shape : BankShape) (pace : Pacing) (e : ℕ) (all : List (
         let covered : cover x.tick line (rows_from shape all ys) (rows_after shape all later) ≡ (layer_of (queue shape (core ys)) line).given =
         cover-same shape pace e all sized l o later x ys same line (ap ends_action is) (sym (ap gives_all layer) ∙ some) ∙ sym layer in
         in-log p u (λ under. same_bytes bytes (laid (rows.newest (rows_from shape all ys) line) (cover x.tick line (rows_from shape all ys) (rows_after shape all later)) under))
-        (subst (λ (xs : List (Timed n m)). is_sensed (decode e) (senses_of xs) p u (λ under. same_bytes bytes (laid (rows.newest (rows_from shape all ys) line) (cover x.tick line (rows_from shape all ys) (rows_after shape all later)) under)) ≡ true) (sym same)
+        (subst (λ (xs : List (TimedEvent n m)). is_sensed (decode e) (senses_of xs) p u (λ under. same_bytes bytes (laid (rows.newest (rows_from shape all ys) line) (cover x.tick line (rows_from shape all ys) (rows_after shape all later)) under)) ≡ true) (sym same)
         (subst (λ c. is_sensed (decode e) (senses_of (later ++ x ∷ ys)) p u (λ under. same_bytes bytes (laid (rows.newest (rows_from shape all ys) line) c under)) ≡ true) (sym covered)
         (subst (λ b. is_sensed (decode e) (senses_of (later ++ x ∷ ys)) p u (λ under. same_bytes bytes (laid b (layer_of (queue shape (core ys)) line).given under)) ≡ true) (sym newest_is)
         (read-sensed shape pace e mine x ys line is (ap (λ h. waits shape (core_of h (core ys))) is) later whole u p bytes (sym (ap (λ xs. outcome_of shape xs row) same) ∙ of)))))

@@ -1,7 +1,8 @@
 -- Each event of a lawful history keeps what the senses of a line show.
 use Rattle.std.proofs.Common.{◌≡◌, ℕ, ◌+◌, ◌<◌, ◌≤◌, ◌==◌, ◌&&◌, ◌||◌, ◌⊎◌, inl, inr, Bool, true, false, List, [], ◌∷◌, ◌++◌, Option, Some, None, refl, sym, ap, ◌∙◌, subst, arith, cond, eq-eqb, eqb-true, ◌-◌, ◌^◌}
+use Rattle.masked_bytes.proofs.Truth.{and_first}
 use Rattle.std.specs.Prelude.{All, IfSome, IsTrue, is_some, map, nat_le, nat_lt}
-use Rattle.std.proofs.lemmas.Bool.{le-leb, le-ltb}
+use Rattle.std.proofs.lemmas.Bool.{le-leb, le-ltb, and_right, or_left, or_right}
 use Rattle.std.proofs.lemmas.List.Elements.{All-head}
 use Rattle.std.proofs.lemmas.List.Folds.{list_any-append}
 use Rattle.pcm_cells.specs.declared.array.Sense.{Sense}
@@ -9,16 +10,17 @@ use Rattle.pcm_cells.specs.Device.{counted}
 use Rattle.bank_shape.specs.Pausing.{is_cancelling}
 use Rattle.bank_shape.specs.declared.BankShape.{BankShape}
 use Rattle.bank_shape.specs.Shape.{controls_of, controls_from}
-use Rattle.bank_model.specs.declared.answer.Served.{Served}
-use Rattle.bank_model.specs.declared.answer.Keep.{Keep}
-use Rattle.bank_model.specs.declared.answer.Keep.TheVariants as keep
-use Rattle.bank_model.specs.declared.answer.Step.{Step}
-use Rattle.bank_model.specs.declared.clock.Doing.TheVariants.{Iterating}
-use Rattle.bank_model.specs.declared.clock.Action.{Action}
+use Rattle.bank_shape.specs.declared.answer.Served.{Served}
+use Rattle.bank_shape.specs.declared.answer.Keep.{Keep}
+use Rattle.bank_shape.specs.declared.answer.Keep.TheVariants as keep
+use Rattle.bank_shape.specs.declared.answer.Step.{Step}
+use Rattle.bank_shape.specs.declared.clock.Doing.TheVariants.{Iterating}
+use Rattle.bank_shape.specs.declared.clock.Action.{Action}
 use Rattle.bank_model.specs.Events.{Event, Write, Read, Serve, Begin, Iterate, Cut}
 use Rattle.bank_model.specs.History.{queue, due_after, has_exhausted, in_progress}
 use Rattle.bank_model.specs.After.{target_after, sources_of, work_after}
-use Rattle.bank_model.specs.Timing.{Pacing, Happens, Core, Regs, Keeping, KeepBegin, KeepIterate, KeepCut, Timed, is_doing, core, core_of, last_tick}
+use Rattle.bank_shape.specs.declared.pace.Pace.{Pace}
+use Rattle.bank_model.specs.Timing.{Happens, Core, Regs, Keeping, KeepBegin, KeepIterate, KeepCut, TimedEvent, is_doing, core, core_of, last_tick}
 use Rattle.bank_model.specs.Running.{tears_bank, running, running_at, chosen_after, left, left_by}
 use Rattle.bank_model.specs.Changes.{change_after, change_by, written_by, keeping_after, keeping_by, halted_after, halted_by, line_of_change, all_controls}
 use Rattle.bank_model.specs.Sensing.{is_at, most_steps, pulses_of, read_again, kept_sensed}
@@ -30,8 +32,6 @@ use Rattle.bank_laws.specs.Settling.{AreOpen}
 use Rattle.bank_laws.specs.Ticks.{ends_action}
 use Rattle.bank_laws.proofs.Changing.{changed-idle, halted-stops}
 use Rattle.bank_laws.proofs.Entries.{either}
-use Rattle.bank_laws.proofs.Fates.{or_first, or_second}
-use Rattle.bank_laws.proofs.Pairs.{and_left}
 use Rattle.bank_laws.proofs.Settling.{lawful_before}
 use Rattle.bank_laws.proofs.Ticks.{last_tick-rises}
 use Rattle.bank_laws.proofs.Waiting.{may_all}
@@ -89,31 +89,27 @@ tears-none : (change : Option ℕ) (action : Option Action) → true ≡ tears_b
 tears-none None action is = refl
 tears-none (Some item) action is = absurd (cc)
 
-both-false : (a b : Bool) → b ≡ false → (a && b) ≡ false
-both-false true b h = h
-both-false false b h = refl
-
-module _ {n m : ℕ} (e : ℕ) (shape : BankShape) (pace : Pacing) (wears : Bool) (line : ℕ) (wears_is : wears ≡ nat_lt line (controls_from shape)) (all : List (Timed n m)) (sized : IsSized shape pace) (lawful : Lawful shape pace e all) (open_rows : AreOpen shape all) (pre : List (Timed n m)) (x : Timed n m) (xs : List (Timed n m)) (same : all ≡ pre ++ x ∷ xs) where
-  abbrev Known : List (Timed n m) → Type 0
+module _ {n m : ℕ} (e : ℕ) (shape : BankShape) (pace : Pace) (wears : Bool) (line : ℕ) (wears_is : wears ≡ nat_lt line (controls_from shape)) (all : List (TimedEvent n m)) (sized : IsSized shape pace) (lawful : Lawful shape pace e all) (open_rows : AreOpen shape all) (pre : List (TimedEvent n m)) (x : TimedEvent n m) (xs : List (TimedEvent n m)) (same : all ≡ pre ++ x ∷ xs) where
+  abbrev Known : List (TimedEvent n m) → Type 0
   Known zs = Shown shape pace (rules_of e shape pace) (rows_from shape all all) wears line all zs
 
-  abbrev TornHere : List (Timed n m) → Sense n m → Type 0
+  abbrev TornHere : List (TimedEvent n m) → Sense n m → Type 0
   TornHere zs s = Torn shape pace (rules_of e shape pace) (rows_from shape all all) wears line all zs s
 
-  abbrev UnseenHere : List (Timed n m) → Type 0
+  abbrev UnseenHere : List (TimedEvent n m) → Type 0
   UnseenHere zs = Unseen shape pace (rules_of e shape pace) (rows_from shape all all) wears line all zs
 
-  abbrev SeenHere : List (Timed n m) → Sense n m → List (Sense n m) → Type 0
+  abbrev SeenHere : List (TimedEvent n m) → Sense n m → List (Sense n m) → Type 0
   SeenHere zs s ss = Seen shape pace (rules_of e shape pace) (rows_from shape all all) wears line all zs s ss
 
-  abbrev DueHere : List (Timed n m) → Type 0
+  abbrev DueHere : List (TimedEvent n m) → Type 0
   DueHere zs = Due shape pace (rules_of e shape pace) (rows_from shape all all) wears line all zs
 
-  abbrev BusyHere : List (Timed n m) → Type 0
+  abbrev BusyHere : List (TimedEvent n m) → Type 0
   BusyHere zs = Busy shape pace (rules_of e shape pace) (rows_from shape all all) wears line all zs
 
   here : Lawful shape pace e (x ∷ xs)
-  here = lawful_before shape pace e pre (x ∷ xs) (subst (λ (zs : List (Timed n m)). Lawful shape pace e zs) same lawful)
+  here = lawful_before shape pace e pre (x ∷ xs) (subst (λ (zs : List (TimedEvent n m)). Lawful shape pace e zs) same lawful)
 
   rises : last_tick xs ≤ x.tick
   rises = last_tick-rises shape pace e xs x sized.read sized.iter here
@@ -242,7 +238,7 @@ module _ {n m : ℕ} (e : ℕ) (shape : BankShape) (pace : Pacing) (wears : Bool
 
   none_worn : (t : Sense n m) → t.tick ≡ x.tick → WorkAfter shape (core xs) → IsTrue (ends_action x.happens) → Fine t
   none_worn t at work ends =
-      both-false wears (worn_below t.tick (rows_from shape all all))
+      and_right wears (worn_below t.tick (rows_from shape all all))
       (subst (λ k. worn_below k (rows_from shape all all) ≡ false) (sym at)
       (unworn shape pace e all pre x xs sized.read sized.iter lawful open_rows same (unexhausted (has_exhausted (core xs)) (due_after shape (core xs)) (queue shape (core xs)) work) ends))
 
@@ -263,7 +259,7 @@ module _ {n m : ℕ} (e : ℕ) (shape : BankShape) (pace : Pacing) (wears : Bool
       up_by torn (inl still) = same_follows (rules_of e shape pace) (rows_from shape all all) wears (last_of s ss) t (sym (pulses ∙ torn.up ∙ still))
       up_by torn (inr more) =
           step_follows (rules_of e shape pace) (rows_from shape all all) wears (last_of s ss) t (sym (pulses ∙ torn.up ∙ more))
-          (or_second (nat_le ((last_of s ss).tick + pace.iter) t.tick) _ (torn.broken pre x same t.tick (let up : last_tick xs ≤ x.tick = rises in omega (arith, up, at))))
+          (or_right (nat_le ((last_of s ss).tick + pace.iter) t.tick) _ (torn.broken pre x same t.tick (let up : last_tick xs ≤ x.tick = rises in omega (arith, up, at))))
           (fine torn.due)
 
       by : (pulses_of xs line ≡ (last_of s ss).pulses) ⊎ TornHere xs (last_of s ss) → follows (rules_of e shape pace) (rows_from shape all all) wears (last_of s ss) t ≡ true
@@ -289,7 +285,7 @@ module _ {n m : ℕ} (e : ℕ) (shape : BankShape) (pace : Pacing) (wears : Bool
   -- an iteration ends an iteration's time behind the last sense
   iterated : (t : Sense n m) → t.tick ≡ x.tick → running_at shape pace xs x.tick ≡ Some (record { doing = Iterating; first = x.first }) → x.tick ≡ x.first + pace.iter → (s : Sense n m) (ss : List (Sense n m)) → SeenHere xs s ss
       → (nat_le ((last_of s ss).tick + pace.iter) t.tick || is_broken (rules_of e shape pace) (rows_from shape all all) (last_of s ss).tick t.tick) ≡ true
-  iterated t tick runs end s ss seen = or_first (nat_le ((last_of s ss).tick + pace.iter) t.tick) _ (le-leb ((last_of s ss).tick + pace.iter) t.tick apart)
+  iterated t tick runs end s ss seen = or_left (nat_le ((last_of s ss).tick + pace.iter) t.tick) _ (le-leb ((last_of s ss).tick + pace.iter) t.tick apart)
     where
       began : (last_of s ss).tick ≤ x.first
       began = subst (λ (r : Option Action). BeganFrom ((last_of s ss).tick) r) runs (began_by ((last_of s ss).tick) seen.below seen.before)
@@ -313,7 +309,7 @@ module _ {n m : ℕ} (e : ℕ) (shape : BankShape) (pace : Pacing) (wears : Bool
       let missing : among line (map (λ s. s.line) x.senses) ≡ false = own-none line x.senses none in
       let there : among line (map (λ s. s.line) x.senses) ≡ true =
       ap (among line) lines ∙ list_any-append (λ l. l == line) sources (target_after shape (core xs) ∷ [])
-      ∙ or_second (among line sources) _ (or_first (target_after shape (core xs) == line) false (eq-eqb (target_after shape (core xs)) line at)) in
+      ∙ or_right (among line sources) _ (or_left (target_after shape (core xs) == line) false (eq-eqb (target_after shape (core xs)) line at)) in
       absurd (cc)
 
   -- behind a step of the bank's line write none of a change is in progress, and the target is the same
@@ -439,7 +435,7 @@ module _ {n m : ℕ} (e : ℕ) (shape : BankShape) (pace : Pacing) (wears : Bool
       broken : (s : Sense n m) (ss : List (Sense n m)) → SeenHere xs s ss
           → (nat_le ((last_of s ss).tick + pace.iter) t.tick || is_broken (rules_of e shape pace) (rows_from shape all all) (last_of s ss).tick t.tick) ≡ true
       broken s ss seen =
-          or_second (nat_le ((last_of s ss).tick + pace.iter) t.tick) _
+          or_right (nat_le ((last_of s ss).tick + pace.iter) t.tick) _
           (cut-here shape (rules_of e shape pace) all pre x xs tearing (last_of s ss).tick t.tick same is whole.0
           (let le : (last_of s ss).tick ≤ last_tick xs = seen.below in let up : last_tick xs ≤ x.tick = rises in omega (arith, le, up)) (let at : t.tick ≡ x.tick = first.0 in omega (arith, at)))
 
@@ -501,7 +497,7 @@ module _ {n m : ℕ} (e : ℕ) (shape : BankShape) (pace : Pacing) (wears : Bool
                 due = next busy;
                 broken = λ later z its to after.
                     cut-broken shape (rules_of e shape pace) pace e all later z x xs tearing s.tick to lawful its is
-                    (λ c. and_left (is_cancelling pace.policy) _ ((may (Cut tearing) is).on_time.2 c)) (let up : last_tick xs ≤ x.tick = rises in omega (arith, up, le)) after;
+                    (λ c. and_first (is_cancelling pace.policy) _ ((may (Cut tearing) is).on_time.2 c)) (let up : last_tick xs ≤ x.tick = rises in omega (arith, up, le)) after;
               }
 
   -- The steps of the writing of a change
@@ -644,7 +640,7 @@ module _ {n m : ℕ} (e : ℕ) (shape : BankShape) (pace : Pacing) (wears : Bool
               halted_is (Regs (KeepCut tearing)) is ∙ runs_on (halted_after xs) (halted-stops shape pace e xs here.1),
             );
             broken = λ later z its to after.
-                read-behind shape (rules_of e shape pace) pace e all later z x xs s.tick to lawful its (and_left (is_cancelling pace.policy) _ comes.on_time.3) comes.on_time.2
+                read-behind shape (rules_of e shape pace) pace e all later z x xs s.tick to lawful its (and_first (is_cancelling pace.policy) _ comes.on_time.3) comes.on_time.2
                 (let up : last_tick xs ≤ x.tick = rises in omega (arith, up, le)) after;
           }
 

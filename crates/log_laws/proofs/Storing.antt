@@ -1,5 +1,6 @@
 -- A row that was stored has a sense of its place at its tick, which reads as the newest bytes of its line.
 use Rattle.std.proofs.Common.{◌≡◌, ℕ, ◌==◌, ◌⊎◌, inl, inr, Bool, true, false, List, [], ◌∷◌, ◌++◌, Some, None, refl, sym, ap, ◌∙◌, subst, cond, eqb, eq-eqb, eqb-true}
+use Rattle.std.proofs.lemmas.Bool.{and_from, or_left, or_right}
 use Rattle.std.specs.Prelude.{All, map, unwrap_or}
 use Rattle.std.proofs.lemmas.List.Elements.{All-head}
 use Rattle.std.proofs.lemmas.List.Folds.{list_any-append}
@@ -8,29 +9,28 @@ use Rattle.pcm_cells.specs.declared.row.Cells.{Cells}
 use Rattle.ecp_line.specs.Reading.{decode}
 use Rattle.result_rows.specs.declared.Outcome.{Outcome}
 use Rattle.result_rows.specs.declared.Outcome.TheVariants as out
-use Rattle.row_laws.specs.Answers.{is_stored}
-use Rattle.row_laws.specs.Serving.{same_bytes}
+use Rattle.row_rules.specs.Answers.{is_stored}
+use Rattle.row_rules.specs.Serving.{same_bytes}
 use Rattle.bank_shape.specs.declared.BankShape.{BankShape}
 use Rattle.bank_shape.specs.declared.Work.{Work}
 use Rattle.bank_shape.specs.declared.Work.TheVariants.{Nothing, Store, Copy}
-use Rattle.bank_model.specs.declared.answer.WriteAnswer.{WriteAnswer}
-use Rattle.bank_model.specs.declared.answer.WriteAnswer.TheVariants as wrote
-use Rattle.bank_model.specs.declared.answer.ReadAnswer.TheVariants as came
-use Rattle.bank_model.specs.declared.answer.Step.TheVariants as did
+use Rattle.bank_shape.specs.declared.answer.WriteAnswer.{WriteAnswer}
+use Rattle.bank_shape.specs.declared.answer.WriteAnswer.TheVariants as wrote
+use Rattle.bank_shape.specs.declared.answer.ReadAnswer.TheVariants as came
+use Rattle.bank_shape.specs.declared.answer.Step.TheVariants as did
 use Rattle.bank_model.specs.Events.{Event, Write, Read, Serve, Begin, Iterate, Cut, newest, up_to, line_of_row}
 use Rattle.bank_model.specs.History.{waits}
 use Rattle.bank_model.specs.After.{array_line_after, slot_of_work, sources_of, target_after, work_after}
 use Rattle.bank_model.specs.Answers.{IsDone}
 use Rattle.bank_model.specs.Adding.{senses_of}
 use Rattle.bank_model.specs.Sensing.{pulses_of, IsReadRight}
-use Rattle.bank_model.specs.Timing.{Pacing, Happens, Core, Regs, Timed, core}
+use Rattle.bank_shape.specs.declared.pace.Pace.{Pace}
+use Rattle.bank_model.specs.Timing.{Happens, Core, Regs, TimedEvent, core}
 use Rattle.bank_model.specs.Lawful.{Lawful, MayCome}
 use Rattle.bank_laws.specs.Logs.{is_sensed}
 use Rattle.bank_laws.specs.Outcomes.{on_row, outcome_with, outcome_of}
 use Rattle.bank_laws.specs.Standing.{has_wait}
-use Rattle.bank_laws.proofs.Fates.{or_first, or_second}
 use Rattle.bank_laws.proofs.Serves.{same_bytes-same}
-use Rattle.bank_laws.proofs.Walking.{and_both}
 use Rattle.bank_laws.proofs.Wears.{not_stored, lost_not_stored}
 use Rattle.log_laws.proofs.Outing.{line-in, up_to-in, unstored-first}
 
@@ -41,18 +41,18 @@ one_sense (s ∷ []) at is = (s, refl, cc)
 one_sense (s ∷ t ∷ ss) at is = absurd (cc)
 
 -- a sense that the last event made
-pub now-sensed : {n m : ℕ} (read_as : Cells n m → List ℕ) (xs : List (Timed n m)) (y : Timed n m) (s : Sense n m) (place tick : ℕ) (gives : List ℕ → Bool) → y.senses ≡ s ∷ [] → s.line ≡ place → s.tick ≡ tick → gives (read_as s.cells) ≡ true
+pub now-sensed : {n m : ℕ} (read_as : Cells n m → List ℕ) (xs : List (TimedEvent n m)) (y : TimedEvent n m) (s : Sense n m) (place tick : ℕ) (gives : List ℕ → Bool) → y.senses ≡ s ∷ [] → s.line ≡ place → s.tick ≡ tick → gives (read_as s.cells) ≡ true
     → is_sensed read_as (senses_of (y ∷ xs)) place tick gives ≡ true
 now-sensed read_as xs y s place tick gives are line at reads =
     list_any-append _ (senses_of xs) y.senses
-    ∙ or_second (is_sensed read_as (senses_of xs) place tick gives) _
+    ∙ or_right (is_sensed read_as (senses_of xs) place tick gives) _
     (subst (λ ss. is_sensed read_as ss place tick gives ≡ true) (sym are)
-    (or_first _ false (and_both (s.line == place) _ (eq-eqb s.line place line) (and_both (s.tick == tick) _ (eq-eqb s.tick tick at) reads))))
+    (or_left _ false (and_from (s.line == place) _ (eq-eqb s.line place line) (and_from (s.tick == tick) _ (eq-eqb s.tick tick at) reads))))
 
 -- or an earlier one
-pub older-sensed : {n m : ℕ} (read_as : Cells n m → List ℕ) (xs : List (Timed n m)) (y : Timed n m) (place tick : ℕ) (gives : List ℕ → Bool) → is_sensed read_as (senses_of xs) place tick gives ≡ true
+pub older-sensed : {n m : ℕ} (read_as : Cells n m → List ℕ) (xs : List (TimedEvent n m)) (y : TimedEvent n m) (place tick : ℕ) (gives : List ℕ → Bool) → is_sensed read_as (senses_of xs) place tick gives ≡ true
     → is_sensed read_as (senses_of (y ∷ xs)) place tick gives ≡ true
-older-sensed read_as xs y place tick gives there = list_any-append _ (senses_of xs) y.senses ∙ or_first (is_sensed read_as (senses_of xs) place tick gives) _ there
+older-sensed read_as xs y place tick gives there = list_any-append _ (senses_of xs) y.senses ∙ or_left (is_sensed read_as (senses_of xs) place tick gives) _ there
 
 module _ {n : ℕ} (shape : BankShape) (h : List (Event n)) where
   -- a line write that ends with a store was a store, and has its target as place
@@ -72,12 +72,12 @@ stored_now {n} at row tick place o u p s = by (eqb at row) refl s
 
 module _ {n m : ℕ} (shape : BankShape) where
   -- the event stores the row, at its tick
-  abbrev pub StoresNow : List (Timed n m) → Timed n m → Happens n → ℕ → ℕ → ℕ → Type 0
+  abbrev pub StoresNow : List (TimedEvent n m) → TimedEvent n m → Happens n → ℕ → ℕ → ℕ → Type 0
   StoresNow zs y (Core (Begin (did.Stored at place))) row u p = (at ≡ row) × (y.tick ≡ u) × (place ≡ p)
   StoresNow zs y (Core (Iterate (did.Stored at place))) row u p = (at ≡ row) × (y.tick ≡ u) × (place ≡ p)
   StoresNow zs y h row u p = ⊥
 
-  stores-now : (zs : List (Timed n m)) (y : Timed n m) (h : Happens n) (row u p : ℕ) → unwrap_or (outcome_with shape zs h y.tick row) (outcome_of shape zs row) ≡ out.Stored u p
+  stores-now : (zs : List (TimedEvent n m)) (y : TimedEvent n m) (h : Happens n) (row u p : ℕ) → unwrap_or (outcome_with shape zs h y.tick row) (outcome_of shape zs row) ≡ out.Stored u p
       → StoresNow zs y h row u p ⊎ (outcome_of shape zs row ≡ out.Stored u p)
   stores-now zs y (Core (Write at line bytes given wrote.Accepted)) row u p s = inr s
   stores-now zs y (Core (Write at line bytes given (wrote.Merged old))) row u p s = inr (not_stored old row _ _ u p (λ is. absurd (cc)) s)
@@ -100,16 +100,16 @@ module _ {n m : ℕ} (shape : BankShape) where
   stores-now zs y (Core (Iterate did.Exhausted)) row u p s = inr s
   stores-now zs y (Core (Cut tearing)) row u p s = inr (lost_not_stored (has_wait (waits shape (core zs)) row) y.tick _ u p s)
 
-module _ {n m : ℕ} (shape : BankShape) (pace : Pacing) (e : ℕ) where
+module _ {n m : ℕ} (shape : BankShape) (pace : Pace) (e : ℕ) where
   -- what the event of a store sensed
-  record StoredSense (zs : List (Timed n m)) (y : Timed n m) (row p : ℕ) : Type 0 where
+  record StoredSense (zs : List (TimedEvent n m)) (y : TimedEvent n m) (row p : ℕ) : Type 0 where
     sense : Sense n m
     are : y.senses ≡ sense ∷ []
     line : sense.line ≡ p
     tick : sense.tick ≡ y.tick
     right : decode e sense.cells ≡ newest (up_to row (core zs)) (line_of_row row (core zs))
 
-  the_sense : (zs : List (Timed n m)) (y : Timed n m) (row p : ℕ) → map (λ s. s.line) y.senses ≡ p ∷ [] → All (λ s. (s.tick ≡ y.tick) × (s.pulses ≡ pulses_of (y ∷ zs) s.line)) y.senses
+  the_sense : (zs : List (TimedEvent n m)) (y : TimedEvent n m) (row p : ℕ) → map (λ s. s.line) y.senses ≡ p ∷ [] → All (λ s. (s.tick ≡ y.tick) × (s.pulses ≡ pulses_of (y ∷ zs) s.line)) y.senses
       → ((s : Sense n m) → y.senses ≡ s ∷ [] → decode e s.cells ≡ newest (up_to row (core zs)) (line_of_row row (core zs))) → StoredSense zs y row p
   the_sense zs y row p lines all right =
       let k = one_sense y.senses p lines in
@@ -121,7 +121,7 @@ module _ {n m : ℕ} (shape : BankShape) (pace : Pacing) (e : ℕ) where
         right = right k.0 k.1;
       }
 
-  stored-sense : (zs : List (Timed n m)) (y : Timed n m) (h : Happens n) (row u p : ℕ) → MayCome shape pace e zs y h → StoresNow shape zs y h row u p → StoredSense zs y row p
+  stored-sense : (zs : List (TimedEvent n m)) (y : TimedEvent n m) (h : Happens n) (row u p : ℕ) → MayCome shape pace e zs y h → StoresNow shape zs y h row u p → StoredSense zs y row p
   stored-sense zs y (Core (Begin (did.Stored at place))) row u p may s =
       let k = done-target shape (core zs) (work_after shape (core zs)) at place may.may.1 in
       the_sense zs y row p (may.lines ∙ ap (λ ls. ls ++ target_after shape (core zs) ∷ []) k.0 ∙ ap (λ l. l ∷ []) (sym k.1 ∙ s.2)) may.senses
@@ -148,7 +148,7 @@ module _ {n m : ℕ} (shape : BankShape) (pace : Pacing) (e : ℕ) where
   stored-sense zs y (Core (Serve answer)) row u p may s = absurd s
   stored-sense zs y (Core (Cut tearing)) row u p may s = absurd s
 
-  stored-tick : (zs : List (Timed n m)) (y : Timed n m) (h : Happens n) (row u p : ℕ) → StoresNow shape zs y h row u p → y.tick ≡ u
+  stored-tick : (zs : List (TimedEvent n m)) (y : TimedEvent n m) (h : Happens n) (row u p : ℕ) → StoresNow shape zs y h row u p → y.tick ≡ u
   stored-tick zs y (Core (Begin (did.Stored at place))) row u p s = s.1
   stored-tick zs y (Core (Iterate (did.Stored at place))) row u p s = s.1
   stored-tick zs y (Core (Begin did.More)) row u p s = absurd s
@@ -166,7 +166,7 @@ module _ {n m : ℕ} (shape : BankShape) (pace : Pacing) (e : ℕ) where
   stored-tick zs y (Core (Cut tearing)) row u p s = absurd s
 
   -- a write that was stored has its sense
-  pub stored-sensed : (mid : List (Timed n m)) (x : Timed n m) (ys : List (Timed n m)) (row line : ℕ) (bytes : List ℕ) (given : List Bool) (answer : WriteAnswer) → x.happens ≡ Core (Write row line bytes given answer)
+  pub stored-sensed : (mid : List (TimedEvent n m)) (x : TimedEvent n m) (ys : List (TimedEvent n m)) (row line : ℕ) (bytes : List ℕ) (given : List Bool) (answer : WriteAnswer) → x.happens ≡ Core (Write row line bytes given answer)
       → Lawful shape pace e (mid ++ x ∷ ys) → (u p : ℕ) → outcome_of shape (mid ++ x ∷ ys) row ≡ out.Stored u p
       → is_sensed (decode e) (senses_of (mid ++ x ∷ ys)) p u (same_bytes (newest (Write row line bytes given answer ∷ core ys) line)) ≡ true
   stored-sensed [] x ys row line bytes given answer is l u p s =

@@ -1,28 +1,29 @@
 -- What the rows show of a line's writes in the queue as a read arrives is what the queue's entries give.
 use Rattle.std.proofs.Common.{◌≡◌, ℕ, ◌<◌, ◌≤◌, ◌==◌, ◌&&◌, ◌⊎◌, inl, inr, Bool, true, false, List, [], ◌∷◌, ◌++◌, refl, sym, ap, ◌∙◌, subst, arith, cond, eqb-true, append_assoc}
 use Rattle.std.specs.List.{list_any}
-use Rattle.std.proofs.lemmas.Bool.{le-leb, lt-leb}
+use Rattle.std.proofs.lemmas.Bool.{le-leb, lt-leb, and_right, or_from}
 use Rattle.std.proofs.lemmas.List.Folds.{list_any-append}
 use Rattle.result_rows.specs.declared.Outcome.{Outcome}
 use Rattle.result_rows.specs.declared.Outcome.TheVariants as out
 use Rattle.masked_bytes.specs.Masked.{joined, none_given, gives_all}
-use Rattle.row_laws.specs.declared.Row.{Row}
-use Rattle.row_laws.specs.Answers.{accepts, is_stored, stored_by}
-use Rattle.row_laws.specs.Rows.{write_of}
-use Rattle.row_laws.specs.Queueing.{unstored, cover}
+use Rattle.row_rules.specs.declared.Row.{Row}
+use Rattle.row_rules.specs.Answers.{accepts, is_stored, stored_by}
+use Rattle.row_rules.specs.Rows.{write_of}
+use Rattle.row_rules.specs.Queueing.{unstored, cover}
 use Rattle.bank_shape.specs.declared.BankShape.{BankShape}
-use Rattle.bank_model.specs.declared.answer.WriteAnswer.{WriteAnswer}
-use Rattle.bank_model.specs.declared.answer.WriteAnswer.TheVariants as wrote
+use Rattle.bank_shape.specs.declared.answer.WriteAnswer.{WriteAnswer}
+use Rattle.bank_shape.specs.declared.answer.WriteAnswer.TheVariants as wrote
 use Rattle.bank_model.specs.Events.{Write, Read, Serve, Begin, Iterate, Cut}
 use Rattle.bank_model.specs.History.{queue}
 use Rattle.bank_model.specs.Sensing.{most_steps}
-use Rattle.bank_model.specs.Timing.{Pacing, Happens, Core, Regs, Timed, core, core_of, last_tick}
+use Rattle.bank_shape.specs.declared.pace.Pace.{Pace}
+use Rattle.bank_model.specs.Timing.{Happens, Core, Regs, TimedEvent, core, core_of, last_tick}
 use Rattle.bank_model.specs.Lawful.{Lawful, MayCome}
 use Rattle.bank_laws.specs.Laws.{IsSized}
 use Rattle.bank_laws.specs.Outcomes.{outcome_of, ended, row_with, rows_from}
 use Rattle.bank_laws.specs.Settling.{AreOpen}
 use Rattle.bank_laws.specs.Ticks.{ends_action}
-use Rattle.bank_laws.proofs.Entries.{either, or_none}
+use Rattle.bank_laws.proofs.Entries.{either}
 use Rattle.bank_laws.proofs.Ending.{Onwards, write_outcome, outcome-accepts}
 use Rattle.bank_laws.proofs.Pending.{stored_above}
 use Rattle.bank_laws.proofs.Serves.{may_at, onwards_at}
@@ -30,7 +31,7 @@ use Rattle.bank_laws.proofs.Settling.{opens, above_all, lawful_before, stays}
 use Rattle.bank_laws.proofs.Ticks.{last_tick-rises}
 use Rattle.bank_laws.proofs.Waiting.{may_all}
 use Rattle.bank_laws.proofs.Walking.{rows_after}
-use Rattle.bank_laws.proofs.Wears.{and_second, stored_by as stored_by_event, stored_up_to}
+use Rattle.bank_laws.proofs.Wears.{stored_by as stored_by_event, stored_up_to}
 use Rattle.log_laws.proofs.Covering.{uncovered, uncovered_by, out_in, fits-after}
 use Rattle.log_laws.proofs.Fitting.{fits-given}
 use Rattle.log_laws.proofs.Given.{given_of}
@@ -107,36 +108,36 @@ refused_row n true true acc given before rest out is same = absurd (cc)
 refused_row n true false true given before rest out is same = absurd (cc)
 refused_row n true false false given before rest out is same = same
 
-module _ {n m : ℕ} (shape : BankShape) (pace : Pacing) (e : ℕ) (all : List (Timed n m)) (sized : IsSized shape pace) (l : Lawful shape pace e all) (o : AreOpen shape all) where
+module _ {n m : ℕ} (shape : BankShape) (pace : Pace) (e : ℕ) (all : List (TimedEvent n m)) (sized : IsSized shape pace) (l : Lawful shape pace e all) (o : AreOpen shape all) where
   -- what isn't stored after some events isn't stored by a tick up to which they come
-  stored-late : (later zs : List (Timed n m)) (row t : ℕ) → all ≡ later ++ zs → t ≤ last_tick zs → is_stored (outcome_of shape zs row) ≡ false → stored_by t (outcome_of shape all row) ≡ false
+  stored-late : (later zs : List (TimedEvent n m)) (row t : ℕ) → all ≡ later ++ zs → t ≤ last_tick zs → is_stored (outcome_of shape zs row) ≡ false → stored_by t (outcome_of shape all row) ≡ false
   stored-late later zs row t same le isnt =
       above-unstored t (outcome_of shape all row)
       (λ u p s.
       let lt : last_tick zs < u =
-      stored_above shape pace e later zs row u p sized.read sized.iter (subst (λ (xs : List (Timed n m)). Lawful shape pace e xs) same l)
+      stored_above shape pace e later zs row u p sized.read sized.iter (subst (λ (xs : List (TimedEvent n m)). Lawful shape pace e xs) same l)
       (λ k. absurd (cc (sym (ap is_stored k) ∙ isnt))) (sym (ap (λ xs. outcome_of shape xs row) same) ∙ s) in
       omega arith)
 
-  module _ (later : List (Timed n m)) (x : Timed n m) (ys : List (Timed n m)) (same : all ≡ later ++ x ∷ ys) (line : ℕ) (arrives : ends_action x.happens ≡ false) where
+  module _ (later : List (TimedEvent n m)) (x : TimedEvent n m) (ys : List (TimedEvent n m)) (same : all ≡ later ++ x ∷ ys) (line : ℕ) (arrives : ends_action x.happens ≡ false) where
     whole : Lawful shape pace e (later ++ x ∷ ys)
-    whole = subst (λ (xs : List (Timed n m)). Lawful shape pace e xs) same l
+    whole = subst (λ (xs : List (TimedEvent n m)). Lawful shape pace e xs) same l
 
     here : Lawful shape pace e (x ∷ ys)
     here = lawful_before shape pace e later (x ∷ ys) whole
 
     -- a write behind an arrival isn't stored by its tick
-    behind : (pre mid : List (Timed n m)) → all ≡ pre ++ (mid ++ x ∷ ys) → list_any (λ (q : Row n). write_of line q && stored_by x.tick q.outcome) (rows_after shape all mid) ≡ false
+    behind : (pre mid : List (TimedEvent n m)) → all ≡ pre ++ (mid ++ x ∷ ys) → list_any (λ (q : Row n). write_of line q && stored_by x.tick q.outcome) (rows_after shape all mid) ≡ false
     behind pre [] is = refl
     behind pre (y ∷ mid) is =
         list_any-append (λ (q : Row n). write_of line q && stored_by x.tick q.outcome) (rows_after shape all mid) (row_with shape all y.happens y.tick y.cancels)
-        ∙ or_none _ _ (behind (pre ++ y ∷ []) mid over) (row y.happens y.cancels refl)
+        ∙ or_from _ _ (behind (pre ++ y ∷ []) mid over) (row y.happens y.cancels refl)
       where
         over : all ≡ (pre ++ y ∷ []) ++ (mid ++ x ∷ ys)
         over = is ∙ sym (append_assoc pre (y ∷ []) (mid ++ x ∷ ys))
 
         now : Lawful shape pace e (y ∷ mid ++ x ∷ ys)
-        now = lawful_before shape pace e pre (y ∷ mid ++ x ∷ ys) (subst (λ (xs : List (Timed n m)). Lawful shape pace e xs) is l)
+        now = lawful_before shape pace e pre (y ∷ mid ++ x ∷ ys) (subst (λ (xs : List (TimedEvent n m)). Lawful shape pace e xs) is l)
 
         coming : (at to : ℕ) (bytes : List ℕ) (given : List Bool) (answer : WriteAnswer) → y.happens ≡ Core (Write at to bytes given answer) → outcome_of shape (mid ++ x ∷ ys) at ≡ out.Unset
         coming at to bytes given answer its = (opens shape pace e (mid ++ x ∷ ys) now.1).coming at (subst (λ h. MayCome shape pace e (mid ++ x ∷ ys) y h) its now.0).asked
@@ -145,7 +146,7 @@ module _ {n m : ℕ} (shape : BankShape) (pace : Pacing) (e : ℕ) (all : List (
         row (Core (Write at to bytes given answer)) cancels its =
             let late : stored_by x.tick (outcome_of shape all at) ≡ false =
             stored-late (pre ++ y ∷ []) (mid ++ x ∷ ys) at x.tick over (last-above shape pace e mid x ys sized.read sized.iter now.1) (ap is_stored (coming at to bytes given answer its)) in
-            or_none ((to == line) && stored_by x.tick (ended y.tick (outcome_of shape all at))) false (and_second (to == line) _ (stored-ended x.tick y.tick (outcome_of shape all at) ∙ late)) refl
+            or_from ((to == line) && stored_by x.tick (ended y.tick (outcome_of shape all at))) false (and_right (to == line) _ (stored-ended x.tick y.tick (outcome_of shape all at) ∙ late)) refl
         row (Core (Read at to answer)) cancels its = refl
         row (Core (Serve answer)) cancels its = refl
         row (Regs event) cancels its = refl
@@ -155,22 +156,22 @@ module _ {n m : ℕ} (shape : BankShape) (pace : Pacing) (e : ℕ) (all : List (
         row (Core (Cut tearing)) false its = refl
 
     -- a write before it is stored by its tick exactly where it is out of the queue
-    out-here : (mid : List (Timed n m)) (w : Timed n m) (zs : List (Timed n m)) (row at : ℕ) (bytes : List ℕ) (given : List Bool) (answer : WriteAnswer) → ys ≡ mid ++ w ∷ zs → w.happens ≡ Core (Write row at bytes given answer)
+    out-here : (mid : List (TimedEvent n m)) (w : TimedEvent n m) (zs : List (TimedEvent n m)) (row at : ℕ) (bytes : List ℕ) (given : List Bool) (answer : WriteAnswer) → ys ≡ mid ++ w ∷ zs → w.happens ≡ Core (Write row at bytes given answer)
         → stored_by x.tick (outcome_of shape all row) ≡ out_in at (core ys) row
     out-here mid w zs row at bytes given answer split is =
         either (is_stored (outcome_of shape ys row)) (λ there. there-by there ∙ sym there ∙ known) (λ isnt. late isnt ∙ sym isnt ∙ known)
       where
         known : is_stored (outcome_of shape ys row) ≡ out_in at (core ys) row
         known =
-            subst (λ (xs : List (Timed n m)). is_stored (outcome_of shape xs row) ≡ out_in at (core xs) row) (sym split)
-            (out-same shape pace e w zs row at bytes given answer is mid (subst (λ (xs : List (Timed n m)). Lawful shape pace e xs) split here.1))
+            subst (λ (xs : List (TimedEvent n m)). is_stored (outcome_of shape xs row) ≡ out_in at (core xs) row) (sym split)
+            (out-same shape pace e w zs row at bytes given answer is mid (subst (λ (xs : List (TimedEvent n m)). Lawful shape pace e xs) split here.1))
 
         there-by : is_stored (outcome_of shape ys row) ≡ true → stored_by x.tick (outcome_of shape all row) ≡ true
         there-by there =
             let over : (later ++ x ∷ []) ++ ys ≡ all = append_assoc later (x ∷ []) ys ∙ sym same in
             let kept : outcome_of shape all row ≡ outcome_of shape ys row =
             sym (ap (λ xs. outcome_of shape xs row) over)
-            ∙ stays shape pace e (later ++ x ∷ []) ys row (subst (λ (xs : List (Timed n m)). Lawful shape pace e xs) (sym over) l) (λ un. absurd (cc (sym (ap is_stored un) ∙ there))) in
+            ∙ stays shape pace e (later ++ x ∷ []) ys row (subst (λ (xs : List (TimedEvent n m)). Lawful shape pace e xs) (sym over) l) (λ un. absurd (cc (sym (ap is_stored un) ∙ there))) in
             ap (stored_by x.tick) kept
             ∙ below-stored x.tick (outcome_of shape ys row)
             (λ u p s.
@@ -190,7 +191,7 @@ module _ {n m : ℕ} (shape : BankShape) (pace : Pacing) (e : ℕ) (all : List (
             none u p (inr s) = absurd (cc (sym (ap is_stored s) ∙ isnt))
 
     -- so the rows and the events agree on which bytes the line's writes give
-    unstored-same : (mid zs : List (Timed n m)) → ys ≡ mid ++ zs → unstored (stored_by x.tick) line (rows_from shape all zs) ≡ uncovered (out_in line (core ys)) line (core zs)
+    unstored-same : (mid zs : List (TimedEvent n m)) → ys ≡ mid ++ zs → unstored (stored_by x.tick) line (rows_from shape all zs) ≡ uncovered (out_in line (core ys)) line (core zs)
     unstored-same mid [] split = refl
     unstored-same mid (w ∷ zs) split =
         by w.happens w.cancels refl (may_at shape pace e all (later ++ x ∷ mid) w zs l within) (onwards_at shape pace e all (later ++ x ∷ mid) w zs l within)

@@ -3,11 +3,12 @@ use Rattle.std.specs.Prelude.{◌≡◌, ℕ, ◌+◌, ◌<◌, ◌≤◌, nat_l
 use Rattle.pcm_cells.specs.Device.{ArrayState}
 use Rattle.pcm_cells.specs.declared.array.Sense.{Sense}
 use Rattle.ecp_line.specs.Reading.{decode}
-use Rattle.row_laws.specs.Rows.{each_row}
+use Rattle.row_rules.specs.Rows.{each_row}
 use Rattle.bank_shape.specs.declared.BankShape.{BankShape}
 use Rattle.bank_shape.specs.Shape.{slots_of, lines_in}
 use Rattle.bank_model.specs.Adding.{senses_of}
-use Rattle.bank_model.specs.Timing.{Pacing, Timed}
+use Rattle.bank_shape.specs.declared.pace.Pace.{Pace}
+use Rattle.bank_model.specs.Timing.{TimedEvent}
 use Rattle.bank_model.specs.Lawful.{Lawful, IsIdle}
 use Rattle.bank_laws.specs.Outcomes.{table_of}
 use Rattle.bank_laws.specs.Logs.{has_sense, has_controls, is_line_fair}
@@ -17,7 +18,7 @@ use Rattle.bank_laws.specs.Laws.{LeavesArray, IsSized, LogLaw, rules_of, log_of}
 -- the line's pulses; senses that show those may have been added
 abbrev pub PulseStepsLaw : Type 0
 PulseStepsLaw =
-    (n m e : ℕ) (shape : BankShape) (pace : Pacing) (xs : List (Timed n m)) (array : ArrayState n m) (log extra : List (Sense n m))
+    (n m e : ℕ) (shape : BankShape) (pace : Pace) (xs : List (TimedEvent n m)) (array : ArrayState n m) (log extra : List (Sense n m))
     → IsSized shape pace → Lawful shape pace e xs → IsIdle shape pace xs → LeavesArray e shape xs array
     → log_of shape log ≡ senses_of xs ++ extra → All (λ s. s.pulses ≡ (array.line s.line).pulses) extra
     → (line : ℕ) → shape.base ≤ line → line < shape.base + lines_in shape
@@ -27,20 +28,20 @@ PulseStepsLaw =
 -- that row, and a read one gives the bytes that were read, the newest laid over it where the queue had them
 abbrev pub SensedLaw : Type 0
 SensedLaw =
-    (n m e : ℕ) (shape : BankShape) (pace : Pacing) (xs : List (Timed n m)) (log extra : List (Sense n m))
+    (n m e : ℕ) (shape : BankShape) (pace : Pace) (xs : List (TimedEvent n m)) (log extra : List (Sense n m))
     → IsSized shape pace → Lawful shape pace e xs → IsIdle shape pace xs → log_of shape log ≡ senses_of xs ++ extra
     → IsTrue (each_row (has_sense (decode e) log) (table_of shape xs) [])
 
 -- each cut has a sense of every control line at its tick
 abbrev pub ControlsLaw : Type 0
 ControlsLaw =
-    (n m e : ℕ) (shape : BankShape) (pace : Pacing) (xs : List (Timed n m)) (log extra : List (Sense n m))
+    (n m e : ℕ) (shape : BankShape) (pace : Pace) (xs : List (TimedEvent n m)) (log extra : List (Sense n m))
     → Lawful shape pace e xs → log_of shape log ≡ senses_of xs ++ extra → IsTrue (each_row (has_controls shape log) (table_of shape xs) [])
 
 -- each sense of a bank's history is of one of its lines
 abbrev pub WithinLaw : Type 0
 WithinLaw =
-    (n m e : ℕ) (shape : BankShape) (pace : Pacing) (xs : List (Timed n m)) → 1 ≤ shape.regions → 1 ≤ shape.lines → Lawful shape pace e xs
+    (n m e : ℕ) (shape : BankShape) (pace : Pace) (xs : List (TimedEvent n m)) → 1 ≤ shape.regions → 1 ≤ shape.lines → Lawful shape pace e xs
     → All (λ s. (shape.base ≤ s.line) × (s.line < shape.base + lines_in shape)) (senses_of xs)
 
 -- the law of the log, whatever the sizes of a line

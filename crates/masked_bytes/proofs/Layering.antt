@@ -1,5 +1,7 @@
 -- Laying bytes over others: lengths, single bytes, and what is laid over what is laid.
 use Rattle.std.proofs.Common.{◌≡◌, ℕ, ◌<◌, List, [], ◌∷◌, Bool, true, false, ◌||◌, ◌&&◌, ◌==◌, if◌then◌else◌, zero, suc, length, get_or, take, replicate, refl, ap, ◌∙◌, arith, slice_set, eqb-true, bit_and, bit_xor, ◌+◌, ◌-◌, ◌%◌, ◌^◌, sym}
+use Rattle.std.proofs.lemmas.Bool.{and_from}
+use Rattle.masked_bytes.proofs.Truth.{and_first, and_second}
 use Rattle.std.specs.Int.Bits.{xor_self, xor_assoc, xor_zero_l, xor_zero_r, and_zero_r}
 use Rattle.std.proofs.lemmas.Nat.{and_mask, xor_lt}
 use Rattle.std.proofs.lemmas.List.{length-replicate}
@@ -103,18 +105,6 @@ joined-joined (false ∷ given) (x ∷ also) (o ∷ other) a b = ap (λ xs. (x |
 
 -- Bytes that are not given stay 0
 
-and_left : (a b : Bool) → (a && b) ≡ true → a ≡ true
-and_left true b h = refl
-and_left false b h = h
-
-and_right : (a b : Bool) → (a && b) ≡ true → b ≡ true
-and_right true b h = h
-and_right false b h = cc
-
-both_true : (a b : Bool) → a ≡ true → b ≡ true → (a && b) ≡ true
-both_true true b h k = k
-both_true false b h k = h
-
 pub gives_some-joined : (given other : List Bool) → length other ≡ length given → gives_some given ≡ true → gives_some (joined given other) ≡ true
 gives_some-joined [] other e h = cc
 gives_some-joined (g ∷ given) [] e h = grind arith
@@ -133,12 +123,12 @@ zero_elsewhere-laid (x ∷ bytes) (g ∷ given) (u ∷ under) [] a b c h = grind
 zero_elsewhere-laid (x ∷ bytes) (true ∷ given) (u ∷ under) (true ∷ also) a b c h =
     zero_elsewhere-laid bytes given under also (omega arith) (omega arith) (omega arith) h
 zero_elsewhere-laid (x ∷ bytes) (true ∷ given) (u ∷ under) (false ∷ also) a b c h =
-    zero_elsewhere-laid bytes given under also (omega arith) (omega arith) (omega arith) (and_right (u == 0) _ h)
+    zero_elsewhere-laid bytes given under also (omega arith) (omega arith) (omega arith) (and_second (u == 0) _ h)
 zero_elsewhere-laid (x ∷ bytes) (false ∷ given) (u ∷ under) (true ∷ also) a b c h =
     zero_elsewhere-laid bytes given under also (omega arith) (omega arith) (omega arith) h
 zero_elsewhere-laid (x ∷ bytes) (false ∷ given) (u ∷ under) (false ∷ also) a b c h =
-    both_true (u == 0) _ (and_left (u == 0) _ h)
-    (zero_elsewhere-laid bytes given under also (omega arith) (omega arith) (omega arith) (and_right (u == 0) _ h))
+    and_from (u == 0) _ (and_first (u == 0) _ h)
+    (zero_elsewhere-laid bytes given under also (omega arith) (omega arith) (omega arith) (and_second (u == 0) _ h))
 
 pub zero_elsewhere-all_given : (n : ℕ) (bytes : List ℕ) → length bytes ≡ n → zero_elsewhere bytes (all_given n) ≡ true
 zero_elsewhere-all_given n [] e = refl
@@ -154,7 +144,7 @@ laid-zeros zero (b ∷ bytes) given e f h = grind arith
 laid-zeros (suc n) (b ∷ bytes) [] e f h = grind arith
 laid-zeros (suc n) (b ∷ bytes) (true ∷ given) e f h = ap (λ xs. b ∷ xs) (laid-zeros n bytes given (omega arith) (omega arith) h)
 laid-zeros (suc n) (b ∷ bytes) (false ∷ given) e f h =
-    two_parts b (eqb-true b 0 (and_left (b == 0) _ h)) (laid-zeros n bytes given (omega arith) (omega arith) (and_right (b == 0) _ h))
+    two_parts b (eqb-true b 0 (and_first (b == 0) _ h)) (laid-zeros n bytes given (omega arith) (omega arith) (and_second (b == 0) _ h))
   where
     two_parts : {xs ys : List ℕ} (b : ℕ) → b ≡ 0 → xs ≡ ys → 0 ∷ xs ≡ b ∷ ys
     two_parts b e f = rw (e, f)

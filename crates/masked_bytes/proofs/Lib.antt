@@ -1,3 +1,4 @@
+pub mod Truth
 pub mod Layering
 pub mod Queueing
 pub mod Standing

@@ -1,5 +1,7 @@
 -- What each change of a queue leaves of what its entries stand for.
 use Rattle.std.proofs.Common.{◌≡◌, ℕ, ◌<◌, List, [], ◌∷◌, ◌++◌, Bool, true, false, ◌||◌, ◌==◌, if◌then◌else◌, zero, suc, length, refl, sym, subst, ap, ◌∙◌, arith, Option, Some, None, eq-eqb, eqb-true}
+use Rattle.std.proofs.lemmas.Bool.{or_from}
+use Rattle.masked_bytes.proofs.Truth.{neither_first, neither_second}
 use Rattle.std.proofs.lemmas.List.{length-replicate}
 use Rattle.masked_bytes.specs.Masked.{laid, all_given, IsMasked}
 use Rattle.masked_bytes.specs.Entries.{Layer, no_layer, stacked, or_this, one_further, layer_by, layer_of, newest_place, laid_on, merged_at, completed, head_line, has_row, RowsApart, AllMasked}
@@ -9,18 +11,6 @@ use Rattle.masked_bytes.proofs.Queueing.{IsLayer, IsLayer-layer_of, stacked-no_l
 
 some_same : (a b : ℕ) → Some a ≡ Some b → a ≡ b
 some_same a b h = cc
-
-left_false : (a b : Bool) → (a || b) ≡ false → a ≡ false
-left_false true b h = h
-left_false false b h = refl
-
-right_false : (a b : Bool) → (a || b) ≡ false → b ≡ false
-right_false true b h = cc
-right_false false b h = h
-
-both_false : (a b : Bool) → a ≡ false → b ≡ false → (a || b) ≡ false
-both_false true b h k = h
-both_false false b h k = k
 
 swapped : (a b : ℕ) → (a == b) ≡ false → (b == a) ≡ false
 swapped a b h = by (b == a) (eqb-true b a)
@@ -169,27 +159,27 @@ module _ {n : ℕ} where
 
   has_row-append : (es : List (Entry n)) (e : Entry n) (row : ℕ) → has_row es row ≡ false → (e.row == row) ≡ false → has_row (es ++ e ∷ []) row ≡ false
   has_row-append [] e row h k = rw k
-  has_row-append (f ∷ es) e row h k = both_false (f.row == row) _ (left_false (f.row == row) _ h) (has_row-append es e row (right_false (f.row == row) _ h) k)
+  has_row-append (f ∷ es) e row h k = or_from (f.row == row) _ (neither_first (f.row == row) _ h) (has_row-append es e row (neither_second (f.row == row) _ h) k)
 
   pub RowsApart-append : (es : List (Entry n)) (e : Entry n) → RowsApart es → has_row es e.row ≡ false → RowsApart (es ++ e ∷ [])
   RowsApart-append [] e apart h = (refl, tt)
   RowsApart-append (f ∷ es) e apart h =
-      (has_row-append es e f.row apart.0 (swapped f.row e.row (left_false (f.row == e.row) _ h)), RowsApart-append es e apart.1 (right_false (f.row == e.row) _ h))
+      (has_row-append es e f.row apart.0 (swapped f.row e.row (neither_first (f.row == e.row) _ h)), RowsApart-append es e apart.1 (neither_second (f.row == e.row) _ h))
 
   has_row-merged_at : (es : List (Entry n)) (i row : ℕ) (bytes : List ℕ) (given : List Bool) (other : ℕ) → has_row es other ≡ false → (row == other) ≡ false
       → has_row (merged_at i row bytes given es) other ≡ false
   has_row-merged_at [] i row bytes given other h k = refl
-  has_row-merged_at (e ∷ es) zero row bytes given other h k = both_false (row == other) _ k (right_false (e.row == other) _ h)
+  has_row-merged_at (e ∷ es) zero row bytes given other h k = or_from (row == other) _ k (neither_second (e.row == other) _ h)
   has_row-merged_at (e ∷ es) (suc i) row bytes given other h k =
-      both_false (e.row == other) _ (left_false (e.row == other) _ h) (has_row-merged_at es i row bytes given other (right_false (e.row == other) _ h) k)
+      or_from (e.row == other) _ (neither_first (e.row == other) _ h) (has_row-merged_at es i row bytes given other (neither_second (e.row == other) _ h) k)
 
   pub RowsApart-merged_at : (es : List (Entry n)) (i row : ℕ) (bytes : List ℕ) (given : List Bool) → RowsApart es → has_row es row ≡ false
       → RowsApart (merged_at i row bytes given es)
   RowsApart-merged_at [] i row bytes given apart h = tt
-  RowsApart-merged_at (e ∷ es) zero row bytes given apart h = (right_false (e.row == row) _ h, apart.1)
+  RowsApart-merged_at (e ∷ es) zero row bytes given apart h = (neither_second (e.row == row) _ h, apart.1)
   RowsApart-merged_at (e ∷ es) (suc i) row bytes given apart h = (
-    has_row-merged_at es i row bytes given e.row apart.0 (swapped e.row row (left_false (e.row == row) _ h)),
-    RowsApart-merged_at es i row bytes given apart.1 (right_false (e.row == row) _ h),
+    has_row-merged_at es i row bytes given e.row apart.0 (swapped e.row row (neither_first (e.row == row) _ h)),
+    RowsApart-merged_at es i row bytes given apart.1 (neither_second (e.row == row) _ h),
   )
 
   pub RowsApart-completed : (es : List (Entry n)) (below : List ℕ) → RowsApart es → RowsApart (completed below es)

@@ -1,32 +1,21 @@
 -- A bank's newest bytes of a line are the module's, so an answered read of the module is served as its bank serves it.
 use Rattle.std.proofs.Common.{◌≡◌, ℕ, ◌<◌, ◌==◌, ◌&&◌, Bool, true, false, List, [], ◌∷◌, map, refl, sym, ap, ◌∙◌, subst, cond, eqb-true, eq-eqb}
+use Rattle.masked_bytes.proofs.Truth.{and_first, and_second}
 use Rattle.std.specs.Prelude.{All}
-use Rattle.std.proofs.lemmas.Bool.{ne_eqb}
+use Rattle.std.proofs.lemmas.Bool.{ne_eqb, and_from}
 use Rattle.std.proofs.lemmas.List.Elements.{All-head, All-tail}
 use Rattle.masked_bytes.specs.Masked.{laid}
 use Rattle.result_rows.specs.declared.Outcome.{Outcome}
 use Rattle.result_rows.specs.declared.Outcome.TheVariants as out
-use Rattle.row_laws.specs.declared.Asks.{Asks}
-use Rattle.row_laws.specs.declared.Asks.TheVariants.{Reads, Writes, Cuts}
-use Rattle.row_laws.specs.declared.Row.{Row}
-use Rattle.row_laws.specs.Answers.{accepts}
-use Rattle.row_laws.specs.Rows.{each_row, newest}
-use Rattle.row_laws.specs.Serving.{is_served, may_have, owed}
-use Rattle.row_laws.specs.Table.{is_of, of_bank}
+use Rattle.row_rules.specs.declared.Asks.{Asks}
+use Rattle.row_rules.specs.declared.Asks.TheVariants.{Reads, Writes, Cuts}
+use Rattle.row_rules.specs.declared.Row.{Row}
+use Rattle.row_rules.specs.Answers.{accepts}
+use Rattle.row_rules.specs.Rows.{each_row, newest}
+use Rattle.row_rules.specs.Serving.{is_served, may_have, owed}
+use Rattle.row_rules.specs.Table.{is_of, of_bank}
 use Rattle.module_laws.specs.Asking.{row_in, bank_table}
 use Rattle.module_laws.specs.Serves.{AreLines, IsOfLines, ServedByBanksLaw}
-
-both : (a b : Bool) → a ≡ true → b ≡ true → (a && b) ≡ true
-both true b h k = k
-both false b h k = h
-
-first_of_both : (a b : Bool) → (a && b) ≡ true → a ≡ true
-first_of_both true b h = refl
-first_of_both false b h = h
-
-second_of_both : (a b : Bool) → (a && b) ≡ true → b ≡ true
-second_of_both true b h = h
-second_of_both false b h = absurd (cc)
 
 module _ {n : ℕ} where
   -- what a row may have doesn't go by the number of its line
@@ -119,7 +108,7 @@ module _ {n : ℕ} (banks lines : ℕ) (bank_of line_in : ℕ → ℕ) (known : 
   served_before : (rows after other : List (Row n)) → each_row is_served rows after ≡ true → each_row is_served rows other ≡ true
   served_before [] after other h = refl
   served_before (r ∷ rows) after other h =
-      both _ _ (first_of_both _ _ h) (served_before rows (r ∷ after) (r ∷ other) (second_of_both (is_served rows r after) _ h))
+      and_from _ _ (and_first _ _ h) (served_before rows (r ∷ after) (r ∷ other) (and_second (is_served rows r after) _ h))
 
   -- a bank's table without its last row is served too
   served_rest : (bank : ℕ) (r : Row n) (rows : List (Row n)) (own : Bool)
@@ -127,7 +116,7 @@ module _ {n : ℕ} (banks lines : ℕ) (bank_of line_in : ℕ → ℕ) (known : 
       → each_row is_served (bank_table bank_of line_in bank rows) [] ≡ true
   served_rest bank r rows true h =
       served_before (bank_table bank_of line_in bank rows) (row_in bank_of line_in r ∷ []) []
-      (second_of_both (is_served (bank_table bank_of line_in bank rows) (row_in bank_of line_in r) []) _ h)
+      (and_second (is_served (bank_table bank_of line_in bank rows) (row_in bank_of line_in r) []) _ h)
   served_rest bank r rows false h = h
 
   -- the last row of a module's table is served as its bank serves it
@@ -145,7 +134,7 @@ module _ {n : ℕ} (banks lines : ℕ) (bank_of line_in : ℕ → ℕ) (known : 
       by own h =
           ap (λ (u : List ℕ). may_have tick (Reads line) u outcome) (sym (newest_in_bank line of rows all))
           ∙ (sym (may_read tick line (line_in line) (newest (bank_table bank_of line_in (bank_of line) rows) (line_in line)) outcome)
-          ∙ first_of_both _ _
+          ∙ and_first _ _
           (subst (λ (b : Bool). each_row is_served (map (row_in bank_of line_in) (cond b (row ∷ of_bank bank_of (bank_of line) rows) (of_bank bank_of (bank_of line) rows))) [] ≡ true) own h))
   served_row tick outcome (Writes line bytes given) rows some all of h =
       by (eq-eqb (bank_of line) (bank_of line) refl) (h (bank_of line) (known.exists line of))
@@ -157,15 +146,15 @@ module _ {n : ℕ} (banks lines : ℕ) (bank_of line_in : ℕ → ℕ) (known : 
           → may_have tick (Writes line bytes given) [] outcome ≡ true
       by own h =
           sym (may_write tick line (line_in line) bytes given [] outcome)
-          ∙ first_of_both _ _
+          ∙ and_first _ _
           (subst (λ (b : Bool). each_row is_served (map (row_in bank_of line_in) (cond b (row ∷ of_bank bank_of (bank_of line) rows) (of_bank bank_of (bank_of line) rows))) [] ≡ true) own h)
-  served_row tick outcome Cuts rows some all of h = first_of_both _ _ (h 0 some)
+  served_row tick outcome Cuts rows some all of h = and_first _ _ (h 0 some)
 
   pub served_by_banks : (rows : List (Row n)) → 0 < banks → All IsOf rows
       → ((bank : ℕ) → bank < banks → each_row is_served (bank_table bank_of line_in bank rows) [] ≡ true) → each_row is_served rows [] ≡ true
   served_by_banks [] some all h = refl
   served_by_banks (r ∷ rows) some all h =
-      both _ _ (served_row r.tick r.outcome r.asks rows some (All-tail IsOf r rows all) (All-head IsOf r rows all) h)
+      and_from _ _ (served_row r.tick r.outcome r.asks rows some (All-tail IsOf r rows all) (All-head IsOf r rows all) h)
       (served_before rows [] (r ∷ [])
       (served_by_banks rows some (All-tail IsOf r rows all) (λ bank few. served_rest bank r rows (is_of bank_of bank r.asks) (h bank few))))
 

@@ -1,16 +1,17 @@
 -- Where a bank's history stands as a row of its module comes, so that the row finds what the bank holds there.
 use Rattle.std.proofs.Common.{◌≡◌, ℕ, ◌<◌, ◌≤◌, ◌&&◌, ◌⊎◌, inl, inr, Bool, true, false, List, [], ◌∷◌, ◌++◌, map, refl, sym, ap, ◌∙◌, subst, cond, arith, append_assoc, le_refl}
 use Rattle.std.specs.Prelude.{filter, All}
-use Rattle.std.proofs.lemmas.Bool.{cases_lt}
+use Rattle.std.proofs.lemmas.Bool.{cases_lt, and_from}
 use Rattle.std.proofs.lemmas.List.Elements.{All-head, All-tail, All-nil, All-cons, All-append, All-weaker}
 use Rattle.result_rows.specs.declared.Outcome.{Outcome}
-use Rattle.row_laws.specs.declared.Row.{Row}
-use Rattle.row_laws.specs.Rows.{each_row}
-use Rattle.row_laws.specs.Queueing.{has_room}
-use Rattle.row_laws.specs.Table.{is_of}
+use Rattle.row_rules.specs.declared.Row.{Row}
+use Rattle.row_rules.specs.Rows.{each_row}
+use Rattle.row_rules.specs.Queueing.{has_room}
+use Rattle.row_rules.specs.Table.{is_of}
 use Rattle.bank_shape.specs.declared.BankShape.{BankShape}
 use Rattle.bank_model.specs.Events.{Write, Read, Serve, Begin, Iterate, Cut}
-use Rattle.bank_model.specs.Timing.{Pacing, Happens, Core, Regs, Timed, last_tick}
+use Rattle.bank_shape.specs.declared.pace.Pace.{Pace}
+use Rattle.bank_model.specs.Timing.{Happens, Core, Regs, TimedEvent, last_tick}
 use Rattle.bank_model.specs.Lawful.{Lawful, IsIdle}
 use Rattle.bank_laws.specs.Laws.{IsSized, rules_of}
 use Rattle.bank_laws.specs.Room.{RoomLaw}
@@ -21,42 +22,38 @@ use Rattle.module_laws.specs.Asking.{Asked, row_with, asked_in, asked_of, bank_t
 use Rattle.module_laws.specs.Serves.{AreRecorded, TicksFall, last_outcome, finds_room_in, RoomByBankLaw}
 use Rattle.module_laws.proofs.Tables.{rows_of_asked, rows_are}
 
-both : (a b : Bool) → a ≡ true → b ≡ true → (a && b) ≡ true
-both true b h k = k
-both false b h k = h
-
 abbrev By : {n : ℕ} → ℕ → Asked n → Type 0
 By tick b = b.tick ≤ tick
 
 too_late : {n : ℕ} (tick at : ℕ) (b : Asked n) (asked : List (Asked n)) → All (By tick) (b ∷ asked) → b.tick ≡ at → tick < at → ⊥
 too_late tick at b asked all same late = let early = All-head (By tick) b asked all in omega (arith, early, same, late)
 
-module _ {n m : ℕ} (shape : BankShape) (pace : Pacing) (e : ℕ) (read : 1 ≤ pace.read) (iter : 1 ≤ pace.iter) where
+module _ {n m : ℕ} (shape : BankShape) (pace : Pace) (e : ℕ) (read : 1 ≤ pace.read) (iter : 1 ≤ pace.iter) where
   -- a part of a history behind the row of this tick, and the events since then
-  pub record IsSplit (tick : ℕ) (asked : List (Asked n)) (xs : List (Timed n m)) : Type 0 where
-    pub since : List (Timed n m)
-    pub past : List (Timed n m)
+  pub record IsSplit (tick : ℕ) (asked : List (Asked n)) (xs : List (TimedEvent n m)) : Type 0 where
+    pub since : List (TimedEvent n m)
+    pub past : List (TimedEvent n m)
     pub whole : xs ≡ since ++ past
     pub asked_before : AreAsked past asked
     pub before : last_tick past ≤ tick
     pub behind : All (λ x. tick ≤ x.tick) since
 
-  abbrev Since : ℕ → Timed n m → Type 0
+  abbrev Since : ℕ → TimedEvent n m → Type 0
   Since tick x = tick ≤ x.tick
 
   -- with one event more since then
-  one_more : (tick : ℕ) (asked : List (Asked n)) (x : Timed n m) (xs : List (Timed n m)) → tick ≤ x.tick → IsSplit tick asked xs → IsSplit tick asked (x ∷ xs)
+  one_more : (tick : ℕ) (asked : List (Asked n)) (x : TimedEvent n m) (xs : List (TimedEvent n m)) → tick ≤ x.tick → IsSplit tick asked xs → IsSplit tick asked (x ∷ xs)
   one_more tick asked x xs late s = record {
     since = x ∷ s.since;
     past = s.past;
-    whole = ap (λ (ys : List (Timed n m)). x ∷ ys) s.whole;
+    whole = ap (λ (ys : List (TimedEvent n m)). x ∷ ys) s.whole;
     asked_before = s.asked_before;
     before = s.before;
     behind = All-cons (Since tick) x s.since late s.behind;
   }
 
   -- behind its arrival
-  just_before : (a : Asked n) (asked : List (Asked n)) (x : Timed n m) (xs : List (Timed n m)) → Lawful shape pace e (x ∷ xs) → a.tick ≡ x.tick → AreAsked xs asked
+  just_before : (a : Asked n) (asked : List (Asked n)) (x : TimedEvent n m) (xs : List (TimedEvent n m)) → Lawful shape pace e (x ∷ xs) → a.tick ≡ x.tick → AreAsked xs asked
       → IsSplit a.tick asked (x ∷ xs) × (a.tick ≤ x.tick)
   just_before a asked x xs l at are = (
     record {
@@ -71,7 +68,7 @@ module _ {n m : ℕ} (shape : BankShape) (pace : Pacing) (e : ℕ) (read : 1 ≤
   )
 
   -- a row of this bank splits its history at its arrival
-  own_split : (a : Asked n) (asked : List (Asked n)) (xs : List (Timed n m)) → Lawful shape pace e xs → AreAsked xs (a ∷ asked)
+  own_split : (a : Asked n) (asked : List (Asked n)) (xs : List (TimedEvent n m)) → Lawful shape pace e xs → AreAsked xs (a ∷ asked)
       → IsSplit a.tick asked xs × (a.tick ≤ last_tick xs)
   own_split a asked [] l are = absurd (cc)
   own_split a asked (x ∷ xs) l are =
@@ -95,7 +92,7 @@ module _ {n m : ℕ} (shape : BankShape) (pace : Pacing) (e : ℕ) (read : 1 ≤
       by (Core (Cut tearing)) false are ih = just_before a asked x xs l are.0 are.2
 
   -- a row of another bank splits it at its tick
-  other_split : (tick : ℕ) (asked : List (Asked n)) (xs : List (Timed n m)) → AreAsked xs asked → All (By tick) asked → IsSplit tick asked xs
+  other_split : (tick : ℕ) (asked : List (Asked n)) (xs : List (TimedEvent n m)) → AreAsked xs asked → All (By tick) asked → IsSplit tick asked xs
   other_split tick asked [] are all = record {
     since = [];
     past = [];
@@ -143,13 +140,13 @@ module _ {n : ℕ} (bank_of line_in : ℕ → ℕ) (bank : ℕ) where
       by true ih = All-cons (By tick) (asked_in bank_of line_in a) (asked_of bank_of line_in bank asked) (All-head (By tick) a asked all) ih
       by false ih = ih
 
-module _ {n m : ℕ} (e : ℕ) (shape : BankShape) (pace : Pacing) (bank_of line_in : ℕ → ℕ) (bank : ℕ) (outcome : ℕ → Outcome n)
-    (room : RoomLaw n m) (sized : IsSized shape pace) (xs : List (Timed n m)) (l : Lawful shape pace e xs) (idle : IsIdle shape pace xs) where
+module _ {n m : ℕ} (e : ℕ) (shape : BankShape) (pace : Pace) (bank_of line_in : ℕ → ℕ) (bank : ℕ) (outcome : ℕ → Outcome n)
+    (room : RoomLaw n m) (sized : IsSized shape pace) (xs : List (TimedEvent n m)) (l : Lawful shape pace e xs) (idle : IsIdle shape pace xs) where
   abbrev IsRight : Asked n → Type 0
   IsRight a = outcome a.row ≡ last_outcome shape xs a a.asks
 
   -- what stands behind a row is asked of the bank, and the row splits the history
-  split_at : (a : Asked n) (asked : List (Asked n)) (own : Bool) (ys : List (Timed n m)) → is_of bank_of bank a.asks ≡ own → Lawful shape pace e ys
+  split_at : (a : Asked n) (asked : List (Asked n)) (own : Bool) (ys : List (TimedEvent n m)) → is_of bank_of bank a.asks ≡ own → Lawful shape pace e ys
       → AreAsked ys (asked_of bank_of line_in bank (a ∷ asked)) → All (By a.tick) asked
       → IsSplit shape pace e sized.read sized.iter a.tick (asked_of bank_of line_in bank asked) ys
   split_at a asked true ys is ly are all =
@@ -166,25 +163,25 @@ module _ {n m : ℕ} (e : ℕ) (shape : BankShape) (pace : Pacing) (bank_of line
   rest_right a asked true all = All-tail IsRight (asked_in bank_of line_in a) (asked_of bank_of line_in bank asked) all
   rest_right a asked false all = all
 
-  every_row : (asked : List (Asked n)) (newer ys : List (Timed n m)) (tick : ℕ) (after : List (Row n)) → xs ≡ newer ++ ys → All (λ x. tick ≤ x.tick) newer
+  every_row : (asked : List (Asked n)) (newer ys : List (TimedEvent n m)) (tick : ℕ) (after : List (Row n)) → xs ≡ newer ++ ys → All (λ x. tick ≤ x.tick) newer
       → All (By tick) asked → TicksFall asked → AreAsked ys (asked_of bank_of line_in bank asked) → AreRecorded shape xs outcome (asked_of bank_of line_in bank asked)
       → each_row (finds_room_in bank_of line_in (rules_of e shape pace) bank) (map (row_with outcome) asked) after ≡ true
   every_row [] newer ys tick after same late early falls are rec = refl
   every_row (a ∷ asked) newer ys tick after same late early falls are rec =
-      let ly : Lawful shape pace e ys = lawful_before shape pace e newer ys (subst (λ (xs : List (Timed n m)). Lawful shape pace e xs) same l) in
+      let ly : Lawful shape pace e ys = lawful_before shape pace e newer ys (subst (λ (xs : List (TimedEvent n m)). Lawful shape pace e xs) same l) in
       let s = split_at a asked (is_of bank_of bank a.asks) ys refl ly are falls.0 in
-      let newer' : List (Timed n m) = newer ++ s.since in
-      let same' : xs ≡ newer' ++ s.past = same ∙ ap (λ (zs : List (Timed n m)). newer ++ zs) s.whole ∙ sym (append_assoc newer s.since s.past) in
+      let newer' : List (TimedEvent n m) = newer ++ s.since in
+      let same' : xs ≡ newer' ++ s.past = same ∙ ap (λ (zs : List (TimedEvent n m)). newer ++ zs) s.whole ∙ sym (append_assoc newer s.since s.past) in
       let first = All-head (By tick) a asked early in
       let late' : All (λ x. a.tick ≤ x.tick) newer' =
       All-append (λ x. a.tick ≤ x.tick) newer s.since (All-weaker (λ x. tick ≤ x.tick) (λ x. a.tick ≤ x.tick) (λ x h. omega (arith, first, h)) newer late) s.behind in
       let rest : AreRecorded shape xs outcome (asked_of bank_of line_in bank asked) = rest_right a asked (is_of bank_of bank a.asks) rec in
       let rows : bank_table bank_of line_in bank (map (row_with outcome) asked) ≡ rows_from shape xs s.past =
       rows_of_asked bank_of line_in bank outcome asked ∙ rows_are shape xs outcome s.past (asked_of bank_of line_in bank asked) s.asked_before rest in
-      both _ _
+      and_from _ _
       (ap (λ (rs : List (Row n)). has_room (rules_of e shape pace) a.tick rs) rows
-      ∙ ap (λ (zs : List (Timed n m)). has_room (rules_of e shape pace) a.tick (rows_from shape zs s.past)) same'
-      ∙ room e shape pace s.past newer' a.tick sized (subst (λ (zs : List (Timed n m)). Lawful shape pace e zs) same' l) (subst (λ (zs : List (Timed n m)). IsIdle shape pace zs) same' idle) s.before late')
+      ∙ ap (λ (zs : List (TimedEvent n m)). has_room (rules_of e shape pace) a.tick (rows_from shape zs s.past)) same'
+      ∙ room e shape pace s.past newer' a.tick sized (subst (λ (zs : List (TimedEvent n m)). Lawful shape pace e zs) same' l) (subst (λ (zs : List (TimedEvent n m)). IsIdle shape pace zs) same' idle) s.before late')
       (every_row asked newer' s.past a.tick (row_with outcome a ∷ after) same' late' falls.0 falls.1 s.asked_before rest)
 
 abbrev last_of : {n : ℕ} → List (Asked n) → ℕ

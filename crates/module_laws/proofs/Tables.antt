@@ -4,13 +4,13 @@ use Rattle.std.specs.Prelude.{filter}
 use Rattle.std.proofs.lemmas.List.Elements.{All-head, All-tail}
 use Rattle.result_rows.specs.declared.Outcome.{Outcome}
 use Rattle.result_rows.specs.declared.Outcome.TheVariants as out
-use Rattle.row_laws.specs.declared.Asks.{Asks}
-use Rattle.row_laws.specs.declared.Asks.TheVariants.{Reads, Writes, Cuts}
-use Rattle.row_laws.specs.declared.Row.{Row}
-use Rattle.row_laws.specs.Table.{is_of, of_bank}
+use Rattle.row_rules.specs.declared.Asks.{Asks}
+use Rattle.row_rules.specs.declared.Asks.TheVariants.{Reads, Writes, Cuts}
+use Rattle.row_rules.specs.declared.Row.{Row}
+use Rattle.row_rules.specs.Table.{is_of, of_bank}
 use Rattle.bank_shape.specs.declared.BankShape.{BankShape}
 use Rattle.bank_model.specs.Events.{Write, Read, Serve, Begin, Iterate, Cut}
-use Rattle.bank_model.specs.Timing.{Happens, Core, Regs, Timed}
+use Rattle.bank_model.specs.Timing.{Happens, Core, Regs, TimedEvent}
 use Rattle.bank_laws.specs.Outcomes.{outcome_of, ended, row_with as row_of, rows_from}
 use Rattle.module_laws.specs.Asking.{Asked, row_with, asked_in, asked_of, row_in, bank_table, AreAsked, IsAsked}
 use Rattle.module_laws.specs.Serves.{last_outcome, AreRecorded, BankTableLaw}
@@ -32,7 +32,7 @@ module _ {n : ℕ} (bank_of line_in : ℕ → ℕ) (bank : ℕ) (outcome : ℕ �
       by true ih = ap (λ (rs : List (Row n)). row_with outcome (asked_in bank_of line_in a) ∷ rs) ih
       by false ih = ih
 
-module _ {n m : ℕ} (shape : BankShape) (all : List (Timed n m)) (outcome : ℕ → Outcome n) where
+module _ {n m : ℕ} (shape : BankShape) (all : List (TimedEvent n m)) (outcome : ℕ → Outcome n) where
   abbrev IsRight : Asked n → Type 0
   IsRight a = outcome a.row ≡ last_outcome shape all a a.asks
 
@@ -59,7 +59,7 @@ module _ {n m : ℕ} (shape : BankShape) (all : List (Timed n m)) (outcome : ℕ
       ∙ ap (λ (asks : Asks n). record { tick = a.tick; asks = asks; outcome = out.Cut a.tick }) is
       ∙ ap (λ (t : ℕ). record { tick = t; asks = Cuts; outcome = out.Cut t }) at
 
-  pub rows_are : (xs : List (Timed n m)) (asked : List (Asked n)) → AreAsked xs asked → AreRecorded shape all outcome asked
+  pub rows_are : (xs : List (TimedEvent n m)) (asked : List (Asked n)) → AreAsked xs asked → AreRecorded shape all outcome asked
       → map (row_with outcome) asked ≡ rows_from shape all xs
   rows_are [] asked none rec = ap (map (row_with outcome)) none
   rows_are (x ∷ xs) asked is rec =

@@ -1,12 +1,12 @@
 -- What the rows of a trace ask of a module, and what arrives in one bank.
 use Rattle.std.specs.Prelude.{◌≡◌, ℕ, Bool, true, false, List, [], ◌∷◌, map, filter}
 use Rattle.result_rows.specs.declared.Outcome.{Outcome}
-use Rattle.row_laws.specs.declared.Asks.{Asks}
-use Rattle.row_laws.specs.declared.Asks.TheVariants.{Reads, Writes, Cuts}
-use Rattle.row_laws.specs.declared.Row.{Row}
-use Rattle.row_laws.specs.Table.{is_of, of_bank}
+use Rattle.row_rules.specs.declared.Asks.{Asks}
+use Rattle.row_rules.specs.declared.Asks.TheVariants.{Reads, Writes, Cuts}
+use Rattle.row_rules.specs.declared.Row.{Row}
+use Rattle.row_rules.specs.Table.{is_of, of_bank}
 use Rattle.bank_model.specs.Events.{Event, Write, Read, Cut}
-use Rattle.bank_model.specs.Timing.{Happens, Core, Regs, Timed}
+use Rattle.bank_model.specs.Timing.{Happens, Core, Regs, TimedEvent}
 
 -- a row with its number, as it is asked for
 pub record Asked (n : ℕ) : Type 0 where
@@ -56,6 +56,6 @@ abbrev pub IsAsked : {n : ℕ} → Happens n → Bool → ℕ → (List (Asked n
 IsAsked (Core event) cancels tick rest asked = IsAskedBy event cancels tick rest asked
 IsAsked (Regs event) cancels tick rest asked = rest asked
 
-abbrev pub AreAsked : {n m : ℕ} → List (Timed n m) → List (Asked n) → Type 0
+abbrev pub AreAsked : {n m : ℕ} → List (TimedEvent n m) → List (Asked n) → Type 0
 AreAsked [] asked = asked ≡ []
 AreAsked (x ∷ xs) asked = IsAsked x.happens x.cancels x.tick (AreAsked xs) asked

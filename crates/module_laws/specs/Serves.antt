@@ -2,15 +2,16 @@
 use Rattle.std.specs.Prelude.{◌≡◌, ℕ, ◌<◌, ◌≤◌, IsTrue, List, [], ◌∷◌, All, map}
 use Rattle.result_rows.specs.declared.Outcome.{Outcome}
 use Rattle.result_rows.specs.declared.Outcome.TheVariants as out
-use Rattle.row_laws.specs.declared.Asks.{Asks}
-use Rattle.row_laws.specs.declared.Asks.TheVariants.{Reads, Writes, Cuts}
-use Rattle.row_laws.specs.declared.Row.{Row}
-use Rattle.row_laws.specs.Rows.{RowTest, each_row}
-use Rattle.row_laws.specs.Rules.{Rules}
-use Rattle.row_laws.specs.Serving.{is_served}
-use Rattle.row_laws.specs.Queueing.{has_room}
+use Rattle.row_rules.specs.declared.Asks.{Asks}
+use Rattle.row_rules.specs.declared.Asks.TheVariants.{Reads, Writes, Cuts}
+use Rattle.row_rules.specs.declared.Row.{Row}
+use Rattle.row_rules.specs.Rows.{RowTest, each_row}
+use Rattle.row_rules.specs.declared.Rules.{Rules}
+use Rattle.row_rules.specs.Serving.{is_served}
+use Rattle.row_rules.specs.Queueing.{has_room}
 use Rattle.bank_shape.specs.declared.BankShape.{BankShape}
-use Rattle.bank_model.specs.Timing.{Pacing, Timed}
+use Rattle.bank_shape.specs.declared.pace.Pace.{Pace}
+use Rattle.bank_model.specs.Timing.{TimedEvent}
 use Rattle.bank_model.specs.Lawful.{Lawful, IsIdle}
 use Rattle.bank_laws.specs.Outcomes.{table_of, outcome_of, ended}
 use Rattle.bank_laws.specs.Laws.{IsSized, rules_of}
@@ -18,19 +19,19 @@ use Rattle.bank_laws.specs.Room.{RoomLaw}
 use Rattle.module_laws.specs.Asking.{Asked, row_with, asked_of, bank_table, AreAsked}
 
 -- the outcome of a row that asks this, where its bank's history has come to its end
-abbrev pub last_outcome : {n m : ℕ} → BankShape → List (Timed n m) → Asked n → Asks n → Outcome n
+abbrev pub last_outcome : {n m : ℕ} → BankShape → List (TimedEvent n m) → Asked n → Asks n → Outcome n
 last_outcome shape xs a (Reads line) = outcome_of shape xs a.row
 last_outcome shape xs a (Writes line bytes given) = ended a.tick (outcome_of shape xs a.row)
 last_outcome shape xs a Cuts = out.Cut a.tick
 
 -- each row that was asked of a bank has the outcome of the bank's history
-abbrev pub AreRecorded : {n m : ℕ} → BankShape → List (Timed n m) → (ℕ → Outcome n) → List (Asked n) → Type 0
+abbrev pub AreRecorded : {n m : ℕ} → BankShape → List (TimedEvent n m) → (ℕ → Outcome n) → List (Asked n) → Type 0
 AreRecorded shape xs outcome asked = All (λ a. outcome a.row ≡ last_outcome shape xs a a.asks) asked
 
 -- a bank's table is that of its history
 abbrev pub BankTableLaw : Type 0
 BankTableLaw =
-    (n m : ℕ) (shape : BankShape) (bank_of line_in : ℕ → ℕ) (bank : ℕ) (xs : List (Timed n m)) (asked : List (Asked n)) (outcome : ℕ → Outcome n)
+    (n m : ℕ) (shape : BankShape) (bank_of line_in : ℕ → ℕ) (bank : ℕ) (xs : List (TimedEvent n m)) (asked : List (Asked n)) (outcome : ℕ → Outcome n)
     → AreAsked xs (asked_of bank_of line_in bank asked) → AreRecorded shape xs outcome (asked_of bank_of line_in bank asked)
     → bank_table bank_of line_in bank (map (row_with outcome) asked) ≡ table_of shape xs
 
@@ -65,7 +66,7 @@ finds_room_in bank_of line_in rules bank before r after = has_room rules r.tick 
 -- every row of a module finds so, where at any tick between two of its events each bank holds no more than it may
 abbrev pub RoomByBankLaw : Type 0
 RoomByBankLaw =
-    (n m e : ℕ) (shape : BankShape) (pace : Pacing) (bank_of line_in : ℕ → ℕ) (bank : ℕ) (xs : List (Timed n m)) (asked : List (Asked n)) (outcome : ℕ → Outcome n)
+    (n m e : ℕ) (shape : BankShape) (pace : Pace) (bank_of line_in : ℕ → ℕ) (bank : ℕ) (xs : List (TimedEvent n m)) (asked : List (Asked n)) (outcome : ℕ → Outcome n)
     → RoomLaw n m → IsSized shape pace → Lawful shape pace e xs → IsIdle shape pace xs → TicksFall asked
     → AreAsked xs (asked_of bank_of line_in bank asked) → AreRecorded shape xs outcome (asked_of bank_of line_in bank asked)
     → IsTrue (each_row (finds_room_in bank_of line_in (rules_of e shape pace) bank) (map (row_with outcome) asked) [])

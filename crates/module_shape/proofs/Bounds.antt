@@ -1,7 +1,7 @@
 -- What sizes within the limits are like.
 use Rattle.std.proofs.Common.{◌≡◌, ℕ, zero, suc, ◌+◌, ◌*◌, ◌^◌, ◌<◌, ◌≤◌, Bool, true, false, ◌&&◌, nat_le, List, [], ◌∷◌, None, inl, inr, lit<, refl, ap, ◌∙◌, arith}
 use Rattle.std.specs.Int.{is_power_of_two}
-use Rattle.std.proofs.lemmas.Bool.{cases_lt}
+use Rattle.std.proofs.lemmas.Bool.{cases_lt, and_parts}
 use Rattle.std.proofs.lemmas.Bool.Decides.{nat_tests}
 use Rattle.std.proofs.lemmas.Nat.{mul-le}
 use Rattle.std.proofs.Math.Nat.{pow-le-pow_right, mul_assoc, mul_comm, mul-add}
@@ -11,15 +11,9 @@ use Rattle.module_shape.specs.declared.raw.RawShape.{RawShape}
 use Rattle.module_shape.specs.declared.raw.Field.{Field}
 use Rattle.module_shape.proofs.Powers.{size_of_powers}
 
--- the parts of a test that holds
-both : (x y : Bool) → (x && y) ≡ true → (x ≡ true) × (y ≡ true)
-both true true h = (refl, refl)
-both true false h = absurd (cc h)
-both false y h = absurd (cc h)
-
 between : (least most n : ℕ) → is_between least most n ≡ true → (least ≤ n) × (n ≤ most)
 between least most n h =
-    let parts = both (nat_le least n) (nat_le n most) h in
+    let parts = and_parts (nat_le least n) (nat_le n most) h in
     (grind (arith, nat_tests, parts.0), grind (arith, nat_tests, parts.1))
 
 at_most : (most n : ℕ) → nat_le n most ≡ true → n ≤ most
@@ -55,9 +49,9 @@ within_limits raw h =
     let psi = reads.1 in
     let read_ticks = psi.1 in
     let iter_ticks = read_ticks.1 in
-    let some_banks = both (is_power_of_two raw.banks) (is_between 1 16 raw.banks) banks.0 in
-    let some_regions = both (is_power_of_two raw.regions) (is_between 1 16 raw.regions) regions.0 in
-    let some_lines = both (is_power_of_two raw.lines) (is_between 4 4096 raw.lines) lines.0 in
+    let some_banks = and_parts (is_power_of_two raw.banks) (is_between 1 16 raw.banks) banks.0 in
+    let some_regions = and_parts (is_power_of_two raw.regions) (is_between 1 16 raw.regions) regions.0 in
+    let some_lines = and_parts (is_power_of_two raw.lines) (is_between 4 4096 raw.lines) lines.0 in
     let b = between 1 16 raw.banks some_banks.1 in
     let r = between 1 16 raw.regions some_regions.1 in
     let l = between 4 4096 raw.lines some_lines.1 in

@@ -6,7 +6,7 @@ mod raw;
 mod shape;
 
 pub use bank_shape::Home;
-pub use pace::{Pace, Policy};
+pub use bank_shape::{Pace, Policy};
 pub use raw::{BadShape, Field, RawShape};
 pub use shape::{BankLine, Shape};
 

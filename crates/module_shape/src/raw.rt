@@ -3,7 +3,7 @@ ghost use Rattle.std.specs.Prelude.{◌≡◌, ◌*◌, ◌≤◌};
 ghost use Rattle.module_shape.specs.Limits.{is_between, is_power_between, shape_fault};
 
 use bank_shape::Home;
-use pace::Policy;
+use bank_shape::Policy;
 
 /// The sizes of a module, in range or not.
 #[derive(Clone, Copy, Debug, PartialEq, Eq)]

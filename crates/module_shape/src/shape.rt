@@ -2,14 +2,14 @@
 ghost use Rattle.std.specs.Prelude.{◌≡◌, ◌+◌, ◌*◌, ◌^◌, ◌<◌, ◌≤◌, IfOk};
 ghost use Rattle.feistel_map.specs.Log2.{log2};
 ghost use Rattle.bank_shape.specs.Shape.{IsBankShape, controls_of, lines_in};
-ghost use Rattle.pace.specs.Policies.{IsPace};
+ghost use Rattle.bank_shape.specs.Pausing.{IsPace};
 ghost use Rattle.module_shape.specs.Limits.{IsShape, accepted, total_of};
 ghost use Rattle.module_shape.specs.Addresses.{module_of, pace_of, lines_of, array_lines_of, bank_shape, bank_of, bank_line_of};
 
 use crate::raw::{BadShape, RawShape, fault};
 use bank_shape::{BankShape, Home};
 use feistel_map::Address;
-use pace::Pace;
+use bank_shape::Pace;
 use std::marker::Model;
 
 /// The sizes of a module, all in range.

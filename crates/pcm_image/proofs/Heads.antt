@@ -1,5 +1,6 @@
 -- What the tests of a head say of its numbers.
 use Rattle.std.proofs.Common.{◌≡◌, ℕ, ◌+◌, ◌*◌, ◌^◌, ◌/◌, ◌%◌, ◌<◌, ◌≤◌, Bool, true, false, ◌&&◌, nat_le, refl, sym, ap, ◌∙◌, arith}
+use Rattle.masked_bytes.proofs.Truth.{and_first, and_second}
 use Rattle.std.specs.Int.{is_power_of_two}
 use Rattle.std.proofs.lemmas.Bool.Decides.{nat_tests}
 use Rattle.std.proofs.lemmas.Nat.{mul-le, div_below}
@@ -9,14 +10,6 @@ use Rattle.feistel_map.proofs.Powers.{log2-between}
 use Rattle.pcm_image.specs.Saved.{Head, IsHead, total_in, lines_in}
 use Rattle.module_shape.specs.Limits.{is_power_between}
 use Rattle.module_shape.proofs.Powers.{size_of_powers}
-
-pub and_left : (a b : Bool) → (a && b) ≡ true → a ≡ true
-and_left true b h = refl
-and_left false b h = h
-
-pub and_right : (a b : Bool) → (a && b) ≡ true → b ≡ true
-and_right true b h = h
-and_right false b h = absurd cc
 
 le_of : (a b : ℕ) → nat_le a b ≡ true → a ≤ b
 le_of a b h = grind (arith, nat_tests)
@@ -34,22 +27,22 @@ pub record HeadFits (h : Head) : Type 0 where
 
 pub head-fits : (h : Head) → IsHead h → HeadFits h
 head-fits h is =
-    let b = and_right (is_power_of_two h.banks) (nat_le 1 h.banks && nat_le h.banks 16) is.banks in
-    let r = and_right (is_power_of_two h.regions) (nat_le 1 h.regions && nat_le h.regions 16) is.regions in
-    let lp = and_left (is_power_between 4 4096 h.lines) (nat_le (h.banks * h.regions * h.lines) 65536) is.lines in
-    let l = and_right (is_power_of_two h.lines) (nat_le 4 h.lines && nat_le h.lines 4096) lp in
+    let b = and_second (is_power_of_two h.banks) (nat_le 1 h.banks && nat_le h.banks 16) is.banks in
+    let r = and_second (is_power_of_two h.regions) (nat_le 1 h.regions && nat_le h.regions 16) is.regions in
+    let lp = and_first (is_power_between 4 4096 h.lines) (nat_le (h.banks * h.regions * h.lines) 65536) is.lines in
+    let l = and_second (is_power_of_two h.lines) (nat_le 4 h.lines && nat_le h.lines 4096) lp in
     record {
-      some_banks = le_of 1 h.banks (and_left (nat_le 1 h.banks) (nat_le h.banks 16) b);
-      banks = le_of h.banks 16 (and_right (nat_le 1 h.banks) (nat_le h.banks 16) b);
-      some_regions = le_of 1 h.regions (and_left (nat_le 1 h.regions) (nat_le h.regions 16) r);
-      regions = le_of h.regions 16 (and_right (nat_le 1 h.regions) (nat_le h.regions 16) r);
-      some_lines = le_of 4 h.lines (and_left (nat_le 4 h.lines) (nat_le h.lines 4096) l);
-      lines = le_of h.lines 4096 (and_right (nat_le 4 h.lines) (nat_le h.lines 4096) l);
-      total = le_of (h.banks * h.regions * h.lines) 65536 (and_right (is_power_between 4 4096 h.lines) (nat_le (h.banks * h.regions * h.lines) 65536) is.lines);
+      some_banks = le_of 1 h.banks (and_first (nat_le 1 h.banks) (nat_le h.banks 16) b);
+      banks = le_of h.banks 16 (and_second (nat_le 1 h.banks) (nat_le h.banks 16) b);
+      some_regions = le_of 1 h.regions (and_first (nat_le 1 h.regions) (nat_le h.regions 16) r);
+      regions = le_of h.regions 16 (and_second (nat_le 1 h.regions) (nat_le h.regions 16) r);
+      some_lines = le_of 4 h.lines (and_first (nat_le 4 h.lines) (nat_le h.lines 4096) l);
+      lines = le_of h.lines 4096 (and_second (nat_le 4 h.lines) (nat_le h.lines 4096) l);
+      total = le_of (h.banks * h.regions * h.lines) 65536 (and_second (is_power_between 4 4096 h.lines) (nat_le (h.banks * h.regions * h.lines) 65536) is.lines);
       power = size_of_powers h.banks h.regions h.lines
-          (and_left (is_power_of_two h.banks) (nat_le 1 h.banks && nat_le h.banks 16) is.banks)
-          (and_left (is_power_of_two h.regions) (nat_le 1 h.regions && nat_le h.regions 16) is.regions)
-          (and_left (is_power_of_two h.lines) (nat_le 4 h.lines && nat_le h.lines 4096) lp);
+          (and_first (is_power_of_two h.banks) (nat_le 1 h.banks && nat_le h.banks 16) is.banks)
+          (and_first (is_power_of_two h.regions) (nat_le 1 h.regions && nat_le h.regions 16) is.regions)
+          (and_first (is_power_of_two h.lines) (nat_le 4 h.lines && nat_le h.lines 4096) lp);
     }
 
 -- the logarithm that the code finds

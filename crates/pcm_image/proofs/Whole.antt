@@ -1,10 +1,11 @@
 -- The two laws: what is read is saved so, and what is saved so is read.
 use Rattle.std.proofs.Common.{◌≡◌, ℕ, suc, ◌+◌, ◌*◌, ◌/◌, ◌%◌, ◌^◌, ◌<◌, ◌≤◌, Bool, true, ◌&&◌, ◌==◌, cond, eqb, nat_le, nat_lt, List, [], ◌∷◌, ◌++◌, length, get_or, Result, Ok, Err, All, refl, sym, ap, subst, ◌∙◌, append_assoc, arith}
+use Rattle.masked_bytes.proofs.Truth.{and_first, and_second}
 use Rattle.std.specs.Prelude.{IfOk}
 use Rattle.std.specs.List.{flat_map, AllByRecursion}
 use Rattle.std.specs.Str.{bytes_eq}
 use Rattle.std.specs.Int.{w16, w32, w64}
-use Rattle.std.proofs.lemmas.Bool.{eqb-true}
+use Rattle.std.proofs.lemmas.Bool.{eqb-true, and_from}
 use Rattle.std.proofs.lemmas.Nat.{mul-le}
 use Rattle.std.proofs.lemmas.Bool.Decides.{nat_tests}
 use Rattle.std.proofs.lemmas.Slice.Eq.{bytes_eq-Decides}
@@ -22,7 +23,7 @@ use Rattle.pcm_image.specs.Spelling.{u8, u16, u32, u64, magic, packed, head_byte
 use Rattle.pcm_image.specs.Reading.{Cursor, ◌>>=◌, fault, field, any, byte_at, number_at, times, is_size, size_at, size_of, head_at, region_at, given_from, is_given, entry_at, bank_at, row_of, cells_at, image_of}
 use Rattle.pcm_image.specs.Giving.{Gives}
 use Rattle.pcm_image.proofs.Bits.{length-bytes_from, length-given_from, packed-given, given-packed}
-use Rattle.pcm_image.proofs.Heads.{HeadFits, head-fits, and_left, and_right}
+use Rattle.pcm_image.proofs.Heads.{HeadFits, head-fits}
 use Rattle.pcm_image.proofs.Pairs.{IsBytes, bind_ok, ok_is, passed, Takes, Takes-then, IsPair, IsField, field_pair, Passes, number_pair, byte_pair, wide16, wide32, wide64, times_takes, times_again}
 
 le_true : (a b : ℕ) → a ≤ b → nat_le a b ≡ true
@@ -36,9 +37,6 @@ lt_true a b h = grind (arith, nat_tests)
 
 true_lt : (a b : ℕ) → nat_lt a b ≡ true → a < b
 true_lt a b h = grind (arith, nat_tests)
-
-and_both : (a b : Bool) → a ≡ true → b ≡ true → (a && b) ≡ true
-and_both a b p q = rw (p, q) refl
 
 -- a fact of each, by place and by recursion
 all_at : {X : Type 0} (P : X → Type 0) (xs : List X) (d : X) → ((i : ℕ) → i < length xs → P (get_or xs i d)) → AllByRecursion P xs
@@ -104,9 +102,9 @@ GivenFits B bytes given = (length given ≡ B) × ((gives_some given ≡ true) �
 
 given_field : (B : ℕ) (bytes : List ℕ) → B % 8 ≡ 0 → IsField (B / 8) (is_given B bytes) (λ bits. given_from bits 0 B) (packed B) (GivenFits B bytes)
 given_field B bytes whole = record {
-  back = λ bits len small is. (packed-given B bits whole len small, (length-given_from bits 0 B, (and_left (gives_some (given_from bits 0 B)) (zero_elsewhere bytes (given_from bits 0 B)) is, and_right (gives_some (given_from bits 0 B)) (zero_elsewhere bytes (given_from bits 0 B)) is)));
+  back = λ bits len small is. (packed-given B bits whole len small, (length-given_from bits 0 B, (and_first (gives_some (given_from bits 0 B)) (zero_elsewhere bytes (given_from bits 0 B)) is, and_second (gives_some (given_from bits 0 B)) (zero_elsewhere bytes (given_from bits 0 B)) is)));
   len = λ g fit. length-bytes_from _ 0 (B / 8);
-  passes = λ g fit. rw (given-packed B g whole fit.0) (and_both (gives_some g) (zero_elsewhere bytes g) fit.1.0 fit.1.1);
+  passes = λ g fit. rw (given-packed B g whole fit.0) (and_from (gives_some g) (zero_elsewhere bytes g) fit.1.0 fit.1.1);
   same = λ g fit. given-packed B g whole fit.0;
 }
 

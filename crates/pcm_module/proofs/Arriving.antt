@@ -1,13 +1,14 @@
 -- A bank runs on to a tick, and then a row arrives: both calls together are one step.
 use Rattle.std.proofs.Common.{◌≡◌, ◌≢◌, ℕ, ◌≤◌, ◌==◌, ◌||◌, Bool, true, false, if◌then◌else◌, List, [], ◌∷◌, ◌++◌, Option, Some, None, append_assoc, refl, sym, ap, subst, ◌∙◌, arith}
+use Rattle.masked_bytes.proofs.Truth.{neither_first, neither_second}
 use Rattle.std.specs.Prelude.{IsTrue}
-use Rattle.std.proofs.lemmas.Bool.{ne_eqb}
+use Rattle.std.proofs.lemmas.Bool.{ne_eqb, or_from}
 use Rattle.std.proofs.lemmas.List.Elements.{All-head, All-tail}
 use Rattle.pcm_cells.specs.Device.{ArrayState}
 use Rattle.result_rows.specs.declared.Outcome.{Outcome}
 use Rattle.bank_shape.specs.declared.BankShape.{BankShape}
 use Rattle.bank_model.specs.Events.{Write, Read, Serve, Begin, Iterate, Cut, RowsBelow}
-use Rattle.bank_model.specs.Timing.{Happens, Core, Regs, Timed, core, core_of}
+use Rattle.bank_model.specs.Timing.{Happens, Core, Regs, TimedEvent, core, core_of}
 use Rattle.bank_model.specs.Adding.{Adds}
 use Rattle.clock_laws.specs.State.{ClockState}
 use Rattle.clock_laws.specs.Leads.{Leads}
@@ -21,16 +22,15 @@ use Rattle.clock_laws.specs.Arriving.{cancels_for}
 use Rattle.bank_timing.specs.Cancelling.{cancel_by, cancel_first}
 use Rattle.bank_timing.specs.Extending.{Extends, IsOpen, IsQuiet, EndsAction, outcome_in}
 use Rattle.bank_laws.specs.Ticks.{ends_action}
-use Rattle.clock_laws.proofs.Deciding.{or_none, or_left, or_right}
 use Rattle.pcm_module.specs.Stepping.{IsStep}
 use Rattle.pcm_module.proofs.Moving.{untouched, open_kept, outcome_at_row}
 
 module _ {n m : ℕ} where
-  abbrev Ends : Timed n m → Type 0
+  abbrev Ends : TimedEvent n m → Type 0
   Ends x = EndsAction x
 
   -- nothing is asked by events that a bank comes to by itself
-  pub own_asked : (added xs : List (Timed n m)) (own : List (Asked n)) → IsQuiet added → AreAsked xs own → AreAsked (added ++ xs) own
+  pub own_asked : (added xs : List (TimedEvent n m)) (own : List (Asked n)) → IsQuiet added → AreAsked xs own → AreAsked (added ++ xs) own
   own_asked [] xs own by_itself is = is
   own_asked (x ∷ added) xs own by_itself is =
       by x.happens (All-head Ends x added by_itself) (own_asked added xs own (All-tail Ends x added by_itself) is)
@@ -45,10 +45,10 @@ module _ {n m : ℕ} where
       by (Regs event) own is = is
 
   -- none of them is the arrival of a row
-  pub own_off : (added : List (Timed n m)) (row : ℕ) → IsQuiet added → arrives_with added row ≡ false
+  pub own_off : (added : List (TimedEvent n m)) (row : ℕ) → IsQuiet added → arrives_with added row ≡ false
   own_off [] row by_itself = refl
   own_off (x ∷ added) row by_itself =
-      or_none (is_arrival_of x.happens row) _ (by x.happens (All-head Ends x added by_itself)) (own_off added row (All-tail Ends x added by_itself))
+      or_from (is_arrival_of x.happens row) _ (by x.happens (All-head Ends x added by_itself)) (own_off added row (All-tail Ends x added by_itself))
     where
       by : (h : Happens n) → IsTrue (ends_action h) → is_arrival_of h row ≡ false
       by (Core (Write at line bytes given answer)) own = absurd (cc)
@@ -60,26 +60,26 @@ module _ {n m : ℕ} where
       by (Regs event) own = refl
 
   -- a row above those of a history didn't arrive there
-  pub below_off : (xs : List (Timed n m)) (bound row : ℕ) → RowsBelow (core xs) bound → bound ≤ row → arrives_with xs row ≡ false
+  pub below_off : (xs : List (TimedEvent n m)) (bound row : ℕ) → RowsBelow (core xs) bound → bound ≤ row → arrives_with xs row ≡ false
   below_off [] bound row below le = refl
   below_off (x ∷ xs) bound row below le = by x.happens below (λ b is less. below_off xs b row is less)
     where
       by : (h : Happens n) → RowsBelow (core_of h (core xs)) bound → ((b : ℕ) → RowsBelow (core xs) b → b ≤ row → arrives_with xs row ≡ false)
           → (is_arrival_of h row || arrives_with xs row) ≡ false
-      by (Core (Write at line bytes given answer)) is rec = or_none (at == row) _ (ne_eqb at row (λ e. absurd (omega (arith, is.0)))) (rec at is.1 (omega (arith, is.0)))
-      by (Core (Read at line answer)) is rec = or_none (at == row) _ (ne_eqb at row (λ e. absurd (omega (arith, is.0)))) (rec at is.1 (omega (arith, is.0)))
+      by (Core (Write at line bytes given answer)) is rec = or_from (at == row) _ (ne_eqb at row (λ e. absurd (omega (arith, is.0)))) (rec at is.1 (omega (arith, is.0)))
+      by (Core (Read at line answer)) is rec = or_from (at == row) _ (ne_eqb at row (λ e. absurd (omega (arith, is.0)))) (rec at is.1 (omega (arith, is.0)))
       by (Core (Serve answer)) is rec = rec bound is le
       by (Core (Begin answer)) is rec = rec bound is le
       by (Core (Iterate answer)) is rec = rec bound is le
       by (Core (Cut tearing)) is rec = rec bound is le
       by (Regs event) is rec = rec bound is le
 
-  off_append : (added xs : List (Timed n m)) (row : ℕ) → arrives_with added row ≡ false → arrives_with xs row ≡ false → arrives_with (added ++ xs) row ≡ false
+  off_append : (added xs : List (TimedEvent n m)) (row : ℕ) → arrives_with added row ≡ false → arrives_with xs row ≡ false → arrives_with (added ++ xs) row ≡ false
   off_append [] xs row off rest = rest
   off_append (x ∷ added) xs row off rest =
-      or_none (is_arrival_of x.happens row) _ (or_left (is_arrival_of x.happens row) _ off) (off_append added xs row (or_right (is_arrival_of x.happens row) _ off) rest)
+      or_from (is_arrival_of x.happens row) _ (neither_first (is_arrival_of x.happens row) _ off) (off_append added xs row (neither_second (is_arrival_of x.happens row) _ off) rest)
 
-module _ {n m e : ℕ} (xs : List (Timed n m)) (clock : ClockState n m e) where
+module _ {n m e : ℕ} (xs : List (TimedEvent n m)) (clock : ClockState n m e) where
   -- a cancel is asked for by no row
   cancel_asked : (change : Option Change) (asked : List (Asked n)) → AreAsked xs asked → AreAsked (cancel_by change xs clock ∷ xs) asked
   cancel_asked None asked is = is
@@ -101,10 +101,10 @@ module _ {n m e : ℕ} (xs : List (Timed n m)) (clock : ClockState n m e) where
   first_off line row = by (cancels_for clock line)
     where
       by : (cancels : Bool) → arrives_with (if cancels then cancel_by clock.regs.change xs clock ∷ [] else []) row ≡ false
-      by true = or_none (is_arrival_of (cancel_by clock.regs.change xs clock).happens row) false (cancel_off clock.regs.change row) refl
+      by true = or_from (is_arrival_of (cancel_by clock.regs.change xs clock).happens row) false (cancel_off clock.regs.change row) refl
       by false = refl
 
-module _ {n m e : ℕ} (xs added : List (Timed n m)) (first between last : ClockState n m e) (a0 a1 a2 : ArrayState n m) (r0 r1 r2 : List (Outcome n))
+module _ {n m e : ℕ} (xs added : List (TimedEvent n m)) (first between last : ClockState n m e) (a0 a1 a2 : ArrayState n m) (r0 r1 r2 : List (Outcome n))
     (leads : Leads xs first a0) (own : IsQuiet added) (ext : Extends xs added first between a0 a1 r0 r1) where
   -- a row that is new stays open while the bank runs on
   pub open_on : (row : ℕ) → first.bank.rows_below ≤ row → IsOpen r0 row → IsOpen r1 row
@@ -114,9 +114,9 @@ module _ {n m e : ℕ} (xs added : List (Timed n m)) (first between last : Clock
       (off_append added xs row (own_off added row own) (below_off xs first.bank.rows_below row leads.holds.rows fresh))) is
 
   -- the events of an arrival behind them
-  pub extends_on : (arrived : List (Timed n m)) → Extends (added ++ xs) arrived between last a1 a2 r1 r2 → Extends xs (arrived ++ added) first last a0 a2 r0 r2
+  pub extends_on : (arrived : List (TimedEvent n m)) → Extends (added ++ xs) arrived between last a1 a2 r1 r2 → Extends xs (arrived ++ added) first last a0 a2 r0 r2
   extends_on arrived next = record {
-    leads = subst (λ (ys : List (Timed n m)). Leads ys last a2) (sym (append_assoc arrived added xs)) next.leads;
+    leads = subst (λ (ys : List (TimedEvent n m)). Leads ys last a2) (sym (append_assoc arrived added xs)) next.leads;
     shape = next.shape ∙ ext.shape;
     pace = next.pace ∙ ext.pace;
     adds = both_added_law n m first.bank.kept.shape arrived added a0 a1 a2 ext.adds (subst (λ (s : BankShape). Adds s arrived a1 a2) ext.shape next.adds);
@@ -129,13 +129,13 @@ module _ {n m e : ℕ} (xs added : List (Timed n m)) (first between last : Clock
   }
 
   -- with them a row arrives, and no other
-  pub step_on : (arrived : List (Timed n m)) (a : Asked n) → Extends (added ++ xs) arrived between last a1 a2 r1 r2
+  pub step_on : (arrived : List (TimedEvent n m)) (a : Asked n) → Extends (added ++ xs) arrived between last a1 a2 r1 r2
       → ((asked : List (Asked n)) → AreAsked (added ++ xs) asked → AreAsked (arrived ++ (added ++ xs)) (a ∷ asked))
       → ((row : ℕ) → row ≢ a.row → arrives_with arrived row ≡ false)
       → IsStep xs (arrived ++ added) a first last a0 a2 r0 r2
   step_on arrived a next arrives alone = record {
     extends = extends_on arrived next;
     arrives = λ asked is.
-        subst (λ (ys : List (Timed n m)). AreAsked ys (a ∷ asked)) (sym (append_assoc arrived added xs)) (arrives asked (own_asked added xs asked own is));
+        subst (λ (ys : List (TimedEvent n m)). AreAsked ys (a ∷ asked)) (sym (append_assoc arrived added xs)) (arrives asked (own_asked added xs asked own is));
     alone = λ row other. off_append arrived added row (alone row other) (own_off added row own);
   }

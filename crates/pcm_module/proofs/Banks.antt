@@ -1,7 +1,7 @@
 -- One bank takes a step, and the banks beside it stay.
 use Rattle.std.proofs.Common.{◌≡◌, ◌≢◌, ℕ, ◌+◌, ◌*◌, ◌<◌, ◌≤◌, ◌==◌, ◌&&◌, Bool, true, false, if◌then◌else◌, cond, List, [], ◌∷◌, ◌++◌, map, Option, Some, None, refl, sym, ap, subst, ◌∙◌, inl, inr, eq-eqb, suc, arith}
 use Rattle.std.specs.Prelude.{filter, All, IsSomeAnd, slice_get, slice_set}
-use Rattle.std.proofs.lemmas.Bool.{ne_eqb, cases_lt, cases_eq}
+use Rattle.std.proofs.lemmas.Bool.{ne_eqb, cases_lt, cases_eq, and_right, or_from}
 use Rattle.std.proofs.Math.Nat.{mul-le-mul_left, mul-suc, mul_comm}
 use Rattle.std.proofs.lemmas.Option.{slice_get_within}
 use Rattle.std.proofs.lemmas.List.Elements.{All-nil, All-cons, All-weaker}
@@ -9,17 +9,17 @@ use Rattle.circular_buffer.proofs.Places.{slice_get-set_same, slice_get-set_othe
 use Rattle.pcm_cells.specs.Device.{ArrayState}
 use Rattle.result_rows.specs.declared.Outcome.{Outcome}
 use Rattle.result_rows.specs.Table.{HasRow}
-use Rattle.row_laws.specs.Table.{is_of}
-use Rattle.bank_model.specs.Timing.{Pacing, Timed}
+use Rattle.row_rules.specs.Table.{is_of}
+use Rattle.bank_shape.specs.declared.pace.Pace.{Pace}
+use Rattle.bank_model.specs.Timing.{TimedEvent}
 use Rattle.module_shape.specs.Addresses.{ModuleShape, bank_shape, array_lines_of}
 use Rattle.clock_laws.specs.State.{ClockState}
 use Rattle.clock_laws.specs.Standing.{arrives_with}
 use Rattle.module_laws.specs.Asking.{Asked, asked_in, asked_of}
 use Rattle.bank_timing.specs.Extending.{outcome_in}
-use Rattle.clock_laws.proofs.Deciding.{or_none}
 use Rattle.pcm_module.specs.Stepping.{IsAt, IsStep}
 use Rattle.pcm_module.specs.Replaying.{BankReplays, RowsFall, outcome_so_far}
-use Rattle.pcm_module.proofs.Naming.{is_numbered, names, not_named, above_all, rows_of_bank_all, All-both, and_off}
+use Rattle.pcm_module.proofs.Naming.{is_numbered, names, not_named, above_all, rows_of_bank_all, All-both}
 use Rattle.pcm_module.proofs.Logging.{AreOff}
 use Rattle.pcm_module.proofs.Steps.{own_replays, other_replays}
 
@@ -65,16 +65,16 @@ at_get P o x is p = subst (λ o. IsSomeAnd o P) (sym is) p
 pub from_get : {X : Type 0} (P : X → Type 0) (o : Option X) (x : X) → o ≡ Some x → IsSomeAnd o P → P x
 from_get P o x is p = subst (λ o. IsSomeAnd o P) is p
 
-module _ {n m e : ℕ} (shape : ModuleShape) (pace : Pacing) where
+module _ {n m e : ℕ} (shape : ModuleShape) (pace : Pace) where
   -- each bank replays by its history what was asked of it
-  abbrev pub AllReplay : ℕ → ℕ → (ℕ → List (Timed n m)) → (ℕ → List (Asked n)) → ArrayState n m → List (Outcome n) → List (ClockState n m e) → Type 0
+  abbrev pub AllReplay : ℕ → ℕ → (ℕ → List (TimedEvent n m)) → (ℕ → List (Asked n)) → ArrayState n m → List (Outcome n) → List (ClockState n m e) → Type 0
   AllReplay tick rows h owns array results banks =
       (bank : ℕ) → bank < shape.banks
       → IsSomeAnd (slice_get banks bank) (BankReplays (bank_shape shape bank) pace tick rows (h bank) (owns bank) array results)
 
   -- a row that arrives at one bank leaves each bank replaying: that one with the row, and the others what they did
-  pub all_step : (tick rows later above bank : ℕ) (h grown : ℕ → List (Timed n m)) (owns asked : ℕ → List (Asked n)) (banks : List (ClockState n m e))
-      (added : List (Timed n m)) (a : Asked n) (clock next : ClockState n m e) (before after : ArrayState n m) (results recorded : List (Outcome n))
+  pub all_step : (tick rows later above bank : ℕ) (h grown : ℕ → List (TimedEvent n m)) (owns asked : ℕ → List (Asked n)) (banks : List (ClockState n m e))
+      (added : List (TimedEvent n m)) (a : Asked n) (clock next : ClockState n m e) (before after : ArrayState n m) (results recorded : List (Outcome n))
       → AllReplay tick rows h owns before results banks → bank < shape.banks → slice_get banks bank ≡ Some clock
       → IsStep (h bank) added a clock next before after results recorded → IsAt later above next recorded
       → (grown bank ≡ added ++ h bank) → ((other : ℕ) → other ≢ bank → grown other ≡ h other)
@@ -138,8 +138,8 @@ module _ {n : ℕ} (home number : ℕ → ℕ) where
       by ih false = ih
       by ih true =
           All-cons (Apart (asked_in home number a ∷ rest)) (asked_in home number a) rest
-          (λ none. or_none (is_numbered (asked_in home number a).asks && a.row == a.row) _ (ap (λ b. b && a.row == a.row) none) (above_all home number bank asked a.row falls.0))
+          (λ none. or_from (is_numbered (asked_in home number a).asks && a.row == a.row) _ (ap (λ b. b && a.row == a.row) none) (above_all home number bank asked a.row falls.0))
           (All-both (Apart rest) (λ (c : Asked n). c.row < a.row) (Apart (asked_in home number a ∷ rest))
-          (λ c apart lower none. or_none (is_numbered (asked_in home number a).asks && a.row == c.row) _
-          (and_off (is_numbered (asked_in home number a).asks) (a.row == c.row) (ne_eqb a.row c.row (λ e. absurd (omega (arith, lower, e))))) (apart none))
+          (λ c apart lower none. or_from (is_numbered (asked_in home number a).asks && a.row == c.row) _
+          (and_right (is_numbered (asked_in home number a).asks) (a.row == c.row) (ne_eqb a.row c.row (λ e. absurd (omega (arith, lower, e))))) (apart none))
           rest ih (rows_of_bank_all home number (λ r. r < a.row) bank asked falls.0))

@@ -1,28 +1,27 @@
 -- What has become of a bank's rows: a write has arrived, and a read stands in no queue.
 use Rattle.std.proofs.Common.{◌≡◌, ◌≢◌, ℕ, ◌<◌, ◌==◌, ◌||◌, ◌&&◌, Bool, true, false, cond, if◌then◌else◌, List, [], ◌∷◌, map, refl, sym, ap, subst, ◌∙◌, eq-eqb, arith}
 use Rattle.std.specs.Prelude.{filter, All}
-use Rattle.std.proofs.lemmas.Bool.{ne_eqb}
+use Rattle.std.proofs.lemmas.Bool.{ne_eqb, and_right, or_from, or_right}
 use Rattle.std.proofs.lemmas.List.Elements.{All-head, All-tail, All-nil, All-cons, All-weaker}
 use Rattle.masked_bytes.specs.Entries.{has_row}
 use Rattle.result_rows.specs.declared.Outcome.{Outcome}
 use Rattle.result_rows.specs.declared.Outcome.TheVariants as out
-use Rattle.row_laws.specs.declared.Asks.{Asks}
-use Rattle.row_laws.specs.declared.Asks.TheVariants.{Reads, Writes, Cuts}
-use Rattle.row_laws.specs.Table.{is_of}
+use Rattle.row_rules.specs.declared.Asks.{Asks}
+use Rattle.row_rules.specs.declared.Asks.TheVariants.{Reads, Writes, Cuts}
+use Rattle.row_rules.specs.Table.{is_of}
 use Rattle.bank_shape.specs.declared.BankShape.{BankShape}
-use Rattle.bank_model.specs.declared.answer.WriteAnswer.{WriteAnswer}
+use Rattle.bank_shape.specs.declared.answer.WriteAnswer.{WriteAnswer}
 use Rattle.bank_model.specs.Events.{Write, Read, Serve, Begin, Iterate, Cut}
 use Rattle.bank_model.specs.History.{queue}
-use Rattle.bank_model.specs.Timing.{Happens, Core, Regs, Timed, core, core_of}
+use Rattle.bank_model.specs.Timing.{Happens, Core, Regs, TimedEvent, core, core_of}
 use Rattle.bank_model.specs.Told.{tick_by, tick_of_row}
 use Rattle.bank_laws.specs.Outcomes.{ended}
 use Rattle.clock_laws.specs.Standing.{is_arrival_of, arrives_with}
 use Rattle.module_laws.specs.Asking.{Asked, asked_in, asked_of, AreAsked, IsAsked}
-use Rattle.clock_laws.proofs.Deciding.{or_none, or_back}
 use Rattle.clock_laws.proofs.Absent.{queue-lacks}
 use Rattle.pcm_module.specs.Replaying.{RowsFall}
 use Rattle.pcm_module.proofs.Standing.{stands_not}
-use Rattle.pcm_module.proofs.Naming.{names, not_named, is_numbered, rows_of_bank_all, and_off, All-both}
+use Rattle.pcm_module.proofs.Naming.{names, not_named, is_numbered, rows_of_bank_all, All-both}
 
 module _ {n : ℕ} where
   pub ended_set : (tick : ℕ) (o : Outcome n) → o ≢ out.Unset → ended tick o ≡ o
@@ -43,8 +42,8 @@ module _ {n : ℕ} where
   names_above row [] all = refl
   names_above row (a ∷ own) all =
       let lower : a.row < row = All-head (λ (a : Asked n). a.row < row) a own all in
-      or_none (is_numbered a.asks && a.row == row) _
-      (and_off (is_numbered a.asks) (a.row == row) (ne_eqb a.row row (λ e. absurd (omega (arith, lower, e)))))
+      or_from (is_numbered a.asks && a.row == row) _
+      (and_right (is_numbered a.asks) (a.row == row) (ne_eqb a.row row (λ e. absurd (omega (arith, lower, e)))))
       (names_above row own (All-tail (λ (a : Asked n). a.row < row) a own all))
 
   -- the rows of a bank fall, where all rows do
@@ -69,42 +68,42 @@ module _ {n : ℕ} where
 
 module _ {n m : ℕ} (shape : BankShape) where
   -- what has become of a row that asks this, by one event after others: a write has arrived, at its tick; a read doesn't stand in the queue
-  abbrev pub BecomesBy : List (Timed n m) → Happens n → ℕ → Asked n → Asks n → Type 0
+  abbrev pub BecomesBy : List (TimedEvent n m) → Happens n → ℕ → Asked n → Asks n → Type 0
   BecomesBy xs h tick c (Reads line) = has_row (queue shape (core_of h (core xs))) c.row ≡ false
   BecomesBy xs h tick c (Writes line bytes given) =
       (tick_by c.row h tick (tick_of_row c.row xs) ≡ c.tick) × ((is_arrival_of h c.row || arrives_with xs c.row) ≡ true)
   BecomesBy xs h tick c Cuts = Unit {0}
 
   -- what has become of it by all events
-  abbrev pub Becomes : List (Timed n m) → Asked n → Asks n → Type 0
+  abbrev pub Becomes : List (TimedEvent n m) → Asked n → Asks n → Type 0
   Becomes xs c (Reads line) = has_row (queue shape (core xs)) c.row ≡ false
   Becomes xs c (Writes line bytes given) = (tick_of_row c.row xs ≡ c.tick) × (arrives_with xs c.row ≡ true)
   Becomes xs c Cuts = Unit {0}
 
-  lacks_step : (xs : List (Timed n m)) (h : Happens n) (row : ℕ) → is_arrival_of h row ≡ false → has_row (queue shape (core xs)) row ≡ false
+  lacks_step : (xs : List (TimedEvent n m)) (h : Happens n) (row : ℕ) → is_arrival_of h row ≡ false → has_row (queue shape (core xs)) row ≡ false
       → has_row (queue shape (core_of h (core xs))) row ≡ false
   lacks_step xs (Core event) row off none = queue-lacks shape (core xs) row none event off
   lacks_step xs (Regs event) row off none = none
 
   -- an event that isn't the row's arrival
-  becomes_step : (xs : List (Timed n m)) (x : Timed n m) (c : Asked n) → is_arrival_of x.happens c.row ≡ false
+  becomes_step : (xs : List (TimedEvent n m)) (x : TimedEvent n m) (c : Asked n) → is_arrival_of x.happens c.row ≡ false
       → Becomes xs c c.asks → BecomesBy xs x.happens x.tick c c.asks
   becomes_step xs x c off = by c.asks
     where
       by : (asks : Asks n) → Becomes xs c asks → BecomesBy xs x.happens x.tick c asks
       by (Reads line) was = lacks_step xs x.happens c.row off was
       by (Writes line bytes given) was =
-          (tick_off x.happens x.tick (tick_of_row c.row xs) c.row off ∙ was.0, or_back (is_arrival_of x.happens c.row) (arrives_with xs c.row) was.1)
+          (tick_off x.happens x.tick (tick_of_row c.row xs) c.row off ∙ was.0, or_right (is_arrival_of x.happens c.row) (arrives_with xs c.row) was.1)
       by Cuts was = tt
 
   -- a write that has just arrived
-  written : (xs : List (Timed n m)) (tick at line : ℕ) (bytes : List ℕ) (given : List Bool) (answer : WriteAnswer)
+  written : (xs : List (TimedEvent n m)) (tick at line : ℕ) (bytes : List ℕ) (given : List Bool) (answer : WriteAnswer)
       → BecomesBy xs (Core (Write at line bytes given answer)) tick (record { row = at; tick = tick; asks = Writes line bytes given }) (Writes line bytes given)
   written xs tick at line bytes given answer =
       (ap (λ b. if b then tick else tick_of_row at xs) (eq-eqb at at refl), ap (λ b. b || arrives_with xs at) (eq-eqb at at refl))
 
   -- so it is with each row that was asked of a bank
-  pub all_become : (xs : List (Timed n m)) (own : List (Asked n)) → AreAsked xs own → RowsFall own → All (λ c. Becomes xs c c.asks) own
+  pub all_become : (xs : List (TimedEvent n m)) (own : List (Asked n)) → AreAsked xs own → RowsFall own → All (λ c. Becomes xs c c.asks) own
   all_become [] own are falls = subst (λ (own : List (Asked n)). All (λ c. Becomes [] c c.asks) own) (sym are) (All-nil (λ (c : Asked n). Becomes [] c c.asks))
   all_become (x ∷ xs) own are falls =
       by x.happens x.cancels (becomes_step xs x) own are falls (λ rest is rest_falls. all_become xs rest is rest_falls)

@@ -3,7 +3,7 @@ use Rattle.std.proofs.Common.{◌≡◌, ℕ, ◌*◌, ◌<◌, List, [], ◌++�
 use Rattle.pcm_cells.specs.declared.array.Sense.{Sense}
 use Rattle.pcm_cells.specs.Device.{ArrayState}
 use Rattle.bank_shape.specs.declared.BankShape.{BankShape}
-use Rattle.bank_model.specs.Timing.{Timed}
+use Rattle.bank_model.specs.Timing.{TimedEvent}
 use Rattle.bank_model.specs.Adding.{Adds, senses_of}
 use Rattle.module_shape.specs.Addresses.{ModuleShape, bank_shape, array_lines_of}
 use Rattle.pcm_module.specs.Taking.{StaysBeyond}
@@ -30,7 +30,7 @@ module _ {n m : ℕ} (own : ℕ) where
   }
 
 -- a bank of the module has no line beyond those of all banks
-pub stays_by : {n m : ℕ} (shape : ModuleShape) (bank : ℕ) (own : BankShape) (added : List (Timed n m)) (before after : ArrayState n m)
+pub stays_by : {n m : ℕ} (shape : ModuleShape) (bank : ℕ) (own : BankShape) (added : List (TimedEvent n m)) (before after : ArrayState n m)
     → bank < shape.banks → own ≡ bank_shape shape bank → Adds own added before after → StaysBeyond (shape.banks * array_lines_of shape) before after
 stays_by {n = n} {m = m} shape bank own added before after exists is adds =
     let here : Adds (bank_shape shape bank) added before after = subst (λ (s : BankShape). Adds s added before after) is adds in

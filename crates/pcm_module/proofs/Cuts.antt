@@ -10,9 +10,9 @@ use Rattle.masked_bytes.specs.Entries.{has_row}
 use Rattle.result_rows.specs.declared.Outcome.{Outcome}
 use Rattle.result_rows.specs.declared.Outcome.TheVariants as out
 use Rattle.result_rows.specs.Table.{HasRow, with_outcome}
-use Rattle.row_laws.specs.declared.Asks.TheVariants.{Cuts}
+use Rattle.row_rules.specs.declared.Asks.TheVariants.{Cuts}
 use Rattle.bank_shape.specs.declared.BankShape.{BankShape}
-use Rattle.bank_model.specs.Timing.{Timed}
+use Rattle.bank_model.specs.Timing.{TimedEvent}
 use Rattle.feistel_map.specs.Network.{Network}
 use Rattle.module_shape.specs.declared.raw.RawShape.{RawShape}
 use Rattle.module_shape.specs.Limits.{total_of}
@@ -48,8 +48,8 @@ module _ {n m e : ℕ} (a : Asked n) (old : ModuleState n m e) (before : ArraySt
     pub rows : length recorded ≡ length results
     pub outcome : outcome_in recorded a.row ≡ out.Cut a.tick
     pub open_rows : (other : ℕ) → a.row < other → IsOpen results other → IsOpen recorded other
-    pub replays : (h : ℕ → List (Timed n m)) (asked : List (Asked n)) → Replays h asked old before results
-        → (added : ℕ → List (Timed n m))
+    pub replays : (h : ℕ → List (TimedEvent n m)) (asked : List (Asked n)) → Replays h asked old before results
+        → (added : ℕ → List (TimedEvent n m))
         × AllReplay (module_of old.shape) (pacing_in old.shape) a.tick (a.row + 1) (λ k. added k ++ h k) (λ k. asked_in_bank old k (up_to a reached k asked)) after recorded banks
     pub others : (other : ℕ) → HasRow results other → other ≢ a.row → StandsNowhere old other → outcome_in recorded other ≡ outcome_in results other
     pub stays : StaysBeyond (old.shape.banks * array_lines_of (module_of old.shape)) before after
@@ -67,10 +67,10 @@ module _ {n m e : ℕ} (row tick : ℕ) (old : ModuleState n m e) (before : Arra
   abbrev shape_of : ℕ → BankShape
   shape_of k = bank_shape (module_of old.shape) k
 
-  falls_on : (h : ℕ → List (Timed n m)) (asked : List (Asked n)) → Replays h asked old before results → RowsFall (the_cut ∷ asked)
+  falls_on : (h : ℕ → List (TimedEvent n m)) (asked : List (Asked n)) → Replays h asked old before results → RowsFall (the_cut ∷ asked)
   falls_on h asked f = (All-weaker (λ (b : Asked n). b.row < old.rows_below) (λ (b : Asked n). b.row < row) (λ b less. omega (arith, less, above)) asked f.below, f.rows)
 
-  rows_there : (h : ℕ → List (Timed n m)) (asked : List (Asked n)) → Replays h asked old before results → (recorded : List (Outcome n)) → length recorded ≡ length results
+  rows_there : (h : ℕ → List (TimedEvent n m)) (asked : List (Asked n)) → Replays h asked old before results → (recorded : List (Outcome n)) → length recorded ≡ length results
       → All (λ c. HasRow recorded c.row) (the_cut ∷ asked)
   rows_there h asked f recorded rows =
       All-cons (λ (c : Asked n). HasRow recorded c.row) the_cut asked (row_kept results recorded row rows fresh)
@@ -95,7 +95,7 @@ module _ {n m e : ℕ} (row tick : ℕ) (old : ModuleState n m e) (before : Arra
       same : (other : ℕ) → 1 ≤ other → other ≢ row → outcome_in recorded other ≡ outcome_in results other
       same other some off = ap (λ r. outcome_in r other) set ∙ ap (λ o. unwrap_or o out.Unset) (slice_get-set_other results (row - 1) (other - 1) (out.Cut tick) (λ e. off (omega (arith, e, some, fresh.above))))
 
-      each : (h : ℕ → List (Timed n m)) (asked : List (Asked n)) → Replays h asked old before results → (k : ℕ) → (o : Option (ClockState n m e))
+      each : (h : ℕ → List (TimedEvent n m)) (asked : List (Asked n)) → Replays h asked old before results → (k : ℕ) → (o : Option (ClockState n m e))
           → IsSomeAnd o (BankReplays (shape_of k) (pacing_in old.shape) old.tick old.rows_below (h k) (asked_in_bank old k asked) before results)
           → IsSomeAnd o (BankReplays (shape_of k) (pacing_in old.shape) tick (row + 1) (h k) (asked_in_bank old k (up_to the_cut 0 k asked)) before recorded)
       each h asked f k None is = is
@@ -144,7 +144,7 @@ module _ {n m e : ℕ} (row tick : ℕ) (old : ModuleState n m e) (before : Arra
       (exists : reached < old.shape.banks) (is : slice_get banks reached ≡ Some clock)
       (so_far : CutsUpTo the_cut old before results reached banks between recorded) where
     -- the bank that is next replays what was asked of it
-    pub cut_replays : (h : ℕ → List (Timed n m)) (asked : List (Asked n)) (f : Replays h asked old before results)
+    pub cut_replays : (h : ℕ → List (TimedEvent n m)) (asked : List (Asked n)) (f : Replays h asked old before results)
         → BankReplays (shape_of reached) (pacing_in old.shape) tick (row + 1) ((so_far.replays h asked f).0 reached ++ h reached) (asked_in_bank old reached asked) between recorded clock
     cut_replays h asked f =
         subst (λ own. BankReplays (shape_of reached) (pacing_in old.shape) tick (row + 1) ((so_far.replays h asked f).0 reached ++ h reached) own between recorded clock) (own_up_to reached asked)
@@ -152,9 +152,9 @@ module _ {n m e : ℕ} (row tick : ℕ) (old : ModuleState n m e) (before : Arra
         (slice_get banks reached) clock is ((so_far.replays h asked f).1 reached exists))
 
     module _ (after : ArrayState n m) (ended : List (Outcome n)) (next : ClockState n m e) (at : IsAt tick (row + 1) next ended)
-        (step : (xs : List (Timed n m)) → Leads xs clock between → (added : List (Timed n m)) × IsStep xs added the_cut clock next between after recorded ended) where
-      replays_on : (h : ℕ → List (Timed n m)) (asked : List (Asked n)) → Replays h asked old before results
-          → (added : ℕ → List (Timed n m))
+        (step : (xs : List (TimedEvent n m)) → Leads xs clock between → (added : List (TimedEvent n m)) × IsStep xs added the_cut clock next between after recorded ended) where
+      replays_on : (h : ℕ → List (TimedEvent n m)) (asked : List (Asked n)) → Replays h asked old before results
+          → (added : ℕ → List (TimedEvent n m))
           × AllReplay (module_of old.shape) (pacing_in old.shape) tick (row + 1) (λ k. added k ++ h k) (λ k. asked_in_bank old k (up_to the_cut (reached + 1) k asked)) after ended (slice_set banks reached next)
       replays_on h asked f =
           let went = so_far.replays h asked f in
@@ -162,15 +162,15 @@ module _ {n m e : ℕ} (row tick : ℕ) (old : ModuleState n m e) (before : Arra
           let s = step (went.0 reached ++ h reached) first.leads in
           let falls = falls_on h asked f in
           let here = own_up_to reached asked in
-          let added : ℕ → List (Timed n m) = changed reached (s.0 ++ went.0 reached) went.0 in
+          let added : ℕ → List (TimedEvent n m) = changed reached (s.0 ++ went.0 reached) went.0 in
           let has : (k : ℕ) → All (λ c. HasRow recorded c.row) (asked_in_bank old k (up_to the_cut reached k asked)) =
           λ k. rows_of_bank_all home number (HasRow recorded) k (up_to the_cut reached k asked) (all_up_to (λ (c : Asked n). HasRow recorded c.row) reached k asked (rows_there h asked f recorded so_far.rows)) in (
             added,
             all_step (module_of old.shape) (pacing_in old.shape) tick (row + 1) tick (row + 1) reached (λ k. went.0 k ++ h k) (λ k. added k ++ h k)
                 (λ k. asked_in_bank old k (up_to the_cut reached k asked)) (λ k. asked_in_bank old k (up_to the_cut (reached + 1) k asked)) banks s.0 the_cut clock next between after recorded ended
                 went.1 exists is s.1 at
-                (ap (λ (a : List (Timed n m)). a ++ h reached) (changed_at reached (s.0 ++ went.0 reached) went.0 reached refl) ∙ append_assoc s.0 (went.0 reached) (h reached))
-                (λ k off. ap (λ (a : List (Timed n m)). a ++ h k) (changed_off reached (s.0 ++ went.0 reached) went.0 k off))
+                (ap (λ (a : List (TimedEvent n m)). a ++ h reached) (changed_at reached (s.0 ++ went.0 reached) went.0 reached refl) ∙ append_assoc s.0 (went.0 reached) (h reached))
+                (λ k off. ap (λ (a : List (TimedEvent n m)). a ++ h k) (changed_off reached (s.0 ++ went.0 reached) went.0 k off))
                 (own_next reached asked) (other_next reached asked)
                 (All-cons (λ (c : Asked n). HasRow recorded c.row) the_cut (asked_in_bank old reached (up_to the_cut reached reached asked)) (row_kept results recorded row so_far.rows fresh) (has reached))
                 (subst (λ own. All (λ c. is_numbered c.asks ≡ false → names (the_cut ∷ own) c.row ≡ false) (the_cut ∷ own)) (sym here) (cuts_apart home number reached (the_cut ∷ asked) falls))
@@ -198,13 +198,13 @@ module _ {n m e : ℕ} (row tick : ℕ) (old : ModuleState n m e) (before : Arra
         stays = stays_both _ before between after so_far.stays (stays_by (module_of old.shape) reached clock.bank.kept.shape s.0 between after exists first.shaped s.1.extends.adds);
       }
         where
-          xs : List (Timed n m)
+          xs : List (TimedEvent n m)
           xs = (so_far.replays led.0 led.1 led.2).0 reached ++ led.0 reached
 
           first : BankReplays (shape_of reached) (pacing_in old.shape) tick (row + 1) ((so_far.replays led.0 led.1 led.2).0 reached ++ led.0 reached) (asked_in_bank old reached led.1) between recorded clock
           first = cut_replays led.0 led.1 led.2
 
-          s : (added : List (Timed n m)) × IsStep ((so_far.replays led.0 led.1 led.2).0 reached ++ led.0 reached) added the_cut clock next between after recorded ended
+          s : (added : List (TimedEvent n m)) × IsStep ((so_far.replays led.0 led.1 led.2).0 reached ++ led.0 reached) added the_cut clock next between after recorded ended
           s = step ((so_far.replays led.0 led.1 led.2).0 reached ++ led.0 reached) first.leads
 
           -- the cut's row and those behind it keep their outcomes

@@ -10,7 +10,7 @@ use Rattle.masked_bytes.specs.Entries.{has_row}
 use Rattle.result_rows.specs.declared.Outcome.{Outcome}
 use Rattle.result_rows.specs.Table.{HasRow}
 use Rattle.bank_shape.specs.declared.BankShape.{BankShape}
-use Rattle.bank_model.specs.Timing.{Timed}
+use Rattle.bank_model.specs.Timing.{TimedEvent}
 use Rattle.feistel_map.specs.Network.{Network}
 use Rattle.module_shape.specs.Addresses.{module_of, bank_shape}
 use Rattle.clock_laws.specs.State.{ClockState}
@@ -84,7 +84,7 @@ module _ {n m e : ℕ} (module_ : ModuleState n m e) (before : ArrayState n m) (
   module _ (reached : ℕ) (banks : List (ClockState n m e)) (between : ArrayState n m) (recorded : List (Outcome n)) (clock : ClockState n m e)
       (so_far : AreDrained module_ reached banks before between results recorded) (exists : reached < module_.shape.banks) (is : slice_get banks reached ≡ Some clock) where
     -- the next bank still replays what was asked of it
-    pub next_replays : (h : ℕ → List (Timed n m)) (asked : List (Asked n)) (f : Replays h asked module_ before results)
+    pub next_replays : (h : ℕ → List (TimedEvent n m)) (asked : List (Asked n)) (f : Replays h asked module_ before results)
         → ReplaysIn module_ reached ((so_far.replays h asked f).0 reached ++ h reached) asked between recorded clock
     next_replays h asked f =
         let went = so_far.replays h asked f in
@@ -92,12 +92,12 @@ module _ {n m e : ℕ} (module_ : ModuleState n m e) (before : ArrayState n m) (
         (from_get (DrainedIf module_ (nat_lt reached reached) reached (went.0 reached ++ h reached) asked between recorded) (slice_get banks reached) clock is (went.1 reached exists))
 
     module _ (after : ArrayState n m) (ended : List (Outcome n)) (next : ClockState n m e)
-        (drains : (xs : List (Timed n m)) → Leads xs clock between → (added : List (Timed n m)) × Drains xs added clock next between after recorded ended) where
-      module _ (h : ℕ → List (Timed n m)) (asked : List (Asked n)) (f : Replays h asked module_ before results) where
-        abbrev added : ℕ → List (Timed n m)
+        (drains : (xs : List (TimedEvent n m)) → Leads xs clock between → (added : List (TimedEvent n m)) × Drains xs added clock next between after recorded ended) where
+      module _ (h : ℕ → List (TimedEvent n m)) (asked : List (Asked n)) (f : Replays h asked module_ before results) where
+        abbrev added : ℕ → List (TimedEvent n m)
         added = (so_far.replays h asked f).0
 
-        abbrev went : ℕ → List (Timed n m)
+        abbrev went : ℕ → List (TimedEvent n m)
         went k = added k ++ h k
 
         abbrev own : ℕ → List (Asked n)
@@ -109,10 +109,10 @@ module _ {n m e : ℕ} (module_ : ModuleState n m e) (before : ArrayState n m) (
         first : ReplaysIn module_ reached (went reached) asked between recorded clock
         first = next_replays h asked f
 
-        abbrev run : (more : List (Timed n m)) × Drains (went reached) more clock next between after recorded ended
+        abbrev run : (more : List (TimedEvent n m)) × Drains (went reached) more clock next between after recorded ended
         run = drains (went reached) (next_replays h asked f).leads
 
-        abbrev later : ℕ → List (Timed n m)
+        abbrev later : ℕ → List (TimedEvent n m)
         later = changed reached (run.0 ++ added reached) added
 
         has_rows : (k : ℕ) → All (λ c. HasRow recorded c.row) (own k)
@@ -153,7 +153,7 @@ module _ {n m e : ℕ} (module_ : ModuleState n m e) (before : ArrayState n m) (
         there_of k off (Some c) at g =
             at_get (P k) (slice_get (slice_set banks reached next) k) c (slice_get-set_other banks reached k next off ∙ at)
             (subst (λ (b : Bool). DrainedIf module_ b k (later k ++ h k) asked after ended c) (sym (below_next k reached off))
-            (subst (λ (a : List (Timed n m)). DrainedIf module_ (nat_lt k reached) k (a ++ h k) asked after ended c) (sym (changed_off reached (run.0 ++ added reached) added k off))
+            (subst (λ (a : List (TimedEvent n m)). DrainedIf module_ (nat_lt k reached) k (a ++ h k) asked after ended c) (sym (changed_off reached (run.0 ++ added reached) added k off))
             (beside k off c (nat_lt k reached) g)))
 
         here_of : (k : ℕ) → k ≡ reached → IsSomeAnd (slice_get (slice_set banks reached next) k) (P k)
@@ -161,8 +161,8 @@ module _ {n m e : ℕ} (module_ : ModuleState n m e) (before : ArrayState n m) (
             subst (λ (j : ℕ). IsSomeAnd (slice_get (slice_set banks reached next) j) (P j)) (sym same)
             (at_get (P reached) (slice_get (slice_set banks reached next) reached) next (slice_get-set_same banks reached next (omega (arith, so_far.count, exists)))
             (subst (λ (b : Bool). DrainedIf module_ b reached (later reached ++ h reached) asked after ended next) (sym (lt-ltb reached (reached + 1) (omega arith)))
-            (subst (λ (a : List (Timed n m)). DrainedIf module_ true reached (a ++ h reached) asked after ended next) (sym (changed_at reached (run.0 ++ added reached) added reached refl))
-            (subst (λ (xs : List (Timed n m)). DrainedIf module_ true reached xs asked after ended next) (sym (append_assoc run.0 (added reached) (h reached))) here))))
+            (subst (λ (a : List (TimedEvent n m)). DrainedIf module_ true reached (a ++ h reached) asked after ended next) (sym (changed_at reached (run.0 ++ added reached) added reached refl))
+            (subst (λ (xs : List (TimedEvent n m)). DrainedIf module_ true reached xs asked after ended next) (sym (append_assoc run.0 (added reached) (h reached))) here))))
 
         replays_on : (k : ℕ) → k < module_.shape.banks → IsSomeAnd (slice_get (slice_set banks reached next) k) (P k)
         replays_on k there =
@@ -200,7 +200,7 @@ module _ {n m e : ℕ} {module_ : ModuleState n m e} {banks : List (ClockState n
   abbrev drained_module : ModuleState n m e
   drained_module = record module_ { banks = banks; finished = true }
 
-  module _ (h : ℕ → List (Timed n m)) (asked : List (Asked n)) (f : Replays h asked module_ before results) where
+  module _ (h : ℕ → List (TimedEvent n m)) (asked : List (Asked n)) (f : Replays h asked module_ before results) where
     each : (k : ℕ) → k < module_.shape.banks
         → IsSomeAnd (slice_get banks k) (IsDrained (bank_shape (module_of module_.shape) k) (pacing_in module_.shape) ((d.replays h asked f).0 k ++ h k) (asked_in_bank module_ k asked) after recorded)
     each k there =
@@ -213,7 +213,7 @@ module _ {n m e : ℕ} {module_ : ModuleState n m e} {banks : List (ClockState n
         at_bank drained_module (IsDrained (bank_shape (module_of module_.shape) k) (pacing_in module_.shape) ((d.replays h asked f).0 k ++ h k) (asked_in_bank module_ k asked) after recorded) k (each k there)
 
     -- all banks are drained
-    pub drain_every : (added : ℕ → List (Timed n m)) × IsFinished module_.shape module_.seed (λ k. added k ++ h k) asked (bank_at drained_module) after (outcome_in recorded)
+    pub drain_every : (added : ℕ → List (TimedEvent n m)) × IsFinished module_.shape module_.seed (λ k. added k ++ h k) asked (bank_at drained_module) after (outcome_in recorded)
     drain_every = (
       (d.replays h asked f).0,
       record {
@@ -249,7 +249,7 @@ module _ {n m e : ℕ} {module_ : ModuleState n m e} {banks : List (ClockState n
     in_time = is.in_time;
   }
     where
-      shaped : (k : ℕ) (o : Option (ClockState n m e)) (xs : List (Timed n m)) (own : List (Asked n))
+      shaped : (k : ℕ) (o : Option (ClockState n m e)) (xs : List (TimedEvent n m)) (own : List (Asked n))
           → IsSomeAnd o (IsDrained (bank_shape (module_of module_.shape) k) (pacing_in module_.shape) xs own after recorded)
           → IsSomeAnd o (IsBankOf (bank_shape (module_of module_.shape) k))
       shaped k None xs own f = f

@@ -7,10 +7,11 @@ use Rattle.masked_bytes.specs.Entries.{has_row}
 use Rattle.result_rows.specs.declared.Outcome.{Outcome}
 use Rattle.result_rows.specs.declared.Outcome.TheVariants as out
 use Rattle.result_rows.specs.Table.{HasRow}
-use Rattle.row_laws.specs.declared.Asks.{Asks}
-use Rattle.row_laws.specs.declared.Asks.TheVariants.{Reads, Writes, Cuts}
+use Rattle.row_rules.specs.declared.Asks.{Asks}
+use Rattle.row_rules.specs.declared.Asks.TheVariants.{Reads, Writes, Cuts}
 use Rattle.bank_shape.specs.declared.BankShape.{BankShape}
-use Rattle.bank_model.specs.Timing.{Pacing, Timed, core}
+use Rattle.bank_shape.specs.declared.pace.Pace.{Pace}
+use Rattle.bank_model.specs.Timing.{TimedEvent, core}
 use Rattle.bank_model.specs.Adding.{Adds}
 use Rattle.bank_model.specs.Told.{tick_of_row}
 use Rattle.bank_model.specs.History.{Awaited, queue}
@@ -19,7 +20,7 @@ use Rattle.bank_laws.specs.Outcomes.{outcome_of, ended}
 use Rattle.bank_laws.specs.Settling.{AreOpen}
 use Rattle.bank_laws.proofs.Settling.{opens}
 use Rattle.bank_laws.proofs.Serves.{idle-waits}
-use Rattle.bank_invariant.specs.declared.Waiting.{Waiting}
+use Rattle.bank_shape.specs.declared.waiting.Waiting.{Waiting}
 use Rattle.bank_invariant.specs.Holds.{waiting_of}
 use Rattle.clock_laws.specs.State.{ClockState}
 use Rattle.clock_laws.specs.Leads.{Leads}
@@ -43,12 +44,12 @@ use Rattle.pcm_module.proofs.Steps.{stays_replayed, own_senses}
 use Rattle.pcm_module.proofs.Arriving.{own_asked}
 use Rattle.pcm_module.proofs.Becoming.{Becomes, all_become, ended_set}
 
-module _ {n m e : ℕ} (xs added : List (Timed n m)) (old new : ClockState n m e) (before after : ArrayState n m) (results recorded : List (Outcome n))
+module _ {n m e : ℕ} (xs added : List (TimedEvent n m)) (old new : ClockState n m e) (before after : ArrayState n m) (results recorded : List (Outcome n))
     (leads : Leads xs old before) (d : Drains xs added old new before after results recorded) where
   drained_lawful : Lawful old.bank.kept.shape old.pace e (added ++ xs)
   drained_lawful =
       subst (λ (s : BankShape). Lawful s old.pace e (added ++ xs)) d.shape
-      (subst (λ (p : Pacing). Lawful new.bank.kept.shape p e (added ++ xs)) d.pace d.leads.lawful)
+      (subst (λ (p : Pace). Lawful new.bank.kept.shape p e (added ++ xs)) d.pace d.leads.lawful)
 
   -- what stands in the queue in the end
   drained_queue : new.bank.kept.entries ≡ queue old.bank.kept.shape (core (added ++ xs))
@@ -123,7 +124,7 @@ module _ {n m e : ℕ} (xs added : List (Timed n m)) (old new : ClockState n m e
       by Cuts apart told becomes = undrained c.row has (not_named c.row (added ++ xs) own are (apart refl)) ∙ told
 
   -- the drained bank has come to its end
-  pub own_drains : (shape : BankShape) (pace : Pacing) (tick rows : ℕ) (own : List (Asked n))
+  pub own_drains : (shape : BankShape) (pace : Pace) (tick rows : ℕ) (own : List (Asked n))
       → BankReplays shape pace tick rows xs own before results old → RowsFall own
       → All (λ c. HasRow results c.row) own → All (λ c. is_numbered c.asks ≡ false → names own c.row ≡ false) own
       → IsDrained shape pace (added ++ xs) own after recorded new
@@ -133,7 +134,7 @@ module _ {n m e : ℕ} (xs added : List (Timed n m)) (old new : ClockState n m e
     leads = d.leads;
     idle =
         subst (λ (s : BankShape). IsIdle s pace (added ++ xs)) shaped
-        (subst (λ (p : Pacing). IsIdle new.bank.kept.shape p (added ++ xs)) paced d.idle);
+        (subst (λ (p : Pace). IsIdle new.bank.kept.shape p (added ++ xs)) paced d.idle);
     logged =
         logged_own shape added before after (subst (λ (s : BankShape). Adds s added before after) f.shaped d.adds)
         (own_senses shape xs added new after d.leads shaped) xs f.logged;
@@ -177,7 +178,7 @@ module _ {n m e : ℕ} (xs added : List (Timed n m)) (old new : ClockState n m e
       Told : Asked n → Type 0
       Told c = outcome_in recorded c.row ≡ last_outcome old.bank.kept.shape (added ++ xs) c c.asks
 
-  module _ (ys : List (Timed n m)) (clock : ClockState n m e) (asked : List (Asked n)) (own shape : BankShape) (pace : Pacing)
+  module _ (ys : List (TimedEvent n m)) (clock : ClockState n m e) (asked : List (Asked n)) (own shape : BankShape) (pace : Pace)
       (of_own : old.bank.kept.shape ≡ own) (shaped : clock.bank.kept.shape ≡ shape) (off : AreOff own shape)
       (has : All (λ c. HasRow results c.row) asked) (apart : All (λ c. arrives_with (added ++ xs) c.row ≡ false) asked) where
     adds : Adds own added before after

@@ -1,18 +1,18 @@
 -- The senses of a bank's history are those of its lines in the log.
 use Rattle.std.proofs.Common.{◌≡◌, ◌⊎◌, ℕ, ◌+◌, ◌<◌, ◌≤◌, ◌&&◌, Bool, true, false, cond, List, [], ◌∷◌, ◌++◌, refl, sym, ap, subst, ◌∙◌, inl, inr, append_assoc, append-nil, arith}
+use Rattle.masked_bytes.proofs.Truth.{and_first, and_second}
 use Rattle.std.specs.Prelude.{All, nat_le, nat_lt}
-use Rattle.std.proofs.lemmas.Bool.{le-leb, lt-ltb, leb-true}
+use Rattle.std.proofs.lemmas.Bool.{le-leb, lt-ltb, leb-true, and_from}
 use Rattle.std.proofs.lemmas.List.Elements.{All-head, All-tail, filter-append}
 use Rattle.pcm_cells.specs.declared.array.Sense.{Sense}
 use Rattle.pcm_cells.specs.Device.{ArrayState}
 use Rattle.bank_shape.specs.declared.BankShape.{BankShape}
 use Rattle.bank_shape.specs.Shape.{lines_in}
-use Rattle.bank_model.specs.Timing.{Timed}
+use Rattle.bank_model.specs.Timing.{TimedEvent}
 use Rattle.bank_model.specs.Adding.{Adds, senses_of}
 use Rattle.bank_laws.specs.Laws.{log_of}
 use Rattle.clock_laws.specs.State.{ClockState}
 use Rattle.clock_laws.specs.Leads.{Leads}
-use Rattle.clock_laws.proofs.Deciding.{both, both_left, both_right}
 use Rattle.log_laws.proofs.Within.{within_law}
 use Rattle.pcm_module.specs.Replaying.{IsLogged}
 
@@ -34,7 +34,7 @@ module _ {n m : ℕ} (shape : BankShape) where
   log_own (s ∷ senses) own =
       let here : IsIn shape s.line = All-head IsOwnSense s senses own in
       ap (λ (b : Bool). cond b (s ∷ log_of shape senses) (log_of shape senses))
-      (both (nat_le shape.base s.line) _ (le-leb shape.base s.line here.0) (lt-ltb s.line (shape.base + lines_in shape) here.1))
+      (and_from (nat_le shape.base s.line) _ (le-leb shape.base s.line here.0) (lt-ltb s.line (shape.base + lines_in shape) here.1))
       ∙ ap (λ (rest : List (Sense n m)). s ∷ rest) (log_own senses (All-tail IsOwnSense s senses own))
 
   log_off : (other : BankShape) → AreOff shape other → (senses : List (Sense n m)) → All IsOwnSense senses → log_of other senses ≡ []
@@ -46,17 +46,17 @@ module _ {n m : ℕ} (shape : BankShape) where
           → cond b (s ∷ log_of other senses) (log_of other senses) ≡ []
       by here false is rest = rest
       by here true is rest =
-          let low : other.base ≤ s.line = leb-true other.base s.line (both_left (nat_le other.base s.line) _ is) in
-          let high : s.line + 1 ≤ other.base + lines_in other = omega (arith, leb-true _ _ (both_right (nat_le other.base s.line) _ is)) in
+          let low : other.base ≤ s.line = leb-true other.base s.line (and_first (nat_le other.base s.line) _ is) in
+          let high : s.line + 1 ≤ other.base + lines_in other = omega (arith, leb-true _ _ (and_second (nat_le other.base s.line) _ is)) in
           elim (off s.line (low, omega arith)) [ inl below ↦ absurd (omega (arith, here.0)) | inr above ↦ absurd (omega (arith, here.1)) ]
 
-senses-append : {n m : ℕ} (added xs : List (Timed n m)) → senses_of (added ++ xs) ≡ senses_of xs ++ senses_of added
+senses-append : {n m : ℕ} (added xs : List (TimedEvent n m)) → senses_of (added ++ xs) ≡ senses_of xs ++ senses_of added
 senses-append [] xs = sym (append-nil (senses_of xs))
 senses-append (x ∷ added) xs = ap (λ s. s ++ x.senses) (senses-append added xs) ∙ append_assoc (senses_of xs) (senses_of added) x.senses
 
-module _ {n m : ℕ} (shape : BankShape) (added : List (Timed n m)) (old new : ArrayState n m) (adds : Adds shape added old new) (own : All (IsOwnSense shape) (senses_of added)) where
+module _ {n m : ℕ} (shape : BankShape) (added : List (TimedEvent n m)) (old new : ArrayState n m) (adds : Adds shape added old new) (own : All (IsOwnSense shape) (senses_of added)) where
   -- the log of a bank gains the senses of its events
-  pub logged_own : (xs : List (Timed n m)) → IsLogged shape xs old → IsLogged shape (added ++ xs) new
+  pub logged_own : (xs : List (TimedEvent n m)) → IsLogged shape xs old → IsLogged shape (added ++ xs) new
   logged_own xs logged log told =
       let was = adds.log log told in
       ap (λ (l : List (Sense n m)). log_of shape l) was.2
@@ -66,7 +66,7 @@ module _ {n m : ℕ} (shape : BankShape) (added : List (Timed n m)) (old new : A
       ∙ sym (senses-append added xs)
 
   -- that of another bank stays
-  pub logged_off : (other : BankShape) (xs : List (Timed n m)) → AreOff shape other → IsLogged other xs old → IsLogged other xs new
+  pub logged_off : (other : BankShape) (xs : List (TimedEvent n m)) → AreOff shape other → IsLogged other xs old → IsLogged other xs new
   logged_off other xs off logged log told =
       let was = adds.log log told in
       ap (λ (l : List (Sense n m)). log_of other l) was.2
@@ -77,11 +77,11 @@ module _ {n m : ℕ} (shape : BankShape) (added : List (Timed n m)) (old new : A
 
 module _ {n m e : ℕ} where
   -- each sense of a bank's history is of one of its lines
-  pub senses_within : (xs : List (Timed n m)) (clock : ClockState n m e) (array : ArrayState n m) → Leads xs clock array → All (IsOwnSense clock.bank.kept.shape) (senses_of xs)
+  pub senses_within : (xs : List (TimedEvent n m)) (clock : ClockState n m e) (array : ArrayState n m) → Leads xs clock array → All (IsOwnSense clock.bank.kept.shape) (senses_of xs)
   senses_within xs clock array leads =
       within_law n m e clock.bank.kept.shape clock.pace xs leads.holds.kept.shape.some_regions leads.holds.kept.shape.some_lines leads.lawful
 
-  pub added_within : (added xs : List (Timed n m)) (clock : ClockState n m e) (array : ArrayState n m) → Leads (added ++ xs) clock array → All (IsOwnSense clock.bank.kept.shape) (senses_of added)
+  pub added_within : (added xs : List (TimedEvent n m)) (clock : ClockState n m e) (array : ArrayState n m) → Leads (added ++ xs) clock array → All (IsOwnSense clock.bank.kept.shape) (senses_of added)
   added_within added xs clock array leads =
       right (senses_of xs) (subst (λ s. All (IsOwnSense clock.bank.kept.shape) s) (senses-append added xs) (senses_within (added ++ xs) clock array leads))
     where

@@ -14,7 +14,7 @@ use Rattle.feistel_map.specs.Network.{Network, network_of}
 use Rattle.bank_shape.specs.declared.BankShape.{BankShape}
 use Rattle.bank_shape.specs.Shape.{IsBankShape}
 use Rattle.power_recovery.proofs.Bundle.{IsKept-first}
-use Rattle.bank_model.specs.Timing.{Pacing}
+use Rattle.bank_shape.specs.declared.pace.Pace.{Pace}
 use Rattle.bank_laws.specs.Laws.{log_of}
 use Rattle.bank_core.specs.Steps.{IsFreshFor}
 use Rattle.module_shape.specs.declared.raw.RawShape.{RawShape}
@@ -77,13 +77,13 @@ module _ (n m e : ℕ) (raw : RawShape) where
   pub made_none : AreMade 0 []
   made_none = record { made = refl; first = λ bank h. absurd (omega (arith, h)) }
 
-  pub made_one : (bank : ℕ) (items next : List (ClockState n m e)) (clock : ClockState n m e) (own : BankShape) (its : Pacing)
+  pub made_one : (bank : ℕ) (items next : List (ClockState n m e)) (clock : ClockState n m e) (own : BankShape) (its : Pace)
       → AreMade bank items → own ≡ bank_shape (module_of raw) bank → IsBankShape own → its ≡ pacing_in raw → clock ≡ first_clock own its
       → ((array : ArrayState n m) → IsFreshFor own array → Leads [] clock array)
       → next ≡ items ++ clock ∷ [] → AreMade (suc bank) next
   made_one bank items next clock own its were shaped in_range paced is first pushed =
       let same : clock ≡ one bank
-      = is ∙ ap (λ (s : BankShape). let c : ClockState n m e = first_clock s its in c) shaped ∙ ap (λ (p : Pacing). let c : ClockState n m e = first_clock (bank_shape (module_of raw) bank) p in c) paced in
+      = is ∙ ap (λ (s : BankShape). let c : ClockState n m e = first_clock s its in c) shaped ∙ ap (λ (p : Pace). let c : ClockState n m e = first_clock (bank_shape (module_of raw) bank) p in c) paced in
       record {
         made = pushed ∙ ap (λ (cs : List (ClockState n m e)). cs ++ clock ∷ []) were.made
             ∙ ap (λ (c : ClockState n m e). ones bank 0 ++ c ∷ []) same ∙ sym (banks_more bank 0 bank (omega arith));

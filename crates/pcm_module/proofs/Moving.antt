@@ -1,5 +1,7 @@
 -- What a row that arrives at one bank leaves of that bank and of the others.
 use Rattle.std.proofs.Common.{◌≡◌, ◌⊎◌, ℕ, ◌-◌, Bool, true, false, List, [], ◌∷◌, ◌++◌, length, Some, refl, sym, ap, subst, ◌∙◌, inl, inr, arith}
+use Rattle.std.proofs.lemmas.Bool.{or_from}
+use Rattle.masked_bytes.proofs.Truth.{neither_first, neither_second}
 use Rattle.std.specs.Prelude.{unwrap_or}
 use Rattle.circular_buffer.proofs.Places.{slice_get-some}
 use Rattle.pcm_cells.specs.Device.{ArrayState}
@@ -8,7 +10,8 @@ use Rattle.result_rows.specs.declared.Outcome.{Outcome}
 use Rattle.result_rows.specs.declared.Outcome.TheVariants as out
 use Rattle.result_rows.specs.Table.{HasRow}
 use Rattle.bank_shape.specs.declared.BankShape.{BankShape}
-use Rattle.bank_model.specs.Timing.{Pacing, Timed}
+use Rattle.bank_shape.specs.declared.pace.Pace.{Pace}
+use Rattle.bank_model.specs.Timing.{TimedEvent}
 use Rattle.bank_model.specs.Lawful.{Lawful}
 use Rattle.bank_laws.specs.Outcomes.{outcome_of, outcome_with}
 use Rattle.clock_laws.specs.State.{ClockState}
@@ -19,19 +22,18 @@ use Rattle.clock_laws.proofs.Recording.{whole_outcome_law}
 use Rattle.clock_laws.proofs.Others.{other_rows_law}
 use Rattle.module_laws.specs.Asking.{Asked, AreAsked}
 use Rattle.bank_timing.specs.Extending.{Extends, IsOpen, outcome_in}
-use Rattle.clock_laws.proofs.Deciding.{or_left, or_right, or_none}
 use Rattle.pcm_module.proofs.Standing.{StandsNot, stands_not}
 use Rattle.pcm_module.proofs.Naming.{names, not_named}
 
 module _ {n m : ℕ} where
-  pub off_both : (row : ℕ) (added xs : List (Timed n m)) → arrives_with (added ++ xs) row ≡ false → (arrives_with added row ≡ false) × (arrives_with xs row ≡ false)
+  pub off_both : (row : ℕ) (added xs : List (TimedEvent n m)) → arrives_with (added ++ xs) row ≡ false → (arrives_with added row ≡ false) × (arrives_with xs row ≡ false)
   off_both row [] xs off = (refl, off)
   off_both row (x ∷ added) xs off =
-      let rest = off_both row added xs (or_right (is_arrival_of x.happens row) _ off) in
-      (or_none (is_arrival_of x.happens row) _ (or_left (is_arrival_of x.happens row) _ off) rest.0, rest.1)
+      let rest = off_both row added xs (neither_second (is_arrival_of x.happens row) _ off) in
+      (or_from (is_arrival_of x.happens row) _ (neither_first (is_arrival_of x.happens row) _ off) rest.0, rest.1)
 
   -- the outcome of a row depends on its own alone
-  pub outcome_at_row : (shape : BankShape) (added xs : List (Timed n m)) (before other : ℕ → Outcome n) (row : ℕ) → before row ≡ other row
+  pub outcome_at_row : (shape : BankShape) (added xs : List (TimedEvent n m)) (before other : ℕ → Outcome n) (row : ℕ) → before row ≡ other row
       → outcome_on shape added xs before row ≡ outcome_on shape added xs other row
   outcome_at_row shape [] xs before other row same = same
   outcome_at_row shape (x ∷ added) xs before other row same =
@@ -49,7 +51,7 @@ module _ {n : ℕ} where
         unset = there.1 ∙ ap Some unset;
       }
 
-module _ {n m e : ℕ} (xs : List (Timed n m)) (clock : ClockState n m e) (array : ArrayState n m) (leads : Leads xs clock array) where
+module _ {n m e : ℕ} (xs : List (TimedEvent n m)) (clock : ClockState n m e) (array : ArrayState n m) (leads : Leads xs clock array) where
   -- a row that stands in a bank is one of those that were asked of it
   no_entry : (row : ℕ) → arrives_with xs row ≡ false → (has_row clock.bank.kept.entries row ≡ false) × (has_waiting clock.bank.waiting row ≡ false)
   no_entry row off =
@@ -66,11 +68,11 @@ module _ {n m e : ℕ} (xs : List (Timed n m)) (clock : ClockState n m e) (array
           let none = no_entry row (not_named row xs own asked is) in
           elim stands [ inl there ↦ (let a : has_row clock.bank.kept.entries row ≡ false = none.0 in cc) | inr there ↦ (let a : has_waiting clock.bank.waiting row ≡ false = none.1 in cc) ]
 
-  module _ (added : List (Timed n m)) (new : ClockState n m e) (after : ArrayState n m) (results recorded : List (Outcome n)) (ext : Extends xs added clock new array after results recorded) where
+  module _ (added : List (TimedEvent n m)) (new : ClockState n m e) (after : ArrayState n m) (results recorded : List (Outcome n)) (ext : Extends xs added clock new array after results recorded) where
     pub lawful_whole : Lawful clock.bank.kept.shape clock.pace e (added ++ xs)
     lawful_whole =
         subst (λ (s : BankShape). Lawful s clock.pace e (added ++ xs)) ext.shape
-        (subst (λ (p : Pacing). Lawful new.bank.kept.shape p e (added ++ xs)) ext.pace ext.leads.lawful)
+        (subst (λ (p : Pace). Lawful new.bank.kept.shape p e (added ++ xs)) ext.pace ext.leads.lawful)
 
     -- a row that neither stood, nor waited, nor came with these events keeps its outcome
     pub left_alone : (row : ℕ) → HasRow results row → has_row clock.bank.kept.entries row ≡ false → has_waiting clock.bank.waiting row ≡ false → arrives_with added row ≡ false

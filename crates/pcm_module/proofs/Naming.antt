@@ -1,16 +1,16 @@
 -- Which rows arrive in which bank: a row is of one bank, since the numbers of rows fall.
 use Rattle.std.proofs.Common.{◌≡◌, ◌≢◌, ℕ, ◌<◌, ◌==◌, ◌||◌, ◌&&◌, Bool, true, false, cond, List, [], ◌∷◌, map, refl, sym, ap, subst, ◌∙◌, eqb-true, arith}
+use Rattle.masked_bytes.proofs.Truth.{neither_first, neither_second}
 use Rattle.std.specs.Prelude.{filter, All}
-use Rattle.std.proofs.lemmas.Bool.{ne_eqb}
+use Rattle.std.proofs.lemmas.Bool.{ne_eqb, and_right, or_from}
 use Rattle.std.proofs.lemmas.List.Elements.{All-head, All-tail, All-nil, All-cons, All-map, All-filter}
-use Rattle.row_laws.specs.declared.Asks.{Asks}
-use Rattle.row_laws.specs.declared.Asks.TheVariants.{Reads, Writes, Cuts}
-use Rattle.row_laws.specs.Table.{is_of}
+use Rattle.row_rules.specs.declared.Asks.{Asks}
+use Rattle.row_rules.specs.declared.Asks.TheVariants.{Reads, Writes, Cuts}
+use Rattle.row_rules.specs.Table.{is_of}
 use Rattle.bank_model.specs.Events.{Write, Read, Serve, Begin, Iterate, Cut}
-use Rattle.bank_model.specs.Timing.{Happens, Core, Regs, Timed}
+use Rattle.bank_model.specs.Timing.{Happens, Core, Regs, TimedEvent}
 use Rattle.module_laws.specs.Asking.{Asked, asked_in, asked_of, AreAsked, IsAsked}
 use Rattle.clock_laws.specs.Standing.{is_arrival_of, arrives_with}
-use Rattle.clock_laws.proofs.Deciding.{or_left, or_right, or_none}
 use Rattle.pcm_module.specs.Replaying.{RowsFall}
 
 -- whether a row with this operation has a number in a bank's history: a cut has none there
@@ -24,10 +24,6 @@ abbrev pub names : {n : ℕ} → List (Asked n) → ℕ → Bool
 names [] row = false
 names (a ∷ own) row = (is_numbered a.asks && a.row == row) || names own row
 
-pub and_off : (a b : Bool) → b ≡ false → (a && b) ≡ false
-and_off true b off = off
-and_off false b off = refl
-
 -- two facts of each element together give a third
 pub All-both : {X : Type 0} (P Q R : X → Type 0) → ((x : X) → P x → Q x → R x) → (xs : List X) → All P xs → All Q xs → All R xs
 All-both P Q R both [] p q = All-nil R
@@ -36,7 +32,7 @@ All-both P Q R both (x ∷ xs) p q =
 
 module _ {n m : ℕ} (row : ℕ) where
   -- a row that isn't among those that were asked for didn't arrive
-  pub not_named : (xs : List (Timed n m)) (own : List (Asked n)) → AreAsked xs own → names own row ≡ false → arrives_with xs row ≡ false
+  pub not_named : (xs : List (TimedEvent n m)) (own : List (Asked n)) → AreAsked xs own → names own row ≡ false → arrives_with xs row ≡ false
   not_named [] own is off = refl
   not_named (x ∷ xs) own is off = by x.happens x.cancels own is off (λ rest are none. not_named xs rest are none)
     where
@@ -45,20 +41,20 @@ module _ {n m : ℕ} (row : ℕ) where
           → (is_arrival_of h row || arrives_with xs row) ≡ false
       by (Core (Write at line bytes given answer)) cancels [] is off rec = absurd is
       by (Core (Write at line bytes given answer)) cancels (a ∷ own) is off rec =
-          or_none (at == row) _
-          (sym (ap (λ (a : Asked n). is_numbered a.asks && a.row == row) is.0) ∙ or_left (is_numbered a.asks && a.row == row) _ off)
-          (rec own is.1 (or_right (is_numbered a.asks && a.row == row) _ off))
+          or_from (at == row) _
+          (sym (ap (λ (a : Asked n). is_numbered a.asks && a.row == row) is.0) ∙ neither_first (is_numbered a.asks && a.row == row) _ off)
+          (rec own is.1 (neither_second (is_numbered a.asks && a.row == row) _ off))
       by (Core (Read at line answer)) cancels [] is off rec = absurd is
       by (Core (Read at line answer)) cancels (a ∷ own) is off rec =
-          or_none (at == row) _
-          (sym (ap (λ (a : Asked n). is_numbered a.asks && a.row == row) is.0) ∙ or_left (is_numbered a.asks && a.row == row) _ off)
-          (rec own is.1 (or_right (is_numbered a.asks && a.row == row) _ off))
+          or_from (at == row) _
+          (sym (ap (λ (a : Asked n). is_numbered a.asks && a.row == row) is.0) ∙ neither_first (is_numbered a.asks && a.row == row) _ off)
+          (rec own is.1 (neither_second (is_numbered a.asks && a.row == row) _ off))
       by (Core (Serve answer)) cancels own is off rec = rec own is off
       by (Core (Begin answer)) cancels own is off rec = rec own is off
       by (Core (Iterate answer)) cancels own is off rec = rec own is off
       by (Core (Cut tearing)) true own is off rec = rec own is off
       by (Core (Cut tearing)) false [] is off rec = absurd is
-      by (Core (Cut tearing)) false (a ∷ own) is off rec = rec own is.2 (or_right (is_numbered a.asks && a.row == row) _ off)
+      by (Core (Cut tearing)) false (a ∷ own) is off rec = rec own is.2 (neither_second (is_numbered a.asks && a.row == row) _ off)
       by (Regs event) cancels own is off rec = rec own is off
 
 module _ {n : ℕ} where
@@ -89,8 +85,8 @@ module _ {n : ℕ} where
         by [] all = refl
         by (a ∷ own) all =
             let lower : a.row < row = All-head (λ (a : Asked n). a.row < row) a own all in
-            or_none (is_numbered a.asks && a.row == row) _
-            (and_off (is_numbered a.asks) (a.row == row) (ne_eqb a.row row (λ e. absurd (omega arith))))
+            or_from (is_numbered a.asks && a.row == row) _
+            (and_right (is_numbered a.asks) (a.row == row) (ne_eqb a.row row (λ e. absurd (omega arith))))
             (by own (All-tail (λ (a : Asked n). a.row < row) a own all))
 
     -- the head of what was asked gives a bank another row, or none
@@ -99,7 +95,7 @@ module _ {n : ℕ} where
     head_names bank row a asked off rest = by (is_of home bank a.asks)
       where
         by : (own : Bool) → names (map (asked_in home number) (cond own (a ∷ filter (λ a. is_of home bank a.asks) asked) (filter (λ a. is_of home bank a.asks) asked))) row ≡ false
-        by true = or_none (is_numbered (asked_in home number a).asks && a.row == row) _ (and_off (is_numbered (asked_in home number a).asks) (a.row == row) off) rest
+        by true = or_from (is_numbered (asked_in home number a).asks && a.row == row) _ (and_right (is_numbered (asked_in home number a).asks) (a.row == row) off) rest
         by false = rest
 
     -- the head of what was asked is of no two banks, unless it is a cut, which has no number

@@ -7,8 +7,8 @@ use Rattle.std.proofs.Math.ListN.{length-set}
 use Rattle.circular_buffer.proofs.Places.{slice_get-some, slice_get-set_same, slice_get-set_other}
 use Rattle.pcm_cells.specs.Device.{ArrayState}
 use Rattle.result_rows.specs.declared.Outcome.{Outcome}
-use Rattle.row_laws.specs.declared.Asks.TheVariants.{Reads, Writes}
-use Rattle.bank_model.specs.Timing.{Timed}
+use Rattle.row_rules.specs.declared.Asks.TheVariants.{Reads, Writes}
+use Rattle.bank_model.specs.Timing.{TimedEvent}
 use Rattle.feistel_map.specs.Network.{Network}
 use Rattle.bank_shape.specs.declared.BankShape.{BankShape}
 use Rattle.power_recovery.specs.Kept.{IsKept}
@@ -136,7 +136,7 @@ module _ {n m e row tick line bank at : ℕ} {old : ModuleState n m e} {before :
   -- the module is still one with the bank that took the row
   pub taken_kept : {network : Network} {a : Asked n} {next : ClockState n m e} {after : ArrayState n m} {recorded : List (Outcome n)}
       → IsModule old.shape old.seed network old.banks old.tick → tick ≤ last_tick
-      → ((xs : List (Timed n m)) → Leads xs clock before → (added : List (Timed n m)) × IsStep xs added a clock next before after results recorded)
+      → ((xs : List (TimedEvent n m)) → Leads xs clock before → (added : List (TimedEvent n m)) × IsStep xs added a clock next before after results recorded)
       → IsModule old.shape old.seed network (slice_set old.banks bank next) tick
   taken_kept {network = network} {next = next} inv in_time step =
       let stepped = step (c.led.0 bank) bank_replays.leads in
@@ -144,22 +144,22 @@ module _ {n m e row tick line bank at : ℕ} {old : ModuleState n m e} {before :
 
   -- a read that the bank took is taken by the module
   pub read_taken : {next : ClockState n m e} {after : ArrayState n m} {recorded : List (Outcome n)} → IsAt tick (row + 1) next recorded
-      → ((xs : List (Timed n m)) → Leads xs clock before
-      → (added : List (Timed n m)) × IsStep xs added (record { row = row; tick = tick; asks = Reads at }) clock next before after results recorded)
+      → ((xs : List (TimedEvent n m)) → Leads xs clock before
+      → (added : List (TimedEvent n m)) × IsStep xs added (record { row = row; tick = tick; asks = Reads at }) clock next before after results recorded)
       → Takes (record { row = row; tick = tick; asks = Reads line }) old (record old { banks = slice_set old.banks bank next; tick = tick; rows_below = row + 1 }) before after results recorded
   read_taken {next} {after} {recorded} there step =
       takes_one (record { row = row; tick = tick; asks = Reads line }) old bank clock next before after results recorded
       (eq-eqb (bank_of_line old.shape old.seed line) bank (sym c.home)) (λ other off. ne_eqb (bank_of_line old.shape old.seed line) other (λ e. off (sym e ∙ sym c.home))) refl c.of_lines
       c.forward c.above c.fresh c.exists c.is there
-      (λ xs leads. subst (λ (k : ℕ). (added : List (Timed n m)) × IsStep xs added (record { row = row; tick = tick; asks = Reads k }) clock next before after results recorded) c.number (step xs leads)) c.led
+      (λ xs leads. subst (λ (k : ℕ). (added : List (TimedEvent n m)) × IsStep xs added (record { row = row; tick = tick; asks = Reads k }) clock next before after results recorded) c.number (step xs leads)) c.led
 
   -- so is a write
   pub write_taken : {bytes : List ℕ} {given : List Bool} {next : ClockState n m e} {after : ArrayState n m} {recorded : List (Outcome n)} → IsAt tick (row + 1) next recorded
-      → ((xs : List (Timed n m)) → Leads xs clock before
-      → (added : List (Timed n m)) × IsStep xs added (record { row = row; tick = tick; asks = Writes at bytes given }) clock next before after results recorded)
+      → ((xs : List (TimedEvent n m)) → Leads xs clock before
+      → (added : List (TimedEvent n m)) × IsStep xs added (record { row = row; tick = tick; asks = Writes at bytes given }) clock next before after results recorded)
       → Takes (record { row = row; tick = tick; asks = Writes line bytes given }) old (record old { banks = slice_set old.banks bank next; tick = tick; rows_below = row + 1 }) before after results recorded
   write_taken {bytes} {given} {next} {after} {recorded} there step =
       takes_one (record { row = row; tick = tick; asks = Writes line bytes given }) old bank clock next before after results recorded
       (eq-eqb (bank_of_line old.shape old.seed line) bank (sym c.home)) (λ other off. ne_eqb (bank_of_line old.shape old.seed line) other (λ e. off (sym e ∙ sym c.home))) refl c.of_lines
       c.forward c.above c.fresh c.exists c.is there
-      (λ xs leads. subst (λ (k : ℕ). (added : List (Timed n m)) × IsStep xs added (record { row = row; tick = tick; asks = Writes k bytes given }) clock next before after results recorded) c.number (step xs leads)) c.led
+      (λ xs leads. subst (λ (k : ℕ). (added : List (TimedEvent n m)) × IsStep xs added (record { row = row; tick = tick; asks = Writes k bytes given }) clock next before after results recorded) c.number (step xs leads)) c.led

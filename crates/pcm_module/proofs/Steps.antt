@@ -6,10 +6,11 @@ use Rattle.pcm_cells.specs.Device.{ArrayState}
 use Rattle.masked_bytes.specs.Entries.{has_row}
 use Rattle.result_rows.specs.declared.Outcome.{Outcome}
 use Rattle.result_rows.specs.Table.{HasRow}
-use Rattle.row_laws.specs.declared.Asks.{Asks}
-use Rattle.row_laws.specs.declared.Asks.TheVariants.{Reads, Writes, Cuts}
+use Rattle.row_rules.specs.declared.Asks.{Asks}
+use Rattle.row_rules.specs.declared.Asks.TheVariants.{Reads, Writes, Cuts}
 use Rattle.bank_shape.specs.declared.BankShape.{BankShape}
-use Rattle.bank_model.specs.Timing.{Pacing, Timed}
+use Rattle.bank_shape.specs.declared.pace.Pace.{Pace}
+use Rattle.bank_model.specs.Timing.{TimedEvent}
 use Rattle.bank_model.specs.Adding.{Adds, senses_of}
 use Rattle.bank_laws.specs.Outcomes.{outcome_of}
 use Rattle.clock_laws.specs.State.{ClockState}
@@ -26,7 +27,7 @@ use Rattle.pcm_module.proofs.Moving.{untouched, told_on, open_kept, standing_nam
 
 module _ {n m e : ℕ} where
   -- a bank that nothing came to replays as before, where its lines and the outcomes of its rows stay
-  pub stays_replayed : (shape : BankShape) (pace : Pacing) (tick rows later above : ℕ) (xs : List (Timed n m)) (asked : List (Asked n))
+  pub stays_replayed : (shape : BankShape) (pace : Pace) (tick rows later above : ℕ) (xs : List (TimedEvent n m)) (asked : List (Asked n))
       (clock : ClockState n m e) (before after : ArrayState n m) (results recorded : List (Outcome n))
       → BankReplays shape pace tick rows xs asked before results clock
       → Leads xs clock after → IsLogged shape xs after → length recorded ≡ length results
@@ -55,13 +56,13 @@ module _ {n m e : ℕ} where
       keeps row there = of_named (λ r. outcome_in recorded r ≡ outcome_in results r) asked row same (standing_named xs clock before f.leads asked f.arrived row there)
 
   -- the senses of events are of lines of their bank
-  pub own_senses : (shape : BankShape) (xs added : List (Timed n m)) (new : ClockState n m e) (array : ArrayState n m)
+  pub own_senses : (shape : BankShape) (xs added : List (TimedEvent n m)) (new : ClockState n m e) (array : ArrayState n m)
       → Leads (added ++ xs) new array → new.bank.kept.shape ≡ shape → All (IsOwnSense shape) (senses_of added)
   own_senses shape xs added new array leads shaped =
       subst (λ (s : BankShape). All (IsOwnSense s) (senses_of added)) shaped (added_within added xs new array leads)
 
   -- so is one where a row came to another bank
-  pub other_replays : (shape own : BankShape) (pace : Pacing) (tick rows later above : ℕ) (xs ys added : List (Timed n m)) (asked : List (Asked n))
+  pub other_replays : (shape own : BankShape) (pace : Pace) (tick rows later above : ℕ) (xs ys added : List (TimedEvent n m)) (asked : List (Asked n))
       (clock old new : ClockState n m e) (before after : ArrayState n m) (results recorded : List (Outcome n))
       → BankReplays shape pace tick rows xs asked before results clock → Leads ys old before → Extends ys added old new before after results recorded
       → old.bank.kept.shape ≡ own → AreOff own shape
@@ -83,7 +84,7 @@ module _ {n m e : ℕ} where
       off' = subst (λ (s : BankShape). AreOff own s) (sym f.shaped) off
 
   -- the bank where a row came replays the longer list
-  pub own_replays : (shape : BankShape) (pace : Pacing) (tick rows later above : ℕ) (xs added : List (Timed n m)) (a : Asked n) (asked : List (Asked n))
+  pub own_replays : (shape : BankShape) (pace : Pace) (tick rows later above : ℕ) (xs added : List (TimedEvent n m)) (a : Asked n) (asked : List (Asked n))
       (old new : ClockState n m e) (before after : ArrayState n m) (results recorded : List (Outcome n))
       → BankReplays shape pace tick rows xs asked before results old → IsStep xs added a old new before after results recorded → IsAt later above new recorded
       → All (λ c. HasRow results c.row) (a ∷ asked)

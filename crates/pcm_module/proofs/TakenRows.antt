@@ -7,11 +7,11 @@ use Rattle.masked_bytes.specs.Entries.{has_row}
 use Rattle.result_rows.specs.declared.Outcome.{Outcome}
 use Rattle.result_rows.specs.declared.Outcome.TheVariants as out
 use Rattle.result_rows.specs.Table.{HasRow}
-use Rattle.row_laws.specs.declared.Asks.{Asks}
-use Rattle.row_laws.specs.declared.Asks.TheVariants.{Reads, Writes, Cuts}
-use Rattle.row_laws.specs.Table.{is_of}
+use Rattle.row_rules.specs.declared.Asks.{Asks}
+use Rattle.row_rules.specs.declared.Asks.TheVariants.{Reads, Writes, Cuts}
+use Rattle.row_rules.specs.Table.{is_of}
 use Rattle.bank_shape.specs.declared.BankShape.{BankShape}
-use Rattle.bank_model.specs.Timing.{Timed, core}
+use Rattle.bank_model.specs.Timing.{TimedEvent, core}
 use Rattle.bank_laws.specs.Settling.{AreOpen}
 use Rattle.bank_laws.specs.Outcomes.{outcome_of}
 use Rattle.bank_laws.proofs.Settling.{opens}
@@ -43,7 +43,7 @@ pub bank_there : {n m e : ℕ} (module_ : ModuleState n m e) (bank : ℕ) (clock
 bank_there module_ bank clock is = ap (λ o. unwrap_or o (first_bank module_.shape bank)) is
 
 -- a row from the bound on has no outcome after a bank's history
-pub unset_above : {n m e : ℕ} (shape : BankShape) (xs : List (Timed n m)) (clock : ClockState n m e) (array : ArrayState n m) (row : ℕ)
+pub unset_above : {n m e : ℕ} (shape : BankShape) (xs : List (TimedEvent n m)) (clock : ClockState n m e) (array : ArrayState n m) (row : ℕ)
     → Leads xs clock array → clock.bank.kept.shape ≡ shape → clock.bank.rows_below ≤ row → outcome_of shape xs row ≡ out.Unset
 unset_above {n = n} {m = m} {e = e} shape xs clock array row leads shaped above =
     let o : AreOpen clock.bank.kept.shape xs = opens clock.bank.kept.shape clock.pace e xs leads.lawful in
@@ -56,8 +56,8 @@ module _ {n m e : ℕ} (a : Asked n) (old : ModuleState n m e) (bank : ℕ) (clo
     (numbered : is_numbered (asked_in (bank_of_line old.shape old.seed) (line_in_bank old.shape old.seed) a).asks ≡ true) (of_lines : IsOfLines (total_of old.shape) a.asks)
     (rises : old.tick ≤ a.tick) (above : old.rows_below ≤ a.row) (fresh : IsOpen results a.row)
     (exists : bank < old.shape.banks) (is : slice_get old.banks bank ≡ Some clock) (at : IsAt a.tick (a.row + 1) next recorded)
-    (step : (xs : List (Timed n m)) → Leads xs clock before
-    → (added : List (Timed n m)) × IsStep xs added (asked_in (bank_of_line old.shape old.seed) (line_in_bank old.shape old.seed) a) clock next before after results recorded) where
+    (step : (xs : List (TimedEvent n m)) → Leads xs clock before
+    → (added : List (TimedEvent n m)) × IsStep xs added (asked_in (bank_of_line old.shape old.seed) (line_in_bank old.shape old.seed) a) clock next before after results recorded) where
   abbrev after_row : ModuleState n m e
   after_row = record old { banks = slice_set old.banks bank next; tick = a.tick; rows_below = a.row + 1 }
 
@@ -81,16 +81,16 @@ module _ {n m e : ℕ} (a : Asked n) (old : ModuleState n m e) (bank : ℕ) (clo
   other_rows asked other off =
       ap (λ (b : Bool). map (asked_in home number) (cond b (a ∷ filter (λ a. is_of home other a.asks) asked) (filter (λ a. is_of home other a.asks) asked))) (elsewhere other off)
 
-  falls_on : (h : ℕ → List (Timed n m)) (asked : List (Asked n)) → Replays h asked old before results → RowsFall (a ∷ asked)
+  falls_on : (h : ℕ → List (TimedEvent n m)) (asked : List (Asked n)) → Replays h asked old before results → RowsFall (a ∷ asked)
   falls_on h asked f = (All-weaker (λ (b : Asked n). b.row < old.rows_below) (λ (b : Asked n). b.row < a.row) (λ b less. omega (arith, less, above)) asked f.below, f.rows)
 
-  first_in : (h : ℕ → List (Timed n m)) (asked : List (Asked n)) → Replays h asked old before results
+  first_in : (h : ℕ → List (TimedEvent n m)) (asked : List (Asked n)) → Replays h asked old before results
       → BankReplays (shape_of bank) (pacing_in old.shape) old.tick old.rows_below (h bank) (asked_in_bank old bank asked) before results clock
   first_in h asked f =
       from_get (BankReplays (shape_of bank) (pacing_in old.shape) old.tick old.rows_below (h bank) (asked_in_bank old bank asked) before results)
       (slice_get old.banks bank) clock is (f.banks bank exists)
 
-  ready : (xs : List (Timed n m)) → outcome_of (shape_of bank) xs a.row ≡ out.Unset → outcome_in results a.row ≡ outcome_so_far (shape_of bank) xs placed placed.asks
+  ready : (xs : List (TimedEvent n m)) → outcome_of (shape_of bank) xs a.row ≡ out.Unset → outcome_in results a.row ≡ outcome_so_far (shape_of bank) xs placed placed.asks
   ready xs none = by placed.asks numbered
     where
       unset : outcome_in results a.row ≡ out.Unset
@@ -101,14 +101,14 @@ module _ {n m e : ℕ} (a : Asked n) (old : ModuleState n m e) (bank : ℕ) (clo
       by (Writes line bytes given) told = unset ∙ sym none
       by Cuts told = absurd (cc)
 
-  replays_on : (h : ℕ → List (Timed n m)) (asked : List (Asked n)) → Replays h asked old before results
-      → (added : ℕ → List (Timed n m)) × Replays (λ k. added k ++ h k) (a ∷ asked) after_row after recorded
+  replays_on : (h : ℕ → List (TimedEvent n m)) (asked : List (Asked n)) → Replays h asked old before results
+      → (added : ℕ → List (TimedEvent n m)) × Replays (λ k. added k ++ h k) (a ∷ asked) after_row after recorded
   replays_on h asked f =
       let first = first_in h asked f in
       let went = step (h bank) first.leads in
       let owns : ℕ → List (Asked n) = λ k. asked_in_bank old k asked in
       let falls = falls_on h asked f in
-      let added : ℕ → List (Timed n m) = grows_at bank went.0 in
+      let added : ℕ → List (TimedEvent n m) = grows_at bank went.0 in
       let unset : outcome_of (shape_of bank) (h bank) a.row ≡ out.Unset
       = unset_above (shape_of bank) (h bank) clock before a.row first.leads first.shaped (omega (arith, first.below, above)) in
       let all =

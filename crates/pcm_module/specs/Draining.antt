@@ -4,7 +4,8 @@ use Rattle.pcm_cells.specs.Device.{ArrayState}
 use Rattle.result_rows.specs.declared.Outcome.{Outcome}
 use Rattle.result_rows.specs.Table.{HasRow}
 use Rattle.bank_shape.specs.declared.BankShape.{BankShape}
-use Rattle.bank_model.specs.Timing.{Pacing, Timed}
+use Rattle.bank_shape.specs.declared.pace.Pace.{Pace}
+use Rattle.bank_model.specs.Timing.{TimedEvent}
 use Rattle.bank_model.specs.Lawful.{IsIdle}
 use Rattle.module_shape.specs.Addresses.{module_of, bank_shape, array_lines_of}
 use Rattle.module_laws.specs.Asking.{Asked, AreAsked}
@@ -19,7 +20,7 @@ use Rattle.pcm_module.specs.Taking.{StaysBeyond}
 
 -- a whole history leads to a bank of this shape and pace with nothing left to do, and each row that was asked of the bank has its last
 -- outcome
-pub record IsDrained {n m e : ℕ} (shape : BankShape) (pace : Pacing) (xs : List (Timed n m)) (asked : List (Asked n)) (array : ArrayState n m) (results : List (Outcome n)) (clock : ClockState n m e) : Type 0 where
+pub record IsDrained {n m e : ℕ} (shape : BankShape) (pace : Pace) (xs : List (TimedEvent n m)) (asked : List (Asked n)) (array : ArrayState n m) (results : List (Outcome n)) (clock : ClockState n m e) : Type 0 where
   pub shaped : clock.bank.kept.shape ≡ shape
   pub paced : clock.pace ≡ pace
   pub leads : Leads xs clock array
@@ -37,7 +38,7 @@ module _ {n m e : ℕ} (module_ : ModuleState n m e) where
     pub led : IsReplayed module_ array results
 
   -- a bank was drained, or its history replays what was asked of it
-  abbrev pub DrainedIf : Bool → ℕ → List (Timed n m) → List (Asked n) → ArrayState n m → List (Outcome n) → ClockState n m e → Type 0
+  abbrev pub DrainedIf : Bool → ℕ → List (TimedEvent n m) → List (Asked n) → ArrayState n m → List (Outcome n) → ClockState n m e → Type 0
   DrainedIf true bank xs asked array results clock =
       IsDrained (bank_shape (module_of module_.shape) bank) (pacing_in module_.shape) xs (asked_in_bank module_ bank asked) array results clock
   DrainedIf false bank xs asked array results clock = ReplaysIn module_ bank xs asked array results clock
@@ -47,8 +48,8 @@ module _ {n m e : ℕ} (module_ : ModuleState n m e) where
     pub count : length banks ≡ module_.shape.banks
     pub ahead : (bank : ℕ) → reached ≤ bank → slice_get banks bank ≡ slice_get module_.banks bank
     pub rows : length recorded ≡ length results
-    pub replays : (h : ℕ → List (Timed n m)) (asked : List (Asked n)) → Replays h asked module_ before results
-        → (added : ℕ → List (Timed n m)) × ((bank : ℕ) → bank < module_.shape.banks
+    pub replays : (h : ℕ → List (TimedEvent n m)) (asked : List (Asked n)) → Replays h asked module_ before results
+        → (added : ℕ → List (TimedEvent n m)) × ((bank : ℕ) → bank < module_.shape.banks
         → IsSomeAnd (slice_get banks bank) (DrainedIf (nat_lt bank reached) bank (added bank ++ h bank) asked after recorded))
     pub others : (row : ℕ) → HasRow results row → StandsNowhere module_ row → outcome_in recorded row ≡ outcome_in results row
     pub stays : StaysBeyond (module_.shape.banks * array_lines_of (module_of module_.shape)) before after

@@ -5,10 +5,11 @@ use Rattle.pcm_cells.specs.Device.{ArrayState}
 use Rattle.result_rows.specs.declared.Outcome.{Outcome}
 use Rattle.result_rows.specs.declared.Outcome.TheVariants as out
 use Rattle.result_rows.specs.Table.{HasRow}
-use Rattle.row_laws.specs.declared.Asks.{Asks}
-use Rattle.row_laws.specs.declared.Asks.TheVariants.{Reads, Writes, Cuts}
+use Rattle.row_rules.specs.declared.Asks.{Asks}
+use Rattle.row_rules.specs.declared.Asks.TheVariants.{Reads, Writes, Cuts}
 use Rattle.bank_shape.specs.declared.BankShape.{BankShape}
-use Rattle.bank_model.specs.Timing.{Pacing, Timed}
+use Rattle.bank_shape.specs.declared.pace.Pace.{Pace}
+use Rattle.bank_model.specs.Timing.{TimedEvent}
 use Rattle.bank_model.specs.Adding.{senses_of}
 use Rattle.bank_laws.specs.Outcomes.{outcome_of}
 use Rattle.bank_laws.specs.Laws.{log_of}
@@ -23,7 +24,7 @@ use Rattle.run_laws.specs.Runs.{pacing_in, bank_of_line, line_in_bank}
 use Rattle.pcm_module.specs.State.{ModuleState}
 
 -- the outcome so far of a row that asks this
-abbrev pub outcome_so_far : {n m : ℕ} → BankShape → List (Timed n m) → Asked n → Asks n → Outcome n
+abbrev pub outcome_so_far : {n m : ℕ} → BankShape → List (TimedEvent n m) → Asked n → Asks n → Outcome n
 outcome_so_far shape xs a (Reads line) = outcome_of shape xs a.row
 outcome_so_far shape xs a (Writes line bytes given) = outcome_of shape xs a.row
 outcome_so_far shape xs a Cuts = out.Cut a.tick
@@ -34,12 +35,12 @@ RowsFall [] = Unit {0}
 RowsFall (a ∷ asked) = All (λ b. b.row < a.row) asked × RowsFall asked
 
 -- where the array tells its log, the senses of a bank's lines there are those of its history
-abbrev pub IsLogged : {n m : ℕ} → BankShape → List (Timed n m) → ArrayState n m → Type 0
+abbrev pub IsLogged : {n m : ℕ} → BankShape → List (TimedEvent n m) → ArrayState n m → Type 0
 IsLogged {n} {m} shape xs array = (log : List (Sense n m)) → array.log ≡ Some log → log_of shape log ≡ senses_of xs
 
 -- a history leads to a bank of this shape and pace, which is not past a tick and may still go on; its rows are what was asked of the
 -- bank, below a bound, and these have the history's outcomes, none as long as they stand
-pub record BankReplays {n m e : ℕ} (shape : BankShape) (pace : Pacing) (tick rows : ℕ) (xs : List (Timed n m)) (asked : List (Asked n)) (array : ArrayState n m) (results : List (Outcome n)) (clock : ClockState n m e) : Type 0 where
+pub record BankReplays {n m e : ℕ} (shape : BankShape) (pace : Pace) (tick rows : ℕ) (xs : List (TimedEvent n m)) (asked : List (Asked n)) (array : ArrayState n m) (results : List (Outcome n)) (clock : ClockState n m e) : Type 0 where
   pub shaped : clock.bank.kept.shape ≡ shape
   pub paced : clock.pace ≡ pace
   pub going : clock.drained ≡ false
@@ -57,14 +58,14 @@ module _ {n m e : ℕ} (module_ : ModuleState n m e) where
   asked_in_bank bank asked = asked_of (bank_of_line module_.shape module_.seed) (line_in_bank module_.shape module_.seed) bank asked
 
   -- a history replays what was asked of a bank of the module
-  abbrev pub ReplaysIn : ℕ → List (Timed n m) → List (Asked n) → ArrayState n m → List (Outcome n) → ClockState n m e → Type 0
+  abbrev pub ReplaysIn : ℕ → List (TimedEvent n m) → List (Asked n) → ArrayState n m → List (Outcome n) → ClockState n m e → Type 0
   ReplaysIn bank xs asked array results clock =
       BankReplays (bank_shape (module_of module_.shape) bank) (pacing_in module_.shape) module_.tick module_.rows_below xs
       (asked_in_bank bank asked) array results clock
 
 -- these histories of the banks, which asked for these rows, the newest first, lead to the module over the array, and the results
 -- have their outcomes so far; the rows are of lines of the module, their ticks and numbers rise, and they are in the results
-pub record Replays {n m e : ℕ} (h : ℕ → List (Timed n m)) (asked : List (Asked n)) (module_ : ModuleState n m e) (array : ArrayState n m) (results : List (Outcome n)) : Type 0 where
+pub record Replays {n m e : ℕ} (h : ℕ → List (TimedEvent n m)) (asked : List (Asked n)) (module_ : ModuleState n m e) (array : ArrayState n m) (results : List (Outcome n)) : Type 0 where
   pub size : array.lines ≡ module_.shape.banks * array_lines_of (module_of module_.shape)
   pub banks : (bank : ℕ) → bank < module_.shape.banks
       → IsSomeAnd (slice_get module_.banks bank) (ReplaysIn module_ bank (h bank) asked array results)
@@ -77,4 +78,4 @@ pub record Replays {n m e : ℕ} (h : ℕ → List (Timed n m)) (asked : List (A
 
 -- some histories replay something that was asked
 abbrev pub IsReplayed : {n m e : ℕ} → ModuleState n m e → ArrayState n m → List (Outcome n) → Type 0
-IsReplayed {n} {m} module_ array results = (h : ℕ → List (Timed n m)) × (asked : List (Asked n)) × Replays h asked module_ array results
+IsReplayed {n} {m} module_ array results = (h : ℕ → List (TimedEvent n m)) × (asked : List (Asked n)) × Replays h asked module_ array results

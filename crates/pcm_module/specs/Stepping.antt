@@ -2,7 +2,7 @@
 use Rattle.std.specs.Prelude.{◌≡◌, ◌≢◌, ℕ, ◌≤◌, false, List, ◌∷◌, ◌++◌}
 use Rattle.pcm_cells.specs.Device.{ArrayState}
 use Rattle.result_rows.specs.declared.Outcome.{Outcome}
-use Rattle.bank_model.specs.Timing.{Timed}
+use Rattle.bank_model.specs.Timing.{TimedEvent}
 use Rattle.module_laws.specs.Asking.{Asked, AreAsked}
 use Rattle.clock_laws.specs.State.{ClockState}
 use Rattle.clock_laws.specs.Standing.{arrives_with}
@@ -16,7 +16,7 @@ pub record IsAt {n m e : ℕ} (tick rows : ℕ) (clock : ClockState n m e) (resu
   pub open_rows : AreOpen clock.bank results
 
 -- these events extend a history; with them this row arrives behind those that were asked for, and no other
-pub record IsStep {n m e : ℕ} (xs added : List (Timed n m)) (a : Asked n) (old new : ClockState n m e) (before after : ArrayState n m) (results recorded : List (Outcome n)) : Type 0 where
+pub record IsStep {n m e : ℕ} (xs added : List (TimedEvent n m)) (a : Asked n) (old new : ClockState n m e) (before after : ArrayState n m) (results recorded : List (Outcome n)) : Type 0 where
   pub extends : Extends xs added old new before after results recorded
   pub arrives : (asked : List (Asked n)) → AreAsked xs asked → AreAsked (added ++ xs) (a ∷ asked)
   pub alone : (row : ℕ) → row ≢ a.row → arrives_with added row ≡ false

@@ -4,7 +4,7 @@ use Rattle.pcm_cells.specs.declared.array.Sense.{Sense}
 use Rattle.pcm_cells.specs.Device.{ArrayState}
 use Rattle.result_rows.specs.declared.Outcome.{Outcome}
 use Rattle.result_rows.specs.Table.{HasRow}
-use Rattle.bank_model.specs.Timing.{Timed}
+use Rattle.bank_model.specs.Timing.{TimedEvent}
 use Rattle.module_shape.specs.Addresses.{module_of, array_lines_of}
 use Rattle.module_laws.specs.Asking.{Asked}
 use Rattle.bank_timing.specs.Extending.{IsOpen, outcome_in}
@@ -29,8 +29,8 @@ pub record Takes {n m e : ℕ} (a : Asked n) (old new : ModuleState n m e) (befo
   pub rows : new.rows_below ≡ a.row + 1
   pub going : new.finished ≡ old.finished
   pub table : length recorded ≡ length results
-  pub replays : (h : ℕ → List (Timed n m)) (asked : List (Asked n)) → Replays h asked old before results
-      → (added : ℕ → List (Timed n m)) × Replays (λ bank. added bank ++ h bank) (a ∷ asked) new after recorded
+  pub replays : (h : ℕ → List (TimedEvent n m)) (asked : List (Asked n)) → Replays h asked old before results
+      → (added : ℕ → List (TimedEvent n m)) × Replays (λ bank. added bank ++ h bank) (a ∷ asked) new after recorded
   pub open_rows : (other : ℕ) → a.row < other → IsOpen results other → IsOpen recorded other
   pub others : (other : ℕ) → HasRow results other → other ≢ a.row → StandsNowhere old other → outcome_in recorded other ≡ outcome_in results other
   pub stays : StaysBeyond (old.shape.banks * array_lines_of (module_of old.shape)) before after

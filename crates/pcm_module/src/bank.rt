@@ -3,20 +3,20 @@ ghost use Rattle.std.specs.Prelude.{◌≡◌, ◌+◌, ◌<◌, ◌≤◌, ℕ,
 ghost use Rattle.pcm_cells.specs.Device.{ArrayState};
 ghost use Rattle.ecp_line.specs.Layout.{IsLayout};
 ghost use Rattle.masked_bytes.specs.Masked.{IsMasked};
-ghost use Rattle.row_laws.specs.declared.Asks.TheVariants.{Reads, Writes, Cuts};
+ghost use Rattle.row_rules.specs.declared.Asks.TheVariants.{Reads, Writes, Cuts};
 ghost use Rattle.power_recovery.specs.Slots.{bank_lines};
-ghost use Rattle.bank_model.specs.Timing.{Timed as TimedEvent};
+ghost use Rattle.bank_model.specs.Timing.{TimedEvent};
 ghost use Rattle.clock_laws.specs.Leads.{Leads};
 ghost use Rattle.bank_timing.specs.Extending.{AreOpen, IsOpen, last_tick};
 ghost use Rattle.pcm_module.specs.Stepping.{IsAt, IsStep};
 
-use bank_timing::timed::Timed;
+use bank_timing::clocked::ClockedBank;
 use pcm_cells::CellArray;
 use result_rows::Results;
 
 /// A read of a bank line arrives at a tick.
 pub fn read_at<const B: usize, const M: usize, const E: usize, A: CellArray<B, M>>(
-    timed: &mut Timed<B, M, E>,
+    timed: &mut ClockedBank<B, M, E>,
     array: &mut A,
     tick: u64,
     row: u32,
@@ -42,7 +42,7 @@ pub fn read_at<const B: usize, const M: usize, const E: usize, A: CellArray<B, M
 
 /// A write of a bank line arrives at a tick.
 pub fn write_at<const B: usize, const M: usize, const E: usize, A: CellArray<B, M>>(
-    timed: &mut Timed<B, M, E>,
+    timed: &mut ClockedBank<B, M, E>,
     array: &mut A,
     tick: u64,
     row: u32,
@@ -71,7 +71,7 @@ pub fn write_at<const B: usize, const M: usize, const E: usize, A: CellArray<B, 
 
 /// The power is cut at a tick; the cut's row has a number of which no bank hears.
 pub fn cut_at<const B: usize, const M: usize, const E: usize, A: CellArray<B, M>>(
-    timed: &mut Timed<B, M, E>,
+    timed: &mut ClockedBank<B, M, E>,
     array: &mut A,
     tick: u64,
     results: &mut Results<B>,

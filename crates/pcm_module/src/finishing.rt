@@ -2,7 +2,7 @@
 ghost use Rattle.std.specs.Prelude.{◌≡◌, ◌*◌, ℕ, List, ◌++◌, length, map, true, false};
 ghost use Rattle.ecp_line.specs.Layout.{IsLayout};
 ghost use Rattle.result_rows.specs.Table.{HasRow};
-ghost use Rattle.bank_model.specs.Timing.{Timed as TimedEvent};
+ghost use Rattle.bank_model.specs.Timing.{TimedEvent};
 ghost use Rattle.module_shape.specs.Addresses.{module_of, array_lines_of};
 ghost use Rattle.module_laws.specs.Asking.{Asked, row_with};
 ghost use Rattle.bank_timing.specs.Extending.{outcome_in};
@@ -15,7 +15,7 @@ ghost use Rattle.pcm_module.specs.Taking.{StaysBeyond};
 ghost use Rattle.pcm_module.specs.Draining.{MayFinish, AreDrained};
 
 use crate::module::Module;
-use bank_timing::timed::Timed;
+use bank_timing::clocked::ClockedBank;
 use pcm_cells::CellArray;
 use result_rows::Results;
 use run_laws::finished_runs_are_right;
@@ -48,7 +48,7 @@ impl<const B: usize, const M: usize, const E: usize> Module<B, M, E> {
 
 // The banks of a module are drained in order: all of them, for whichever module they are the banks of.
 fn drain_all<const B: usize, const M: usize, const E: usize, A: CellArray<B, M>>(
-    banks: &mut Vec<Timed<B, M, E>>,
+    banks: &mut Vec<ClockedBank<B, M, E>>,
     array: &mut A,
     results: &mut Results<B>,
 )

@@ -2,9 +2,9 @@
 ghost use Rattle.std.specs.Prelude.{◌≡◌, ◌≢◌, ◌*◌, ◌+◌, ◌<◌, ◌≤◌, ℕ, List, ◌∷◌, ◌++◌, length, false};
 ghost use Rattle.masked_bytes.specs.Masked.{IsMasked};
 ghost use Rattle.result_rows.specs.Table.{HasRow};
-ghost use Rattle.row_laws.specs.declared.Asks.TheVariants.{Reads, Writes, Cuts};
+ghost use Rattle.row_rules.specs.declared.Asks.TheVariants.{Reads, Writes, Cuts};
 ghost use Rattle.trace_reader.specs.Events.{IsEventFor};
-ghost use Rattle.bank_model.specs.Timing.{Timed as TimedEvent};
+ghost use Rattle.bank_model.specs.Timing.{TimedEvent};
 ghost use Rattle.module_shape.specs.Limits.{total_of};
 ghost use Rattle.module_shape.specs.Addresses.{module_of, array_lines_of};
 ghost use Rattle.module_laws.specs.Asking.{Asked};

@@ -1,5 +1,6 @@
 -- What a run leaves of whichever trace.
 use Rattle.std.proofs.Common.{◌≡◌, ℕ, ◌<◌, Bool, true, false, ◌||◌, List, [], ◌∷◌, length, get_or, map, refl, sym, subst, arith}
+use Rattle.masked_bytes.proofs.Truth.{neither_first, neither_second}
 use Rattle.std.specs.Prelude.{All}
 use Rattle.std.specs.List.{list_any}
 use Rattle.std.proofs.lemmas.List.Elements.{All-nil, All-cons, All-from_get_or}
@@ -13,7 +14,7 @@ use Rattle.trace_gen.specs.Laws.{GeneratedLaw}
 use Rattle.result_rows.specs.declared.Outcome.{Outcome}
 use Rattle.result_rows.specs.declared.Outcome.TheVariants.{Unset}
 use Rattle.result_summary.specs.Shortfall.{any_short, is_short}
-use Rattle.row_laws.specs.declared.Row.{Row}
+use Rattle.row_rules.specs.declared.Row.{Row}
 use Rattle.module_shape.specs.Limits.{IsShape, total_of}
 use Rattle.run_laws.specs.RowsOfRuns.{NoneLostLaw, NoneShortLaw, RoomIsTakenLaw}
 use Rattle.command_line.specs.Jobs.{IsInput}
@@ -29,19 +30,10 @@ use Rattle.pcm_top.specs.declared.run.Done.TheVariants.{Whole}
 use Rattle.pcm_top.proofs.DrawnRuns.{some-lines}
 use Rattle.pcm_top.proofs.Printable.{lines-exist, row-of-event}
 
--- a test that no element passes
-none-here : (x y : Bool) → (x || y) ≡ false → x ≡ false
-none-here false y h = refl
-none-here true y h = h
-
-none-behind : (x y : Bool) → (x || y) ≡ false → y ≡ false
-none-behind false y h = h
-none-behind true y h = absurd (cc h)
-
 all-fail : {n : ℕ} (test : Outcome n → Bool) (rows : List (Row n)) → list_any test (map (λ r. r.outcome) rows) ≡ false → All (λ r. test r.outcome ≡ false) rows
 all-fail test [] h = All-nil (λ r. test r.outcome ≡ false)
 all-fail test (r ∷ rows) h =
-    All-cons (λ r. test r.outcome ≡ false) r rows (none-here (test r.outcome) _ h) (all-fail test rows (none-behind (test r.outcome) _ h))
+    All-cons (λ r. test r.outcome ≡ false) r rows (neither_first (test r.outcome) _ h) (all-fail test rows (neither_second (test r.outcome) _ h))
 
 -- where no row of a table falls short, no outcome does
 none-short : {n : ℕ} (events : List (Event n)) (outcomes : List (Outcome n)) → length outcomes ≡ length events

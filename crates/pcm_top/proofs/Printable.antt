@@ -12,7 +12,7 @@ use Rattle.trace_reader.specs.declared.event.EventOp.TheVariants as op
 use Rattle.trace_reader.proofs.Lawful.{AreEventsFor-at}
 use Rattle.result_rows.specs.declared.Outcome.{Outcome}
 use Rattle.result_rows.specs.Outcomes.{op_of, place_of}
-use Rattle.row_laws.specs.declared.Row.{Row}
+use Rattle.row_rules.specs.declared.Row.{Row}
 use Rattle.module_shape.specs.declared.raw.RawShape.{RawShape}
 use Rattle.module_shape.specs.Limits.{IsShape, total_of}
 use Rattle.module_shape.specs.Addresses.{module_of, array_lines_of}

@@ -9,7 +9,7 @@ use Rattle.trace_reader.specs.Events.{AreEventsFor, IsEventFor}
 use Rattle.trace_reader.specs.declared.event.Event.{Event}
 use Rattle.result_rows.specs.declared.Outcome.{Outcome}
 use Rattle.result_rows.specs.declared.Outcome.TheVariants.{Unset}
-use Rattle.bank_model.specs.Timing.{Timed}
+use Rattle.bank_model.specs.Timing.{TimedEvent}
 use Rattle.module_shape.specs.declared.raw.RawShape.{RawShape}
 use Rattle.module_shape.specs.Limits.{total_of}
 use Rattle.module_laws.specs.Asking.{Asked}
@@ -28,7 +28,7 @@ pub record HasReplayed {n m e : ℕ} (raw : RawShape) (seed : ℕ) (events : Lis
   pub bound : module_.rows_below ≤ i + 1
   pub size : length results ≡ length events
   pub open_rows : (row : ℕ) → i < row → row ≤ length events → IsOpen results row
-  pub led : (h : ℕ → List (Timed n m)) × Replays h (asked_for (reverse (take i events))) module_ array results
+  pub led : (h : ℕ → List (TimedEvent n m)) × Replays h (asked_for (reverse (take i events))) module_ array results
   pub left : AreEventsFor (total_of raw) module_.tick (drop i events)
 
 -- a row of a table in which none has an outcome
@@ -104,8 +104,8 @@ module _ {n m e : ℕ} (raw : RawShape) (seed : ℕ) (events : List (Event n)) (
   pub replayed-more : (new : ModuleState n m e) (after : ArrayState n m) (recorded : List (Outcome n))
       → new.shape ≡ module_.shape → new.seed ≡ module_.seed → new.finished ≡ false → new.tick ≡ event.tick → new.rows_below ≡ i + 1 + 1
       → length recorded ≡ length results
-      → ((h : ℕ → List (Timed n m)) (asked : List (Asked n)) → Replays h asked module_ array results
-      → (added : ℕ → List (Timed n m)) × Replays (λ bank. added bank ++ h bank) (asked_by (i + 1) event ∷ asked) new after recorded)
+      → ((h : ℕ → List (TimedEvent n m)) (asked : List (Asked n)) → Replays h asked module_ array results
+      → (added : ℕ → List (TimedEvent n m)) × Replays (λ bank. added bank ++ h bank) (asked_by (i + 1) event ∷ asked) new after recorded)
       → ((other : ℕ) → i + 1 < other → IsOpen results other → IsOpen recorded other)
       → HasReplayed raw seed events (i + 1) new after recorded
   replayed-more new after recorded shape seeded going tick bound size leads open_rows =
@@ -125,7 +125,7 @@ module _ {n m e : ℕ} (raw : RawShape) (seed : ℕ) (events : List (Event n)) (
 -- all events were handed on
 pub replayed-all : {n m e : ℕ} (raw : RawShape) (seed : ℕ) (events : List (Event n)) (i : ℕ) (module_ : ModuleState n m e) (array : ArrayState n m) (results : List (Outcome n))
     → length events ≤ i → HasReplayed raw seed events i module_ array results
-    → (h : ℕ → List (Timed n m)) × Replays h (asked_for (reverse events)) module_ array results
+    → (h : ℕ → List (TimedEvent n m)) × Replays h (asked_for (reverse events)) module_ array results
 replayed-all {n} {m} raw seed events i module_ array results all had =
     let P : List (Event n) → Type 0 = λ es. Replays had.led.0 (asked_for (reverse es)) module_ array results in
     (had.led.0, subst P (take_all i events all) had.led.1)

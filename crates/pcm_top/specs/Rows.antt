@@ -2,7 +2,7 @@
 use Rattle.std.specs.Prelude.{ℕ, List, map, reverse}
 use Rattle.trace_reader.specs.declared.event.Event.{Event}
 use Rattle.result_rows.specs.declared.Outcome.{Outcome}
-use Rattle.row_laws.specs.declared.Row.{Row}
+use Rattle.row_rules.specs.declared.Row.{Row}
 use Rattle.module_laws.specs.Asking.{row_with}
 use Rattle.bank_timing.specs.Extending.{outcome_in}
 use Rattle.pcm_module.specs.Asking.{asked_for}

@@ -3,14 +3,16 @@ use Rattle.std.proofs.Common.{◌≡◌, ℕ, ◌+◌, ◌*◌, ◌<◌, ◌≤�
 use Rattle.std.specs.Prelude.{nat_lt}
 use Rattle.std.proofs.lemmas.Bool.{ltb-true}
 use Rattle.bank_shape.specs.declared.BankShape.{BankShape}
-use Rattle.bank_shape.specs.Pausing.{Pausing, is_cancelling, most_cancels}
-use Rattle.bank_model.specs.declared.answer.Step.TheVariants as did
+use Rattle.bank_shape.specs.declared.pace.Policy.{Policy}
+use Rattle.bank_shape.specs.Pausing.{is_cancelling, most_cancels}
+use Rattle.bank_shape.specs.declared.answer.Step.TheVariants as did
 use Rattle.bank_model.specs.Events.{Write, Read, Serve, Begin, Iterate, Cut}
 use Rattle.bank_model.specs.History.{has_exhausted, waits}
 use Rattle.bank_model.specs.Running.{over_by, is_over, running_at, cancels_with, cancels_after}
 use Rattle.bank_model.specs.Changes.{change_after, change_by, halted_after, halted_by}
-use Rattle.bank_model.specs.declared.answer.Keep.TheVariants as keep
-use Rattle.bank_model.specs.Timing.{Pacing, Happens, Core, Regs, KeepBegin, KeepIterate, KeepCut, Timed, is_writing, is_empty, core, core_of}
+use Rattle.bank_shape.specs.declared.answer.Keep.TheVariants as keep
+use Rattle.bank_shape.specs.declared.pace.Pace.{Pace}
+use Rattle.bank_model.specs.Timing.{Happens, Core, Regs, KeepBegin, KeepIterate, KeepCut, TimedEvent, is_writing, is_empty, core, core_of}
 use Rattle.bank_model.specs.Lawful.{Lawful, MayCome, would_cancel}
 use Rattle.place_laws.proofs.Counts.{one_if}
 use Rattle.place_laws.proofs.Pulsing.{ends_work, cancels_work, ends_in, cancels_in}
@@ -25,20 +27,20 @@ cancels-when false w empty count h = absurd (cc)
 
 -- after each line write that ended at most four were cancelled, and so for the present one; none once the bank is exhausted, and
 -- none where reads don't cancel
-pub record KeepsCancels (policy : Pausing) (ex : Bool) (cancels ends count : ℕ) : Type 0 where
+pub record KeepsCancels (policy : Policy) (ex : Bool) (cancels ends count : ℕ) : Type 0 where
   pub few : cancels ≤ 4 * ends + count
   pub most : count ≤ 4
   pub calm : ex ≡ true → count ≡ 0
   pub plain : is_cancelling policy ≡ false → cancels ≡ 0
 
-passed : (policy : Pausing) (ex : Bool) (cancels ends count : ℕ) → KeepsCancels policy ex cancels ends count → KeepsCancels policy ex (0 + cancels) (0 + ends) count
+passed : (policy : Policy) (ex : Bool) (cancels ends count : ℕ) → KeepsCancels policy ex cancels ends count → KeepsCancels policy ex (0 + cancels) (0 + ends) count
 passed policy ex cancels ends count k = record { few = omega (arith, k.few); most = k.most; calm = k.calm; plain = λ is. omega (arith, k.plain is) }
 
-closed : (policy : Pausing) (ex new : Bool) (cancels ends count : ℕ) → KeepsCancels policy ex cancels ends count → KeepsCancels policy new (0 + cancels) (1 + ends) 0
+closed : (policy : Policy) (ex new : Bool) (cancels ends count : ℕ) → KeepsCancels policy ex cancels ends count → KeepsCancels policy new (0 + cancels) (1 + ends) 0
 closed policy ex new cancels ends count k = record { few = omega (arith, k.few, k.most); most = omega arith; calm = λ is. refl; plain = λ is. omega (arith, k.plain is) }
 
-module _ {n m : ℕ} (shape : BankShape) (pace : Pacing) (e : ℕ) where
-  cut_kept : (xs : List (Timed n m)) (tick : ℕ) (by_read : Bool) (cancels ends count : ℕ) → Lawful shape pace e xs
+module _ {n m : ℕ} (shape : BankShape) (pace : Pace) (e : ℕ) where
+  cut_kept : (xs : List (TimedEvent n m)) (tick : ℕ) (by_read : Bool) (cancels ends count : ℕ) → Lawful shape pace e xs
       → (by_read ≡ true → would_cancel shape (core xs) pace.policy (running_at shape pace xs tick) (cancels_after xs) ≡ true) → count ≡ cond by_read (cancels_after xs + 1) 0
       → KeepsCancels pace.policy (is_over shape xs) cancels ends (cancels_after xs)
       → KeepsCancels pace.policy (is_over shape xs) (one_if by_read + cancels) (one_if (not by_read) + ends) count
@@ -53,7 +55,7 @@ module _ {n m : ℕ} (shape : BankShape) (pace : Pacing) (e : ℕ) where
   cut_kept xs tick false cancels ends count l would is k =
       subst (λ c. KeepsCancels pace.policy (is_over shape xs) (0 + cancels) (1 + ends) c) (sym is) (closed pace.policy (is_over shape xs) (is_over shape xs) cancels ends (cancels_after xs) k)
 
-  pub cancels-kept : (xs : List (Timed n m)) → Lawful shape pace e xs → KeepsCancels pace.policy (is_over shape xs) (cancels_in xs) (ends_in xs) (cancels_after xs)
+  pub cancels-kept : (xs : List (TimedEvent n m)) → Lawful shape pace e xs → KeepsCancels pace.policy (is_over shape xs) (cancels_in xs) (ends_in xs) (cancels_after xs)
   cancels-kept [] l = record { few = omega arith; most = omega arith; calm = λ is. refl; plain = λ is. refl }
   cancels-kept (x ∷ xs) l = by x.happens x.cancels refl l.0 (cancels-kept xs l.1)
     where

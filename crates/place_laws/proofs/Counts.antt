@@ -1,7 +1,7 @@
 -- How many writes of some lines are stored, by the rows' outcomes and by the events.
 use Rattle.std.proofs.Common.{◌≡◌, ℕ, ◌+◌, ◌<◌, inl, inr, Bool, true, false, List, [], ◌∷◌, refl, ap, ◌∙◌, subst, arith, cond, ◌==◌, ◌&&◌}
 use Rattle.std.proofs.lemmas.Bool.{ne_eqb}
-use Rattle.bank_model.specs.declared.answer.Step.TheVariants as did
+use Rattle.bank_shape.specs.declared.answer.Step.TheVariants as did
 use Rattle.bank_model.specs.Events.{Event, Write, Read, Serve, Begin, Iterate, Cut, RowsBelow, line_of_row}
 use Rattle.bank_laws.proofs.Settling.{rows_below-more}
 use Rattle.place_laws.proofs.Asked.{Wrote, wrote-asked, asked-below}

@@ -1,7 +1,7 @@
 -- The gap moves of a history are those of the closed form, and a full turn of these copies each line once into each place.
 use Rattle.std.proofs.Common.{◌≡◌, ℕ, zero, suc, ◌+◌, ◌<◌, ◌≤◌, ◌&&◌, inl, inr, Bool, true, false, List, [], ◌∷◌, ◌++◌, length, Option, Some, None, refl, sym, ap, ◌∙◌, subst, arith, cond, eqb, eqb-true}
 use Rattle.std.specs.Prelude.{count_by}
-use Rattle.std.proofs.lemmas.Bool.{eq-eqb, cases_order}
+use Rattle.std.proofs.lemmas.Bool.{eq-eqb, cases_order, and_from}
 use Rattle.std.proofs.lemmas.List.{length-append}
 use Rattle.std.proofs.lemmas.List.Sums.{sum_by-cons}
 use Rattle.masked_bytes.specs.declared.entry.Entry.{Entry}
@@ -11,12 +11,11 @@ use Rattle.start_gap.specs.Turn.{Copies}
 use Rattle.start_gap.proofs.FullTurn.{has_each_pair_once}
 use Rattle.bank_shape.specs.declared.BankShape.{BankShape}
 use Rattle.bank_shape.specs.declared.Work.TheVariants.{Nothing}
-use Rattle.bank_model.specs.declared.answer.Step.TheVariants as did
+use Rattle.bank_shape.specs.declared.answer.Step.TheVariants as did
 use Rattle.bank_model.specs.Events.{Event, Write, Read, Serve, Begin, Iterate, Cut}
 use Rattle.bank_model.specs.History.{queue, moved_in, due_after, has_exhausted}
 use Rattle.bank_model.specs.After.{work_after, due_work}
 use Rattle.bank_model.specs.Answers.{IsDone, MayAll}
-use Rattle.bank_laws.proofs.Walking.{and_both}
 use Rattle.place_laws.specs.GapMoves.{moves_of, first_moves, GapMovesLaw, copies_into, FullTurnLaw}
 use Rattle.place_laws.proofs.Moves.{last_region, some-due}
 
@@ -100,7 +99,7 @@ copies-by lines line place t is = by (eqb (moved_line lines t) line) (eqb (gap_a
     by false b copied into is = absurd (cc)
 
 copies-so : (lines line place t : ℕ) → Copies lines line place t → copies_into line place (move_after lines t) ≡ true
-copies-so lines line place t c = and_both _ _ (eq-eqb _ _ c.copied) (eq-eqb _ _ c.into)
+copies-so lines line place t c = and_from _ _ (eq-eqb _ _ c.copied) (eq-eqb _ _ c.into)
 
 module _ (lines line place : ℕ) where
   -- whether the first of these counts

@@ -1,16 +1,16 @@
 -- The moves of a region in the end, by the rows.
 use Rattle.std.proofs.Common.{◌≡◌, ℕ, ◌+◌, ◌*◌, ◌/◌, ◌%◌, ◌≤◌, ◌==◌, inl, inr, List, Option, Some, None, refl, sym, ap, ◌∙◌, arith, true}
-use Rattle.std.proofs.lemmas.Bool.{eq-eqb, cases_lt}
-use Rattle.row_laws.specs.Answers.{is_stored}
+use Rattle.std.proofs.lemmas.Bool.{eq-eqb, cases_lt, and_from, or_left, or_right}
+use Rattle.row_rules.specs.Answers.{is_stored}
 use Rattle.bank_shape.specs.declared.BankShape.{BankShape}
 use Rattle.bank_model.specs.History.{moved_in, stored_in, due_after}
 use Rattle.bank_model.specs.Sensing.{most_steps}
-use Rattle.bank_model.specs.Timing.{Pacing, Timed, core}
+use Rattle.bank_shape.specs.declared.pace.Pace.{Pace}
+use Rattle.bank_model.specs.Timing.{TimedEvent, core}
 use Rattle.bank_model.specs.Lawful.{Lawful}
 use Rattle.bank_laws.specs.Laws.{is_worn_at}
 use Rattle.bank_laws.specs.Outcomes.{table_of}
 use Rattle.bank_laws.specs.Places.{region_stores, may_leave}
-use Rattle.bank_laws.proofs.Walking.{and_both}
 use Rattle.bank_laws.proofs.Waiting.{may_all}
 use Rattle.place_laws.specs.PlaceLaws.{MovedLaw}
 use Rattle.place_laws.proofs.Moves.{KeepsMoves, keeps, none-due}
@@ -18,10 +18,10 @@ use Rattle.place_laws.proofs.Storing.{stored-counted, region-stored}
 use Rattle.place_laws.proofs.Tables.{region-all}
 use Rattle.place_laws.proofs.WornOut.{idle-due}
 use Rattle.place_laws.proofs.Taken.{leaves_work}
-use Rattle.place_laws.proofs.Placed.{or_one, or_other, between_products, at_product}
+use Rattle.place_laws.proofs.Placed.{between_products, at_product}
 
 -- the stores of a region by the rows are those by the events
-pub region_stores-counted : {n m : ℕ} (shape : BankShape) (pace : Pacing) (e : ℕ) (xs : List (Timed n m)) (region : ℕ) → Lawful shape pace e xs
+pub region_stores-counted : {n m : ℕ} (shape : BankShape) (pace : Pace) (e : ℕ) (xs : List (TimedEvent n m)) (region : ℕ) → Lawful shape pace e xs
     → region_stores is_stored shape region (table_of shape xs) ≡ stored_in shape.lines (core xs) region
 region_stores-counted shape pace e xs region l =
     region-all shape xs region ∙ stored-counted shape pace e (λ line. line / shape.lines == region) xs l ∙ region-stored shape.lines (core xs) region
@@ -30,13 +30,13 @@ pub moved_law : MovedLaw
 moved_law n m e shape pace xs array region sized l idle leaves =
     elim (cases_lt (stored_in shape.lines (core xs) region) (shape.psi * (moved_in shape.lines (core xs) region + 1))) [
       | inl lt ↦
-          or_one _ _ (eq-eqb (moved_in shape.lines (core xs) region) (region_stores is_stored shape region (table_of shape xs) / shape.psi)
+          or_left _ _ (eq-eqb (moved_in shape.lines (core xs) region) (region_stores is_stored shape region (table_of shape xs) / shape.psi)
           (sym (ap (λ k. k / shape.psi) count ∙ between_products shape.psi _ _ (moves.few region) lt)))
       | inr ge ↦
           let at : region_stores is_stored shape region (table_of shape xs) ≡ shape.psi * (moved_in shape.lines (core xs) region + 1) = omega (arith, count, moves.near region, ge) in
           let parts = at_product shape.psi (moved_in shape.lines (core xs) region) sized.psi in
-          or_other _ _ (and_both _ _ (eq-eqb (moved_in shape.lines (core xs) region + 1) (region_stores is_stored shape region (table_of shape xs) / shape.psi) (sym (ap (λ k. k / shape.psi) at ∙ parts.1)))
-          (and_both _ _ (eq-eqb (region_stores is_stored shape region (table_of shape xs) % shape.psi) 0 (ap (λ k. k % shape.psi) at ∙ parts.0))
+          or_right _ _ (and_from _ _ (eq-eqb (moved_in shape.lines (core xs) region + 1) (region_stores is_stored shape region (table_of shape xs) / shape.psi) (sym (ap (λ k. k / shape.psi) at ∙ parts.1)))
+          (and_from _ _ (eq-eqb (region_stores is_stored shape region (table_of shape xs) % shape.psi) 0 (ap (λ k. k % shape.psi) at ∙ parts.0))
           (due (due_after shape (core xs)) refl ge)))
     ]
   where

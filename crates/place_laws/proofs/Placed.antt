@@ -1,22 +1,23 @@
 -- Each row carries the array line where its line stood.
 use Rattle.std.proofs.Common.{◌≡◌, ℕ, ◌+◌, ◌*◌, ◌/◌, ◌%◌, ◌-◌, ◌<◌, ◌≤◌, ◌==◌, ◌&&◌, ◌||◌, ◌⊎◌, inl, inr, not, Bool, true, false, List, [], ◌∷◌, ◌++◌, length, refl, sym, ap, ◌∙◌, subst, arith, sum_by, append_assoc}
-use Rattle.std.proofs.lemmas.Bool.{eq-eqb, ne_eqb, lt-ltb, le-leb, cases_lt}
+use Rattle.std.proofs.lemmas.Bool.{eq-eqb, ne_eqb, lt-ltb, le-leb, cases_lt, or_left, or_right, and_from}
 use Rattle.std.proofs.lemmas.Nat.{div-mul-add, mod-mul-add}
 use Rattle.result_rows.specs.declared.Outcome.{Outcome}
 use Rattle.result_rows.specs.declared.Outcome.TheVariants as out
 use Rattle.pcm_cells.specs.Device.{ArrayState}
 use Rattle.spare_pool.specs.Table.{Table, line_from}
 use Rattle.spare_pool.proofs.Lines.{line_from-cases, HasSpare, only_own}
-use Rattle.row_laws.specs.declared.Row.{Row}
-use Rattle.row_laws.specs.Answers.{stored_before}
-use Rattle.row_laws.specs.Rows.{asks_write, line_of}
+use Rattle.row_rules.specs.declared.Row.{Row}
+use Rattle.row_rules.specs.Answers.{stored_before}
+use Rattle.row_rules.specs.Rows.{asks_write, line_of}
 use Rattle.bank_shape.specs.declared.BankShape.{BankShape}
 use Rattle.bank_shape.specs.Shape.{slots_of}
 use Rattle.bank_model.specs.Events.{Write, Read, Serve, Begin, Iterate, Cut}
 use Rattle.bank_model.specs.History.{retired, moved_in, stored_in}
 use Rattle.bank_model.specs.After.{slot_after, stands_at_after}
 use Rattle.bank_model.specs.Sensing.{most_steps}
-use Rattle.bank_model.specs.Timing.{Pacing, Happens, Core, Regs, Timed, core, core_of}
+use Rattle.bank_shape.specs.declared.pace.Pace.{Pace}
+use Rattle.bank_model.specs.Timing.{Happens, Core, Regs, TimedEvent, core, core_of}
 use Rattle.bank_model.specs.Lawful.{Lawful}
 use Rattle.bank_laws.specs.Laws.{IsSized, LeavesArray, is_worn_at}
 use Rattle.bank_laws.specs.Outcomes.{outcome_of, ended, row_with, rows_from, table_of}
@@ -24,7 +25,7 @@ use Rattle.bank_laws.specs.Ticks.{ends_action}
 use Rattle.bank_laws.specs.Places.{region_stores, is_place_after, is_place_about, outcome_placed, is_placed}
 use Rattle.bank_laws.proofs.Settling.{lawful_before, above_all}
 use Rattle.bank_laws.proofs.Waiting.{may_all}
-use Rattle.bank_laws.proofs.Walking.{Passes, walk, rows_after, and_both}
+use Rattle.bank_laws.proofs.Walking.{Passes, walk, rows_after}
 use Rattle.place_laws.specs.PlaceLaws.{PlacedLaw}
 use Rattle.place_laws.proofs.Asked.{Asked, asked-one, asked-within, wrote-asked, queue-wrote, waits-asked}
 use Rattle.place_laws.proofs.Counts.{one_if}
@@ -33,14 +34,6 @@ use Rattle.place_laws.proofs.Storing.{before-counted, region-stored}
 use Rattle.place_laws.proofs.Tables.{region-counted, between}
 use Rattle.place_laws.proofs.Slots.{slot_moved-within, retired-few, IsAway, away-later}
 use Rattle.place_laws.proofs.Splits.{IsStoredAt, stored-at, IsReadAt, read-at}
-
-pub or_one : (a b : Bool) → a ≡ true → (a || b) ≡ true
-or_one true b h = refl
-or_one false b h = absurd (cc)
-
-pub or_other : (a b : Bool) → b ≡ true → (a || b) ≡ true
-or_other true b h = refl
-or_other false b h = h
 
 -- a number from a product up to the next has the quotient
 pub between_products : (psi k s : ℕ) → psi * k ≤ s → s < psi * (k + 1) → s / psi ≡ k
@@ -63,20 +56,20 @@ about : (shape : BankShape) (worn : ℕ → Bool) (line place s k : ℕ) → 1 �
     → is_place_about shape worn line place s ≡ true
 about shape worn line place s k some le near is =
     elim (cases_lt s (shape.psi * (k + 1))) [
-      | inl lt ↦ or_one _ _ (ap (is_place_after shape worn line place) (between_products shape.psi k s le lt) ∙ is)
+      | inl lt ↦ or_left _ _ (ap (is_place_after shape worn line place) (between_products shape.psi k s le lt) ∙ is)
       | inr ge ↦
           let at : s ≡ shape.psi * (k + 1) = omega (arith, near, ge) in
           let next : shape.psi * (k + 1) ≡ shape.psi * k + shape.psi = next_product shape.psi k in
           let parts = at_product shape.psi k some in
           let quotient : s / shape.psi ≡ k + 1 = ap (λ s. s / shape.psi) at ∙ parts.1 in
           let less : s / shape.psi - 1 ≡ k = omega (arith, quotient) in
-          or_other _ _ (and_both _ _ (eq-eqb (s % shape.psi) 0 (ap (λ s. s % shape.psi) at ∙ parts.0))
-          (and_both _ _ (not_zero s (omega (arith, ge, next, some))) (ap (is_place_after shape worn line place) less ∙ is)))
+          or_right _ _ (and_from _ _ (eq-eqb (s % shape.psi) 0 (ap (λ s. s % shape.psi) at ∙ parts.0))
+          (and_from _ _ (not_zero s (omega (arith, ge, next, some))) (ap (is_place_after shape worn line place) less ∙ is)))
     ]
 
 module _ {n m : ℕ} (shape : BankShape) where
   -- what an event asks for, later events still do
-  asked-more : (h : Happens n) (zs : List (Timed n m)) (row line : ℕ) → Asked (core zs) row line → Asked (core_of h (core zs)) row line
+  asked-more : (h : Happens n) (zs : List (TimedEvent n m)) (row line : ℕ) → Asked (core zs) row line → Asked (core_of h (core zs)) row line
   asked-more (Core (Write at of bytes given answer)) zs row line a = inr a
   asked-more (Core (Read at of answer)) zs row line a = inr a
   asked-more (Core (Serve answer)) zs row line a = a
@@ -85,11 +78,11 @@ module _ {n m : ℕ} (shape : BankShape) where
   asked-more (Core (Iterate answer)) zs row line a = a
   asked-more (Core (Cut tearing)) zs row line a = a
 
-  pub asked-later : (later zs : List (Timed n m)) (row line : ℕ) → Asked (core zs) row line → Asked (core (later ++ zs)) row line
+  pub asked-later : (later zs : List (TimedEvent n m)) (row line : ℕ) → Asked (core zs) row line → Asked (core (later ++ zs)) row line
   asked-later [] zs row line a = a
   asked-later (x ∷ later) zs row line a = asked-more x.happens (later ++ zs) row line (asked-later later zs row line a)
 
-module _ {n m : ℕ} (shape : BankShape) (pace : Pacing) (e : ℕ) (all : List (Timed n m)) (array : ArrayState n m) (sized : IsSized shape pace) (l : Lawful shape pace e all) (leaves : LeavesArray e shape all array) where
+module _ {n m : ℕ} (shape : BankShape) (pace : Pace) (e : ℕ) (all : List (TimedEvent n m)) (array : ArrayState n m) (sized : IsSized shape pace) (l : Lawful shape pace e all) (leaves : LeavesArray e shape all array) where
   -- a slot that was given a spare had a line that is worn in the end
   home_worn : (slot : ℕ) → slot < slots_of shape → IsAway shape (core all) slot → is_worn_at e array (shape.base + slot) ≡ true
   home_worn slot exists away =
@@ -100,7 +93,7 @@ module _ {n m : ℕ} (shape : BankShape) (pace : Pacing) (e : ℕ) (all : List (
       omega (arith, away, own, exists))
 
   -- where a line stands is its place after the moves so far, or a spare
-  stands-placed : (later zs : List (Timed n m)) (line : ℕ) → all ≡ later ++ zs → line < shape.regions * shape.lines
+  stands-placed : (later zs : List (TimedEvent n m)) (line : ℕ) → all ≡ later ++ zs → line < shape.regions * shape.lines
       → is_place_after shape (is_worn_at e array) line (stands_at_after shape (core zs) line) (moved_in shape.lines (core zs) (line / shape.lines)) ≡ true
   stands-placed later zs line same exists = by (line_from-cases (slots_of shape) slot (retired (core zs)) slot)
     where
@@ -108,7 +101,7 @@ module _ {n m : ℕ} (shape : BankShape) (pace : Pacing) (e : ℕ) (all : List (
       slot = slot_after shape (core zs) line
 
       before : Lawful shape pace e zs
-      before = lawful_before shape pace e later zs (subst (λ (xs : List (Timed n m)). Lawful shape pace e xs) same l)
+      before = lawful_before shape pace e later zs (subst (λ (xs : List (TimedEvent n m)). Lawful shape pace e xs) same l)
 
       within : slot < slots_of shape
       within = slot_moved-within shape line (moved_in shape.lines (core zs) (line / shape.lines)) sized.lines exists
@@ -118,12 +111,12 @@ module _ {n m : ℕ} (shape : BankShape) (pace : Pacing) (e : ℕ) (all : List (
 
       by : (line_from (slots_of shape) slot (retired (core zs)) slot ≡ slot) ⊎ HasSpare (slots_of shape) (retired (core zs)) slot (line_from (slots_of shape) slot (retired (core zs)) slot)
           → is_place_after shape (is_worn_at e array) line (stands_at_after shape (core zs) line) (moved_in shape.lines (core zs) (line / shape.lines)) ≡ true
-      by (inl own) = or_one _ _ (eq-eqb (shape.base + line_from (slots_of shape) slot (retired (core zs)) slot) (shape.base + slot) (ap (λ k. shape.base + k) own))
+      by (inl own) = or_left _ _ (eq-eqb (shape.base + line_from (slots_of shape) slot (retired (core zs)) slot) (shape.base + slot) (ap (λ k. shape.base + k) own))
       by (inr spare) =
           let away : IsAway shape (core all) slot =
-          subst (λ (xs : List (Timed n m)). IsAway shape (core xs) slot) (sym same) (away-later shape later zs slot (omega (arith, spare.line_is))) in
-          or_other _ _ (and_both _ _ (home_worn slot within away)
-          (and_both _ _ (le-leb (shape.base + slots_of shape) (shape.base + line_from (slots_of shape) slot (retired (core zs)) slot) (omega (arith, spare.line_is)))
+          subst (λ (xs : List (TimedEvent n m)). IsAway shape (core xs) slot) (sym same) (away-later shape later zs slot (omega (arith, spare.line_is))) in
+          or_right _ _ (and_from _ _ (home_worn slot within away)
+          (and_from _ _ (le-leb (shape.base + slots_of shape) (shape.base + line_from (slots_of shape) slot (retired (core zs)) slot) (omega (arith, spare.line_is)))
           (lt-ltb (shape.base + line_from (slots_of shape) slot (retired (core zs)) slot) (shape.base + slots_of shape + shape.spares) (omega (arith, spare.line_is, spare.given, few)))))
 
   -- these rows sum up as the table does
@@ -131,7 +124,7 @@ module _ {n m : ℕ} (shape : BankShape) (pace : Pacing) (e : ℕ) (all : List (
   SumsUp rows = (f : Row n → ℕ) → sum_by f rows ≡ sum_by f (table_of shape all)
 
   -- the stores of a region by the rows below the end of an action
-  pub stores-below : (rows : List (Row n)) (later : List (Timed n m)) (z : Timed n m) (zs : List (Timed n m)) (region : ℕ) → SumsUp rows → all ≡ later ++ z ∷ zs → ends_action z.happens ≡ true
+  pub stores-below : (rows : List (Row n)) (later : List (TimedEvent n m)) (z : TimedEvent n m) (zs : List (TimedEvent n m)) (region : ℕ) → SumsUp rows → all ≡ later ++ z ∷ zs → ends_action z.happens ≡ true
       → region_stores (stored_before z.tick) shape region rows ≡ stored_in shape.lines (core zs) region
   stores-below rows later z zs region sums same ends =
       sums (λ q. one_if (asks_write q.asks && (line_of q.asks / shape.lines == region && stored_before z.tick q.outcome)))
@@ -139,16 +132,16 @@ module _ {n m : ℕ} (shape : BankShape) (pace : Pacing) (e : ℕ) (all : List (
       ∙ before-counted shape pace e all later z zs sized.read sized.iter l same ends (λ line. line / shape.lines == region)
       ∙ region-stored shape.lines (core zs) region
 
-  pub same_line : (later : List (Timed n m)) (z : Timed n m) (zs : List (Timed n m)) (row one other : ℕ) → all ≡ later ++ z ∷ zs → Asked (core zs) row one → Asked (core all) row other → one ≡ other
+  pub same_line : (later : List (TimedEvent n m)) (z : TimedEvent n m) (zs : List (TimedEvent n m)) (row one other : ℕ) → all ≡ later ++ z ∷ zs → Asked (core zs) row one → Asked (core all) row other → one ≡ other
   same_line later z zs row one other same a b =
       let bound = above_all shape pace e all l in
       asked-one (core all) bound.0 row one other bound.1
-      (subst (λ (xs : List (Timed n m)). Asked (core xs) row one) (append_assoc later (z ∷ []) zs ∙ sym same) (asked-later shape (later ++ z ∷ []) zs row one a)) b
+      (subst (λ (xs : List (TimedEvent n m)). Asked (core xs) row one) (append_assoc later (z ∷ []) zs ∙ sym same) (asked-later shape (later ++ z ∷ []) zs row one a)) b
 
   store_placed : (rows : List (Row n)) (row line u p : ℕ) → SumsUp rows → Asked (core all) row line → IsStoredAt shape all row u p
       → is_place_after shape (is_worn_at e array) line p (region_stores (stored_before u) shape (line / shape.lines) rows / shape.psi) ≡ true
   store_placed rows row line u p sums asked s =
-      let whole : Lawful shape pace e (s.later ++ s.event ∷ s.before) = subst (λ (xs : List (Timed n m)). Lawful shape pace e xs) s.same l in
+      let whole : Lawful shape pace e (s.later ++ s.event ∷ s.before) = subst (λ (xs : List (TimedEvent n m)). Lawful shape pace e xs) s.same l in
       let before : Lawful shape pace e s.before = (lawful_before shape pace e s.later (s.event ∷ s.before) whole).1 in
       let may = may_all shape pace e s.before before in
       let bound = above_all shape pace e s.before before in
@@ -169,7 +162,7 @@ module _ {n m : ℕ} (shape : BankShape) (pace : Pacing) (e : ℕ) (all : List (
   read_placed : (rows : List (Row n)) (row line u p : ℕ) → SumsUp rows → Asked (core all) row line → IsReadAt shape all row u p
       → is_place_about shape (is_worn_at e array) line p (region_stores (stored_before u) shape (line / shape.lines) rows) ≡ true
   read_placed rows row line u p sums asked s =
-      let whole : Lawful shape pace e (s.later ++ s.event ∷ s.before) = subst (λ (xs : List (Timed n m)). Lawful shape pace e xs) s.same l in
+      let whole : Lawful shape pace e (s.later ++ s.event ∷ s.before) = subst (λ (xs : List (TimedEvent n m)). Lawful shape pace e xs) s.same l in
       let before : Lawful shape pace e s.before = (lawful_before shape pace e s.later (s.event ∷ s.before) whole).1 in
       let may = may_all shape pace e s.before before in
       let own : s.serve.line ≡ line =
@@ -199,9 +192,9 @@ module _ {n m : ℕ} (shape : BankShape) (pace : Pacing) (e : ℕ) (all : List (
   ended-placed tick line rows (out.Read u p bytes) is = is
   ended-placed tick line rows _ is = refl
 
-  placed_at : (later : List (Timed n m)) (x : Timed n m) (ys : List (Timed n m)) → all ≡ later ++ x ∷ ys
+  placed_at : (later : List (TimedEvent n m)) (x : TimedEvent n m) (ys : List (TimedEvent n m)) → all ≡ later ++ x ∷ ys
       → Passes (is_placed shape (is_worn_at e array)) (rows_from shape all ys) (row_with shape all x.happens x.tick x.cancels) (rows_after shape all later)
-  placed_at later x ys same = by x.happens x.cancels (λ f. between shape all f later x ys same) (λ row line a. subst (λ (xs : List (Timed n m)). Asked (core xs) row line) (sym same) (asked-later shape later (x ∷ ys) row line a))
+  placed_at later x ys same = by x.happens x.cancels (λ f. between shape all f later x ys same) (λ row line a. subst (λ (xs : List (TimedEvent n m)). Asked (core xs) row line) (sym same) (asked-later shape later (x ∷ ys) row line a))
     where
       by : (h : Happens n) (cancels : Bool) → SumsUp (rows_from shape all ys ++ (row_with shape all h x.tick cancels ++ rows_after shape all later))
           → ((row line : ℕ) → Asked (core_of h (core ys)) row line → Asked (core all) row line)

@@ -1,15 +1,17 @@
 -- All pulses of a bank, by its rows.
 use Rattle.std.proofs.Common.{◌≡◌, ℕ, zero, suc, ◌+◌, ◌*◌, ◌<◌, ◌≤◌, ◌&&◌, not, Bool, true, false, List, [], ◌∷◌, ◌++◌, Option, Some, None, refl, sym, ap, ◌∙◌, subst, arith, sum_by, length, cond}
 use Rattle.std.proofs.Math.Nat.{mul-le-mul_left}
-use Rattle.row_laws.specs.declared.Asks.TheVariants.{Reads, Writes, Cuts}
-use Rattle.row_laws.specs.declared.Row.{Row}
-use Rattle.row_laws.specs.Answers.{is_stored}
-use Rattle.row_laws.specs.Rows.{asks_write, is_cut}
-use Rattle.row_laws.specs.Ticking.{tries, writings}
+use Rattle.row_rules.specs.declared.Asks.TheVariants.{Reads, Writes, Cuts}
+use Rattle.row_rules.specs.declared.Row.{Row}
+use Rattle.row_rules.specs.Answers.{is_stored}
+use Rattle.row_rules.specs.Rows.{asks_write, is_cut}
+use Rattle.row_rules.specs.Ticking.{tries, writings}
 use Rattle.result_rows.specs.declared.Outcome.TheVariants as out
 use Rattle.std.proofs.lemmas.List.Sums.{sum_by-cons}
 use Rattle.bank_shape.specs.declared.BankShape.{BankShape}
-use Rattle.bank_shape.specs.Pausing.{Pausing, Pause, Plain, Cancel, is_cancelling}
+use Rattle.bank_shape.specs.declared.pace.Policy.{Policy}
+use Rattle.bank_shape.specs.declared.pace.Policy.TheVariants.{Pause, Plain, Cancel}
+use Rattle.bank_shape.specs.Pausing.{is_cancelling}
 use Rattle.bank_shape.specs.Shape.{is_array, if_array, controls_of, lines_in}
 use Rattle.bank_shape.specs.declared.Home.{Home}
 use Rattle.bank_shape.specs.declared.Home.TheVariants as home
@@ -17,11 +19,13 @@ use Rattle.std.specs.Prelude.{nat_lt}
 use Rattle.std.proofs.lemmas.Bool.{lt-ltb}
 use Rattle.bank_model.specs.Events.{Write, Read, Serve, Begin, Iterate, Cut}
 use Rattle.bank_model.specs.History.{has_exhausted, retired, waits, iterated, due_after}
-use Rattle.bank_model.specs.Running.{over_by, busy_after, made_after, is_over, gives_way, choice_after, cancels_after}
+use Rattle.bank_shape.specs.Pausing.{gives_way}
+use Rattle.bank_model.specs.Running.{over_by, busy_after, made_after, is_over, choice_after, cancels_after}
 use Rattle.bank_model.specs.Changes.{change_after, halted_after}
 use Rattle.bank_model.specs.Answers.{MayAll}
 use Rattle.bank_model.specs.Sensing.{most_steps, pulses_of}
-use Rattle.bank_model.specs.Timing.{Pacing, Happens, Core, Regs, Timed, core, is_empty}
+use Rattle.bank_shape.specs.declared.pace.Pace.{Pace}
+use Rattle.bank_model.specs.Timing.{Happens, Core, Regs, TimedEvent, core, is_empty}
 use Rattle.bank_model.specs.Lawful.{Lawful, IsIdle}
 use Rattle.bank_laws.specs.Laws.{IsSized, rules_of}
 use Rattle.bank_laws.specs.Outcomes.{outcome_of, ended, row_with, rows_from, table_of}
@@ -48,7 +52,7 @@ pulses-same f g base from (suc n) each =
     omega (arith, each from (omega arith), next f, next g, rest)
 
 -- how many line writes there were, ended or cancelled, where one is to be written still or one more may end
-tries-few : (policy : Pausing) (over : Bool) (ends cancels count most : ℕ) → ends ≤ most → (over ≡ false → ends + 1 ≤ most) → cancels ≤ 4 * ends + count → count ≤ 4 → (over ≡ true → count ≡ 0)
+tries-few : (policy : Policy) (over : Bool) (ends cancels count most : ℕ) → ends ≤ most → (over ≡ false → ends + 1 ≤ most) → cancels ≤ 4 * ends + count → count ≤ 4 → (over ≡ true → count ≡ 0)
     → (is_cancelling policy ≡ false → cancels ≡ 0) → ends + cancels ≤ tries policy * most
 tries-few Pause over ends cancels count most few room more four calm plain = omega (arith, few, plain refl)
 tries-few Plain over ends cancels count most few room more four calm plain = omega (arith, few, plain refl)
@@ -61,9 +65,9 @@ bounded steps times all most le =
     let swap : steps * (times * most) ≡ times * steps * most = grind arith in
     omega (arith, more, swap)
 
-module _ {n m : ℕ} (shape : BankShape) (all : List (Timed n m)) where
+module _ {n m : ℕ} (shape : BankShape) (all : List (TimedEvent n m)) where
   -- the cuts by the rows are those by the events
-  pub cuts-counted : (ys : List (Timed n m)) → sum_by (λ (r : Row n). one_if (is_cut r)) (rows_from shape all ys) ≡ cuts_in ys
+  pub cuts-counted : (ys : List (TimedEvent n m)) → sum_by (λ (r : Row n). one_if (is_cut r)) (rows_from shape all ys) ≡ cuts_in ys
   cuts-counted [] = refl
   cuts-counted (x ∷ ys) = by x.happens x.cancels (cuts-counted ys)
     where
@@ -84,7 +88,7 @@ module _ {n m : ℕ} (shape : BankShape) (all : List (Timed n m)) where
       by (Core (Cut tearing)) false ih =
           omega (arith, ih, sum_by-cons (λ (r : Row n). one_if (is_cut r)) (record { tick = x.tick; asks = Cuts; outcome = out.Cut x.tick }) (rows_from shape all ys))
 
-module _ {n m : ℕ} (shape : BankShape) (pace : Pacing) (e : ℕ) (all : List (Timed n m)) (sized : IsSized shape pace) (l : Lawful shape pace e all) (idle : IsIdle shape pace all) where
+module _ {n m : ℕ} (shape : BankShape) (pace : Pace) (e : ℕ) (all : List (TimedEvent n m)) (sized : IsSized shape pace) (l : Lawful shape pace e all) (idle : IsIdle shape pace all) where
   abbrev stores_by_rows : ℕ
   stores_by_rows = sum_by (λ (q : Row n). one_if (asks_write q.asks && is_stored q.outcome)) (table_of shape all)
 

@@ -4,18 +4,19 @@ use Rattle.std.specs.Prelude.{is_some}
 use Rattle.std.proofs.Math.Nat.{min-le_left}
 use Rattle.pcm_cells.specs.Device.{counted}
 use Rattle.bank_shape.specs.declared.BankShape.{BankShape}
-use Rattle.bank_model.specs.declared.answer.Step.{Step}
-use Rattle.bank_model.specs.declared.answer.Step.TheVariants as did
+use Rattle.bank_shape.specs.declared.answer.Step.{Step}
+use Rattle.bank_shape.specs.declared.answer.Step.TheVariants as did
 use Rattle.bank_model.specs.Events.{Event, Write, Read, Serve, Begin, Iterate, Cut}
 use Rattle.bank_model.specs.History.{goes_on, in_progress, iterated, waits}
 use Rattle.bank_model.specs.After.{work_after, is_ready, may_begin_after}
 use Rattle.bank_model.specs.Sensing.{is_at, most_steps, pulses_of, pulsed_by, torn_control, kept_pulsed}
-use Rattle.bank_model.specs.Timing.{Pacing, Happens, Core, Regs, KeepBegin, KeepIterate, KeepCut, Timed, is_doing, core, core_of}
-use Rattle.bank_model.specs.declared.clock.Action.{Action}
-use Rattle.bank_model.specs.declared.clock.Doing.TheVariants as doing
+use Rattle.bank_shape.specs.declared.pace.Pace.{Pace}
+use Rattle.bank_model.specs.Timing.{Happens, Core, Regs, KeepBegin, KeepIterate, KeepCut, TimedEvent, is_doing, core, core_of}
+use Rattle.bank_shape.specs.declared.clock.Action.{Action}
+use Rattle.bank_shape.specs.declared.clock.Doing.TheVariants as doing
 use Rattle.bank_laws.proofs.Changing.{busy-none, busy-some, made-none, made-some, changed-idle}
-use Rattle.bank_model.specs.declared.answer.Keep.{Keep}
-use Rattle.bank_model.specs.declared.answer.Keep.TheVariants as keep
+use Rattle.bank_shape.specs.declared.answer.Keep.{Keep}
+use Rattle.bank_shape.specs.declared.answer.Keep.TheVariants as keep
 use Rattle.bank_model.specs.Changes.{change_after, change_by, keeping_after, keeping_by, rounds_after, rounds_by, keeps_on, written_by, line_of_change}
 use Rattle.bank_model.specs.Running.{busy_by, made_by, busy_after, made_after, running_at, tears_bank}
 use Rattle.bank_model.specs.Lawful.{Lawful, MayCome}
@@ -74,11 +75,11 @@ cancels_work (Regs (KeepIterate answer)) cancels = false
 cancels_work (Regs (KeepCut tearing)) cancels = true
 
 -- how many there were of each
-abbrev pub ends_in : {n m : ℕ} → List (Timed n m) → ℕ
+abbrev pub ends_in : {n m : ℕ} → List (TimedEvent n m) → ℕ
 ends_in [] = 0
 ends_in (x ∷ xs) = one_if (ends_work x.happens x.cancels) + ends_in xs
 
-abbrev pub cancels_in : {n m : ℕ} → List (Timed n m) → ℕ
+abbrev pub cancels_in : {n m : ℕ} → List (TimedEvent n m) → ℕ
 cancels_in [] = 0
 cancels_in (x ∷ xs) = one_if (cancels_work x.happens x.cancels) + cancels_in xs
 
@@ -169,17 +170,17 @@ torn-busy shape (Some item) keeping busy action false going is torn h = by (is_d
     by true torn = inr (refl, torn refl)
     by false torn = inl refl
 
-module _ {n m : ℕ} (shape : BankShape) (pace : Pacing) (e from count : ℕ) where
-  abbrev pub pulses_in : List (Timed n m) → ℕ
+module _ {n m : ℕ} (shape : BankShape) (pace : Pace) (e from count : ℕ) where
+  abbrev pub pulses_in : List (TimedEvent n m) → ℕ
   pulses_in xs = pulses_among (λ line. pulses_of xs line) from count
 
-  abbrev KeepsAt : List (Timed n m) → Timed n m → Happens n → ℕ → ℕ → Type 0
+  abbrev KeepsAt : List (TimedEvent n m) → TimedEvent n m → Happens n → ℕ → ℕ → Type 0
   KeepsAt xs x h pulses tries =
       KeepsPulses (most_steps e) (busy_by (change_by shape (core xs) h (change_after shape xs)) (keeping_by h (keeping_after xs)) (in_progress (core_of h (core xs))))
       (made_by (change_by shape (core xs) h (change_after shape xs)) (rounds_by h (rounds_after xs)) (iterated (core_of h (core xs)))) pulses tries
 
   -- of a lawful history
-  pub pulses-kept : (xs : List (Timed n m)) → Lawful shape pace e xs → KeepsPulses (most_steps e) (busy_after shape xs) (made_after shape xs) (pulses_in xs) (ends_in xs + cancels_in xs)
+  pub pulses-kept : (xs : List (TimedEvent n m)) → Lawful shape pace e xs → KeepsPulses (most_steps e) (busy_after shape xs) (made_after shape xs) (pulses_in xs) (ends_in xs + cancels_in xs)
   pulses-kept [] l = record { few = omega (arith, pulsed-nothing from count); room = λ is. absurd (cc) }
     where
       pulsed-nothing : (from count : ℕ) → pulses_among (λ line. 0) from count ≤ 0

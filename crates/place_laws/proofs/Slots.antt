@@ -8,12 +8,12 @@ use Rattle.bank_shape.specs.declared.BankShape.{BankShape}
 use Rattle.bank_shape.specs.declared.Work.{Work}
 use Rattle.bank_shape.specs.declared.Work.TheVariants.{Nothing, Store, Copy}
 use Rattle.bank_shape.specs.Shape.{slots_of, slot_at, slot_moved}
-use Rattle.bank_model.specs.declared.answer.Step.TheVariants as did
+use Rattle.bank_shape.specs.declared.answer.Step.TheVariants as did
 use Rattle.bank_model.specs.Events.{Event, Write, Read, Serve, Begin, Iterate, Cut}
 use Rattle.bank_model.specs.History.{retired}
 use Rattle.bank_model.specs.After.{work_after}
 use Rattle.bank_model.specs.Answers.{IsDone, MayAll}
-use Rattle.bank_model.specs.Timing.{Happens, Core, Regs, Timed, core, core_of}
+use Rattle.bank_model.specs.Timing.{Happens, Core, Regs, TimedEvent, core, core_of}
 
 -- the slot of a place is one of the bank
 pub slot_at-within : (shape : BankShape) (region place : ℕ) → region < shape.regions → place ≤ shape.lines → slot_at shape region place < slots_of shape
@@ -86,7 +86,7 @@ module _ {n : ℕ} (shape : BankShape) where
   away-more (Iterate (did.Retired at line)) h slot away = away-retired h at slot away
   away-more (Iterate did.Exhausted) h slot away = away
 
-  pub away-later : {m : ℕ} (later zs : List (Timed n m)) (slot : ℕ) → IsAway (core zs) slot → IsAway (core (later ++ zs)) slot
+  pub away-later : {m : ℕ} (later zs : List (TimedEvent n m)) (slot : ℕ) → IsAway (core zs) slot → IsAway (core (later ++ zs)) slot
   away-later [] zs slot away = away
   away-later {m} (x ∷ later) zs slot away = by x.happens (away-later later zs slot away)
     where

@@ -4,15 +4,16 @@ use Rattle.std.specs.Prelude.{unwrap_or}
 use Rattle.result_rows.specs.declared.Outcome.{Outcome}
 use Rattle.result_rows.specs.declared.Outcome.TheVariants as out
 use Rattle.bank_shape.specs.declared.BankShape.{BankShape}
-use Rattle.bank_model.specs.declared.answer.WriteAnswer.TheVariants as wrote
-use Rattle.bank_model.specs.declared.answer.ReadAnswer.TheVariants as came
-use Rattle.bank_model.specs.declared.answer.Served.{Served}
-use Rattle.bank_model.specs.declared.answer.Step.TheVariants as did
+use Rattle.bank_shape.specs.declared.answer.WriteAnswer.TheVariants as wrote
+use Rattle.bank_shape.specs.declared.answer.ReadAnswer.TheVariants as came
+use Rattle.bank_shape.specs.declared.answer.Served.{Served}
+use Rattle.bank_shape.specs.declared.answer.Step.TheVariants as did
 use Rattle.bank_model.specs.Events.{Event, Write, Read, Serve, Begin, Iterate, Cut}
 use Rattle.bank_model.specs.History.{Awaited, waits}
 use Rattle.bank_model.specs.After.{stands_at_after}
 use Rattle.bank_model.specs.Answers.{IsServed}
-use Rattle.bank_model.specs.Timing.{Pacing, Happens, Core, Regs, Timed, core}
+use Rattle.bank_shape.specs.declared.pace.Pace.{Pace}
+use Rattle.bank_model.specs.Timing.{Happens, Core, Regs, TimedEvent, core}
 use Rattle.bank_model.specs.Lawful.{Lawful, MayCome}
 use Rattle.bank_laws.specs.Standing.{has_wait}
 use Rattle.bank_laws.specs.Outcomes.{on_row, outcome_with, outcome_of}
@@ -52,33 +53,33 @@ module _ {n : ℕ} where
 
 module _ {n m : ℕ} (shape : BankShape) where
   -- the row was stored at this tick and place, by one of the events
-  pub record IsStoredAt (all : List (Timed n m)) (row u p : ℕ) : Type 0 where
-    pub later : List (Timed n m)
-    pub event : Timed n m
-    pub before : List (Timed n m)
+  pub record IsStoredAt (all : List (TimedEvent n m)) (row u p : ℕ) : Type 0 where
+    pub later : List (TimedEvent n m)
+    pub event : TimedEvent n m
+    pub before : List (TimedEvent n m)
     pub same : all ≡ later ++ event ∷ before
     pub ends : ends_action event.happens ≡ true
     pub tick : event.tick ≡ u
     pub store : IsStoreOf shape (core before) row p
 
   -- the row was read so
-  pub record IsReadAt (all : List (Timed n m)) (row u p : ℕ) : Type 0 where
-    pub later : List (Timed n m)
-    pub event : Timed n m
-    pub before : List (Timed n m)
+  pub record IsReadAt (all : List (TimedEvent n m)) (row u p : ℕ) : Type 0 where
+    pub later : List (TimedEvent n m)
+    pub event : TimedEvent n m
+    pub before : List (TimedEvent n m)
     pub same : all ≡ later ++ event ∷ before
     pub ends : ends_action event.happens ≡ true
     pub tick : event.tick ≡ u
     pub serve : IsServeOf shape (core before) row p
 
-  stored-more : (x : Timed n m) (zs : List (Timed n m)) (row u p : ℕ) → IsStoredAt zs row u p → IsStoredAt (x ∷ zs) row u p
+  stored-more : (x : TimedEvent n m) (zs : List (TimedEvent n m)) (row u p : ℕ) → IsStoredAt zs row u p → IsStoredAt (x ∷ zs) row u p
   stored-more x zs row u p s = record { later = x ∷ s.later; event = s.event; before = s.before; same = ap (λ xs. x ∷ xs) s.same; ends = s.ends; tick = s.tick; store = s.store }
 
-  read-more : (x : Timed n m) (zs : List (Timed n m)) (row u p : ℕ) → IsReadAt zs row u p → IsReadAt (x ∷ zs) row u p
+  read-more : (x : TimedEvent n m) (zs : List (TimedEvent n m)) (row u p : ℕ) → IsReadAt zs row u p → IsReadAt (x ∷ zs) row u p
   read-more x zs row u p s = record { later = x ∷ s.later; event = s.event; before = s.before; same = ap (λ xs. x ∷ xs) s.same; ends = s.ends; tick = s.tick; serve = s.serve }
 
-module _ {n m : ℕ} (shape : BankShape) (pace : Pacing) (e : ℕ) where
-  store_now : (x : Timed n m) (zs : List (Timed n m)) (at place row u p : ℕ) → ends_action x.happens ≡ true → IsStoreOf shape (core zs) at place
+module _ {n m : ℕ} (shape : BankShape) (pace : Pace) (e : ℕ) where
+  store_now : (x : TimedEvent n m) (zs : List (TimedEvent n m)) (at place row u p : ℕ) → ends_action x.happens ≡ true → IsStoreOf shape (core zs) at place
       → (outcome_of shape zs row ≡ out.Stored u p → IsStoredAt shape zs row u p)
       → unwrap_or (on_row at row (out.Stored x.tick place)) (outcome_of shape zs row) ≡ out.Stored u p → IsStoredAt shape (x ∷ zs) row u p
   store_now x zs at place row u p ends store go s = by (eqb at row) refl s
@@ -97,7 +98,7 @@ module _ {n m : ℕ} (shape : BankShape) (pace : Pacing) (e : ℕ) where
           }
       by false is s = stored-more shape x zs row u p (go s)
 
-  pub stored-at : (all : List (Timed n m)) (row u p : ℕ) → Lawful shape pace e all → outcome_of shape all row ≡ out.Stored u p → IsStoredAt shape all row u p
+  pub stored-at : (all : List (TimedEvent n m)) (row u p : ℕ) → Lawful shape pace e all → outcome_of shape all row ≡ out.Stored u p → IsStoredAt shape all row u p
   stored-at [] row u p l s = absurd (cc)
   stored-at (x ∷ zs) row u p l s = by x.happens refl l.0 (λ s. stored-at zs row u p l.1 s) s
     where
@@ -127,7 +128,7 @@ module _ {n m : ℕ} (shape : BankShape) (pace : Pacing) (e : ℕ) where
       by (Core (Iterate did.Exhausted)) is may go s = more (go s)
       by (Core (Cut tearing)) is may go s = more (go (not_lost (has_wait (waits shape (core zs)) row) _ _ _ (λ k. absurd (cc)) s))
 
-  serve_now : (x : Timed n m) (zs : List (Timed n m)) (answer : Served n) (row u p : ℕ) (bytes : List ℕ) → ends_action x.happens ≡ true → IsServeOf shape (core zs) answer.row answer.place
+  serve_now : (x : TimedEvent n m) (zs : List (TimedEvent n m)) (answer : Served n) (row u p : ℕ) (bytes : List ℕ) → ends_action x.happens ≡ true → IsServeOf shape (core zs) answer.row answer.place
       → (outcome_of shape zs row ≡ out.Read u p bytes → IsReadAt shape zs row u p)
       → unwrap_or (on_row answer.row row (out.Read x.tick answer.place answer.bytes)) (outcome_of shape zs row) ≡ out.Read u p bytes → IsReadAt shape (x ∷ zs) row u p
   serve_now x zs answer row u p bytes ends serve go s = by (eqb answer.row row) refl s
@@ -146,7 +147,7 @@ module _ {n m : ℕ} (shape : BankShape) (pace : Pacing) (e : ℕ) where
           }
       by false is s = read-more shape x zs row u p (go s)
 
-  pub read-at : (all : List (Timed n m)) (row u p : ℕ) (bytes : List ℕ) → Lawful shape pace e all → outcome_of shape all row ≡ out.Read u p bytes → IsReadAt shape all row u p
+  pub read-at : (all : List (TimedEvent n m)) (row u p : ℕ) (bytes : List ℕ) → Lawful shape pace e all → outcome_of shape all row ≡ out.Read u p bytes → IsReadAt shape all row u p
   read-at [] row u p bytes l s = absurd (cc)
   read-at (x ∷ zs) row u p bytes l s = by x.happens refl l.0 (λ s. read-at zs row u p bytes l.1 s) s
     where

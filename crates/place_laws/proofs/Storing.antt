@@ -4,15 +4,16 @@ use Rattle.std.specs.Prelude.{unwrap_or, nat_lt}
 use Rattle.std.proofs.lemmas.Bool.{lt-ltb, le-ltb}
 use Rattle.result_rows.specs.declared.Outcome.{Outcome}
 use Rattle.result_rows.specs.declared.Outcome.TheVariants as out
-use Rattle.row_laws.specs.Answers.{is_stored, stored_before}
+use Rattle.row_rules.specs.Answers.{is_stored, stored_before}
 use Rattle.bank_shape.specs.declared.BankShape.{BankShape}
-use Rattle.bank_model.specs.declared.answer.WriteAnswer.TheVariants as wrote
-use Rattle.bank_model.specs.declared.answer.ReadAnswer.TheVariants as came
-use Rattle.bank_model.specs.declared.answer.Step.TheVariants as did
+use Rattle.bank_shape.specs.declared.answer.WriteAnswer.TheVariants as wrote
+use Rattle.bank_shape.specs.declared.answer.ReadAnswer.TheVariants as came
+use Rattle.bank_shape.specs.declared.answer.Step.TheVariants as did
 use Rattle.bank_model.specs.Events.{Event, Write, Read, Serve, Begin, Iterate, Cut, RowsBelow, line_of_row}
 use Rattle.bank_model.specs.History.{queue, waits, stored_in}
 use Rattle.bank_model.specs.Sensing.{most_steps}
-use Rattle.bank_model.specs.Timing.{Pacing, Happens, Core, Regs, Timed, core, core_of, last_tick}
+use Rattle.bank_shape.specs.declared.pace.Pace.{Pace}
+use Rattle.bank_model.specs.Timing.{Happens, Core, Regs, TimedEvent, core, core_of, last_tick}
 use Rattle.bank_model.specs.Lawful.{Lawful, MayCome}
 use Rattle.bank_laws.specs.Standing.{has_wait}
 use Rattle.bank_laws.specs.Settling.{AreOpen}
@@ -88,9 +89,9 @@ module _ {n : ℕ} where
   region-stored lines (Iterate (did.Retired slot line) ∷ h) region = region-stored lines h region
   region-stored lines (Iterate did.Exhausted ∷ h) region = region-stored lines h region
 
-module _ {n m : ℕ} (shape : BankShape) (pace : Pacing) (e : ℕ) where
+module _ {n m : ℕ} (shape : BankShape) (pace : Pace) (e : ℕ) where
   -- one more store
-  store-counted : (keep : ℕ → Bool) (zs : List (Timed n m)) (tick row place : ℕ) → Lawful shape pace e zs → IsStoreOf shape (core zs) row place
+  store-counted : (keep : ℕ → Bool) (zs : List (TimedEvent n m)) (tick row place : ℕ) → Lawful shape pace e zs → IsStoreOf shape (core zs) row place
       → writes_with keep (λ r. is_stored (outcome_of shape zs r)) (core zs) ≡ stores_with keep (core zs)
       → writes_with keep (λ r. is_stored (unwrap_or (on_row row r (out.Stored tick place)) (outcome_of shape zs r))) (core zs) ≡ one_if (keep (line_of_row row (core zs))) + stores_with keep (core zs)
   store-counted keep zs tick row place l store ih =
@@ -106,7 +107,7 @@ module _ {n m : ℕ} (shape : BankShape) (pace : Pacing) (e : ℕ) where
       omega (arith, more, its, ih)
 
   -- as many writes of such lines are stored by their outcomes as by the events
-  pub stored-counted : (keep : ℕ → Bool) (zs : List (Timed n m)) → Lawful shape pace e zs → writes_with keep (λ row. is_stored (outcome_of shape zs row)) (core zs) ≡ stores_with keep (core zs)
+  pub stored-counted : (keep : ℕ → Bool) (zs : List (TimedEvent n m)) → Lawful shape pace e zs → writes_with keep (λ row. is_stored (outcome_of shape zs row)) (core zs) ≡ stores_with keep (core zs)
   stored-counted keep [] l = refl
   stored-counted keep (x ∷ zs) l = by x.happens l.0 (opens shape pace e zs l.1) (stored-counted keep zs l.1)
     where
@@ -154,7 +155,7 @@ module _ {n m : ℕ} (shape : BankShape) (pace : Pacing) (e : ℕ) where
       by (Core (Cut tearing)) may o ih = same (Core (Cut tearing)) (λ row. lost_kept (has_wait (waits shape (core zs)) row) x.tick (outcome_of shape zs row) (o.waiting row)) ih
 
   -- rows below those of later events
-  rows_below-before : (later zs : List (Timed n m)) (bound : ℕ) → RowsBelow (core (later ++ zs)) bound → RowsBelow (core zs) bound
+  rows_below-before : (later zs : List (TimedEvent n m)) (bound : ℕ) → RowsBelow (core (later ++ zs)) bound → RowsBelow (core zs) bound
   rows_below-before [] zs bound b = b
   rows_below-before (x ∷ later) zs bound b = by x.happens bound b (λ bound b. rows_below-before later zs bound b)
     where
@@ -168,7 +169,7 @@ module _ {n m : ℕ} (shape : BankShape) (pace : Pacing) (e : ℕ) where
       by (Core (Cut tearing)) bound b go = go bound b
 
   -- a test that fails for every later row counts the earlier ones
-  later-counted : (keep f : ℕ → Bool) (later zs : List (Timed n m)) → Lawful shape pace e (later ++ zs) → ((row : ℕ) → RowsBelow (core zs) row → f row ≡ false)
+  later-counted : (keep f : ℕ → Bool) (later zs : List (TimedEvent n m)) → Lawful shape pace e (later ++ zs) → ((row : ℕ) → RowsBelow (core zs) row → f row ≡ false)
       → writes_with keep f (core (later ++ zs)) ≡ writes_with keep f (core zs)
   later-counted keep f [] zs l none = refl
   later-counted keep f (x ∷ later) zs l none = by x.happens l.0 (later-counted keep f later zs l.1 none)
@@ -182,7 +183,7 @@ module _ {n m : ℕ} (shape : BankShape) (pace : Pacing) (e : ℕ) where
       by (Core (Iterate answer)) may ih = ih
       by (Core (Cut tearing)) may ih = ih
 
-  ticks-over : (later : List (Timed n m)) (z : Timed n m) (zs : List (Timed n m)) → 1 ≤ pace.read → 1 ≤ pace.iter → Lawful shape pace e (later ++ z ∷ zs) → z.tick ≤ last_tick (later ++ z ∷ zs)
+  ticks-over : (later : List (TimedEvent n m)) (z : TimedEvent n m) (zs : List (TimedEvent n m)) → 1 ≤ pace.read → 1 ≤ pace.iter → Lawful shape pace e (later ++ z ∷ zs) → z.tick ≤ last_tick (later ++ z ∷ zs)
   ticks-over [] z zs r i l = omega arith
   ticks-over (x ∷ later) z zs r i l =
       let up : z.tick ≤ last_tick (later ++ z ∷ zs) = ticks-over later z zs r i l.1 in
@@ -190,7 +191,7 @@ module _ {n m : ℕ} (shape : BankShape) (pace : Pacing) (e : ℕ) where
       omega (arith, up, rises)
 
   -- what is stored in the end was stored before an event, or at its tick or later
-  stored-from : (later : List (Timed n m)) (z : Timed n m) (zs : List (Timed n m)) (row u p : ℕ) → 1 ≤ pace.read → 1 ≤ pace.iter → Lawful shape pace e (later ++ z ∷ zs)
+  stored-from : (later : List (TimedEvent n m)) (z : TimedEvent n m) (zs : List (TimedEvent n m)) (row u p : ℕ) → 1 ≤ pace.read → 1 ≤ pace.iter → Lawful shape pace e (later ++ z ∷ zs)
       → outcome_of shape (later ++ z ∷ zs) row ≡ out.Stored u p → (z.tick ≤ u) ⊎ (outcome_of shape zs row ≡ out.Stored u p)
   stored-from [] z zs row u p r i l s = by (stored_by shape pace e zs z z.happens row u p s)
     where
@@ -205,9 +206,9 @@ module _ {n m : ℕ} (shape : BankShape) (pace : Pacing) (e : ℕ) where
       by (inl now) rises up go = inl (omega (arith, now.1, rises, up))
       by (inr before) rises up go = go before
 
-  module _ (all later : List (Timed n m)) (z : Timed n m) (zs : List (Timed n m)) (r : 1 ≤ pace.read) (i : 1 ≤ pace.iter) (l : Lawful shape pace e all) (same : all ≡ later ++ z ∷ zs) (ends : ends_action z.happens ≡ true) where
+  module _ (all later : List (TimedEvent n m)) (z : TimedEvent n m) (zs : List (TimedEvent n m)) (r : 1 ≤ pace.read) (i : 1 ≤ pace.iter) (l : Lawful shape pace e all) (same : all ≡ later ++ z ∷ zs) (ends : ends_action z.happens ≡ true) where
     whole : Lawful shape pace e (later ++ z ∷ zs)
-    whole = subst (λ (xs : List (Timed n m)). Lawful shape pace e xs) same l
+    whole = subst (λ (xs : List (TimedEvent n m)). Lawful shape pace e xs) same l
 
     here : Lawful shape pace e (z ∷ zs)
     here = lawful_before shape pace e later (z ∷ zs) whole
@@ -216,7 +217,7 @@ module _ {n m : ℕ} (shape : BankShape) (pace : Pacing) (e : ℕ) where
     split = append_assoc later (z ∷ []) zs ∙ sym same
 
     over : Lawful shape pace e ((later ++ z ∷ []) ++ zs)
-    over = subst (λ (xs : List (Timed n m)). Lawful shape pace e xs) (sym split) l
+    over = subst (λ (xs : List (TimedEvent n m)). Lawful shape pace e xs) (sym split) l
 
     -- the rows that are stored below the end of an action are those that were stored before it
     stored-same : (row : ℕ) → stored_before z.tick (outcome_of shape all row) ≡ is_stored (outcome_of shape zs row)

@@ -3,13 +3,13 @@ use Rattle.std.proofs.Common.{◌≡◌, ℕ, ◌+◌, ◌/◌, ◌==◌, ◌&&�
 use Rattle.std.proofs.lemmas.List.Sums.{sum_by-cons, sum_by-append}
 use Rattle.result_rows.specs.declared.Outcome.{Outcome}
 use Rattle.result_rows.specs.declared.Outcome.TheVariants as out
-use Rattle.row_laws.specs.declared.Asks.TheVariants.{Reads, Writes, Cuts}
-use Rattle.row_laws.specs.declared.Row.{Row}
-use Rattle.row_laws.specs.Answers.{is_stored, stored_before}
-use Rattle.row_laws.specs.Rows.{asks_write, line_of}
+use Rattle.row_rules.specs.declared.Asks.TheVariants.{Reads, Writes, Cuts}
+use Rattle.row_rules.specs.declared.Row.{Row}
+use Rattle.row_rules.specs.Answers.{is_stored, stored_before}
+use Rattle.row_rules.specs.Rows.{asks_write, line_of}
 use Rattle.bank_shape.specs.declared.BankShape.{BankShape}
 use Rattle.bank_model.specs.Events.{Write, Read, Serve, Begin, Iterate, Cut}
-use Rattle.bank_model.specs.Timing.{Happens, Core, Regs, Timed, core, core_of}
+use Rattle.bank_model.specs.Timing.{Happens, Core, Regs, TimedEvent, core, core_of}
 use Rattle.bank_laws.specs.Outcomes.{outcome_of, ended, row_with, rows_from, table_of}
 use Rattle.bank_laws.proofs.Walking.{rows_after, rows_after-more}
 use Rattle.place_laws.proofs.Counts.{one_if, writes_with}
@@ -23,14 +23,14 @@ ended-before t tick out.Unset = refl
 ended-before t tick (out.Stored at place) = refl
 ended-before t tick _ = refl
 
-module _ {n m : ℕ} (shape : BankShape) (all : List (Timed n m)) where
+module _ {n m : ℕ} (shape : BankShape) (all : List (TimedEvent n m)) where
   -- a test of the writes of some lines by their outcomes
   pub record IsOfWrites (test : Row n → Bool) (keep : ℕ → Bool) (counts : Outcome n → Bool) : Type 0 where
     pub writes : (tick line : ℕ) (bytes : List ℕ) (given : List Bool) (o : Outcome n) → test (record { tick = tick; asks = Writes line bytes given; outcome = ended tick o }) ≡ (keep line && counts o)
     pub reads : (tick line : ℕ) (o : Outcome n) → test (record { tick = tick; asks = Reads line; outcome = o }) ≡ false
     pub cuts : (tick : ℕ) (o : Outcome n) → test (record { tick = tick; asks = Cuts; outcome = o }) ≡ false
 
-  pub rows-counted : (test : Row n → Bool) (keep : ℕ → Bool) (counts : Outcome n → Bool) → IsOfWrites test keep counts → (ys : List (Timed n m))
+  pub rows-counted : (test : Row n → Bool) (keep : ℕ → Bool) (counts : Outcome n → Bool) → IsOfWrites test keep counts → (ys : List (TimedEvent n m))
       → sum_by (λ r. one_if (test r)) (rows_from shape all ys) ≡ writes_with keep (λ row. counts (outcome_of shape all row)) (core ys)
   rows-counted test keep counts is [] = refl
   rows-counted test keep counts is (x ∷ ys) = by x.happens x.cancels (rows-counted test keep counts is ys)
@@ -81,7 +81,7 @@ module _ {n m : ℕ} (shape : BankShape) (all : List (Timed n m)) where
         cuts = λ tick o. refl;
       }) all
 
-  in_order : (f : Row n → ℕ) (later ys : List (Timed n m)) → sum_by f (rows_from shape all ys ++ rows_after shape all later) ≡ sum_by f (rows_from shape all (later ++ ys))
+  in_order : (f : Row n → ℕ) (later ys : List (TimedEvent n m)) → sum_by f (rows_from shape all ys ++ rows_after shape all later) ≡ sum_by f (rows_from shape all (later ++ ys))
   in_order f [] ys = omega (arith, sum_by-append f (rows_from shape all ys) [])
   in_order f (x ∷ later) ys =
       omega (
@@ -94,7 +94,7 @@ module _ {n m : ℕ} (shape : BankShape) (all : List (Timed n m)) where
       )
 
   -- the rows before a row, it and those after it sum up to the table's
-  pub between : (f : Row n → ℕ) (later : List (Timed n m)) (x : Timed n m) (ys : List (Timed n m)) → all ≡ later ++ x ∷ ys
+  pub between : (f : Row n → ℕ) (later : List (TimedEvent n m)) (x : TimedEvent n m) (ys : List (TimedEvent n m)) → all ≡ later ++ x ∷ ys
       → sum_by f (rows_from shape all ys ++ (row_with shape all x.happens x.tick x.cancels ++ rows_after shape all later)) ≡ sum_by f (table_of shape all)
   between f later x ys same =
       ap (λ rows. sum_by f (rows_from shape all ys ++ rows)) (sym (rows_after-more shape all later x))

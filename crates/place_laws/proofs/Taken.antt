@@ -1,23 +1,25 @@
 -- What refused and queued writes say of worn lines, and when a write is taken.
 use Rattle.std.proofs.Common.{◌≡◌, ℕ, ◌<◌, ◌==◌, ◌&&◌, ◌||◌, not, inl, inr, Bool, true, false, List, [], ◌∷◌, ◌++◌, Option, Some, None, length, refl, sym, ap, ◌∙◌, subst, append_assoc, arith}
+use Rattle.masked_bytes.proofs.Truth.{and_first, and_second}
 use Rattle.std.specs.Prelude.{nat_lt, IfSome}
-use Rattle.std.proofs.lemmas.Bool.{ltb-true, lt-ltb, eqb-true}
+use Rattle.std.proofs.lemmas.Bool.{ltb-true, lt-ltb, eqb-true, or_left, or_right, and_from}
 use Rattle.result_rows.specs.declared.Outcome.{Outcome}
 use Rattle.result_rows.specs.declared.Outcome.TheVariants as out
 use Rattle.pcm_cells.specs.Device.{ArrayState}
-use Rattle.row_laws.specs.declared.Asks.{Asks}
-use Rattle.row_laws.specs.declared.Asks.TheVariants.{Reads, Writes, Cuts}
-use Rattle.row_laws.specs.declared.Row.{Row}
-use Rattle.row_laws.specs.Answers.{accepts, is_worn, is_queued, is_full}
-use Rattle.row_laws.specs.Rows.{RowTest, each_row}
-use Rattle.row_laws.specs.Queueing.{pending}
-use Rattle.row_laws.specs.Serving.{may_have, is_served}
+use Rattle.row_rules.specs.declared.Asks.{Asks}
+use Rattle.row_rules.specs.declared.Asks.TheVariants.{Reads, Writes, Cuts}
+use Rattle.row_rules.specs.declared.Row.{Row}
+use Rattle.row_rules.specs.Answers.{accepts, is_worn, is_queued, is_full}
+use Rattle.row_rules.specs.Rows.{RowTest, each_row}
+use Rattle.row_rules.specs.Queueing.{pending}
+use Rattle.row_rules.specs.Serving.{may_have, is_served}
 use Rattle.bank_shape.specs.declared.BankShape.{BankShape}
-use Rattle.bank_model.specs.declared.answer.WriteAnswer.{WriteAnswer}
-use Rattle.bank_model.specs.declared.answer.WriteAnswer.TheVariants as wrote
+use Rattle.bank_shape.specs.declared.answer.WriteAnswer.{WriteAnswer}
+use Rattle.bank_shape.specs.declared.answer.WriteAnswer.TheVariants as wrote
 use Rattle.bank_model.specs.Events.{Write, Read, Serve, Begin, Iterate, Cut}
 use Rattle.bank_model.specs.History.{queue, has_exhausted}
-use Rattle.bank_model.specs.Timing.{Pacing, Happens, Core, Regs, Timed, core}
+use Rattle.bank_shape.specs.declared.pace.Pace.{Pace}
+use Rattle.bank_model.specs.Timing.{Happens, Core, Regs, TimedEvent, core}
 use Rattle.bank_model.specs.Changes.{change_after, halted_after}
 use Rattle.bank_model.specs.Running.{over_by, is_over}
 use Rattle.bank_shape.specs.Shape.{controls_of, control_line}
@@ -29,7 +31,7 @@ use Rattle.bank_laws.specs.RowLaws.{is_room_fair}
 use Rattle.bank_laws.proofs.Answering.{merged-there}
 use Rattle.bank_laws.proofs.Settling.{opens}
 use Rattle.bank_laws.proofs.Fates.{IsLeft, WriteFate, new-push, new-merged}
-use Rattle.bank_laws.proofs.Walking.{Passes, walk, rows_after, and_both}
+use Rattle.bank_laws.proofs.Walking.{Passes, walk, rows_after}
 use Rattle.bank_laws.proofs.Ending.{Onwards, IsOutcome, write_outcome}
 use Rattle.bank_laws.proofs.Serves.{may_at, onwards_at, served_law}
 use Rattle.bank_laws.proofs.Wears.{worn_outcome, refused-exhausted, exhausted_later}
@@ -40,22 +42,6 @@ use Rattle.place_laws.proofs.WornOut.{worn_out, worn_control, change-within, idl
 implied : (a b : Bool) → (a ≡ true → b ≡ true) → (not a || b) ≡ true
 implied true b h = h refl
 implied false b h = refl
-
-or_left_true : (a b : Bool) → a ≡ true → (a || b) ≡ true
-or_left_true true b h = refl
-or_left_true false b h = absurd (cc)
-
-or_right_true : (a b : Bool) → b ≡ true → (a || b) ≡ true
-or_right_true true b h = refl
-or_right_true false b h = h
-
-both_first : (a b : Bool) → (a && b) ≡ true → a ≡ true
-both_first true b h = refl
-both_first false b h = absurd (cc)
-
-both_second : (a b : Bool) → (a && b) ≡ true → b ≡ true
-both_second true b h = h
-both_second false b h = absurd (cc)
 
 taken_if : (writes count : ℕ) (left fine : Bool) → (left ≡ false → count < writes → fine ≡ true) → (not (nat_lt count writes && not left) || fine) ≡ true
 taken_if writes count left fine h = by (nat_lt count writes) left refl refl
@@ -85,24 +71,24 @@ module _ {n : ℕ} where
       → (rows after : List (Row n)) → each_row one rows after ≡ true → each_row two rows after ≡ true → each_row three rows after ≡ true → each_row test rows after ≡ true
   each-of one two three test pass [] after p q r = refl
   each-of one two three test pass (x ∷ rows) after p q r =
-      and_both _ _ (pass rows x after (both_first _ _ p) (both_first _ _ q) (both_first _ _ r))
-      (each-of one two three test pass rows (x ∷ after) (both_second _ _ p) (both_second _ _ q) (both_second _ _ r))
+      and_from _ _ (pass rows x after (and_first _ _ p) (and_first _ _ q) (and_first _ _ r))
+      (each-of one two three test pass rows (x ∷ after) (and_second _ _ p) (and_second _ _ q) (and_second _ _ r))
 
-module _ {n m : ℕ} (shape : BankShape) (pace : Pacing) (e : ℕ) (all : List (Timed n m)) (array : ArrayState n m) (sized : IsSized shape pace) (l : Lawful shape pace e all) (idle : IsIdle shape pace all) (leaves : LeavesArray e shape all array) where
+module _ {n m : ℕ} (shape : BankShape) (pace : Pace) (e : ℕ) (all : List (TimedEvent n m)) (array : ArrayState n m) (sized : IsSized shape pace) (l : Lawful shape pace e all) (idle : IsIdle shape pace all) (leaves : LeavesArray e shape all array) where
   pub leaves_work : is_over shape all ≡ true → may_leave shape (is_worn_at e array) ≡ true
   leaves_work over = by (change_after shape all) (change-within shape pace e all sized.regions sized.lines l) over leaves.halted
     where
       by : (change : Option ℕ) → IfSome change (λ item. item < controls_of shape) → over_by change (halted_after all) (has_exhausted (core all)) ≡ true
           → (halted_after all ≡ true → IfSome change (λ item. is_worn_at e array (control_line shape item) ≡ true)) → may_leave shape (is_worn_at e array) ≡ true
-      by None exists ex halts = or_left_true _ _ (worn_out shape pace e all array sized l leaves ex)
-      by (Some item) exists halted halts = or_right_true _ _ (lt-ltb _ _ (worn_control shape pace e all array sized l leaves item exists (halts halted)))
+      by None exists ex halts = or_left _ _ (worn_out shape pace e all array sized l leaves ex)
+      by (Some item) exists halted halts = or_right _ _ (lt-ltb _ _ (worn_control shape pace e all array sized l leaves item exists (halts halted)))
 
   -- an accepted write that is queued in the end
   fate_true : (tick row : ℕ) → WriteFate shape all row → is_queued (ended tick (outcome_of shape all row)) ≡ true → may_leave shape (is_worn_at e array) ≡ true
   fate_true tick row (inl there) queued = leaves_work (idle-queued shape pace all row idle there)
   fate_true tick row (inr left) queued = absurd (cc (left-not_queued tick (outcome_of shape all row) left))
 
-  queued_true : (ys : List (Timed n m)) (x : Timed n m) (row line : ℕ) (bytes : List ℕ) (given : List Bool) (answer : WriteAnswer) → MayCome shape pace e ys x (Core (Write row line bytes given answer))
+  queued_true : (ys : List (TimedEvent n m)) (x : TimedEvent n m) (row line : ℕ) (bytes : List ℕ) (given : List Bool) (answer : WriteAnswer) → MayCome shape pace e ys x (Core (Write row line bytes given answer))
       → Onwards shape all ys x.tick (Core (Write row line bytes given answer)) → IsOutcome x.tick answer (ended x.tick (outcome_of shape all row))
       → is_queued (ended x.tick (outcome_of shape all row)) ≡ true → may_leave shape (is_worn_at e array) ≡ true
   queued_true ys x row line bytes given wrote.Accepted may on is queued =
@@ -112,17 +98,17 @@ module _ {n m : ℕ} (shape : BankShape) (pace : Pacing) (e : ℕ) (all : List (
   queued_true ys x row line bytes given wrote.Full may on is queued = absurd (cc (ap is_queued is))
   queued_true ys x row line bytes given wrote.Exhausted may on is queued = absurd (cc (ap is_queued is))
 
-  wear_at : (later : List (Timed n m)) (x : Timed n m) (ys : List (Timed n m)) → all ≡ later ++ x ∷ ys
+  wear_at : (later : List (TimedEvent n m)) (x : TimedEvent n m) (ys : List (TimedEvent n m)) → all ≡ later ++ x ∷ ys
       → Passes (is_wear_true shape (is_worn_at e array)) (rows_from shape all ys) (row_with shape all x.happens x.tick x.cancels) (rows_after shape all later)
   wear_at later x ys same =
       by x.happens x.cancels (may_at shape pace e all later x ys l same) (onwards_at shape pace e all later x ys l same)
-      (λ ex. subst (λ (xs : List (Timed n m)). has_exhausted (core xs) ≡ true) (append_assoc later (x ∷ []) ys ∙ sym same) (exhausted_later shape pace e (later ++ x ∷ []) ys ex))
+      (λ ex. subst (λ (xs : List (TimedEvent n m)). has_exhausted (core xs) ≡ true) (append_assoc later (x ∷ []) ys ∙ sym same) (exhausted_later shape pace e (later ++ x ∷ []) ys ex))
     where
       by : (h : Happens n) (cancels : Bool) → MayCome shape pace e ys x h → Onwards shape all ys x.tick h → (has_exhausted (core ys) ≡ true → has_exhausted (core all) ≡ true)
           → Passes (is_wear_true shape (is_worn_at e array)) (rows_from shape all ys) (row_with shape all h x.tick cancels) (rows_after shape all later)
       by (Core (Write row line bytes given answer)) cancels may on on_exhausted =
           let is : IsOutcome x.tick answer (ended x.tick (outcome_of shape all row)) = write_outcome shape pace e all ys x row line bytes given answer (opens shape pace e all l) may on in
-          and_both _ _
+          and_from _ _
           (implied (is_worn (ended x.tick (outcome_of shape all row))) _ (λ worn.
           worn_out shape pace e all array sized l leaves
           (on_exhausted (refused-exhausted shape (core ys) line (sym (worn_outcome x.tick answer (ended x.tick (outcome_of shape all row)) is worn) ∙ may.may.2)))))
@@ -156,7 +142,7 @@ module _ {n : ℕ} (shape : BankShape) (worn : ℕ → Bool) where
   taken_outcome tick line bytes given count out_worn left (out.Lost at) may full wear queued on none lt = absurd (cc)
   taken_outcome tick line bytes given count out_worn left (out.Cut at) may full wear queued on none lt = absurd (cc)
 
-module _ {n : ℕ} (e : ℕ) (shape : BankShape) (pace : Pacing) (worn : ℕ → Bool) where
+module _ {n : ℕ} (e : ℕ) (shape : BankShape) (pace : Pace) (worn : ℕ → Bool) where
   taken_row : (tick : ℕ) (asks : Asks n) (o : Outcome n) (before after : List (Row n)) → is_served before (record { tick = tick; asks = asks; outcome = o }) after ≡ true
       → is_room_fair shape.writes before (record { tick = tick; asks = asks; outcome = o }) after ≡ true → is_wear_true shape worn before (record { tick = tick; asks = asks; outcome = o }) after ≡ true
       → is_taken (rules_of e shape pace) shape worn before (record { tick = tick; asks = asks; outcome = o }) after ≡ true
@@ -164,8 +150,8 @@ module _ {n : ℕ} (e : ℕ) (shape : BankShape) (pace : Pacing) (worn : ℕ →
   taken_row tick Cuts o before after served room wear = refl
   taken_row tick (Writes line bytes given) o before after served room wear =
       taken_if shape.writes (length (pending tick [] before)) (may_leave shape worn) (accepts o && not (is_queued o))
-      (taken_outcome shape worn tick line bytes given (length (pending tick [] before)) (is_worn_out shape worn) (may_leave shape worn) o served (both_second _ _ room) (both_first _ _ wear) (both_second _ _ wear)
-      (λ is. or_left_true _ _ is))
+      (taken_outcome shape worn tick line bytes given (length (pending tick [] before)) (is_worn_out shape worn) (may_leave shape worn) o served (and_second _ _ room) (and_first _ _ wear) (and_second _ _ wear)
+      (λ is. or_left _ _ is))
 
 pub taken_law : TakenLaw
 taken_law n m e shape pace xs array sized l idle leaves =

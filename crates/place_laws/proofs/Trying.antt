@@ -4,25 +4,28 @@ use Rattle.std.specs.Prelude.{nat_lt, nat_le, is_some}
 use Rattle.std.proofs.lemmas.Bool.{lt-leb}
 use Rattle.bank_shape.specs.declared.BankShape.{BankShape}
 use Rattle.bank_shape.specs.declared.Work.TheVariants.{Nothing}
-use Rattle.bank_model.specs.declared.answer.ReadAnswer.TheVariants as came
-use Rattle.bank_model.specs.declared.answer.Step.TheVariants as did
-use Rattle.bank_model.specs.declared.clock.Doing.{Doing}
-use Rattle.bank_model.specs.declared.clock.Doing.TheVariants as doing
-use Rattle.bank_model.specs.declared.clock.Action.{Action}
+use Rattle.bank_shape.specs.declared.answer.ReadAnswer.TheVariants as came
+use Rattle.bank_shape.specs.declared.answer.Step.TheVariants as did
+use Rattle.bank_shape.specs.declared.clock.Doing.{Doing}
+use Rattle.bank_shape.specs.declared.clock.Doing.TheVariants as doing
+use Rattle.bank_shape.specs.declared.clock.Action.{Action}
 use Rattle.bank_model.specs.Events.{Event, Write, Read, Serve, Begin, Iterate, Cut}
 use Rattle.bank_model.specs.History.{moved_in, stored_in, retired, has_exhausted, due_after, queue, waits, in_progress}
 use Rattle.bank_model.specs.After.{due_work, work_after, is_ready, is_store_of, may_begin_after}
 use Rattle.bank_model.specs.Answers.{MayAll}
-use Rattle.bank_model.specs.Running.{busy_by, ready_by, over_by, busy_after, ready_after, is_over, drops_begin, choice, chosen_by, gives_way, started, left_by, running, running_at, chosen_after}
+use Rattle.bank_shape.specs.Pausing.{gives_way}
+use Rattle.bank_shape.specs.Acting.{choice, chosen_by}
+use Rattle.bank_model.specs.Running.{busy_by, ready_by, over_by, busy_after, ready_after, is_over, drops_begin, started, left_by, running, running_at, chosen_after}
 use Rattle.bank_model.specs.Sensing.{most_steps}
-use Rattle.bank_model.specs.Timing.{Pacing, Happens, Core, Regs, KeepBegin, KeepIterate, KeepCut, Timed, is_doing, is_writing, is_empty, core, core_of, last_tick}
+use Rattle.bank_shape.specs.declared.pace.Pace.{Pace}
+use Rattle.bank_model.specs.Timing.{Happens, Core, Regs, KeepBegin, KeepIterate, KeepCut, TimedEvent, is_doing, is_writing, is_empty, core, core_of, last_tick}
 use Rattle.bank_model.specs.Lawful.{Lawful, MayCome}
-use Rattle.bank_model.specs.declared.answer.Keep.TheVariants as keep
+use Rattle.bank_shape.specs.declared.answer.Keep.TheVariants as keep
 use Rattle.bank_model.specs.Changes.{item_if, change_after, change_by, keeping_after, halted_after, halted_by}
 use Rattle.bank_shape.specs.declared.Home.{Home}
 use Rattle.bank_shape.specs.declared.Home.TheVariants as home
 use Rattle.bank_shape.specs.Shape.{is_array}
-use Rattle.row_laws.specs.Ticking.{writings}
+use Rattle.row_rules.specs.Ticking.{writings}
 use Rattle.bank_laws.proofs.Changing.{halted-stops}
 use Rattle.bank_laws.proofs.Waiting.{may_all}
 use Rattle.bank_laws.proofs.Fates.{eqb-same}
@@ -49,7 +52,7 @@ cuts_power (Core (Cut tearing)) cancels = not cancels
 cuts_power (Core _) cancels = false
 cuts_power (Regs event) cancels = false
 
-abbrev pub cuts_in : {n m : ℕ} → List (Timed n m) → ℕ
+abbrev pub cuts_in : {n m : ℕ} → List (TimedEvent n m) → ℕ
 cuts_in [] = 0
 cuts_in (x ∷ xs) = one_if (cuts_power x.happens x.cancels) + cuts_in xs
 
@@ -194,9 +197,9 @@ some_change (Some item) false is off = refl
 one_more : (k c s : ℕ) → k ≡ c + 1 → s * k ≡ s * c + s
 one_more k c s is = ap (λ k. s * k) is ∙ next_product s c
 
-module _ {n m : ℕ} (shape : BankShape) (pace : Pacing) (e : ℕ) where
+module _ {n m : ℕ} (shape : BankShape) (pace : Pace) (e : ℕ) where
   -- where no line write is begun any more, none is in progress and none is ready
-  pub over-rests : (xs : List (Timed n m)) → Lawful shape pace e xs → is_over shape xs ≡ true → (busy_after shape xs ≡ false) × (ready_after shape xs ≡ false)
+  pub over-rests : (xs : List (TimedEvent n m)) → Lawful shape pace e xs → is_over shape xs ≡ true → (busy_after shape xs ≡ false) × (ready_after shape xs ≡ false)
   over-rests xs l over = by (change_after shape xs) over
     where
       stopped : (keeping halted : Bool) → keeping ≡ false → halted ≡ true → not (keeping || halted) ≡ false
@@ -209,13 +212,13 @@ module _ {n m : ℕ} (shape : BankShape) (pace : Pacing) (e : ℕ) where
       by None ex = (exhausted-idle shape (most_steps e) (core xs) (may_all shape pace e xs l) ex, exhausted-begins_none shape (core xs) ex)
       by (Some item) halted = (halted-stops shape pace e xs l halted, stopped (keeping_after xs) (halted_after xs) (halted-stops shape pace e xs l halted) halted)
 
-  chosen-still : (xs : List (Timed n m)) → Lawful shape pace e xs → is_over shape xs ≡ true → (a : Doing) → chosen_after shape pace xs ≡ Some a → a ≡ doing.Serving
+  chosen-still : (xs : List (TimedEvent n m)) → Lawful shape pace e xs → is_over shape xs ≡ true → (a : Doing) → chosen_after shape pace xs ≡ Some a → a ≡ doing.Serving
   chosen-still xs l over a is =
       let rests = over-rests xs l over in
       chosen-serves (gives_way pace.policy) (not (is_empty (waits shape (core xs)))) (busy_after shape xs) (ready_after shape xs) a rests.0 rests.1 is
 
   -- in such a bank no action of a line write runs
-  over-still : (xs : List (Timed n m)) → Lawful shape pace e xs → is_over shape xs ≡ true → is_writing (running shape pace xs) ≡ false
+  over-still : (xs : List (TimedEvent n m)) → Lawful shape pace e xs → is_over shape xs ≡ true → is_writing (running shape pace xs) ≡ false
   over-still [] l over = refl
   over-still (x ∷ xs) l over =
       by x.happens over (λ over. started-still (running shape pace xs) (chosen_after shape pace xs) (last_tick xs) x.tick (over-still xs l.1 over) (chosen-still xs l.1 over))
@@ -233,10 +236,10 @@ module _ {n m : ℕ} (shape : BankShape) (pace : Pacing) (e : ℕ) where
       by (Core (Cut tearing)) over still = refl
       by (Regs event) over still = refl
 
-  pub still_at : (xs : List (Timed n m)) (tick : ℕ) → Lawful shape pace e xs → is_over shape xs ≡ true → is_writing (running_at shape pace xs tick) ≡ false
+  pub still_at : (xs : List (TimedEvent n m)) (tick : ℕ) → Lawful shape pace e xs → is_over shape xs ≡ true → is_writing (running_at shape pace xs tick) ≡ false
   still_at xs tick l over = started-still (running shape pace xs) (chosen_after shape pace xs) (last_tick xs) tick (over-still xs l over) (chosen-still xs l over)
 
-  pub ends-few : (xs : List (Timed n m)) → Lawful shape pace e xs → ends_in xs + unwritten (change_after shape xs) (halted_after xs) ≤ each shape * causes (core xs) + cuts_in xs
+  pub ends-few : (xs : List (TimedEvent n m)) → Lawful shape pace e xs → ends_in xs + unwritten (change_after shape xs) (halted_after xs) ≤ each shape * causes (core xs) + cuts_in xs
   ends-few [] l = omega arith
   ends-few (x ∷ xs) l = by x.happens x.cancels l.0 (ends-few xs l.1) (exhausted-idle shape (most_steps e) (core xs) (may_all shape pace e xs l.1))
     where

@@ -4,7 +4,7 @@ use Rattle.masked_bytes.specs.declared.entry.Entry.{Entry}
 use Rattle.masked_bytes.specs.Entries.{head_row}
 use Rattle.bank_shape.specs.declared.BankShape.{BankShape}
 use Rattle.bank_shape.specs.declared.Work.TheVariants.{Nothing}
-use Rattle.bank_model.specs.declared.answer.Step.TheVariants as did
+use Rattle.bank_shape.specs.declared.answer.Step.TheVariants as did
 use Rattle.start_gap.specs.declared.Move.{Move}
 use Rattle.bank_model.specs.Events.{Event}
 use Rattle.bank_model.specs.History.{queue, due_after, has_exhausted}

@@ -13,18 +13,21 @@ use Rattle.bank_shape.specs.declared.Work.TheVariants.{Nothing}
 use Rattle.bank_shape.specs.Shape.{slots_of, if_array, controls_of, control_line}
 use Rattle.bank_shape.specs.declared.Home.{Home}
 use Rattle.bank_shape.specs.declared.Home.TheVariants as home
-use Rattle.bank_model.specs.declared.answer.Keep.TheVariants as keep
+use Rattle.bank_shape.specs.declared.answer.Keep.TheVariants as keep
 use Rattle.std.specs.Prelude.{IfSome}
-use Rattle.bank_model.specs.declared.answer.Step.TheVariants as did
+use Rattle.bank_shape.specs.declared.answer.Step.TheVariants as did
 use Rattle.bank_model.specs.Events.{Event, Write, Read, Serve, Begin, Iterate, Cut, RowsBelow, line_of_row}
 use Rattle.bank_model.specs.History.{Awaited, first_or, stores, moved_in, retired, has_exhausted, due_after, queue, waits, in_progress}
 use Rattle.bank_model.specs.After.{due_work, work_after, slot_of_work, is_ready, may_begin_after}
 use Rattle.bank_model.specs.Answers.{MayAll}
-use Rattle.bank_model.specs.declared.clock.Doing.TheVariants as doing
-use Rattle.bank_model.specs.Running.{Choice, busy_by, ready_by, over_by, busy_after, ready_after, is_over, chosen_by, gives_way, choice_after}
+use Rattle.bank_shape.specs.declared.clock.Doing.TheVariants as doing
+use Rattle.bank_shape.specs.Pausing.{gives_way}
+use Rattle.bank_shape.specs.Acting.{Choice, chosen_by}
+use Rattle.bank_model.specs.Running.{busy_by, ready_by, over_by, busy_after, ready_after, is_over, choice_after}
 use Rattle.bank_model.specs.Changes.{item_if, change_after, change_by, keeping_after, halted_after}
 use Rattle.bank_model.specs.Sensing.{most_steps}
-use Rattle.bank_model.specs.Timing.{Pacing, Happens, Core, Regs, KeepBegin, KeepIterate, KeepCut, Timed, core, is_empty}
+use Rattle.bank_shape.specs.declared.pace.Pace.{Pace}
+use Rattle.bank_model.specs.Timing.{Happens, Core, Regs, KeepBegin, KeepIterate, KeepCut, TimedEvent, core, is_empty}
 use Rattle.bank_model.specs.Lawful.{Lawful, IsIdle, MayCome}
 use Rattle.bank_laws.specs.Laws.{IsSized, LeavesArray, is_worn_at}
 use Rattle.bank_laws.specs.Places.{worn_among, is_worn_out}
@@ -118,7 +121,7 @@ none-ready way reads c is = by way reads c.busy c.ready is
     by false false false false is = (refl, refl)
 
 -- a bank without work in which something is left to do begins no line write any more: it is exhausted, or the writing of a change has halted
-idle-over : {n m : ℕ} (shape : BankShape) (xs : List (Timed n m)) → busy_after shape xs ≡ false → ready_after shape xs ≡ false
+idle-over : {n m : ℕ} (shape : BankShape) (xs : List (TimedEvent n m)) → busy_after shape xs ≡ false → ready_after shape xs ≡ false
     → (in_progress (core xs) ≡ false → may_begin_after shape (core xs) ≡ false → has_exhausted (core xs) ≡ true) → is_over shape xs ≡ true
 idle-over shape xs idle none core_over = by (change_after shape xs) idle none
   where
@@ -133,7 +136,7 @@ idle-over shape xs idle none core_over = by (change_after shape xs) idle none
     by (Some item) idle none = stopped (keeping_after xs) (halted_after xs) idle none
 
 -- so is one in whose queue a row stands
-pub idle-queued : {n m : ℕ} (shape : BankShape) (pace : Pacing) (xs : List (Timed n m)) (row : ℕ) → IsIdle shape pace xs → has_row (queue shape (core xs)) row ≡ true → is_over shape xs ≡ true
+pub idle-queued : {n m : ℕ} (shape : BankShape) (pace : Pace) (xs : List (TimedEvent n m)) (row : ℕ) → IsIdle shape pace xs → has_row (queue shape (core xs)) row ≡ true → is_over shape xs ≡ true
 idle-queued {n} shape pace xs row idle there = idle-over shape xs none.0 none.1 (λ still never.
     by (in_progress (core xs)) (has_exhausted (core xs)) (due_after shape (core xs)) (queue shape (core xs)) (waits shape (core xs)) still (idle-waits shape pace xs idle) never there)
   where
@@ -150,7 +153,7 @@ idle-queued {n} shape pace xs row idle there = idle-over shape xs none.0 none.1 
     by false false None (e ∷ es) (w ∷ ws) idle empty ready there = absurd (cc)
 
 -- and so is one where a move is due
-pub idle-due : {n m : ℕ} (shape : BankShape) (pace : Pacing) (xs : List (Timed n m)) (region : ℕ) → IsIdle shape pace xs → due_after shape (core xs) ≡ Some region → is_over shape xs ≡ true
+pub idle-due : {n m : ℕ} (shape : BankShape) (pace : Pace) (xs : List (TimedEvent n m)) (region : ℕ) → IsIdle shape pace xs → due_after shape (core xs) ≡ Some region → is_over shape xs ≡ true
 idle-due {n} shape pace xs region idle due = idle-over shape xs none.0 none.1 (λ still never.
     by (in_progress (core xs)) (has_exhausted (core xs)) (due_after shape (core xs)) still due never)
   where
@@ -163,7 +166,7 @@ idle-due {n} shape pace xs region idle due = idle-over shape xs none.0 none.1 (�
     by false false None idle is ready = absurd (cc)
     by false false (Some at) idle is ready = absurd (cc)
 
-module _ {n m : ℕ} (shape : BankShape) (pace : Pacing) (e : ℕ) (all : List (Timed n m)) (array : ArrayState n m) (sized : IsSized shape pace) (l : Lawful shape pace e all) (leaves : LeavesArray e shape all array) where
+module _ {n m : ℕ} (shape : BankShape) (pace : Pace) (e : ℕ) (all : List (TimedEvent n m)) (array : ArrayState n m) (sized : IsSized shape pace) (l : Lawful shape pace e all) (leaves : LeavesArray e shape all array) where
   -- an exhausted bank is worn out
   pub worn_out : has_exhausted (core all) ≡ true → is_worn_out shape (is_worn_at e array) ≡ true
   worn_out ex = le-leb (shape.spares + 1) (worn_among (is_worn_at e array) shape.base (slots_of shape + shape.spares)) many
@@ -226,7 +229,7 @@ module _ {n m : ℕ} (shape : BankShape) (pace : Pacing) (e : ℕ) (all : List (
           omega (arith, rest)
 
 -- a change is of an item of the bank
-pub change-within : {n m : ℕ} (shape : BankShape) (pace : Pacing) (e : ℕ) (xs : List (Timed n m)) → 1 ≤ shape.regions → 1 ≤ shape.lines → Lawful shape pace e xs
+pub change-within : {n m : ℕ} (shape : BankShape) (pace : Pace) (e : ℕ) (xs : List (TimedEvent n m)) → 1 ≤ shape.regions → 1 ≤ shape.lines → Lawful shape pace e xs
     → IfSome (change_after shape xs) (λ item. item < controls_of shape)
 change-within shape pace e [] r l law = tt
 change-within {n} shape pace e (x ∷ xs) r l law = by x.happens law.0 (change-within shape pace e xs r l law.1)

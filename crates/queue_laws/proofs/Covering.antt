@@ -1,5 +1,6 @@
 -- Over a lawful history the queue gives of each line what its accepted writes behind the last stored one give, and a completed head more.
 use Rattle.std.proofs.Common.{◌≡◌, ℕ, ◌<◌, ◌≤◌, ◌==◌, ◌⊎◌, inl, inr, Bool, true, false, suc, List, [], ◌∷◌, ◌++◌, Option, Some, None, drop, refl, sym, ap, ◌∙◌, subst, arith, cond, eqb, eqb-true}
+use Rattle.masked_bytes.proofs.Truth.{and_first, and_second}
 use Rattle.std.specs.Prelude.{unwrap_or}
 use Rattle.std.proofs.lemmas.Bool.{eq-eqb, ne_eqb}
 use Rattle.result_rows.specs.declared.Outcome.{Outcome}
@@ -7,18 +8,19 @@ use Rattle.result_rows.specs.declared.Outcome.TheVariants as out
 use Rattle.masked_bytes.specs.declared.entry.Entry.{Entry}
 use Rattle.masked_bytes.specs.Masked.{joined, none_given, gives_all}
 use Rattle.masked_bytes.specs.Entries.{RowsApart, has_row, candidate, merged}
-use Rattle.row_laws.specs.Answers.{is_stored}
+use Rattle.row_rules.specs.Answers.{is_stored}
 use Rattle.bank_shape.specs.declared.BankShape.{BankShape}
-use Rattle.bank_model.specs.declared.answer.WriteAnswer.{WriteAnswer}
-use Rattle.bank_model.specs.declared.answer.WriteAnswer.TheVariants as wrote
-use Rattle.bank_model.specs.declared.answer.ReadAnswer.TheVariants as came
-use Rattle.bank_model.specs.declared.answer.Step.{Step}
-use Rattle.bank_model.specs.declared.answer.Step.TheVariants as did
+use Rattle.bank_shape.specs.declared.answer.WriteAnswer.{WriteAnswer}
+use Rattle.bank_shape.specs.declared.answer.WriteAnswer.TheVariants as wrote
+use Rattle.bank_shape.specs.declared.answer.ReadAnswer.TheVariants as came
+use Rattle.bank_shape.specs.declared.answer.Step.{Step}
+use Rattle.bank_shape.specs.declared.answer.Step.TheVariants as did
 use Rattle.bank_model.specs.Events.{Write, Read, Serve, Begin, Iterate, Cut, RowsBelow, newest}
 use Rattle.bank_model.specs.History.{begun, queue, waits, due_after, has_exhausted, in_progress}
 use Rattle.bank_model.specs.Answers.{head_busy_after}
 use Rattle.bank_model.specs.Sensing.{most_steps}
-use Rattle.bank_model.specs.Timing.{Pacing, Happens, Core, Regs, Timed, core, core_of}
+use Rattle.bank_shape.specs.declared.pace.Pace.{Pace}
+use Rattle.bank_model.specs.Timing.{Happens, Core, Regs, TimedEvent, core, core_of}
 use Rattle.bank_model.specs.Told.{tick_of_row}
 use Rattle.bank_model.specs.Lawful.{Lawful, MayCome}
 use Rattle.bank_laws.specs.Pairs.{ArePaired}
@@ -28,7 +30,7 @@ use Rattle.bank_laws.proofs.Entries.{either, differ}
 use Rattle.bank_laws.proofs.Standing.{stand_apart}
 use Rattle.bank_laws.proofs.Answering.{IsHead, stored-head}
 use Rattle.bank_laws.proofs.Settling.{opens, above_all, step_stays}
-use Rattle.bank_laws.proofs.Pairs.{AllLong, HeadFull, KeepsPairs, keeps_pairs, busy-full, no_candidate-head, accepted-none, and_left, and_right}
+use Rattle.bank_laws.proofs.Pairs.{AllLong, HeadFull, KeepsPairs, keeps_pairs, busy-full, no_candidate-head, accepted-none}
 use Rattle.bank_laws.proofs.Ending.{accepting}
 use Rattle.bank_laws.proofs.Wears.{not_stored, lost_not_stored}
 use Rattle.bank_laws.proofs.Lines.{Stands, stands-one, merged-candidate, merges-stands}
@@ -52,20 +54,20 @@ module _ {n : ℕ} where
 
 module _ {n m : ℕ} (shape : BankShape) where
   -- what the queue gives of each line, by the writes of the line and the outcomes so far
-  pub record IsCovered (zs : List (Timed n m)) : Type 0 where
+  pub record IsCovered (zs : List (TimedEvent n m)) : Type 0 where
     pub front : (line : ℕ) → Front (λ f. since (core zs) line f) (floor_of (outcome_of shape zs) (core zs) line) line (queue shape (core zs))
     pub tails : (line : ℕ) → Tails (λ f. since (core zs) line f) line (queue shape (core zs))
     pub above : (row line : ℕ) → Stands (queue shape (core zs)) row line → floor_of (outcome_of shape zs) (core zs) line ≤ row
     pub asked : (row line : ℕ) → Stands (queue shape (core zs)) row line → Asked (core zs) row line
 
-  record CoveredBy (zs : List (Timed n m)) (tick : ℕ) (h : Happens n) : Type 0 where
+  record CoveredBy (zs : List (TimedEvent n m)) (tick : ℕ) (h : Happens n) : Type 0 where
     front : (line : ℕ) → Front (λ f. since (core_of h (core zs)) line f) (floor_of (λ row. unwrap_or (outcome_with shape zs h tick row) (outcome_of shape zs row)) (core_of h (core zs)) line) line (queue shape (core_of h (core zs)))
     tails : (line : ℕ) → Tails (λ f. since (core_of h (core zs)) line f) line (queue shape (core_of h (core zs)))
     above : (row line : ℕ) → Stands (queue shape (core_of h (core zs))) row line → floor_of (λ row. unwrap_or (outcome_with shape zs h tick row) (outcome_of shape zs row)) (core_of h (core zs)) line ≤ row
     asked : (row line : ℕ) → Stands (queue shape (core_of h (core zs))) row line → Asked (core_of h (core zs)) row line
 
-module _ {n m : ℕ} (shape : BankShape) (pace : Pacing) (e : ℕ) where
-  pub none_new : (zs : List (Timed n m)) (x : Timed n m) (h : Happens n) (row u p : ℕ) → Storeless h → unwrap_or (outcome_with shape zs h x.tick row) (outcome_of shape zs row) ≡ out.Stored u p → outcome_of shape zs row ≡ out.Stored u p
+module _ {n m : ℕ} (shape : BankShape) (pace : Pace) (e : ℕ) where
+  pub none_new : (zs : List (TimedEvent n m)) (x : TimedEvent n m) (h : Happens n) (row u p : ℕ) → Storeless h → unwrap_or (outcome_with shape zs h x.tick row) (outcome_of shape zs row) ≡ out.Stored u p → outcome_of shape zs row ≡ out.Stored u p
   none_new zs x (Core (Write at line bytes given wrote.Accepted)) row u p less s = s
   none_new zs x (Core (Write at line bytes given (wrote.Merged old))) row u p less s = not_stored old row (out.Merged x.tick) (outcome_of shape zs row) u p (λ is. absurd (cc)) s
   none_new zs x (Core (Write at line bytes given wrote.Full)) row u p less s = not_stored at row (out.Full x.tick) (outcome_of shape zs row) u p (λ is. absurd (cc)) s
@@ -87,7 +89,7 @@ module _ {n m : ℕ} (shape : BankShape) (pace : Pacing) (e : ℕ) where
   none_new zs x (Core (Iterate did.Exhausted)) row u p less s = s
   none_new zs x (Core (Cut tearing)) row u p less s = lost_not_stored (has_wait (waits shape (core zs)) row) x.tick (outcome_of shape zs row) u p s
 
-  module _ (zs : List (Timed n m)) (x : Timed n m) (r : 1 ≤ pace.read) (i : 1 ≤ pace.iter) (l : Lawful shape pace e zs) (c : IsCovered shape zs) where
+  module _ (zs : List (TimedEvent n m)) (x : TimedEvent n m) (r : 1 ≤ pace.read) (i : 1 ≤ pace.iter) (l : Lawful shape pace e zs) (c : IsCovered shape zs) where
     pairs : KeepsPairs shape (core zs)
     pairs = keeps_pairs shape (most_steps e) (core zs) (may_all shape pace e zs l)
 
@@ -154,7 +156,7 @@ module _ {n m : ℕ} (shape : BankShape) (pace : Pacing) (e : ℕ) where
         let found : candidate (head_busy_after shape (core zs)) (f ∷ rest) k ≡ None = subst (λ (es : List (Entry n)). candidate (head_busy_after shape (core zs)) es k ≡ None) is none in
         let busy : head_busy_after shape (core zs) ≡ true = no_candidate-head (head_busy_after shape (core zs)) f rest k found (eq-eqb k f.line same) in
         let full : HeadFull (queue shape (core zs)) =
-        busy-full shape (core zs) (has_exhausted (core zs)) (due_after shape (core zs)) (queue shape (core zs)) (pairs.working (and_left (in_progress (core zs)) _ busy)) (and_right (in_progress (core zs)) _ busy) in
+        busy-full shape (core zs) (has_exhausted (core zs)) (due_after shape (core zs)) (queue shape (core zs)) (pairs.working (and_first (in_progress (core zs)) _ busy)) (and_second (in_progress (core zs)) _ busy) in
         subst (λ (es : List (Entry n)). HeadFull es) is full
 
     accepted : (at k : ℕ) (bytes : List ℕ) (given : List Bool) → MayCome shape pace e zs x (Core (Write at k bytes given wrote.Accepted)) → CoveredBy shape zs x.tick (Core (Write at k bytes given wrote.Accepted))
@@ -374,7 +376,7 @@ module _ {n m : ℕ} (shape : BankShape) (pace : Pacing) (e : ℕ) where
     covered_step (Core (Iterate did.Exhausted)) may = quiet (Core (Iterate did.Exhausted)) may tt (λ line f. refl) (λ line. same_floor (Core (Iterate did.Exhausted)) line may tt) (λ row line a. a) refl
     covered_step (Core (Cut tearing)) may = quiet (Core (Cut tearing)) may tt (λ line f. refl) (λ line. same_floor (Core (Cut tearing)) line may tt) (λ row line a. a) refl
 
-  pub is_covered : (zs : List (Timed n m)) → 1 ≤ pace.read → 1 ≤ pace.iter → Lawful shape pace e zs → IsCovered shape zs
+  pub is_covered : (zs : List (TimedEvent n m)) → 1 ≤ pace.read → 1 ≤ pace.iter → Lawful shape pace e zs → IsCovered shape zs
   is_covered [] r i l = record { front = λ line. refl; tails = λ line. tt; above = λ row line s. absurd s; asked = λ row line s. s }
   is_covered (x ∷ zs) r i l =
       let s = covered_step zs x r i l.1 (is_covered zs r i l.1) x.happens l.0 in

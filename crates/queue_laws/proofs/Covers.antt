@@ -2,29 +2,29 @@
 use Rattle.std.proofs.Common.{◌≡◌, ℕ, ◌<◌, ◌≤◌, ◌==◌, ◌&&◌, ◌⊎◌, inl, inr, Bool, true, false, suc, List, [], ◌∷◌, ◌++◌, refl, sym, ap, ◌∙◌, subst, arith, cond, eqb, append_assoc}
 use Rattle.std.specs.Prelude.{nat_le}
 use Rattle.std.specs.List.{list_any}
-use Rattle.std.proofs.lemmas.Bool.{le-leb, lt-leb}
+use Rattle.std.proofs.lemmas.Bool.{le-leb, lt-leb, and_left, and_right, or_from}
 use Rattle.std.proofs.lemmas.List.Folds.{list_any-append}
 use Rattle.result_rows.specs.declared.Outcome.{Outcome}
 use Rattle.result_rows.specs.declared.Outcome.TheVariants as out
 use Rattle.masked_bytes.specs.Masked.{joined, none_given}
-use Rattle.row_laws.specs.declared.Row.{Row}
-use Rattle.row_laws.specs.Answers as answers
-use Rattle.row_laws.specs.Answers.{accepts, is_stored}
-use Rattle.row_laws.specs.Rows.{write_of}
-use Rattle.row_laws.specs.Queueing.{unstored, cover}
+use Rattle.row_rules.specs.declared.Row.{Row}
+use Rattle.row_rules.specs.Answers as answers
+use Rattle.row_rules.specs.Answers.{accepts, is_stored}
+use Rattle.row_rules.specs.Rows.{write_of}
+use Rattle.row_rules.specs.Queueing.{unstored, cover}
 use Rattle.bank_shape.specs.declared.BankShape.{BankShape}
 use Rattle.bank_model.specs.Events.{Write, Read, Serve, Begin, Iterate, Cut, RowsBelow}
-use Rattle.bank_model.specs.Timing.{Pacing, Happens, Core, Regs, Timed, core, core_of, last_tick}
+use Rattle.bank_shape.specs.declared.pace.Pace.{Pace}
+use Rattle.bank_model.specs.Timing.{Happens, Core, Regs, TimedEvent, core, core_of, last_tick}
 use Rattle.bank_model.specs.Lawful.{Lawful, MayCome}
 use Rattle.bank_laws.specs.Outcomes.{outcome_of, ended, row_with, rows_from}
-use Rattle.bank_laws.proofs.Entries.{or_none}
 use Rattle.bank_laws.proofs.Settling.{opens, lawful_before, stays, rows_below-more}
 use Rattle.bank_laws.proofs.Walking.{rows_after}
 use Rattle.bank_laws.proofs.Ending.{Onwards, accepting, write_outcome, outcome-accepts}
 use Rattle.bank_laws.proofs.Serves.{onwards_at}
 use Rattle.bank_laws.proofs.Wears.{stored_up_to}
 use Rattle.queue_laws.proofs.Stood.{EndsAbove, stored_over}
-use Rattle.queue_laws.proofs.Floors.{since, floor_of, since-none, since-other, floor-bound, floor-skip, stored_case, and_none, and_first}
+use Rattle.queue_laws.proofs.Floors.{since, floor_of, since-none, since-other, floor-bound, floor-skip, stored_case}
 
 module _ {n : ℕ} where
   later_stored : (t tick : ℕ) (o : Outcome n) → ((u p : ℕ) → o ≡ out.Stored u p → t < u) → answers.stored_by t (ended tick o) ≡ false
@@ -50,7 +50,7 @@ one_true : (a b : Bool) → a ≡ true → (a && b) ≡ b
 one_true true b h = refl
 one_true false b h = absurd (cc)
 
-rows_before : {n m : ℕ} (mid now : List (Timed n m)) (bound : ℕ) → RowsBelow (core (mid ++ now)) bound → RowsBelow (core now) bound
+rows_before : {n m : ℕ} (mid now : List (TimedEvent n m)) (bound : ℕ) → RowsBelow (core (mid ++ now)) bound → RowsBelow (core now) bound
 rows_before [] now bound b = b
 rows_before {n} {m} (x ∷ mid) now bound b = by x.happens (λ bound b. rows_before mid now bound b) b
   where
@@ -63,10 +63,10 @@ rows_before {n} {m} (x ∷ mid) now bound b = by x.happens (λ bound b. rows_bef
     by (Core (Iterate answer)) go b = go bound b
     by (Core (Cut tearing)) go b = go bound b
 
-module _ {n m : ℕ} (shape : BankShape) (pace : Pacing) (e : ℕ) (all later now : List (Timed n m)) (t : ℕ) (r : 1 ≤ pace.read) (i : 1 ≤ pace.iter) (l : Lawful shape pace e all) (same : all ≡ later ++ now)
+module _ {n m : ℕ} (shape : BankShape) (pace : Pace) (e : ℕ) (all later now : List (TimedEvent n m)) (t : ℕ) (r : 1 ≤ pace.read) (i : 1 ≤ pace.iter) (l : Lawful shape pace e all) (same : all ≡ later ++ now)
     (up : last_tick now ≤ t) (ends : EndsAbove t later) where
   whole : Lawful shape pace e (later ++ now)
-  whole = subst (λ (xs : List (Timed n m)). Lawful shape pace e xs) same l
+  whole = subst (λ (xs : List (TimedEvent n m)). Lawful shape pace e xs) same l
 
   here : Lawful shape pace e now
   here = lawful_before shape pace e later now whole
@@ -89,13 +89,13 @@ module _ {n m : ℕ} (shape : BankShape) (pace : Pacing) (e : ℕ) (all later no
       by (inr none) = unstored_later row tick (λ u p s. absurd (cc (none, ap is_stored s))) ∙ sym none
 
   -- which bytes no row that is out gives, by any test that says which row is stored by now
-  pub unstored_by : (is_out : Outcome n → Bool) → ((row tick : ℕ) → is_out (ended tick (outcome_of shape all row)) ≡ is_stored (outcome_of shape now row)) → (line : ℕ) (mid ys : List (Timed n m)) → now ≡ mid ++ ys → unstored is_out line (rows_from shape all ys) ≡ since (core ys) line (floor_of (outcome_of shape now) (core ys) line)
+  pub unstored_by : (is_out : Outcome n → Bool) → ((row tick : ℕ) → is_out (ended tick (outcome_of shape all row)) ≡ is_stored (outcome_of shape now row)) → (line : ℕ) (mid ys : List (TimedEvent n m)) → now ≡ mid ++ ys → unstored is_out line (rows_from shape all ys) ≡ since (core ys) line (floor_of (outcome_of shape now) (core ys) line)
   unstored_by is_out out_is line mid [] split = refl
   unstored_by is_out out_is line mid (z ∷ ys) split =
       by z.happens z.cancels before.0 (onwards_at shape pace e all (later ++ mid) z ys l in_all) (unstored_by is_out out_is line (mid ++ z ∷ []) ys (split ∙ sym (append_assoc mid (z ∷ []) ys)))
     where
       before : Lawful shape pace e (z ∷ ys)
-      before = lawful_before shape pace e mid (z ∷ ys) (subst (λ (xs : List (Timed n m)). Lawful shape pace e xs) split here)
+      before = lawful_before shape pace e mid (z ∷ ys) (subst (λ (xs : List (TimedEvent n m)). Lawful shape pace e xs) split here)
 
       in_all : all ≡ (later ++ mid) ++ z ∷ ys
       in_all = same ∙ ap (λ xs. later ++ xs) split ∙ sym (append_assoc later mid (z ∷ ys))
@@ -121,18 +121,18 @@ module _ {n m : ℕ} (shape : BankShape) (pace : Pacing) (e : ℕ) (all later no
               ∙ since-none (Write at k bytes given answer ∷ core ys) (suc at) line (suc at) (omega arith, may.asked) (omega arith))
           kind true own false st =
               ap (λ c. cond c (none_given n) (cond (k == line && accepts (ended z.tick (outcome_of shape all at))) (joined given (unstored is_out line (rows_from shape all ys))) (unstored is_out line (rows_from shape all ys))))
-              (and_none (k == line) _ (out_is at z.tick ∙ st))
+              (and_right (k == line) _ (out_is at z.tick ∙ st))
               ∙ ap (λ c. cond c (joined given (unstored is_out line (rows_from shape all ys))) (unstored is_out line (rows_from shape all ys)))
               (one_true (k == line) _ own ∙ agrees ∙ sym (three_true (accepting answer) (k == line) (nat_le (floor_of (outcome_of shape now) (core ys) line) at) own (le-leb (floor_of (outcome_of shape now) (core ys) line) at low)))
               ∙ ap (λ g. cond (accepting answer && (k == line && nat_le (floor_of (outcome_of shape now) (core ys) line) at)) (joined given g) g) ih
-              ∙ sym (ap (λ f. since (Write at k bytes given answer ∷ core ys) line f) (floor-skip (k == line && is_stored (outcome_of shape now at)) at (floor_of (outcome_of shape now) (core ys) line) (and_none (k == line) _ st)))
+              ∙ sym (ap (λ f. since (Write at k bytes given answer ∷ core ys) line f) (floor-skip (k == line && is_stored (outcome_of shape now at)) at (floor_of (outcome_of shape now) (core ys) line) (and_right (k == line) _ st)))
           kind false ne st is =
               ap (λ c. cond c (none_given n) (cond (k == line && accepts (ended z.tick (outcome_of shape all at))) (joined given (unstored is_out line (rows_from shape all ys))) (unstored is_out line (rows_from shape all ys))))
-              (and_first (k == line) _ ne)
-              ∙ ap (λ c. cond c (joined given (unstored is_out line (rows_from shape all ys))) (unstored is_out line (rows_from shape all ys))) (and_first (k == line) _ ne)
+              (and_left (k == line) _ ne)
+              ∙ ap (λ c. cond c (joined given (unstored is_out line (rows_from shape all ys))) (unstored is_out line (rows_from shape all ys))) (and_left (k == line) _ ne)
               ∙ ih
               ∙ sym (since-other given (since (core ys) line (floor_of (outcome_of shape now) (core ys) line)) (accepting answer) k at line (floor_of (outcome_of shape now) (core ys) line) ne)
-              ∙ sym (ap (λ f. since (Write at k bytes given answer ∷ core ys) line f) (floor-skip (k == line && is_stored (outcome_of shape now at)) at (floor_of (outcome_of shape now) (core ys) line) (and_first (k == line) _ ne)))
+              ∙ sym (ap (λ f. since (Write at k bytes given answer ∷ core ys) line f) (floor-skip (k == line && is_stored (outcome_of shape now at)) at (floor_of (outcome_of shape now) (core ys) line) (and_left (k == line) _ ne)))
       by (Core (Read at k answer)) cancels may on ih = ih
       by (Core (Serve answer)) cancels may on ih = ih
       by (Regs event) cancels may on ih = ih
@@ -145,17 +145,17 @@ module _ {n m : ℕ} (shape : BankShape) (pace : Pacing) (e : ℕ) (all later no
   unstored_is line = unstored_by (λ (o : Outcome n). answers.stored_by t o) stored_same line [] now refl
 
   -- no later row is stored by the tick
-  none_after : (line : ℕ) (mid zs : List (Timed n m)) → Lawful shape pace e (mid ++ zs) → ((bound : ℕ) → RowsBelow (core zs) bound → RowsBelow (core now) bound)
+  none_after : (line : ℕ) (mid zs : List (TimedEvent n m)) → Lawful shape pace e (mid ++ zs) → ((bound : ℕ) → RowsBelow (core zs) bound → RowsBelow (core now) bound)
       → list_any (λ (q : Row n). write_of line q && answers.stored_by t q.outcome) (rows_after shape all mid) ≡ false
   none_after line [] zs lawful low = refl
   none_after line (x ∷ mid) zs lawful low =
       list_any-append (λ (q : Row n). write_of line q && answers.stored_by t q.outcome) (rows_after shape all mid) (row_with shape all x.happens x.tick x.cancels)
-      ∙ or_none (list_any (λ (q : Row n). write_of line q && answers.stored_by t q.outcome) (rows_after shape all mid)) _ (none_after line mid zs lawful.1 low) (by x.happens x.cancels lawful.0)
+      ∙ or_from (list_any (λ (q : Row n). write_of line q && answers.stored_by t q.outcome) (rows_after shape all mid)) _ (none_after line mid zs lawful.1 low) (by x.happens x.cancels lawful.0)
     where
       by : (h : Happens n) (cancels : Bool) → MayCome shape pace e (mid ++ zs) x h → list_any (λ (q : Row n). write_of line q && answers.stored_by t q.outcome) (row_with shape all h x.tick cancels) ≡ false
       by (Core (Write at k bytes given answer)) cancels may =
-          or_none (k == line && answers.stored_by t (ended x.tick (outcome_of shape all at))) false
-          (and_none (k == line) _ (unstored_later at x.tick
+          or_from (k == line && answers.stored_by t (ended x.tick (outcome_of shape all at))) false
+          (and_right (k == line) _ (unstored_later at x.tick
           (λ u p s. let both : ◌≡◌ {A = Outcome n} (out.Stored u p) out.Unset = sym s ∙ (opens shape pace e now here).coming at (low at (rows_before mid zs at may.asked)) in absurd (cc)))) refl
       by (Core (Read at k answer)) cancels may = refl
       by (Core (Serve answer)) cancels may = refl
@@ -166,7 +166,7 @@ module _ {n m : ℕ} (shape : BankShape) (pace : Pacing) (e : ℕ) (all later no
       by (Core (Cut tearing)) false may = refl
 
   -- what the rows show as given by the queue
-  pub cover_is : (line : ℕ) (mid zs : List (Timed n m)) → Lawful shape pace e (mid ++ zs) → ((bound : ℕ) → RowsBelow (core zs) bound → RowsBelow (core now) bound)
+  pub cover_is : (line : ℕ) (mid zs : List (TimedEvent n m)) → Lawful shape pace e (mid ++ zs) → ((bound : ℕ) → RowsBelow (core zs) bound → RowsBelow (core now) bound)
       → cover t line (rows_from shape all now) (rows_after shape all mid) ≡ since (core now) line (floor_of (outcome_of shape now) (core now) line)
   cover_is line mid zs lawful low =
       ap (λ b. cond b (none_given n) (unstored (λ (o : Outcome n). answers.stored_by t o) line (rows_from shape all now))) (none_after line mid zs lawful low) ∙ unstored_is line

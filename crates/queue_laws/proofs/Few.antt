@@ -1,25 +1,24 @@
 -- Of the writes that stand at most two have one line, and a refused write finds at most one of its line.
 use Rattle.std.proofs.Common.{◌≡◌, ℕ, ◌<◌, ◌≤◌, ◌==◌, ◌⊎◌, inl, inr, not, Bool, true, false, List, [], ◌∷◌, refl, sym, ap, ◌∙◌, subst, arith, cond, eqb-true}
+use Rattle.masked_bytes.proofs.Truth.{and_first}
 use Rattle.std.specs.Prelude.{nat_lt, filter}
 use Rattle.std.specs.List.{list_all}
-use Rattle.std.proofs.lemmas.Bool.{lt-ltb, le-ltb}
+use Rattle.std.proofs.lemmas.Bool.{lt-ltb, le-ltb, and_from}
 use Rattle.result_rows.specs.declared.Outcome.{Outcome}
 use Rattle.result_rows.specs.declared.Outcome.TheVariants as out
 use Rattle.masked_bytes.specs.declared.entry.Entry.{Entry}
-use Rattle.row_laws.specs.declared.Row.{Row}
-use Rattle.row_laws.specs.Answers.{accepts, is_merged, is_stored, stored_before}
-use Rattle.row_laws.specs.Rows.{accepted_of, write_of}
-use Rattle.row_laws.specs.Queueing.{none_before, is_older, has_few, pairs_few, is_refused}
+use Rattle.row_rules.specs.declared.Row.{Row}
+use Rattle.row_rules.specs.Answers.{accepts, is_merged, is_stored, stored_before}
+use Rattle.row_rules.specs.Rows.{accepted_of, write_of}
+use Rattle.row_rules.specs.Queueing.{none_before, is_older, has_few, pairs_few, is_refused}
 use Rattle.bank_shape.specs.declared.BankShape.{BankShape}
 use Rattle.bank_model.specs.History.{queue}
-use Rattle.bank_model.specs.Timing.{Timed, core}
+use Rattle.bank_model.specs.Timing.{TimedEvent, core}
 use Rattle.bank_model.specs.Told.{tick_of_row}
 use Rattle.bank_laws.specs.Pairs.{has_line, LinesApart, ArePaired}
 use Rattle.bank_laws.specs.Outcomes.{outcome_of, ended}
 use Rattle.bank_laws.specs.Settling.{AreOpen}
 use Rattle.bank_laws.proofs.Answering.{IsHead, head-there}
-use Rattle.bank_laws.proofs.Pairs.{and_left}
-use Rattle.bank_laws.proofs.Walking.{and_both}
 use Rattle.bank_laws.proofs.Lines.{Stands, Covered, stands-row, stands-line, covered-stands}
 use Rattle.queue_laws.proofs.Order.{Leads}
 use Rattle.queue_laws.proofs.First.{NoneStored, NoneBelow, First, LeftAt}
@@ -92,7 +91,7 @@ module _ {n : ℕ} where
   not_before_ended tick v (out.Cut at) h = refl
 
 -- what holds of a queue by now, and of its rows in the end
-pub record StandsWell {n m : ℕ} (shape : BankShape) (all now : List (Timed n m)) : Type 0 where
+pub record StandsWell {n m : ℕ} (shape : BankShape) (all now : List (TimedEvent n m)) : Type 0 where
   pub open_now : AreOpen shape now
   pub open_all : AreOpen shape all
   pub paired : ArePaired (queue shape (core now))
@@ -100,21 +99,21 @@ pub record StandsWell {n m : ℕ} (shape : BankShape) (all now : List (Timed n m
   pub first : (row : ℕ) → IsHead (queue shape (core now)) row → First shape now all row
   pub covered : (row line : ℕ) → Covered (queue shape (core now)) row line → Covered (queue shape (core all)) row line ⊎ ((u : ℕ) × (p : ℕ) × (outcome_of shape all row ≡ out.Stored u p))
 
-module _ {n m : ℕ} (shape : BankShape) (all now : List (Timed n m)) (k : StandsWell shape all now) where
+module _ {n m : ℕ} (shape : BankShape) (all now : List (TimedEvent n m)) (k : StandsWell shape all now) where
   pub entry_unset : (w : Written n) → IsEntry shape all now w → outcome_of shape now w.row ≡ out.Unset
   entry_unset w is = k.open_now.queued w.row (stands-row (queue shape (core now)) w.row w.line is.there)
 
   none_stored : (ws : List (Written n)) → Each (λ w. IsEntry shape all now w) ws → NoneStored shape now (outcome_of shape all) → list_all (λ (q : Row n). not (is_stored q.outcome)) (items ws) ≡ true
   none_stored [] each none = refl
   none_stored (w ∷ ws) each none =
-      and_both (not (is_stored w.outcome)) _
+      and_from (not (is_stored w.outcome)) _
       (ap (λ (o : Outcome n). not (is_stored o)) each.0.fate ∙ not_stored_ended w.tick (outcome_of shape all w.row) (λ u p s. none w.row u p (entry_unset w each.0) s))
       (none_stored ws each.1 none)
 
   none_below : (v : ℕ) (ws : List (Written n)) → Each (λ w. IsEntry shape all now w) ws → NoneBelow shape now v (outcome_of shape all) → list_all (λ (q : Row n). not (stored_before v q.outcome)) (items ws) ≡ true
   none_below v [] each none = refl
   none_below v (w ∷ ws) each none =
-      and_both (not (stored_before v w.outcome)) _
+      and_from (not (stored_before v w.outcome)) _
       (ap (λ (o : Outcome n). not (stored_before v o)) each.0.fate ∙ not_before_ended w.tick v (outcome_of shape all w.row) (λ u p s. none w.row u p (entry_unset w each.0) s))
       (none_below v ws each.1 none)
 
@@ -144,8 +143,8 @@ module _ {n m : ℕ} (shape : BankShape) (all now : List (Timed n m)) (k : Stand
   is_elder newer older ws is was each line lt =
       let f : IsHead (queue shape (core now)) older.row × Covered (queue shape (core now)) older.row newer.line × (tick_of_row older.row now < tick_of_row newer.row now) =
       pair_first (λ row. tick_of_row row now) (queue shape (core now)) newer.row older.row newer.line k.paired k.leads is.there (subst (λ l. Stands (queue shape (core now)) older.row l) line was.there) lt in
-      and_both (nat_lt older.tick newer.tick) _ (lt-ltb older.tick newer.tick (omega (arith, f.2, is.came, was.came)))
-      (and_both (not (is_merged older.outcome)) _ (covered_not_merged older newer.line was f.1) (head_before older ws was each f.0))
+      and_from (nat_lt older.tick newer.tick) _ (lt-ltb older.tick newer.tick (omega (arith, f.2, is.came, was.came)))
+      (and_from (not (is_merged older.outcome)) _ (covered_not_merged older newer.line was f.1) (head_before older ws was each f.0))
 
   no_third : (newer older : Written n) (vs : List (Written n)) → IsEntry shape all now newer → IsEntry shape all now older → Each (λ w. IsEntry shape all now w) vs → older.line ≡ newer.line → older.row < newer.row
       → NumbersFall vs older.row → filter (accepted_of newer.line) (items vs) ≡ []
@@ -153,7 +152,7 @@ module _ {n m : ℕ} (shape : BankShape) (all now : List (Timed n m)) (k : Stand
   no_third newer older (v ∷ vs) is was each line lt fall =
       filtered (accepted_of newer.line) (item_of v) (items vs) (λ rows. rows ≡ [])
       (λ hit.
-      let own : v.line ≡ newer.line = eqb-true v.line newer.line (and_left (v.line == newer.line) (accepts v.outcome) hit) in
+      let own : v.line ≡ newer.line = eqb-true v.line newer.line (and_first (v.line == newer.line) (accepts v.outcome) hit) in
       let f = pair_first (λ row. tick_of_row row now) (queue shape (core now)) newer.row older.row newer.line k.paired k.leads is.there (subst (λ l. Stands (queue shape (core now)) older.row l) line was.there) lt in
       absurd (pair_only (queue shape (core now)) newer.row older.row v.row newer.line k.paired f.0 is.there (subst (λ l. Stands (queue shape (core now)) v.row l) own each.0.there) lt fall.0))
       (λ miss. no_third newer older vs is was each.1 line lt (numbers-more vs v.row older.row (omega (arith, fall.0)) fall.1))
@@ -164,7 +163,7 @@ module _ {n m : ℕ} (shape : BankShape) (all now : List (Timed n m)) (k : Stand
   few newer (v ∷ vs) ws is each whole fall =
       filtered (accepted_of newer.line) (item_of v) (items vs) (λ rows. has_few (items ws) (item_of newer) rows ≡ true)
       (λ hit.
-      let own : v.line ≡ newer.line = eqb-true v.line newer.line (and_left (v.line == newer.line) (accepts v.outcome) hit) in
+      let own : v.line ≡ newer.line = eqb-true v.line newer.line (and_first (v.line == newer.line) (accepts v.outcome) hit) in
       subst (λ rows. has_few (items ws) (item_of newer) (item_of v ∷ rows) ≡ true) (sym (no_third newer v vs is each.0 each.1 own fall.0 fall.1)) (is_elder newer v ws is each.0 whole own fall.0))
       (λ miss. few newer vs ws is each.1 whole (numbers-more vs v.row newer.row (omega (arith, fall.0)) fall.1))
 
@@ -172,7 +171,7 @@ module _ {n m : ℕ} (shape : BankShape) (all now : List (Timed n m)) (k : Stand
   pub pairs_are_few : (vs ws : List (Written n)) (bound : ℕ) → Each (λ w. IsEntry shape all now w) vs → Each (λ w. IsEntry shape all now w) ws → NumbersFall vs bound → pairs_few (items ws) (items vs) ≡ true
   pairs_are_few [] ws bound each whole fall = refl
   pairs_are_few (v ∷ vs) ws bound each whole fall =
-      and_both (has_few (items ws) (item_of v) (filter (accepted_of v.line) (items vs))) _ (few v vs ws each.0 each.1 whole fall.1) (pairs_are_few vs ws v.row each.1 whole fall.1)
+      and_from (has_few (items ws) (item_of v) (filter (accepted_of v.line) (items vs))) _ (few v vs ws each.0 each.1 whole fall.1) (pairs_are_few vs ws v.row each.1 whole fall.1)
 
   -- where only the head has a line, and came before a tick
   abbrev pub HeadAlone : ℕ → ℕ → Type 0
@@ -196,5 +195,5 @@ module _ {n m : ℕ} (shape : BankShape) (all now : List (Timed n m)) (k : Stand
       (λ hit.
       let own : IsHead (queue shape (core now)) v.row × (tick_of_row v.row now < tick) = alone v.row (subst (λ l. Stands (queue shape (core now)) v.row l) (eqb-true v.line line hit) each.0.there) in
       subst (λ rows. is_refused tick (items ws) (item_of v ∷ rows) ≡ true) (sym (no_second line tick v vs alone own.0 each.1 fall.1))
-      (and_both (nat_lt v.tick tick) _ (lt-ltb v.tick tick (omega (arith, own.1, each.0.came))) (head_before v ws each.0 whole own.0)))
+      (and_from (nat_lt v.tick tick) _ (lt-ltb v.tick tick (omega (arith, own.1, each.0.came))) (head_before v ws each.0 whole own.0)))
       (λ miss. refusal line tick vs ws v.row alone each.1 whole fall.1)

@@ -6,12 +6,13 @@ use Rattle.result_rows.specs.declared.Outcome.TheVariants as out
 use Rattle.masked_bytes.specs.declared.entry.Entry.{Entry}
 use Rattle.masked_bytes.specs.Entries.{merged, laid_on}
 use Rattle.bank_shape.specs.declared.BankShape.{BankShape}
-use Rattle.bank_model.specs.declared.answer.WriteAnswer.TheVariants as wrote
-use Rattle.bank_model.specs.declared.answer.ReadAnswer.TheVariants as came
-use Rattle.bank_model.specs.declared.answer.Step.TheVariants as did
+use Rattle.bank_shape.specs.declared.answer.WriteAnswer.TheVariants as wrote
+use Rattle.bank_shape.specs.declared.answer.ReadAnswer.TheVariants as came
+use Rattle.bank_shape.specs.declared.answer.Step.TheVariants as did
 use Rattle.bank_model.specs.Events.{Write, Read, Serve, Begin, Iterate, Cut, newest}
 use Rattle.bank_model.specs.History.{begun, queue, waits, due_after}
-use Rattle.bank_model.specs.Timing.{Pacing, Happens, Core, Regs, Timed, core, core_of, last_tick}
+use Rattle.bank_shape.specs.declared.pace.Pace.{Pace}
+use Rattle.bank_model.specs.Timing.{Happens, Core, Regs, TimedEvent, core, core_of, last_tick}
 use Rattle.bank_model.specs.Lawful.{Lawful, MayCome}
 use Rattle.bank_laws.specs.Standing.{has_wait}
 use Rattle.bank_laws.specs.Ticks.{ends_action}
@@ -48,7 +49,7 @@ module _ {n : ℕ} where
   left_at-set o at (inl is) un = let both : ◌≡◌ {A = Outcome n} (out.Merged at) out.Unset = sym is ∙ un in absurd (cc)
   left_at-set o at (inr is) un = let both : ◌≡◌ {A = Outcome n} (out.Stored at is.0) out.Unset = sym is.1 ∙ un in absurd (cc)
 
-module _ {n m : ℕ} (shape : BankShape) (now : List (Timed n m)) where
+module _ {n m : ℕ} (shape : BankShape) (now : List (TimedEvent n m)) where
   -- none of the rows that had no outcome is stored
   abbrev pub NoneStored : (ℕ → Outcome n) → Type 0
   NoneStored o = (row u p : ℕ) → outcome_of shape now row ≡ out.Unset → o row ≡ out.Stored u p → ⊥
@@ -58,19 +59,19 @@ module _ {n m : ℕ} (shape : BankShape) (now : List (Timed n m)) where
   NoneBelow at o = (row u p : ℕ) → outcome_of shape now row ≡ out.Unset → o row ≡ out.Stored u p → at ≤ u
 
   -- the head stands, and none of those rows is stored; or it left, and none was stored before
-  abbrev pub First : List (Timed n m) → ℕ → Type 0
+  abbrev pub First : List (TimedEvent n m) → ℕ → Type 0
   First zs head =
       (IsHead (queue shape (core zs)) head × NoneStored (outcome_of shape zs))
       ⊎ ((at : ℕ) × LeftAt (outcome_of shape zs head) at × (at ≤ last_tick zs) × NoneBelow at (outcome_of shape zs))
 
-  abbrev FirstBy : List (Timed n m) → ℕ → Happens n → ℕ → Type 0
+  abbrev FirstBy : List (TimedEvent n m) → ℕ → Happens n → ℕ → Type 0
   FirstBy zs tick h head =
       (IsHead (queue shape (core_of h (core zs))) head × NoneStored (λ row. unwrap_or (outcome_with shape zs h tick row) (outcome_of shape zs row)))
       ⊎ ((at : ℕ) × LeftAt (unwrap_or (outcome_with shape zs h tick head) (outcome_of shape zs head)) at × (at ≤ tick)
       × NoneBelow at (λ row. unwrap_or (outcome_with shape zs h tick row) (outcome_of shape zs row)))
 
-module _ {n m : ℕ} (shape : BankShape) (pace : Pacing) (e : ℕ) (now : List (Timed n m)) where
-  merge_first : (zs : List (Timed n m)) (x : Timed n m) (at line old head : ℕ) (bytes : List ℕ) (given : List Bool) → IsHead (queue shape (core zs)) head → NoneStored shape now (outcome_of shape zs)
+module _ {n m : ℕ} (shape : BankShape) (pace : Pace) (e : ℕ) (now : List (TimedEvent n m)) where
+  merge_first : (zs : List (TimedEvent n m)) (x : TimedEvent n m) (at line old head : ℕ) (bytes : List ℕ) (given : List Bool) → IsHead (queue shape (core zs)) head → NoneStored shape now (outcome_of shape zs)
       → FirstBy shape now zs x.tick (Core (Write at line bytes given (wrote.Merged old))) head
   merge_first zs x at line old head bytes given h none = by (eqb old head) refl
     where
@@ -81,7 +82,7 @@ module _ {n m : ℕ} (shape : BankShape) (pace : Pacing) (e : ℕ) (now : List (
       by true is = inr (x.tick, inl (ap (λ b. unwrap_or (cond b (Some (out.Merged x.tick)) None) (outcome_of shape zs head)) is), omega arith, λ row u p unset s. absurd (still row u p unset s))
       by false is = inl (head-kept old at bytes given (queue shape (core zs)) head is h, still)
 
-  stored_first : (zs : List (Timed n m)) (tick at place head : ℕ) (es : List (Entry n)) → IsHead es at → IsHead es head → NoneStored shape now (outcome_of shape zs)
+  stored_first : (zs : List (TimedEvent n m)) (tick at place head : ℕ) (es : List (Entry n)) → IsHead es at → IsHead es head → NoneStored shape now (outcome_of shape zs)
       → (v : ℕ) × LeftAt (unwrap_or (on_row at head (out.Stored tick place)) (outcome_of shape zs head)) v × (v ≤ tick) × NoneBelow shape now v (λ row. unwrap_or (on_row at row (out.Stored tick place)) (outcome_of shape zs row))
   stored_first zs tick at place head [] here h none = absurd h
   stored_first zs tick at place head (f ∷ es) here h none = (
@@ -95,7 +96,7 @@ module _ {n m : ℕ} (shape : BankShape) (pace : Pacing) (e : ℕ) (now : List (
       by row u p unset (inl is) = omega (arith, is.1)
       by row u p unset (inr s) = absurd (none row u p unset s)
 
-  head_first : (zs : List (Timed n m)) (x : Timed n m) (h : Happens n) (head : ℕ) → MayCome shape pace e zs x h → IsHead (queue shape (core zs)) head → NoneStored shape now (outcome_of shape zs) → FirstBy shape now zs x.tick h head
+  head_first : (zs : List (TimedEvent n m)) (x : TimedEvent n m) (h : Happens n) (head : ℕ) → MayCome shape pace e zs x h → IsHead (queue shape (core zs)) head → NoneStored shape now (outcome_of shape zs) → FirstBy shape now zs x.tick h head
   head_first zs x (Core (Write at line bytes given wrote.Accepted)) head may h none = inl (head-pushed (queue shape (core zs)) _ head h, none)
   head_first zs x (Core (Write at line bytes given (wrote.Merged old))) head may h none = merge_first zs x at line old head bytes given h none
   head_first zs x (Core (Write at line bytes given wrote.Full)) head may h none = inl (h, λ row u p unset s. none row u p unset (not_stored at row (out.Full x.tick) (outcome_of shape zs row) u p (λ is. absurd (cc)) s))
@@ -119,7 +120,7 @@ module _ {n m : ℕ} (shape : BankShape) (pace : Pacing) (e : ℕ) (now : List (
   head_first zs x (Core (Iterate did.Exhausted)) head may h none = inl (h, none)
   head_first zs x (Core (Cut tearing)) head may h none = inl (h, λ row u p unset s. none row u p unset (lost_not_stored (has_wait (waits shape (core zs)) row) x.tick (outcome_of shape zs row) u p s))
 
-  first_step : (zs : List (Timed n m)) (x : Timed n m) (h : Happens n) (head : ℕ) → Lawful shape pace e zs → MayCome shape pace e zs x h → last_tick zs ≤ x.tick → First shape now zs head → FirstBy shape now zs x.tick h head
+  first_step : (zs : List (TimedEvent n m)) (x : TimedEvent n m) (h : Happens n) (head : ℕ) → Lawful shape pace e zs → MayCome shape pace e zs x h → last_tick zs ≤ x.tick → First shape now zs head → FirstBy shape now zs x.tick h head
   first_step zs x h head l may rises (inl there) = head_first zs x h head may there.0 there.1
   first_step zs x h head l may rises (inr left) = inr (
     left.0,
@@ -133,7 +134,7 @@ module _ {n m : ℕ} (shape : BankShape) (pace : Pacing) (e : ℕ) (now : List (
       by row u p unset (inr s) = left.3 row u p unset s
 
   -- over any later events
-  pub first : (later zs : List (Timed n m)) (head : ℕ) → 1 ≤ pace.read → 1 ≤ pace.iter → Lawful shape pace e (later ++ zs) → First shape now zs head → First shape now (later ++ zs) head
+  pub first : (later zs : List (TimedEvent n m)) (head : ℕ) → 1 ≤ pace.read → 1 ≤ pace.iter → Lawful shape pace e (later ++ zs) → First shape now zs head → First shape now (later ++ zs) head
   first [] zs head r i l f = f
   first (x ∷ later) zs head r i l f = first_step (later ++ zs) x x.happens head l.1 l.0 (last_tick-rises shape pace e (later ++ zs) x r i l) (first later zs head r i l.1 f)
 

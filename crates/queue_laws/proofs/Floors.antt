@@ -1,21 +1,13 @@
 -- What the accepted writes of a line from a row on give, and the row behind the last stored one.
 use Rattle.std.proofs.Common.{◌≡◌, ℕ, ◌<◌, ◌≤◌, ◌==◌, ◌&&◌, ◌⊎◌, inl, inr, Bool, true, false, suc, List, [], ◌∷◌, refl, sym, ap, ◌∙◌, subst, arith, cond, eqb, eqb-true}
 use Rattle.std.specs.Prelude.{nat_le}
-use Rattle.std.proofs.lemmas.Bool.{eq-eqb, le-leb, lt-leb}
+use Rattle.std.proofs.lemmas.Bool.{eq-eqb, le-leb, lt-leb, and_left, and_right}
 use Rattle.result_rows.specs.declared.Outcome.{Outcome}
 use Rattle.result_rows.specs.declared.Outcome.TheVariants as out
 use Rattle.masked_bytes.specs.Masked.{joined, none_given}
-use Rattle.row_laws.specs.Answers.{is_stored}
+use Rattle.row_rules.specs.Answers.{is_stored}
 use Rattle.bank_model.specs.Events.{Event, Write, Read, Serve, Begin, Iterate, Cut, RowsBelow}
 use Rattle.bank_laws.proofs.Ending.{accepting}
-
-pub and_none : (a b : Bool) → b ≡ false → (a && b) ≡ false
-and_none true b h = h
-and_none false b h = refl
-
-pub and_first : (a b : Bool) → a ≡ false → (a && b) ≡ false
-and_first true b h = absurd (cc)
-and_first false b h = refl
 
 since-skip : (b : Bool) (given rest : List Bool) → b ≡ false → cond b (joined given rest) rest ≡ rest
 since-skip true given rest h = absurd (cc)
@@ -37,7 +29,7 @@ since-joins given rest answer at row line floor acc is le = by answer (eqb at li
 
 -- and one of another line adds none
 pub since-other : (given rest : List Bool) (answer : Bool) (at row line floor : ℕ) → (at == line) ≡ false → cond (answer && (at == line && nat_le floor row)) (joined given rest) rest ≡ rest
-since-other given rest answer at row line floor ne = since-skip (answer && (at == line && nat_le floor row)) given rest (and_none answer _ (and_first (at == line) _ ne))
+since-other given rest answer at row line floor ne = since-skip (answer && (at == line && nat_le floor row)) given rest (and_right answer _ (and_left (at == line) _ ne))
 
 module _ {n : ℕ} where
   -- the bytes that the accepted writes of a line give whose rows are this number or more
@@ -86,7 +78,7 @@ module _ {n : ℕ} where
   pub since-none : (h : List (Event n)) (bound line floor : ℕ) → RowsBelow h bound → bound ≤ floor → since h line floor ≡ none_given n
   since-none [] bound line floor r le = refl
   since-none (Write at l bytes given answer ∷ h) bound line floor r le =
-      since-skip (accepting answer && (l == line && nat_le floor at)) given (since h line floor) (and_none (accepting answer) _ (and_none (l == line) _ (lt-leb floor at (omega (arith, r.0, le)))))
+      since-skip (accepting answer && (l == line && nat_le floor at)) given (since h line floor) (and_right (accepting answer) _ (and_right (l == line) _ (lt-leb floor at (omega (arith, r.0, le)))))
       ∙ since-none h at line floor r.1 (omega (arith, r.0, le))
   since-none (Read at l answer ∷ h) bound line floor r le = since-none h at line floor r.1 (omega (arith, r.0, le))
   since-none (Serve answer ∷ h) bound line floor r le = since-none h bound line floor r le
@@ -162,7 +154,7 @@ module _ {n : ℕ} where
   floor-own o (Cut tearing ∷ h) bound row line r a s none = floor-own o h bound row line r a s none
 
   pub floor-new : (o : ℕ → Outcome n) (h : List (Event n)) (row at line : ℕ) → is_stored (o row) ≡ false → cond (at == line && is_stored (o row)) (suc row) (floor_of o h line) ≡ floor_of o h line
-  floor-new o h row at line s = floor-skip (at == line && is_stored (o row)) row (floor_of o h line) (and_none (at == line) _ s)
+  floor-new o h row at line s = floor-skip (at == line && is_stored (o row)) row (floor_of o h line) (and_right (at == line) _ s)
 
   -- Stored or not
 

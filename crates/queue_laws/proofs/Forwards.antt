@@ -1,23 +1,25 @@
 -- When a read is forwarded, by the rows; and all that the rows show of the queue and of the waiting reads.
 use Rattle.std.proofs.Common.{◌≡◌, ℕ, ◌≤◌, ◌==◌, ◌||◌, ◌⊎◌, inl, inr, Bool, true, false, List, [], ◌∷◌, ◌++◌, length, refl, sym, ap, ◌∙◌, subst, arith, cond, eqb}
+use Rattle.std.proofs.lemmas.Bool.{and_from}
 use Rattle.std.specs.List.{list_any}
 use Rattle.result_rows.specs.declared.Outcome.{Outcome}
 use Rattle.result_rows.specs.declared.Outcome.TheVariants as out
 use Rattle.masked_bytes.specs.declared.entry.Entry.{Entry}
 use Rattle.masked_bytes.specs.Masked.{gives_all}
 use Rattle.masked_bytes.specs.Entries.{has_row, layer_of}
-use Rattle.row_laws.specs.declared.Row.{Row}
-use Rattle.row_laws.specs.Answers.{is_forwarded}
-use Rattle.row_laws.specs.Rows.{write_of}
-use Rattle.row_laws.specs.Queueing.{pending, waiting, cover, is_at_head, read_fits}
+use Rattle.row_rules.specs.declared.Row.{Row}
+use Rattle.row_rules.specs.Answers.{is_forwarded}
+use Rattle.row_rules.specs.Rows.{write_of}
+use Rattle.row_rules.specs.Queueing.{pending, waiting, cover, is_at_head, read_fits}
 use Rattle.bank_shape.specs.declared.BankShape.{BankShape}
-use Rattle.bank_model.specs.declared.answer.ReadAnswer.{ReadAnswer}
-use Rattle.bank_model.specs.declared.answer.ReadAnswer.TheVariants as came
+use Rattle.bank_shape.specs.declared.answer.ReadAnswer.{ReadAnswer}
+use Rattle.bank_shape.specs.declared.answer.ReadAnswer.TheVariants as came
 use Rattle.bank_model.specs.Events.{Event, Write, Read, Serve, Begin, Iterate, Cut, RowsBelow, newest}
 use Rattle.bank_model.specs.History.{awaited, queue, waits}
 use Rattle.bank_model.specs.Answers.{read_answer}
 use Rattle.bank_model.specs.Sensing.{most_steps}
-use Rattle.bank_model.specs.Timing.{Pacing, Happens, Core, Regs, Timed, core, core_of, last_tick}
+use Rattle.bank_shape.specs.declared.pace.Pace.{Pace}
+use Rattle.bank_model.specs.Timing.{Happens, Core, Regs, TimedEvent, core, core_of, last_tick}
 use Rattle.bank_model.specs.Lawful.{Lawful, MayCome}
 use Rattle.bank_laws.specs.Outcomes.{outcome_of, row_with, rows_from}
 use Rattle.bank_laws.specs.RowLaws.{waits_fit}
@@ -26,7 +28,7 @@ use Rattle.bank_laws.proofs.Ticks.{last_tick-rises}
 use Rattle.bank_laws.proofs.Settling.{lawful_before, rows_below-more}
 use Rattle.bank_laws.proofs.Pairs.{AllLong, keeps_pairs}
 use Rattle.bank_laws.proofs.Fates.{IsSettled, awaits-new}
-use Rattle.bank_laws.proofs.Walking.{Passes, walk, rows_after, and_both}
+use Rattle.bank_laws.proofs.Walking.{Passes, walk, rows_after}
 use Rattle.bank_laws.proofs.Ending.{Onwards, own_answer}
 use Rattle.bank_laws.proofs.Serves.{may_at, onwards_at, idle-waits}
 use Rattle.bank_laws.proofs.Lines.{Stands, stands-row}
@@ -99,7 +101,7 @@ module _ {n : ℕ} where
   settled-not_forwarded owed (out.Lost at) s = refl
   settled-not_forwarded owed (out.Cut at) s = absurd s
 
-one_down : {n m : ℕ} (x : Timed n m) (ys : List (Timed n m)) (bound : ℕ) → RowsBelow (core (x ∷ ys)) bound → RowsBelow (core ys) bound
+one_down : {n m : ℕ} (x : TimedEvent n m) (ys : List (TimedEvent n m)) (bound : ℕ) → RowsBelow (core (x ∷ ys)) bound → RowsBelow (core ys) bound
 one_down {n} x ys bound b = by x.happens b
   where
     by : (h : Happens n) → RowsBelow (core_of h (core ys)) bound → RowsBelow (core ys) bound
@@ -111,10 +113,10 @@ one_down {n} x ys bound b = by x.happens b
     by (Core (Iterate answer)) b = b
     by (Core (Cut tearing)) b = b
 
-module _ {n m : ℕ} (shape : BankShape) (pace : Pacing) (e : ℕ) (all later : List (Timed n m)) (x : Timed n m) (ys : List (Timed n m)) (r : 1 ≤ pace.read) (i : 1 ≤ pace.iter) (l : Lawful shape pace e all) (same : all ≡ later ++ x ∷ ys)
+module _ {n m : ℕ} (shape : BankShape) (pace : Pace) (e : ℕ) (all later : List (TimedEvent n m)) (x : TimedEvent n m) (ys : List (TimedEvent n m)) (r : 1 ≤ pace.read) (i : 1 ≤ pace.iter) (l : Lawful shape pace e all) (same : all ≡ later ++ x ∷ ys)
     (arrives : ends_action x.happens ≡ false) where
   over : Lawful shape pace e (later ++ x ∷ ys)
-  over = subst (λ (xs : List (Timed n m)). Lawful shape pace e xs) same l
+  over = subst (λ (xs : List (TimedEvent n m)). Lawful shape pace e xs) same l
 
   there : Lawful shape pace e (x ∷ ys)
   there = lawful_before shape pace e later (x ∷ ys) over
@@ -152,12 +154,12 @@ module _ {n m : ℕ} (shape : BankShape) (pace : Pacing) (e : ℕ) (all later : 
       → is_at_head x.tick line (pending x.tick [] (rows_from shape all ys)) (rows_from shape all ys) (rows_after shape all later) ≡ true
   at_head line asks head =
       subst (λ (rows : List (Row n)). is_at_head x.tick line rows (rows_from shape all ys) (rows_after shape all later) ≡ true) (sym (pending_is shape pace e all (later ++ x ∷ []) ys x.tick r i l split up ends))
-      (and_both (list_any (write_of line) (items (standing (λ row. has_row (queue shape (core ys)) row) (written shape all ys)))) _
+      (and_from (list_any (write_of line) (items (standing (λ row. has_row (queue shape (core ys)) row) (written shape all ys)))) _
       (any_entry shape all (λ row. has_row (queue shape (core ys)) row) entry.0 line ys (stands-row (queue shape (core ys)) entry.0 line entry.1) ((is_covered shape pace e ys r i there.1).asked entry.0 line entry.1))
       (line_is_first shape all ys (stands_well shape pace e all (later ++ x ∷ []) ys r i l split) line x.tick (rows_from shape all ys ++ rows_after shape all later)
       (standing (λ row. has_row (queue shape (core ys)) row) (written shape all ys)) (stood_each shape pace e all (later ++ x ∷ []) ys x.tick r i l split up ends)
-      (subst (λ (xs : List (Timed n m)). LineFirst shape ys x.tick line xs) (sym split)
-      (line_first shape pace e ys x.tick line (later ++ x ∷ []) ys r i (subst (λ (xs : List (Timed n m)). Lawful shape pace e xs) split l) ends
+      (subst (λ (xs : List (TimedEvent n m)). LineFirst shape ys x.tick line xs) (sym split)
+      (line_first shape pace e ys x.tick line (later ++ x ∷ []) ys r i (subst (λ (xs : List (TimedEvent n m)). Lawful shape pace e xs) split l) ends
       (inl (head, λ row u p unset s. let both : ◌≡◌ {A = Outcome n} (out.Stored u p) out.Unset = sym s ∙ unset in absurd (cc)))))
       has))
     where
@@ -165,7 +167,7 @@ module _ {n m : ℕ} (shape : BankShape) (pace : Pacing) (e : ℕ) (all later : 
       entry = head-stands (queue shape (core ys)) line head
 
       has : (s : IsStoredFirst shape ys x.tick line all) → HasStore line s.at (rows_from shape all ys ++ rows_after shape all later)
-      has s = by (store-after shape all s.row line s.at s.place s.stored later (x ∷ ys) (subst (λ (xs : List (Timed n m)). Asked (core xs) s.row line) same s.asked))
+      has s = by (store-after shape all s.row line s.at s.place s.stored later (x ∷ ys) (subst (λ (xs : List (TimedEvent n m)). Asked (core xs) s.row line) same s.asked))
         where
           by : HasStore line s.at (rows_after shape all later) ⊎ Asked (core (x ∷ ys)) s.row line → HasStore line s.at (rows_from shape all ys ++ rows_after shape all later)
           by (inl k) = store-right line s.at (rows_from shape all ys) (rows_after shape all later) k
@@ -184,18 +186,18 @@ module _ {n m : ℕ} (shape : BankShape) (pace : Pacing) (e : ℕ) (all later : 
       by true is = absurd (cc (g, covers line is))
       by false is = refl
 
-module _ {n m : ℕ} (shape : BankShape) (pace : Pacing) (e : ℕ) (all : List (Timed n m)) where
+module _ {n m : ℕ} (shape : BankShape) (pace : Pace) (e : ℕ) (all : List (TimedEvent n m)) where
   -- what a read finds, by what the queue gives
-  record Finds (later : List (Timed n m)) (x : Timed n m) (ys : List (Timed n m)) (h : Happens n) : Type 0 where
+  record Finds (later : List (TimedEvent n m)) (x : TimedEvent n m) (ys : List (TimedEvent n m)) (h : Happens n) : Type 0 where
     forwards : (line : ℕ) → ((row : ℕ) → Asked (core_of h (core ys)) row line → Asked (core ys) row line) → gives_all ((layer_of (queue shape (core ys)) line).given) ≡ true
         → gives_all (cover x.tick line (rows_from shape all ys) (rows_after shape all later)) ≡ false
         → is_at_head x.tick line (pending x.tick [] (rows_from shape all ys)) (rows_from shape all ys) (rows_after shape all later) ≡ true
     not_covered : (line : ℕ) → gives_all ((layer_of (queue shape (core ys)) line).given) ≡ false → gives_all (cover x.tick line (rows_from shape all ys) (rows_after shape all later)) ≡ false
     count : length (waiting x.tick [] (rows_from shape all ys)) ≡ length (waits shape (core ys))
 
-  finds : (later : List (Timed n m)) (x : Timed n m) (ys : List (Timed n m)) → 1 ≤ pace.read → 1 ≤ pace.iter → Lawful shape pace e all → waits shape (core all) ≡ [] → all ≡ later ++ x ∷ ys → ends_action x.happens ≡ false → Finds later x ys x.happens
+  finds : (later : List (TimedEvent n m)) (x : TimedEvent n m) (ys : List (TimedEvent n m)) → 1 ≤ pace.read → 1 ≤ pace.iter → Lawful shape pace e all → waits shape (core all) ≡ [] → all ≡ later ++ x ∷ ys → ends_action x.happens ≡ false → Finds later x ys x.happens
   finds later x ys r i l none same arrives =
-      let whole : Lawful shape pace e (later ++ x ∷ ys) = subst (λ (xs : List (Timed n m)). Lawful shape pace e xs) same l in
+      let whole : Lawful shape pace e (later ++ x ∷ ys) = subst (λ (xs : List (TimedEvent n m)). Lawful shape pace e xs) same l in
       record {
         forwards = λ line asks g c. forwards shape pace e all later x ys r i l same arrives line asks g c;
         not_covered = λ line g. not_covered shape pace e all later x ys r i l same arrives line g;
@@ -203,7 +205,7 @@ module _ {n m : ℕ} (shape : BankShape) (pace : Pacing) (e : ℕ) (all : List (
             (last_tick-rises shape pace e ys x r i (lawful_before shape pace e later (x ∷ ys) whole)) (ends_at_row shape pace e later ys x r i whole arrives) none;
       }
 
-  forward_pass : (later : List (Timed n m)) (x : Timed n m) (ys : List (Timed n m)) → 1 ≤ pace.read → 1 ≤ pace.iter → Lawful shape pace e all → waits shape (core all) ≡ [] → all ≡ later ++ x ∷ ys
+  forward_pass : (later : List (TimedEvent n m)) (x : TimedEvent n m) (ys : List (TimedEvent n m)) → 1 ≤ pace.read → 1 ≤ pace.iter → Lawful shape pace e all → waits shape (core all) ≡ [] → all ≡ later ++ x ∷ ys
       → Passes (is_forward_fair shape.reads) (rows_from shape all ys) (row_with shape all x.happens x.tick x.cancels) (rows_after shape all later)
   forward_pass later x ys r i l none same =
       by x.happens x.cancels (may_at shape pace e all later x ys l same) (onwards_at shape pace e all later x ys l same) (λ arrives. finds later x ys r i l none same arrives)

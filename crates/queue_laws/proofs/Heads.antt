@@ -2,21 +2,22 @@
 use Rattle.std.proofs.Common.{◌≡◌, ℕ, ◌<◌, ◌≤◌, ◌==◌, ◌&&◌, ◌||◌, ◌⊎◌, inl, inr, not, Bool, true, false, List, [], ◌∷◌, ◌++◌, Option, Some, None, min, refl, sym, ap, ◌∙◌, subst, arith, cond, eqb}
 use Rattle.std.specs.Prelude.{unwrap_or, nat_lt}
 use Rattle.std.specs.List.{list_any}
-use Rattle.std.proofs.lemmas.Bool.{eq-eqb, lt-ltb}
+use Rattle.std.proofs.lemmas.Bool.{eq-eqb, lt-ltb, and_from, or_left, or_right}
 use Rattle.result_rows.specs.declared.Outcome.{Outcome}
 use Rattle.result_rows.specs.declared.Outcome.TheVariants as out
 use Rattle.masked_bytes.specs.declared.entry.Entry.{Entry}
 use Rattle.masked_bytes.specs.Entries.{merged, laid_on}
-use Rattle.row_laws.specs.declared.Row.{Row}
-use Rattle.row_laws.specs.Answers.{is_stored, stored_before}
-use Rattle.row_laws.specs.Rows.{write_of}
-use Rattle.row_laws.specs.Queueing.{least, store_of, next_store, is_first}
+use Rattle.row_rules.specs.declared.Row.{Row}
+use Rattle.row_rules.specs.Answers.{is_stored, stored_before}
+use Rattle.row_rules.specs.Rows.{write_of}
+use Rattle.row_rules.specs.Queueing.{least, store_of, next_store, is_first}
 use Rattle.bank_shape.specs.declared.BankShape.{BankShape}
-use Rattle.bank_model.specs.declared.answer.WriteAnswer.TheVariants as wrote
-use Rattle.bank_model.specs.declared.answer.Step.TheVariants as did
+use Rattle.bank_shape.specs.declared.answer.WriteAnswer.TheVariants as wrote
+use Rattle.bank_shape.specs.declared.answer.Step.TheVariants as did
 use Rattle.bank_model.specs.Events.{Write, Read, Serve, Begin, Iterate, Cut, newest}
 use Rattle.bank_model.specs.History.{begun, queue, due_after}
-use Rattle.bank_model.specs.Timing.{Pacing, Happens, Core, Regs, Timed, core, core_of, last_tick}
+use Rattle.bank_shape.specs.declared.pace.Pace.{Pace}
+use Rattle.bank_model.specs.Timing.{Happens, Core, Regs, TimedEvent, core, core_of, last_tick}
 use Rattle.bank_model.specs.Lawful.{Lawful, MayCome}
 use Rattle.bank_laws.specs.Outcomes.{on_row, outcome_with, outcome_of, ended, row_with, rows_from}
 use Rattle.bank_laws.specs.Ticks.{ends_action}
@@ -24,10 +25,9 @@ use Rattle.bank_laws.proofs.Ticks.{last_tick-rises}
 use Rattle.bank_laws.proofs.Answering.{IsHead, stored-head}
 use Rattle.bank_laws.proofs.Settling.{opens, step_stays}
 use Rattle.bank_laws.proofs.Pairs.{eqb-same}
-use Rattle.bank_laws.proofs.Walking.{rows_after, and_both}
+use Rattle.bank_laws.proofs.Walking.{rows_after}
 use Rattle.bank_laws.proofs.Wears.{stored_by, stored_tick}
 use Rattle.bank_laws.proofs.Lines.{Stands}
-use Rattle.bank_laws.proofs.Pending.{or_on_left, or_on_right}
 use Rattle.queue_laws.proofs.First.{NoneStored, NoneBelow}
 use Rattle.queue_laws.proofs.Written.{Written, items, standing, Each, written_by, written, IsEntry}
 use Rattle.queue_laws.proofs.Stood.{EndsAbove}
@@ -83,7 +83,7 @@ module _ {n : ℕ} where
   store-right line u (x ∷ xs) ys s = inr (store-right line u xs ys s)
 
   store_of-own : (t line u p : ℕ) (q : Row n) (found : Option ℕ) → write_of line q ≡ true → t < u → NextBy u (store_of t line q (out.Stored u p) found)
-  store_of-own t line u p q found own lt = subst (λ b. NextBy u (cond b (least found u) found)) (sym (and_both (write_of line q) (nat_lt t u) own (lt-ltb t u lt))) (least-own found u)
+  store_of-own t line u p q found own lt = subst (λ b. NextBy u (cond b (least found u) found)) (sym (and_from (write_of line q) (nat_lt t u) own (lt-ltb t u lt))) (least-own found u)
 
   store_of-more : (t line u : ℕ) (q : Row n) (o : Outcome n) (found : Option ℕ) → NextBy u found → NextBy u (store_of t line q o found)
   store_of-more t line u q out.Unset found f = f
@@ -107,12 +107,12 @@ module _ {n : ℕ} where
   next_found t line u (q ∷ rows) (inl s) lt = subst (λ (o : Outcome n). NextBy u (store_of t line q o (next_store t line rows))) (sym s.2) (store_of-own t line u s.1 q (next_store t line rows) s.0 lt)
   next_found t line u (q ∷ rows) (inr s) lt = store_of-more t line u q q.outcome (next_store t line rows) (next_found t line u rows s lt)
 
-module _ {n m : ℕ} (shape : BankShape) (all : List (Timed n m)) (row line u p : ℕ) (stored : outcome_of shape all row ≡ out.Stored u p) where
+module _ {n m : ℕ} (shape : BankShape) (all : List (TimedEvent n m)) (row line u p : ℕ) (stored : outcome_of shape all row ≡ out.Stored u p) where
   -- the row of a stored write is among the rows
   store-own : (tick at k : ℕ) → at ≡ row → k ≡ line → ((k == line) ≡ true) × (q : ℕ) × (ended tick (outcome_of shape all at) ≡ out.Stored u q)
   store-own tick at k a b = (eq-eqb k line b, p, ap (λ r. ended tick (outcome_of shape all r)) a ∙ ap (ended tick) stored)
 
-  pub store-from : (ys : List (Timed n m)) → Asked (core ys) row line → HasStore line u (rows_from shape all ys)
+  pub store-from : (ys : List (TimedEvent n m)) → Asked (core ys) row line → HasStore line u (rows_from shape all ys)
   store-from [] a = absurd a
   store-from (y ∷ ys) a = by y.happens y.cancels (λ k. store-from ys k) a
     where
@@ -127,7 +127,7 @@ module _ {n m : ℕ} (shape : BankShape) (all : List (Timed n m)) (row line u p 
       by (Core (Cut tearing)) true go a = go a
       by (Core (Cut tearing)) false go a = inr (go a)
 
-  pub store-after : (mid zs : List (Timed n m)) → Asked (core (mid ++ zs)) row line → HasStore line u (rows_after shape all mid) ⊎ Asked (core zs) row line
+  pub store-after : (mid zs : List (TimedEvent n m)) → Asked (core (mid ++ zs)) row line → HasStore line u (rows_after shape all mid) ⊎ Asked (core zs) row line
   store-after [] zs a = inr a
   store-after (x ∷ mid) zs a = by x.happens x.cancels (λ k. store-after mid zs k) a
     where
@@ -147,9 +147,9 @@ module _ {n m : ℕ} (shape : BankShape) (all : List (Timed n m)) (row line u p 
       by (Core (Iterate answer)) cancels go a = more (Core (Iterate answer)) cancels (go a)
       by (Core (Cut tearing)) cancels go a = more (Core (Cut tearing)) cancels (go a)
 
-module _ {n m : ℕ} (shape : BankShape) (now : List (Timed n m)) (t line : ℕ) where
+module _ {n m : ℕ} (shape : BankShape) (now : List (TimedEvent n m)) (t line : ℕ) where
   -- a write of the line is stored above a tick, and no other row before it
-  pub record IsStoredFirst (zs : List (Timed n m)) : Type 0 where
+  pub record IsStoredFirst (zs : List (TimedEvent n m)) : Type 0 where
     pub row : ℕ
     pub at : ℕ
     pub place : ℕ
@@ -160,10 +160,10 @@ module _ {n m : ℕ} (shape : BankShape) (now : List (Timed n m)) (t line : ℕ)
     pub none : NoneBelow shape now at (outcome_of shape zs)
 
   -- the line has the head and none of the rows that stood is stored, or a write of it is stored first
-  abbrev pub LineFirst : List (Timed n m) → Type 0
+  abbrev pub LineFirst : List (TimedEvent n m) → Type 0
   LineFirst zs = (HasHead line (queue shape (core zs)) × NoneStored shape now (outcome_of shape zs)) ⊎ IsStoredFirst zs
 
-  record IsStoredFirstBy (zs : List (Timed n m)) (tick : ℕ) (h : Happens n) : Type 0 where
+  record IsStoredFirstBy (zs : List (TimedEvent n m)) (tick : ℕ) (h : Happens n) : Type 0 where
     row : ℕ
     at : ℕ
     place : ℕ
@@ -173,12 +173,12 @@ module _ {n m : ℕ} (shape : BankShape) (now : List (Timed n m)) (t line : ℕ)
     by_now : at ≤ tick
     none : NoneBelow shape now at (λ row. unwrap_or (outcome_with shape zs h tick row) (outcome_of shape zs row))
 
-  abbrev LineFirstBy : List (Timed n m) → ℕ → Happens n → Type 0
+  abbrev LineFirstBy : List (TimedEvent n m) → ℕ → Happens n → Type 0
   LineFirstBy zs tick h =
       (HasHead line (queue shape (core_of h (core zs))) × NoneStored shape now (λ row. unwrap_or (outcome_with shape zs h tick row) (outcome_of shape zs row))) ⊎ IsStoredFirstBy zs tick h
 
-module _ {n m : ℕ} (shape : BankShape) (pace : Pacing) (e : ℕ) (now : List (Timed n m)) (t line : ℕ) where
-  asked_more : (zs : List (Timed n m)) (h : Happens n) (row : ℕ) → Asked (core zs) row line → Asked (core_of h (core zs)) row line
+module _ {n m : ℕ} (shape : BankShape) (pace : Pace) (e : ℕ) (now : List (TimedEvent n m)) (t line : ℕ) where
+  asked_more : (zs : List (TimedEvent n m)) (h : Happens n) (row : ℕ) → Asked (core zs) row line → Asked (core_of h (core zs)) row line
   asked_more zs (Core (Write at k bytes given answer)) row a = inr a
   asked_more zs (Core (Read at k answer)) row a = a
   asked_more zs (Core (Serve answer)) row a = a
@@ -187,7 +187,7 @@ module _ {n m : ℕ} (shape : BankShape) (pace : Pacing) (e : ℕ) (now : List (
   asked_more zs (Core (Iterate answer)) row a = a
   asked_more zs (Core (Cut tearing)) row a = a
 
-  module _ (zs : List (Timed n m)) (x : Timed n m) (r : 1 ≤ pace.read) (i : 1 ≤ pace.iter) (l : Lawful shape pace e zs) where
+  module _ (zs : List (TimedEvent n m)) (x : TimedEvent n m) (r : 1 ≤ pace.read) (i : 1 ≤ pace.iter) (l : Lawful shape pace e zs) where
     on : (h : Happens n) → Storeless h → NoneStored shape now (outcome_of shape zs) → HasHead line (queue shape (core_of h (core zs))) → LineFirstBy shape now t line zs x.tick h
     on h less none head = inl (head, λ row u p unset s. none row u p unset (none_new shape pace e zs x h row u p less s))
 
@@ -263,7 +263,7 @@ module _ {n m : ℕ} (shape : BankShape) (pace : Pacing) (e : ℕ) (now : List (
         by row u p unset (inr k) = s.none row u p unset k
 
   -- over any later events
-  pub line_first : (later zs : List (Timed n m)) → 1 ≤ pace.read → 1 ≤ pace.iter → Lawful shape pace e (later ++ zs) → EndsAbove t later → LineFirst shape now t line zs → LineFirst shape now t line (later ++ zs)
+  pub line_first : (later zs : List (TimedEvent n m)) → 1 ≤ pace.read → 1 ≤ pace.iter → Lawful shape pace e (later ++ zs) → EndsAbove t later → LineFirst shape now t line zs → LineFirst shape now t line (later ++ zs)
   line_first [] zs r i l ends f = f
   line_first (x ∷ later) zs r i l ends f =
       by (line_step (later ++ zs) x r i l.1 x.happens l.0 ends.0 (last_tick-rises shape pace e (later ++ zs) x r i l) (line_first later zs r i l.1 ends.1 f))
@@ -272,26 +272,26 @@ module _ {n m : ℕ} (shape : BankShape) (pace : Pacing) (e : ℕ) (now : List (
       by (inl there) = inl there
       by (inr s) = inr (record { row = s.row; at = s.at; place = s.place; asked = s.asked; stored = s.stored; after = s.after; by_now = s.by_now; none = s.none })
 
-module _ {n m : ℕ} (shape : BankShape) (all now : List (Timed n m)) (k : StandsWell shape all now) (line : ℕ) where
+module _ {n m : ℕ} (shape : BankShape) (all now : List (TimedEvent n m)) (k : StandsWell shape all now) (line : ℕ) where
   -- where none is stored before a line's next store, or at all, the line is first
   line_before : (found : Option ℕ) (ws : List (Written n)) → Each (λ w. IsEntry shape all now w) ws → NoneStored shape now (outcome_of shape all) → is_first line found (items ws) ≡ true
   line_before None [] each none = refl
   line_before (Some v) [] each none = refl
   line_before None (w ∷ ws) each none =
-      and_both (w.line == line || not (is_stored w.outcome)) _
-      (or_on_right (w.line == line) _ (ap (λ (o : Outcome n). not (is_stored o)) each.0.fate ∙ not_stored_ended w.tick (outcome_of shape all w.row) (λ u p s. none w.row u p (entry_unset shape all now k w each.0) s)))
+      and_from (w.line == line || not (is_stored w.outcome)) _
+      (or_right (w.line == line) _ (ap (λ (o : Outcome n). not (is_stored o)) each.0.fate ∙ not_stored_ended w.tick (outcome_of shape all w.row) (λ u p s. none w.row u p (entry_unset shape all now k w each.0) s)))
       (line_before None ws each.1 none)
   line_before (Some v) (w ∷ ws) each none =
-      and_both (w.line == line || not (stored_before v w.outcome)) _
-      (or_on_right (w.line == line) _
+      and_from (w.line == line || not (stored_before v w.outcome)) _
+      (or_right (w.line == line) _
       (ap (λ (o : Outcome n). not (stored_before v o)) each.0.fate ∙ not_before_ended w.tick v (outcome_of shape all w.row) (λ u p s. absurd (none w.row u p (entry_unset shape all now k w each.0) s))))
       (line_before (Some v) ws each.1 none)
 
   line_until : (v at : ℕ) (ws : List (Written n)) → Each (λ w. IsEntry shape all now w) ws → v ≤ at → NoneBelow shape now at (outcome_of shape all) → is_first line (Some v) (items ws) ≡ true
   line_until v at [] each le none = refl
   line_until v at (w ∷ ws) each le none =
-      and_both (w.line == line || not (stored_before v w.outcome)) _
-      (or_on_right (w.line == line) _
+      and_from (w.line == line || not (stored_before v w.outcome)) _
+      (or_right (w.line == line) _
       (ap (λ (o : Outcome n). not (stored_before v o)) each.0.fate
       ∙ not_before_ended w.tick v (outcome_of shape all w.row) (λ u p s. let above : at ≤ u = none w.row u p (entry_unset shape all now k w each.0) s in omega (arith, le, above))))
       (line_until v at ws each.1 le none)
@@ -304,16 +304,16 @@ module _ {n m : ℕ} (shape : BankShape) (all now : List (Timed n m)) (k : Stand
       ap (λ found. is_first line found (items ws)) f.1 ∙ line_until f.0 s.at ws each f.2 s.none
 
 -- an entry of the queue is among the writes that stand
-pub any_entry : {n m : ℕ} (shape : BankShape) (all : List (Timed n m)) (p : ℕ → Bool) (row line : ℕ) (ys : List (Timed n m)) → p row ≡ true → Asked (core ys) row line → list_any (write_of line) (items (standing p (written shape all ys))) ≡ true
+pub any_entry : {n m : ℕ} (shape : BankShape) (all : List (TimedEvent n m)) (p : ℕ → Bool) (row line : ℕ) (ys : List (TimedEvent n m)) → p row ≡ true → Asked (core ys) row line → list_any (write_of line) (items (standing p (written shape all ys))) ≡ true
 any_entry shape all p row line [] hit a = absurd a
 any_entry {n} {m} shape all p row line (y ∷ ys) hit a = by y.happens (λ k. any_entry shape all p row line ys hit k) a
   where
     more : (b : Bool) (w : Written n) (ws : List (Written n)) → list_any (write_of line) (items ws) ≡ true → list_any (write_of line) (items (cond b (w ∷ ws) ws)) ≡ true
-    more true w ws h = or_on_right (w.line == line) _ h
+    more true w ws h = or_right (w.line == line) _ h
     more false w ws h = h
 
     own : (b : Bool) (w : Written n) (ws : List (Written n)) → b ≡ true → (w.line == line) ≡ true → list_any (write_of line) (items (cond b (w ∷ ws) ws)) ≡ true
-    own true w ws h is = or_on_left (w.line == line) _ is
+    own true w ws h is = or_left (w.line == line) _ is
     own false w ws h is = absurd (cc)
 
     by : (h : Happens n) → (Asked (core ys) row line → list_any (write_of line) (items (standing p (written shape all ys))) ≡ true) → Asked (core_of h (core ys)) row line

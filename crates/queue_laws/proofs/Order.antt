@@ -1,17 +1,20 @@
 -- Entries of one line stand in the order of their rows and of their ticks, and a busy head came before the last tick.
 use Rattle.std.proofs.Common.{◌≡◌, ℕ, ◌<◌, ◌≤◌, ◌==◌, ◌&&◌, ◌||◌, ◌⊎◌, inl, inr, not, Bool, true, false, List, [], ◌∷◌, ◌++◌, Option, Some, None, drop, refl, sym, ap, ◌∙◌, subst, arith, cond, eqb, eqb-true}
+use Rattle.std.proofs.lemmas.Bool.{or_left, or_right}
+use Rattle.masked_bytes.proofs.Truth.{and_first, and_second}
 use Rattle.masked_bytes.specs.declared.entry.Entry.{Entry}
 use Rattle.masked_bytes.specs.Entries.{has_row, RowsApart, merged, laid_on, newest_row, candidate, or_this}
 use Rattle.bank_shape.specs.declared.BankShape.{BankShape}
 use Rattle.bank_shape.specs.declared.Work.TheVariants.{Nothing}
-use Rattle.bank_model.specs.declared.answer.WriteAnswer.{WriteAnswer}
-use Rattle.bank_model.specs.declared.answer.WriteAnswer.TheVariants as wrote
-use Rattle.bank_model.specs.declared.answer.Step.TheVariants as did
+use Rattle.bank_shape.specs.declared.answer.WriteAnswer.{WriteAnswer}
+use Rattle.bank_shape.specs.declared.answer.WriteAnswer.TheVariants as wrote
+use Rattle.bank_shape.specs.declared.answer.Step.TheVariants as did
 use Rattle.bank_model.specs.Events.{Event, Write, Read, Serve, Begin, Iterate, Cut, newest}
 use Rattle.bank_model.specs.History.{begun, queue, due_after, has_exhausted, in_progress}
 use Rattle.bank_model.specs.After.{is_store, due_work}
 use Rattle.bank_model.specs.Answers.{head_busy_after}
-use Rattle.bank_model.specs.Timing.{Pacing, Happens, Core, Regs, KeepBegin, KeepIterate, KeepCut, Timed, core, core_of, last_tick}
+use Rattle.bank_shape.specs.declared.pace.Pace.{Pace}
+use Rattle.bank_model.specs.Timing.{Happens, Core, Regs, KeepBegin, KeepIterate, KeepCut, TimedEvent, core, core_of, last_tick}
 use Rattle.bank_model.specs.Told.{tick_by, tick_of_row}
 use Rattle.bank_model.specs.Sensing.{most_steps}
 use Rattle.bank_model.specs.Lawful.{Lawful, MayCome}
@@ -21,11 +24,11 @@ use Rattle.bank_laws.proofs.Entries.{either, differ_back}
 use Rattle.bank_laws.proofs.Standing.{stand_apart}
 use Rattle.bank_laws.proofs.Ticks.{last_tick-rises, last-below}
 use Rattle.bank_laws.proofs.Answering.{newest_row-there, merged-there}
-use Rattle.bank_laws.proofs.Pairs.{HeadFull, HasWork, KeepsPairs, keeps_pairs, busy-full, no_candidate-head, accepted-none, and_left, and_right, eqb-same}
+use Rattle.bank_laws.proofs.Pairs.{HeadFull, HasWork, KeepsPairs, keeps_pairs, busy-full, no_candidate-head, accepted-none, eqb-same}
 use Rattle.bank_laws.proofs.Lines.{Stands, stands-row, stands-line, newest-line, merged-candidate}
 use Rattle.bank_laws.proofs.Counting.{among, Falling}
 use Rattle.bank_laws.proofs.Waiting.{may_all}
-use Rattle.bank_laws.proofs.Pending.{write_rows, writes_in, writes-fall, queue-asked, or_on_left, or_on_right}
+use Rattle.bank_laws.proofs.Pending.{write_rows, writes_in, writes-fall, queue-asked}
 
 or_rest : (a b : Bool) → a ≡ false → (a || b) ≡ true → b ≡ true
 or_rest true b h k = absurd (cc)
@@ -39,9 +42,9 @@ below_among (x ∷ xs) bound row f there =
 
 among_after : (xs ys : List ℕ) (row : ℕ) → among ys row ≡ true → among (xs ++ ys) row ≡ true
 among_after [] ys row h = h
-among_after (x ∷ xs) ys row h = or_on_right (x == row) _ (among_after xs ys row h)
+among_after (x ∷ xs) ys row h = or_right (x == row) _ (among_after xs ys row h)
 
-pub among_later : {n m : ℕ} (later zs : List (Timed n m)) (row : ℕ) → among (writes_in zs) row ≡ true → among (writes_in (later ++ zs)) row ≡ true
+pub among_later : {n m : ℕ} (later zs : List (TimedEvent n m)) (row : ℕ) → among (writes_in zs) row ≡ true → among (writes_in (later ++ zs)) row ≡ true
 among_later [] zs row h = h
 among_later (x ∷ later) zs row h = among_after (write_rows x.happens) (writes_in (later ++ zs)) row (among_later later zs row h)
 
@@ -61,8 +64,8 @@ module _ {n : ℕ} where
   leads-same f g (e ∷ es) same l =
       λ row s.
       let k = l row s in
-      let own : f e.row ≡ g e.row = same e.row (or_on_left (e.row == e.row) _ (eqb-same e.row)) in
-      let other : f row ≡ g row = same row (or_on_right (e.row == row) _ (stands-row es row e.line s)) in
+      let own : f e.row ≡ g e.row = same e.row (or_left (e.row == e.row) _ (eqb-same e.row)) in
+      let other : f row ≡ g row = same row (or_right (e.row == row) _ (stands-row es row e.line s)) in
       (k.0, omega (arith, k.1, own, other))
 
   pub stands-pushed : (es : List (Entry n)) (x : Entry n) (row line : ℕ) → Stands (es ++ x ∷ []) row line → Stands es row line ⊎ ((x.row ≡ row) × (x.line ≡ line))
@@ -171,7 +174,7 @@ module _ {n : ℕ} where
   head-more : (f g : ℕ → ℕ) (a b : ℕ) (es : List (Entry n)) → a ≤ b → ((row : ℕ) → has_row es row ≡ true → f row ≡ g row) → HeadBefore g a es → HeadBefore f b es
   head-more f g a b [] le same h = tt
   head-more f g a b (e ∷ es) le same h =
-      let own : f e.row ≡ g e.row = same e.row (or_on_left (e.row == e.row) _ (eqb-same e.row)) in omega (arith, own, le, h)
+      let own : f e.row ≡ g e.row = same e.row (or_left (e.row == e.row) _ (eqb-same e.row)) in omega (arith, own, le, h)
 
   head-push : (f : ℕ → ℕ) (bound : ℕ) (es : List (Entry n)) (x : Entry n) → HeadFull es → HeadBefore f bound es → HeadBefore f bound (es ++ x ∷ [])
   head-push f bound [] x full h = absurd full
@@ -203,9 +206,9 @@ pick_tick : (b : Bool) (tick old : ℕ) → old ≤ tick → cond b tick old ≤
 pick_tick true tick old le = omega arith
 pick_tick false tick old le = le
 
-module _ {n m : ℕ} (shape : BankShape) (pace : Pacing) (e : ℕ) where
+module _ {n m : ℕ} (shape : BankShape) (pace : Pace) (e : ℕ) where
   -- the tick of a write that came stays
-  tick_step : (zs : List (Timed n m)) (x : Timed n m) (h : Happens n) (row : ℕ) → MayCome shape pace e zs x h → among (writes_in zs) row ≡ true → tick_by row h x.tick (tick_of_row row zs) ≡ tick_of_row row zs
+  tick_step : (zs : List (TimedEvent n m)) (x : TimedEvent n m) (h : Happens n) (row : ℕ) → MayCome shape pace e zs x h → among (writes_in zs) row ≡ true → tick_by row h x.tick (tick_of_row row zs) ≡ tick_of_row row zs
   tick_step zs x (Core (Write at line bytes given answer)) row may there =
       ap (λ b. cond b x.tick (tick_of_row row zs)) (differ_back row at (below_among (writes_in zs) at row (writes-fall zs at may.asked) there))
   tick_step zs x (Core (Read at line answer)) row may there = refl
@@ -215,11 +218,11 @@ module _ {n m : ℕ} (shape : BankShape) (pace : Pacing) (e : ℕ) where
   tick_step zs x (Core (Iterate answer)) row may there = refl
   tick_step zs x (Core (Cut tearing)) row may there = refl
 
-  pub tick_stays : (later zs : List (Timed n m)) (row : ℕ) → Lawful shape pace e (later ++ zs) → among (writes_in zs) row ≡ true → tick_of_row row (later ++ zs) ≡ tick_of_row row zs
+  pub tick_stays : (later zs : List (TimedEvent n m)) (row : ℕ) → Lawful shape pace e (later ++ zs) → among (writes_in zs) row ≡ true → tick_of_row row (later ++ zs) ≡ tick_of_row row zs
   tick_stays [] zs row l there = refl
   tick_stays (x ∷ later) zs row l there = tick_step (later ++ zs) x x.happens row l.0 (among_later later zs row there) ∙ tick_stays later zs row l.1 there
 
-  pub tick_up_to : (zs : List (Timed n m)) (row : ℕ) → 1 ≤ pace.read → 1 ≤ pace.iter → Lawful shape pace e zs → tick_of_row row zs ≤ last_tick zs
+  pub tick_up_to : (zs : List (TimedEvent n m)) (row : ℕ) → 1 ≤ pace.read → 1 ≤ pace.iter → Lawful shape pace e zs → tick_of_row row zs ≤ last_tick zs
   tick_up_to [] row r i l = omega arith
   tick_up_to (x ∷ zs) row r i l =
       let before : tick_of_row row zs ≤ last_tick zs = tick_up_to zs row r i l.1 in
@@ -236,15 +239,15 @@ module _ {n m : ℕ} (shape : BankShape) (pace : Pacing) (e : ℕ) where
       by (Core (Cut tearing)) le = le
 
   -- the entries of a line stand in order, and a busy head came before the last tick
-  pub record InOrder (zs : List (Timed n m)) : Type 0 where
+  pub record InOrder (zs : List (TimedEvent n m)) : Type 0 where
     pub leads : Leads (λ row. tick_of_row row zs) (queue shape (core zs))
     pub busy : head_busy_after shape (core zs) ≡ true → HeadBefore (λ row. tick_of_row row zs) (last_tick zs) (queue shape (core zs))
 
-  record OrderBy (zs : List (Timed n m)) (x : Timed n m) (h : Happens n) : Type 0 where
+  record OrderBy (zs : List (TimedEvent n m)) (x : TimedEvent n m) (h : Happens n) : Type 0 where
     leads : Leads (λ row. tick_by row h x.tick (tick_of_row row zs)) (queue shape (core_of h (core zs)))
     busy : head_busy_after shape (core_of h (core zs)) ≡ true → HeadBefore (λ row. tick_by row h x.tick (tick_of_row row zs)) x.tick (queue shape (core_of h (core zs)))
 
-  module _ (zs : List (Timed n m)) (x : Timed n m) (r : 1 ≤ pace.read) (i : 1 ≤ pace.iter) (l : Lawful shape pace e (x ∷ zs)) (o : InOrder zs) where
+  module _ (zs : List (TimedEvent n m)) (x : TimedEvent n m) (r : 1 ≤ pace.read) (i : 1 ≤ pace.iter) (l : Lawful shape pace e (x ∷ zs)) (o : InOrder zs) where
     rises : last_tick zs ≤ x.tick
     rises = last_tick-rises shape pace e zs x r i l
 
@@ -264,7 +267,7 @@ module _ {n m : ℕ} (shape : BankShape) (pace : Pacing) (e : ℕ) where
     }
 
     still : (k : List (Event n)) → (in_progress (core zs) && is_store (cond (has_exhausted (core zs)) Nothing (due_work shape k (due_after shape (core zs)) (queue shape (core zs))))) ≡ true → head_busy_after shape (core zs) ≡ true
-    still k b = both (in_progress (core zs)) _ (and_left (in_progress (core zs)) _ b) (store-same shape k (core zs) (has_exhausted (core zs)) (due_after shape (core zs)) (queue shape (core zs)) (and_right (in_progress (core zs)) _ b))
+    still k b = both (in_progress (core zs)) _ (and_first (in_progress (core zs)) _ b) (store-same shape k (core zs) (has_exhausted (core zs)) (due_after shape (core zs)) (queue shape (core zs)) (and_second (in_progress (core zs)) _ b))
       where
         both : (a b : Bool) → a ≡ true → b ≡ true → (a && b) ≡ true
         both true b h k = k
@@ -279,7 +282,7 @@ module _ {n m : ℕ} (shape : BankShape) (pace : Pacing) (e : ℕ) where
 
     busy_head : head_busy_after shape (core zs) ≡ true → HeadFull (queue shape (core zs))
     busy_head b =
-        busy-full shape (core zs) (has_exhausted (core zs)) (due_after shape (core zs)) (queue shape (core zs)) (pairs.working (and_left (in_progress (core zs)) _ b)) (and_right (in_progress (core zs)) _ b)
+        busy-full shape (core zs) (has_exhausted (core zs)) (due_after shape (core zs)) (queue shape (core zs)) (pairs.working (and_first (in_progress (core zs)) _ b)) (and_second (in_progress (core zs)) _ b)
 
     came_before : (at line : ℕ) (bytes : List ℕ) (given : List Bool) (answer : WriteAnswer) → MayCome shape pace e zs x (Core (Write at line bytes given answer)) → (row : ℕ) → has_row (queue shape (core zs)) row ≡ true → row < at
     came_before at line bytes given answer may row there = below_among (writes_in zs) at row (writes-fall zs at may.asked) (queue-asked shape zs row there)
@@ -294,7 +297,7 @@ module _ {n m : ℕ} (shape : BankShape) (pace : Pacing) (e : ℕ) where
     new_behind : (at line : ℕ) (bytes : List ℕ) (given : List Bool) → MayCome shape pace e zs x (Core (Write at line bytes given wrote.Accepted)) → (head : Entry n) (rest : List (Entry n)) → queue shape (core zs) ≡ head ∷ rest
         → line ≡ head.line → (head.row < at) × (cond (eqb at head.row) x.tick (tick_of_row head.row zs) < cond (eqb at at) x.tick (tick_of_row at zs))
     new_behind at line bytes given may head rest is same =
-        let there : has_row (queue shape (core zs)) head.row ≡ true = subst (λ (es : List (Entry n)). has_row es head.row ≡ true) (sym is) (or_on_left (head.row == head.row) _ (eqb-same head.row)) in
+        let there : has_row (queue shape (core zs)) head.row ≡ true = subst (λ (es : List (Entry n)). has_row es head.row ≡ true) (sym is) (or_left (head.row == head.row) _ (eqb-same head.row)) in
         let none : candidate (head_busy_after shape (core zs)) (head ∷ rest) line ≡ None =
         subst (λ (es : List (Entry n)). candidate (head_busy_after shape (core zs)) es line ≡ None) is (accepted-none shape (core zs) line may.may.2) in
         let busy : head_busy_after shape (core zs) ≡ true = no_candidate-head (head_busy_after shape (core zs)) head rest line none (subst (λ k. (line == k) ≡ true) same (eqb-same line)) in
@@ -310,9 +313,9 @@ module _ {n m : ℕ} (shape : BankShape) (pace : Pacing) (e : ℕ) where
           (new_behind at line bytes given may);
       busy = λ b.
           let was : head_busy_after shape (core zs) ≡ true =
-          both_true (in_progress (core zs)) _ (and_left (in_progress (core zs)) _ b)
+          both_true (in_progress (core zs)) _ (and_first (in_progress (core zs)) _ b)
           (store-push shape (Write at line bytes given wrote.Accepted ∷ core zs) (core zs) (has_exhausted (core zs)) (due_after shape (core zs)) (queue shape (core zs)) (record { row = at; line = line; bytes = bytes; given = given })
-          (pairs.working (and_left (in_progress (core zs)) _ b)) (and_right (in_progress (core zs)) _ b)) in
+          (pairs.working (and_first (in_progress (core zs)) _ b)) (and_second (in_progress (core zs)) _ b)) in
           head-push (λ row. cond (eqb at row) x.tick (tick_of_row row zs)) x.tick (queue shape (core zs)) (record { row = at; line = line; bytes = bytes; given = given }) (busy_head was)
           (head-more (λ row. cond (eqb at row) x.tick (tick_of_row row zs)) (λ row. tick_of_row row zs) (last_tick zs) x.tick (queue shape (core zs)) rises (kept (Core (Write at line bytes given wrote.Accepted)) may) (o.busy was));
     }
@@ -328,8 +331,8 @@ module _ {n m : ℕ} (shape : BankShape) (pace : Pacing) (e : ℕ) where
           (leads-same (λ row. cond (eqb at row) x.tick (tick_of_row row zs)) (λ row. tick_of_row row zs) (queue shape (core zs)) (kept (Core (Write at line bytes given (wrote.Merged old))) may) o.leads);
       busy = λ b.
           let was : head_busy_after shape (core zs) ≡ true =
-          both_true (in_progress (core zs)) _ (and_left (in_progress (core zs)) _ b)
-          (store-merged shape (Write at line bytes given (wrote.Merged old) ∷ core zs) (core zs) (has_exhausted (core zs)) (due_after shape (core zs)) old at bytes given (queue shape (core zs)) (and_right (in_progress (core zs)) _ b)) in
+          both_true (in_progress (core zs)) _ (and_first (in_progress (core zs)) _ b)
+          (store-merged shape (Write at line bytes given (wrote.Merged old) ∷ core zs) (core zs) (has_exhausted (core zs)) (due_after shape (core zs)) old at bytes given (queue shape (core zs)) (and_second (in_progress (core zs)) _ b)) in
           head-merged (λ row. cond (eqb at row) x.tick (tick_of_row row zs)) x.tick old at line bytes given (queue shape (core zs)) apart
           (subst (λ b. candidate b (queue shape (core zs)) line ≡ Some old) was into)
           (head-more (λ row. cond (eqb at row) x.tick (tick_of_row row zs)) (λ row. tick_of_row row zs) (last_tick zs) x.tick (queue shape (core zs)) rises (kept (Core (Write at line bytes given (wrote.Merged old))) may) (o.busy was));
@@ -366,7 +369,7 @@ module _ {n m : ℕ} (shape : BankShape) (pace : Pacing) (e : ℕ) where
     step (Core (Iterate did.Exhausted)) may lt = ends (Core (Iterate did.Exhausted)) (λ row. refl) (lt refl) o.leads
     step (Core (Cut tearing)) may lt = quiet (Core (Cut tearing)) may refl (λ b. absurd (cc))
 
-  pub in_order : (zs : List (Timed n m)) → 1 ≤ pace.read → 1 ≤ pace.iter → Lawful shape pace e zs → InOrder zs
+  pub in_order : (zs : List (TimedEvent n m)) → 1 ≤ pace.read → 1 ≤ pace.iter → Lawful shape pace e zs → InOrder zs
   in_order [] r i l = record { leads = tt; busy = λ b. tt }
   in_order (x ∷ zs) r i l =
       let s = step zs x r i l (in_order zs r i l.1) x.happens l.0 (λ is. last-below shape pace e zs x r i l is) in

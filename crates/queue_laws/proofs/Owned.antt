@@ -1,5 +1,6 @@
 -- Each entry of a history's queue has the line of its own write, and the bytes of its own writes.
 use Rattle.std.proofs.Common.{◌≡◌, ℕ, zero, suc, ◌==◌, ◌||◌, ◌&&◌, inl, inr, not, Bool, true, false, List, [], ◌∷◌, ◌++◌, length, drop, slice_get, Option, Some, None, refl, sym, ap, subst, ◌∙◌, arith, cond, eqb, eqb-true}
+use Rattle.masked_bytes.proofs.Truth.{neither_first, neither_second, and_second}
 use Rattle.std.specs.Prelude.{is_none}
 use Rattle.std.proofs.lemmas.Bool.{eq-eqb, ne_eqb}
 use Rattle.std.proofs.lemmas.List.{length-replicate}
@@ -9,15 +10,15 @@ use Rattle.masked_bytes.specs.Entries.{Layer, stacked, laid_on, merged, complete
 use Rattle.masked_bytes.proofs.Layering.{length-laid, length-joined, laid-all_given, laid-laid, gives_all-all_given, all_given-gives_all}
 use Rattle.bank_shape.specs.declared.BankShape.{BankShape}
 use Rattle.bank_shape.specs.declared.Work.TheVariants.{Nothing}
-use Rattle.bank_model.specs.declared.answer.WriteAnswer.TheVariants as wrote
-use Rattle.bank_model.specs.declared.answer.Step.TheVariants as did
+use Rattle.bank_shape.specs.declared.answer.WriteAnswer.TheVariants as wrote
+use Rattle.bank_shape.specs.declared.answer.Step.TheVariants as did
 use Rattle.bank_model.specs.Events.{Event, Write, Read, Serve, Begin, Iterate, Cut, newest, RowsBelow}
 use Rattle.bank_model.specs.History.{Awaited, begun, queue, waits, due_after, has_exhausted, in_progress}
 use Rattle.bank_model.specs.After.{is_ready, due_work}
 use Rattle.bank_model.specs.Answers.{MayAll}
-use Rattle.bank_laws.proofs.Entries.{or_left, or_right, differ_sym}
+use Rattle.bank_laws.proofs.Entries.{differ_sym}
 use Rattle.bank_laws.proofs.Lines.{Stands, stands-row, merges-stands}
-use Rattle.bank_laws.proofs.Pairs.{and_right, gives_all-joined}
+use Rattle.bank_laws.proofs.Pairs.{gives_all-joined}
 use Rattle.bank_laws.proofs.Standing.{stand_apart}
 use Rattle.queue_laws.specs.EntryLaws.{line_written, given_by, is_head_begun, Gives, EntryLineLaw, EntryBytesLaw}
 
@@ -168,20 +169,20 @@ module _ {n : ℕ} where
 
     each-aside : (es : List (Entry n)) → has_row es row ≡ false → EachOwn lines own es → EachOwn after next es
     each-aside [] none are = tt
-    each-aside (e ∷ es) none are = (own-aside false e (or_left (e.row == row) _ none) are.0, each-aside es (or_right (e.row == row) _ none) are.1)
+    each-aside (e ∷ es) none are = (own-aside false e (neither_first (e.row == row) _ none) are.0, each-aside es (neither_second (e.row == row) _ none) are.1)
 
     -- it is accepted
     each-pushed : (es : List (Entry n)) (x : Entry n) → has_row es row ≡ false → IsOwn (after x.row) (next x.row) false x
         → EachOwn lines own es → EachOwn after next (es ++ x ∷ [])
     each-pushed [] x none new are = (new, tt)
     each-pushed (e ∷ es) x none new are =
-        (own-aside false e (or_left (e.row == row) _ none) are.0, each-pushed es x (or_right (e.row == row) _ none) new are.1)
+        (own-aside false e (neither_first (e.row == row) _ none) are.0, each-pushed es x (neither_second (e.row == row) _ none) new are.1)
 
     own-pushed : (whole : Bool) (es : List (Entry n)) (x : Entry n) → has_row es row ≡ false → IsOwn (after x.row) (next x.row) false x
         → AreOwn lines own whole es → AreOwn after next whole (es ++ x ∷ [])
     own-pushed whole [] x none new are = (subst (λ (b : Bool). IsOwn (after x.row) (next x.row) b x) (sym are) new, tt)
     own-pushed whole (e ∷ es) x none new are =
-        (own-aside whole e (or_left (e.row == row) _ none) are.0, each-pushed es x (or_right (e.row == row) _ none) new are.1)
+        (own-aside whole e (neither_first (e.row == row) _ none) are.0, each-pushed es x (neither_second (e.row == row) _ none) new are.1)
 
     -- it is merged into an entry of its line
     module _ (old line : ℕ) (bytes : List ℕ) (given : List Bool) (m : IsMasked n bytes given)
@@ -206,14 +207,14 @@ module _ {n : ℕ} where
           → EachOwn after next (merged old row bytes given es)
       each-merged [] none apart s are = absurd s
       each-merged (e ∷ es) none apart s are =
-          by (eqb e.row old) refl (λ t. each-merged es (or_right (e.row == row) _ none) apart.1 t are.1)
+          by (eqb e.row old) refl (λ t. each-merged es (neither_second (e.row == row) _ none) apart.1 t are.1)
         where
           by : (b : Bool) → eqb e.row old ≡ b → (Stands es old line → EachOwn after next (merged old row bytes given es))
               → EachOwn after next (cond b (laid_on row bytes given e ∷ es) (e ∷ merged old row bytes given es))
           by true is go =
               let same : e.row ≡ old = eqb-true e.row old is in
-              (own-into false e same (its-line e es apart.0 same s) are.0, each-aside es (or_right (e.row == row) _ none) are.1)
-          by false is go = (own-aside false e (or_left (e.row == row) _ none) are.0, go (behind e es is s))
+              (own-into false e same (its-line e es apart.0 same s) are.0, each-aside es (neither_second (e.row == row) _ none) are.1)
+          by false is go = (own-aside false e (neither_first (e.row == row) _ none) are.0, go (behind e es is s))
 
       own-merged : (whole : Bool) (es : List (Entry n)) → has_row es row ≡ false → RowsApart es → Stands es old line
           → AreOwn lines own whole es → AreOwn after next whole (merged old row bytes given es)
@@ -225,9 +226,9 @@ module _ {n : ℕ} where
               → AreOwn after next whole (cond b (laid_on row bytes given e ∷ es) (e ∷ merged old row bytes given es))
           by true is =
               let same : e.row ≡ old = eqb-true e.row old is in
-              (own-into whole e same (its-line e es apart.0 same s) are.0, each-aside es (or_right (e.row == row) _ none) are.1)
+              (own-into whole e same (its-line e es apart.0 same s) are.0, each-aside es (neither_second (e.row == row) _ none) are.1)
           by false is =
-              (own-aside whole e (or_left (e.row == row) _ none) are.0, each-merged es (or_right (e.row == row) _ none) apart.1 (behind e es is s) are.1)
+              (own-aside whole e (neither_first (e.row == row) _ none) are.0, each-merged es (neither_second (e.row == row) _ none) apart.1 (behind e es is s) are.1)
 
 -- Histories
 
@@ -252,7 +253,7 @@ module _ {n : ℕ} (shape : BankShape) where
       → AreOwn (λ row. line_written row h) (λ row. given_by row h) (is_none (due_after shape h) || is_head_begun shape h) (begun (due_after shape h) (newest h) (queue shape h))
   begun-own h may are =
       own-begun (λ row. line_written row h) (λ row. given_by row h) (is_head_begun shape h) (due_after shape h) (newest h) (queue shape h) (length-newest h)
-      (ready-head h (has_exhausted h) (due_after shape h) (queue shape h) (waits shape h) (and_right (not (in_progress h)) _ may)) are
+      (ready-head h (has_exhausted h) (due_after shape h) (queue shape h) (waits shape h) (and_second (not (in_progress h)) _ may)) are
 
   pub queue-own : (most : ℕ) (h : List (Event n)) (bound : ℕ) → MayAll shape most h → RowsBelow h bound → QueueOwn h
   queue-own most [] bound may below = refl

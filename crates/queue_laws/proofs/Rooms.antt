@@ -1,23 +1,24 @@
 -- What a bank holds at a row, and at any tick between two of its events.
 use Rattle.std.proofs.Common.{◌≡◌, ℕ, ◌<◌, ◌≤◌, ◌||◌, ◌⊎◌, inl, inr, not, Bool, true, false, List, [], ◌∷◌, ◌++◌, Option, Some, None, length, refl, sym, ap, ◌∙◌, subst, arith, cond, append_assoc}
 use Rattle.std.specs.Prelude.{nat_le, filter, All}
-use Rattle.std.proofs.lemmas.Bool.{eq-eqb, le-leb}
+use Rattle.std.proofs.lemmas.Bool.{eq-eqb, le-leb, and_from}
 use Rattle.std.proofs.lemmas.List.Elements.{All-head, All-tail}
 use Rattle.std.proofs.Math.Nat.{eq-or-lt_of_le}
 use Rattle.result_rows.specs.declared.Outcome.TheVariants as out
 use Rattle.masked_bytes.specs.declared.entry.Entry.{Entry}
 use Rattle.masked_bytes.specs.Entries.{has_row, candidate}
-use Rattle.row_laws.specs.declared.Row.{Row}
-use Rattle.row_laws.specs.Answers.{is_full}
-use Rattle.row_laws.specs.Rows.{write_of}
-use Rattle.row_laws.specs.Queueing.{pending, waiting, has_room, pairs_few, is_refused}
+use Rattle.row_rules.specs.declared.Row.{Row}
+use Rattle.row_rules.specs.Answers.{is_full}
+use Rattle.row_rules.specs.Rows.{write_of}
+use Rattle.row_rules.specs.Queueing.{pending, waiting, has_room, pairs_few, is_refused}
 use Rattle.bank_shape.specs.declared.BankShape.{BankShape}
-use Rattle.bank_model.specs.declared.answer.WriteAnswer.TheVariants as wrote
+use Rattle.bank_shape.specs.declared.answer.WriteAnswer.TheVariants as wrote
 use Rattle.bank_model.specs.Events.{Event, Write, Read, Serve, Begin, Iterate, Cut}
 use Rattle.bank_model.specs.History.{queue, waits, has_exhausted}
 use Rattle.bank_model.specs.Answers.{head_busy_after, accept_answer, write_answer}
 use Rattle.bank_model.specs.Sensing.{most_steps}
-use Rattle.bank_model.specs.Timing.{Pacing, Happens, Core, Regs, Timed, core, last_tick}
+use Rattle.bank_shape.specs.declared.pace.Pace.{Pace}
+use Rattle.bank_model.specs.Timing.{Happens, Core, Regs, TimedEvent, core, last_tick}
 use Rattle.bank_model.specs.Told.{tick_of_row}
 use Rattle.bank_model.specs.Lawful.{Lawful, MayCome}
 use Rattle.bank_laws.specs.Laws.{rules_of}
@@ -28,7 +29,7 @@ use Rattle.bank_laws.proofs.Ticks.{last_tick-rises, last-below}
 use Rattle.bank_laws.proofs.Answering.{IsHead}
 use Rattle.bank_laws.proofs.Settling.{opens, lawful_before}
 use Rattle.bank_laws.proofs.Pairs.{keeps_pairs, no_candidate-head, no_candidate-rest}
-use Rattle.bank_laws.proofs.Walking.{Passes, walk, rows_after, and_both}
+use Rattle.bank_laws.proofs.Walking.{Passes, walk, rows_after}
 use Rattle.bank_laws.proofs.Ending.{Onwards, write_outcome}
 use Rattle.bank_laws.proofs.Serves.{may_at, onwards_at, idle-waits}
 use Rattle.bank_laws.proofs.Holding.{bound_law}
@@ -53,10 +54,10 @@ module _ {n : ℕ} (shape : BankShape) where
       by false (Some at) a = absurd (cc)
       by false None a = refl
 
-module _ {n m : ℕ} (shape : BankShape) (pace : Pacing) (e : ℕ) where
+module _ {n m : ℕ} (shape : BankShape) (pace : Pace) (e : ℕ) where
   -- Ends above a tick
 
-  pub ends_later : (later zs : List (Timed n m)) (t : ℕ) → 1 ≤ pace.read → 1 ≤ pace.iter → Lawful shape pace e (later ++ zs) → t ≤ last_tick zs → EndsAbove t later × (t ≤ last_tick (later ++ zs))
+  pub ends_later : (later zs : List (TimedEvent n m)) (t : ℕ) → 1 ≤ pace.read → 1 ≤ pace.iter → Lawful shape pace e (later ++ zs) → t ≤ last_tick zs → EndsAbove t later × (t ≤ last_tick (later ++ zs))
   ends_later [] zs t r i l le = (tt, le)
   ends_later (x ∷ later) zs t r i l le =
       let before : EndsAbove t later × (t ≤ last_tick (later ++ zs)) = ends_later later zs t r i l.1 le in
@@ -65,33 +66,33 @@ module _ {n m : ℕ} (shape : BankShape) (pace : Pacing) (e : ℕ) where
         omega (arith, before.1, rises),
       )
 
-  ends_push : (t : ℕ) (later : List (Timed n m)) (x : Timed n m) → EndsAbove t later → (ends_action x.happens ≡ true → t < x.tick) → EndsAbove t (later ++ x ∷ [])
+  ends_push : (t : ℕ) (later : List (TimedEvent n m)) (x : TimedEvent n m) → EndsAbove t later → (ends_action x.happens ≡ true → t < x.tick) → EndsAbove t (later ++ x ∷ [])
   ends_push t [] x above own = (own, tt)
   ends_push t (y ∷ later) x above own = (above.0, ends_push t later x above.1 own)
 
   -- at a row no action has ended at its tick behind it
-  pub ends_at_row : (later ys : List (Timed n m)) (x : Timed n m) → 1 ≤ pace.read → 1 ≤ pace.iter → Lawful shape pace e (later ++ x ∷ ys) → ends_action x.happens ≡ false → EndsAbove x.tick (later ++ x ∷ [])
+  pub ends_at_row : (later ys : List (TimedEvent n m)) (x : TimedEvent n m) → 1 ≤ pace.read → 1 ≤ pace.iter → Lawful shape pace e (later ++ x ∷ ys) → ends_action x.happens ≡ false → EndsAbove x.tick (later ++ x ∷ [])
   ends_at_row later ys x r i l arrives = ends_push x.tick later x (ends_later later (x ∷ ys) x.tick r i l (omega arith)).0 (λ is. absurd (cc (arrives, is)))
 
   -- What stands
 
-  pub stands_well : (all later now : List (Timed n m)) → 1 ≤ pace.read → 1 ≤ pace.iter → Lawful shape pace e all → all ≡ later ++ now → StandsWell shape all now
+  pub stands_well : (all later now : List (TimedEvent n m)) → 1 ≤ pace.read → 1 ≤ pace.iter → Lawful shape pace e all → all ≡ later ++ now → StandsWell shape all now
   stands_well all later now r i l same =
-      let whole : Lawful shape pace e (later ++ now) = subst (λ (xs : List (Timed n m)). Lawful shape pace e xs) same l in
+      let whole : Lawful shape pace e (later ++ now) = subst (λ (xs : List (TimedEvent n m)). Lawful shape pace e xs) same l in
       let here : Lawful shape pace e now = lawful_before shape pace e later now whole in
       record {
         open_now = opens shape pace e now here;
         open_all = opens shape pace e all l;
         paired = (keeps_pairs shape (most_steps e) (core now) (may_all shape pace e now here)).paired;
         leads = (in_order shape pace e now r i here).leads;
-        first = λ row head. subst (λ (xs : List (Timed n m)). First shape now xs row) (sym same) (first shape pace e now later now row r i whole (first_now shape pace e now row head));
+        first = λ row head. subst (λ (xs : List (TimedEvent n m)). First shape now xs row) (sym same) (first shape pace e now later now row r i whole (first_now shape pace e now row head));
         covered = λ row line c.
-            subst (λ (xs : List (Timed n m)). Covered (queue shape (core xs)) row line ⊎ ((u : ℕ) × (p : ℕ) × (outcome_of shape xs row ≡ out.Stored u p))) (sym same) (covered_on shape pace e later now row line whole c);
+            subst (λ (xs : List (TimedEvent n m)). Covered (queue shape (core xs)) row line ⊎ ((u : ℕ) × (p : ℕ) × (outcome_of shape xs row ≡ out.Stored u p))) (sym same) (covered_on shape pace e later now row line whole c);
       }
 
-  module _ (all later now : List (Timed n m)) (t : ℕ) (r : 1 ≤ pace.read) (i : 1 ≤ pace.iter) (l : Lawful shape pace e all) (same : all ≡ later ++ now) (up : last_tick now ≤ t) (ends : EndsAbove t later) where
+  module _ (all later now : List (TimedEvent n m)) (t : ℕ) (r : 1 ≤ pace.read) (i : 1 ≤ pace.iter) (l : Lawful shape pace e all) (same : all ≡ later ++ now) (up : last_tick now ≤ t) (ends : EndsAbove t later) where
     here : Lawful shape pace e now
-    here = lawful_before shape pace e later now (subst (λ (xs : List (Timed n m)). Lawful shape pace e xs) same l)
+    here = lawful_before shape pace e later now (subst (λ (xs : List (TimedEvent n m)). Lawful shape pace e xs) same l)
 
     pub pairs_at : pairs_few (pending t [] (rows_from shape all now)) (pending t [] (rows_from shape all now)) ≡ true
     pairs_at =
@@ -106,17 +107,17 @@ module _ {n m : ℕ} (shape : BankShape) (pace : Pacing) (e : ℕ) where
         let bound = bound_law n (most_steps e) shape (core now) (may_all shape pace e now here) in
         let stand : length (pending t [] (rows_from shape all now)) ≡ length (queue shape (core now)) = stood_length shape pace e all later now t r i l same up ends in
         let wait : length (waiting t [] (rows_from shape all now)) ≡ length (waits shape (core now)) = awaiting_length shape pace e all later now t r i l same up ends none in
-        and_both (nat_le (length (pending t [] (rows_from shape all now))) shape.writes) _ (le-leb (length (pending t [] (rows_from shape all now))) shape.writes (omega (arith, stand, bound.writes)))
-        (and_both (nat_le (length (waiting t [] (rows_from shape all now))) shape.reads) _ (le-leb (length (waiting t [] (rows_from shape all now))) shape.reads (omega (arith, wait, bound.reads))) pairs_at)
+        and_from (nat_le (length (pending t [] (rows_from shape all now))) shape.writes) _ (le-leb (length (pending t [] (rows_from shape all now))) shape.writes (omega (arith, stand, bound.writes)))
+        (and_from (nat_le (length (waiting t [] (rows_from shape all now))) shape.reads) _ (le-leb (length (waiting t [] (rows_from shape all now))) shape.reads (omega (arith, wait, bound.reads))) pairs_at)
 
   -- At a row
 
-  pub behind : (all later : List (Timed n m)) (x : Timed n m) (ys : List (Timed n m)) → all ≡ later ++ x ∷ ys → all ≡ (later ++ x ∷ []) ++ ys
+  pub behind : (all later : List (TimedEvent n m)) (x : TimedEvent n m) (ys : List (TimedEvent n m)) → all ≡ later ++ x ∷ ys → all ≡ (later ++ x ∷ []) ++ ys
   behind all later x ys same = same ∙ sym (append_assoc later (x ∷ []) ys)
 
-  module _ (all later : List (Timed n m)) (x : Timed n m) (ys : List (Timed n m)) (r : 1 ≤ pace.read) (i : 1 ≤ pace.iter) (l : Lawful shape pace e all) (same : all ≡ later ++ x ∷ ys) where
+  module _ (all later : List (TimedEvent n m)) (x : TimedEvent n m) (ys : List (TimedEvent n m)) (r : 1 ≤ pace.read) (i : 1 ≤ pace.iter) (l : Lawful shape pace e all) (same : all ≡ later ++ x ∷ ys) where
     over : Lawful shape pace e (later ++ x ∷ ys)
-    over = subst (λ (xs : List (Timed n m)). Lawful shape pace e xs) same l
+    over = subst (λ (xs : List (TimedEvent n m)). Lawful shape pace e xs) same l
 
     up_to_row : last_tick ys ≤ x.tick
     up_to_row = last_tick-rises shape pace e ys x r i (lawful_before shape pace e later (x ∷ ys) over)
@@ -141,7 +142,7 @@ module _ {n m : ℕ} (shape : BankShape) (pace : Pacing) (e : ℕ) where
   -- A refused write
 
   -- where a write merges into nothing, an entry of its line is the busy head
-  head_alone : (all ys : List (Timed n m)) (line tick : ℕ) (k : StandsWell shape all ys) → 1 ≤ pace.read → 1 ≤ pace.iter → Lawful shape pace e ys → last_tick ys ≤ tick → candidate (head_busy_after shape (core ys)) (queue shape (core ys)) line ≡ None
+  head_alone : (all ys : List (TimedEvent n m)) (line tick : ℕ) (k : StandsWell shape all ys) → 1 ≤ pace.read → 1 ≤ pace.iter → Lawful shape pace e ys → last_tick ys ≤ tick → candidate (head_busy_after shape (core ys)) (queue shape (core ys)) line ≡ None
       → HeadAlone shape all ys k line tick
   head_alone all ys line tick k r i l le none row s = by (queue shape (core ys)) refl none s
     where
@@ -153,13 +154,13 @@ module _ {n m : ℕ} (shape : BankShape) (pace : Pacing) (e : ℕ) where
           (sym s.0, subst (λ row. tick_of_row row ys < tick) s.0 (omega (arith, before, le)))
       by (f ∷ es) is none (inr s) = absurd (cc (no_candidate-rest es line _ none, stands-line es row line s))
 
-  refusal_pass : (all later : List (Timed n m)) (x : Timed n m) (ys : List (Timed n m)) → 1 ≤ pace.read → 1 ≤ pace.iter → Lawful shape pace e all → all ≡ later ++ x ∷ ys
+  refusal_pass : (all later : List (TimedEvent n m)) (x : TimedEvent n m) (ys : List (TimedEvent n m)) → 1 ≤ pace.read → 1 ≤ pace.iter → Lawful shape pace e all → all ≡ later ++ x ∷ ys
       → Passes is_refusal_fair (rows_from shape all ys) (row_with shape all x.happens x.tick x.cancels) (rows_after shape all later)
   refusal_pass all later x ys r i l same =
       by x.happens x.cancels (may_at shape pace e all later x ys l same) (onwards_at shape pace e all later x ys l same) refused
     where
       over : Lawful shape pace e (later ++ x ∷ ys)
-      over = subst (λ (xs : List (Timed n m)). Lawful shape pace e xs) same l
+      over = subst (λ (xs : List (TimedEvent n m)). Lawful shape pace e xs) same l
 
       there : Lawful shape pace e (x ∷ ys)
       there = lawful_before shape pace e later (x ∷ ys) over
@@ -216,7 +217,7 @@ all_last : {A : Type 0} (P : A → Type 0) (front : List A) (x : A) → All P (f
 all_last P [] x h = All-head P x [] h
 all_last P (y ∷ front) x h = all_last P front x (All-tail P y (front ++ x ∷ []) h)
 
-no_rows : {n m : ℕ} (shape : BankShape) (all : List (Timed n m)) (h : Happens n) (tick : ℕ) (cancels : Bool) → ends_action h ≡ true → row_with shape all h tick cancels ≡ []
+no_rows : {n m : ℕ} (shape : BankShape) (all : List (TimedEvent n m)) (h : Happens n) (tick : ℕ) (cancels : Bool) → ends_action h ≡ true → row_with shape all h tick cancels ≡ []
 no_rows shape all (Core (Write row line bytes given answer)) tick cancels is = absurd (cc)
 no_rows shape all (Core (Read row line answer)) tick cancels is = absurd (cc)
 no_rows shape all (Core (Serve answer)) tick cancels is = refl
@@ -225,14 +226,14 @@ no_rows shape all (Core (Begin answer)) tick cancels is = refl
 no_rows shape all (Core (Iterate answer)) tick cancels is = refl
 no_rows shape all (Core (Cut tearing)) tick cancels is = absurd (cc)
 
-module _ {n m : ℕ} (shape : BankShape) (pace : Pacing) (e : ℕ) where
+module _ {n m : ℕ} (shape : BankShape) (pace : Pace) (e : ℕ) where
   -- at the tick of the end of an action the bank is as behind it, and else as before it
-  room_within : (all front : List (Timed n m)) (y : Timed n m) (now : List (Timed n m)) (t : ℕ) → 1 ≤ pace.read → 1 ≤ pace.iter → Lawful shape pace e all → waits shape (core all) ≡ [] → all ≡ front ++ y ∷ now
+  room_within : (all front : List (TimedEvent n m)) (y : TimedEvent n m) (now : List (TimedEvent n m)) (t : ℕ) → 1 ≤ pace.read → 1 ≤ pace.iter → Lawful shape pace e all → waits shape (core all) ≡ [] → all ≡ front ++ y ∷ now
       → last_tick now ≤ t → t ≤ y.tick → has_room (rules_of e shape pace) t (rows_from shape all now) ≡ true
   room_within all front y now t r i l none same up le = by (ends_action y.happens) refl (eq-or-lt_of_le le)
     where
       over : Lawful shape pace e (front ++ y ∷ now)
-      over = subst (λ (xs : List (Timed n m)). Lawful shape pace e xs) same l
+      over = subst (λ (xs : List (TimedEvent n m)). Lawful shape pace e xs) same l
 
       behind_it : EndsAbove t front
       behind_it = (ends_later shape pace e front (y ∷ now) t r i over le).0
@@ -253,8 +254,8 @@ room_law n m e shape pace xs later t sized l idle up ticks = by (last_of later)
     none : waits shape (core (later ++ xs)) ≡ []
     none = idle-waits shape pace (later ++ xs) idle
 
-    by : (later ≡ []) ⊎ ((front : List (Timed n m)) × (y : Timed n m) × (later ≡ front ++ y ∷ [])) → has_room (rules_of e shape pace) t (rows_from shape (later ++ xs) xs) ≡ true
-    by (inl alone) = room_between shape pace e (later ++ xs) later xs t sized.read sized.iter l refl up (subst (λ (ys : List (Timed n m)). EndsAbove t ys) (sym alone) tt) none
+    by : (later ≡ []) ⊎ ((front : List (TimedEvent n m)) × (y : TimedEvent n m) × (later ≡ front ++ y ∷ [])) → has_room (rules_of e shape pace) t (rows_from shape (later ++ xs) xs) ≡ true
+    by (inl alone) = room_between shape pace e (later ++ xs) later xs t sized.read sized.iter l refl up (subst (λ (ys : List (TimedEvent n m)). EndsAbove t ys) (sym alone) tt) none
     by (inr some) =
         room_within shape pace e (later ++ xs) some.0 some.1 xs t sized.read sized.iter l none (ap (λ ys. ys ++ xs) some.2 ∙ append_assoc some.0 (some.1 ∷ []) xs) up
-        (all_last (λ x. t ≤ x.tick) some.0 some.1 (subst (λ (ys : List (Timed n m)). All (λ x. t ≤ x.tick) ys) some.2 ticks))
+        (all_last (λ x. t ≤ x.tick) some.0 some.1 (subst (λ (ys : List (TimedEvent n m)). All (λ x. t ≤ x.tick) ys) some.2 ticks))

@@ -1,16 +1,15 @@
 -- How the bytes that a queue gives of a line follow the writes of the line: s of a number is what the accepted writes from that row on give.
 use Rattle.std.proofs.Common.{◌≡◌, ℕ, ◌<◌, ◌≤◌, ◌==◌, ◌⊎◌, inl, inr, Bool, true, false, suc, List, [], ◌∷◌, ◌++◌, Option, Some, None, length, refl, sym, ap, ◌∙◌, subst, arith, cond, eqb, eqb-true}
-use Rattle.std.proofs.lemmas.Bool.{eq-eqb}
+use Rattle.masked_bytes.proofs.Truth.{neither_first, neither_second}
+use Rattle.std.proofs.lemmas.Bool.{eq-eqb, or_left, or_right}
 use Rattle.masked_bytes.specs.declared.entry.Entry.{Entry}
 use Rattle.masked_bytes.specs.Masked.{joined, none_given, gives_all}
 use Rattle.masked_bytes.specs.Entries.{RowsApart, has_row, merged, laid_on, newest_row, candidate, or_this}
 use Rattle.masked_bytes.proofs.Layering.{joined-none_right, gives_all-all_given}
 use Rattle.bank_model.specs.History.{begun}
 use Rattle.bank_laws.specs.Pairs.{has_line, LinesApart, ArePaired}
-use Rattle.bank_laws.proofs.Entries.{or_left, or_right}
 use Rattle.bank_laws.proofs.Pairs.{AllLong, gives_all-joined, eqb-same}
 use Rattle.bank_laws.proofs.Lines.{Stands, stands-row, stands-line, newest-line, newest-stands}
-use Rattle.bank_laws.proofs.Pending.{or_on_left, or_on_right}
 use Rattle.queue_laws.proofs.Order.{MergesInto, merges_into, behind}
 use Rattle.queue_laws.proofs.Spread.{spread, spread-length, spread-lacks, spread-other, spread-alone, spread-push, spread-push_other, spread-merged, spread-merged_other}
 
@@ -45,7 +44,7 @@ module _ {n : ℕ} where
 
   pub tails-lacks : (s : ℕ → List Bool) (line : ℕ) (es : List (Entry n)) → has_line es line ≡ false → Tails s line es
   tails-lacks s line [] h = tt
-  tails-lacks s line (e ∷ es) h = ((λ is. absurd (cc (is, or_left (e.line == line) _ h))), tails-lacks s line es (or_right (e.line == line) _ h))
+  tails-lacks s line (e ∷ es) h = ((λ is. absurd (cc (is, neither_first (e.line == line) _ h))), tails-lacks s line es (neither_second (e.line == line) _ h))
 
   -- A write of the line: from each floor up to its row it gives its bytes beside the others
 
@@ -62,9 +61,9 @@ module _ {n : ℕ} where
     tails-push [] x l r g is below f = ((λ own. sym (ap (λ k. t (suc k)) r ∙ last)), tt)
     tails-push (e ∷ es) x l r g is below f = (
       (λ own.
-          let lt : e.row < at = below e.row (or_on_left (e.row == e.row) _ (eqb-same e.row)) in
+          let lt : e.row < at = below e.row (or_left (e.row == e.row) _ (eqb-same e.row)) in
           spread-push es x line l.1 (ap length g ∙ long) is ∙ ap (λ k. joined x.given k) (f.0 own) ∙ ap (λ k. joined k (s (suc e.row))) g ∙ sym (joins (suc e.row) (omega (arith, lt)))),
-      tails-push es x l.1 r g is (λ row there. below row (or_on_right (e.row == row) _ there)) f.1,
+      tails-push es x l.1 r g is (λ row there. below row (or_right (e.row == row) _ there)) f.1,
     )
 
     pub front-merged : (floor : ℕ) (busy : Bool) (old : ℕ) (bytes : List ℕ) (es : List (Entry n)) → RowsApart es → AllLong es → ArePaired es → candidate busy es line ≡ Some old → floor ≤ at → Front s floor line es
@@ -92,10 +91,10 @@ module _ {n : ℕ} where
         → Tails t line (merged old at bytes given es)
     tails-merged old bytes [] apart l new below f = tt
     tails-merged old bytes (e ∷ es) apart l new below f =
-        by (newest_row es line) refl (λ k. tails-merged old bytes es apart.1 l.1 k (λ row there. below row (or_on_right (e.row == row) _ there)) f.1) new
+        by (newest_row es line) refl (λ k. tails-merged old bytes es apart.1 l.1 k (λ row there. below row (or_right (e.row == row) _ there)) f.1) new
       where
         lt : e.row < at
-        lt = below e.row (or_on_left (e.row == e.row) _ (eqb-same e.row))
+        lt = below e.row (or_left (e.row == e.row) _ (eqb-same e.row))
 
         own : (b : Bool) → eqb e.line line ≡ b → newest_row es line ≡ None → cond b (Some e.row) None ≡ Some old → Tails t line (merged old at bytes given (e ∷ es))
         own true is none h =

@@ -1,5 +1,6 @@
 -- Which bytes of a line the entries of a queue give.
 use Rattle.std.proofs.Common.{◌≡◌, ℕ, ◌==◌, inl, inr, Bool, true, false, List, [], ◌∷◌, ◌++◌, Option, Some, None, length, refl, sym, ap, ◌∙◌, subst, cond, eqb, eqb-true}
+use Rattle.masked_bytes.proofs.Truth.{neither_first, neither_second}
 use Rattle.std.proofs.lemmas.Bool.{eq-eqb}
 use Rattle.std.proofs.lemmas.List.{length-replicate}
 use Rattle.masked_bytes.specs.declared.entry.Entry.{Entry}
@@ -7,7 +8,6 @@ use Rattle.masked_bytes.specs.Masked.{joined, none_given}
 use Rattle.masked_bytes.specs.Entries.{RowsApart, has_row, merged, laid_on, newest_row, or_this, layer_of, stacked, layer_by}
 use Rattle.masked_bytes.proofs.Layering.{length-joined, joined-none_given, joined-none_right, joined-joined}
 use Rattle.bank_laws.specs.Pairs.{has_line}
-use Rattle.bank_laws.proofs.Entries.{or_left, or_right}
 use Rattle.bank_laws.proofs.Pairs.{AllLong}
 use Rattle.bank_laws.proofs.Lines.{Stands, stands-row, newest-line}
 use Rattle.queue_laws.proofs.Order.{behind}
@@ -37,7 +37,7 @@ module _ {n : ℕ} where
   pub spread-lacks : (es : List (Entry n)) (line : ℕ) → has_line es line ≡ false → spread es line ≡ none_given n
   spread-lacks [] line h = refl
   spread-lacks (e ∷ es) line h =
-      ap (λ b. cond b (joined (spread es line) e.given) (spread es line)) (or_left (e.line == line) _ h) ∙ spread-lacks es line (or_right (e.line == line) _ h)
+      ap (λ b. cond b (joined (spread es line) e.given) (spread es line)) (neither_first (e.line == line) _ h) ∙ spread-lacks es line (neither_second (e.line == line) _ h)
 
   -- by whether the first entry has the line
   pub spread-own : (e : Entry n) (es : List (Entry n)) (line : ℕ) → (e.line == line) ≡ true → spread (e ∷ es) line ≡ joined (spread es line) e.given

@@ -1,18 +1,20 @@
 -- The writes that a row finds are those that stand in the queue, at any tick up to the next end of an action.
 use Rattle.std.proofs.Common.{◌≡◌, ◌≢◌, ℕ, ◌<◌, ◌≤◌, ◌==◌, ◌⊎◌, inl, inr, not, Bool, true, false, List, [], ◌∷◌, ◌++◌, length, refl, sym, ap, ◌∙◌, subst, arith, cond, append_assoc}
+use Rattle.std.proofs.lemmas.Bool.{or_left}
 use Rattle.std.specs.Prelude.{unwrap_or}
 use Rattle.std.specs.List.{list_any}
 use Rattle.result_rows.specs.declared.Outcome.{Outcome}
 use Rattle.result_rows.specs.declared.Outcome.TheVariants as out
 use Rattle.masked_bytes.specs.Entries.{has_row}
-use Rattle.row_laws.specs.declared.Row.{Row}
-use Rattle.row_laws.specs.Answers.{accepts}
-use Rattle.row_laws.specs.Rows.{accepted_of}
-use Rattle.row_laws.specs.Queueing.{pending}
+use Rattle.row_rules.specs.declared.Row.{Row}
+use Rattle.row_rules.specs.Answers.{accepts}
+use Rattle.row_rules.specs.Rows.{accepted_of}
+use Rattle.row_rules.specs.Queueing.{pending}
 use Rattle.bank_shape.specs.declared.BankShape.{BankShape}
 use Rattle.bank_model.specs.Events.{Write, Read, Serve, Begin, Iterate, Cut}
 use Rattle.bank_model.specs.History.{queue}
-use Rattle.bank_model.specs.Timing.{Pacing, Happens, Core, Regs, Timed, core, last_tick}
+use Rattle.bank_shape.specs.declared.pace.Pace.{Pace}
+use Rattle.bank_model.specs.Timing.{Happens, Core, Regs, TimedEvent, core, last_tick}
 use Rattle.bank_model.specs.Told.{tick_by, tick_of_row}
 use Rattle.bank_model.specs.Lawful.{Lawful, MayCome}
 use Rattle.bank_laws.specs.Outcomes.{outcome_with, outcome_of, ended, row_with, rows_from}
@@ -29,18 +31,18 @@ use Rattle.bank_laws.proofs.Wears.{stored_by, stored_up_to}
 use Rattle.bank_laws.proofs.Lines.{Stands, covered-stands, stands-row}
 use Rattle.bank_laws.proofs.Merging.{Fate, FateBy, fate, fate_new}
 use Rattle.bank_laws.proofs.Counting.{among, entries-counted}
-use Rattle.bank_laws.proofs.Pending.{stands_by, by_refused, any_merges, by_stored_later, by_stored_before, write_rows, writes_in, writes-fall, queue-asked, refused_set, CoveredOn, covered_on, left_by, or_on_left}
+use Rattle.bank_laws.proofs.Pending.{stands_by, by_refused, any_merges, by_stored_later, by_stored_before, write_rows, writes_in, writes-fall, queue-asked, refused_set, CoveredOn, covered_on, left_by}
 use Rattle.queue_laws.proofs.Order.{tick_stays}
 use Rattle.queue_laws.proofs.Written.{Written, items, standing, Each, NumbersFall, cond_items, cond_each, written_by, written, IsEntry, standing-falls, standing-count}
 
 -- each end of an action among these events is above a tick
-abbrev pub EndsAbove : {n m : ℕ} → ℕ → List (Timed n m) → Type 0
+abbrev pub EndsAbove : {n m : ℕ} → ℕ → List (TimedEvent n m) → Type 0
 EndsAbove t [] = Unit {0}
 EndsAbove t (x ∷ later) = (ends_action x.happens ≡ true → t < x.tick) × EndsAbove t later
 
-module _ {n m : ℕ} (shape : BankShape) (pace : Pacing) (e : ℕ) where
+module _ {n m : ℕ} (shape : BankShape) (pace : Pace) (e : ℕ) where
   -- what is stored by such events is stored above that tick
-  pub stored_over : (t : ℕ) (later zs : List (Timed n m)) (row u p : ℕ) → EndsAbove t later → (outcome_of shape zs row ≡ out.Stored u p → ⊥) → Lawful shape pace e (later ++ zs)
+  pub stored_over : (t : ℕ) (later zs : List (TimedEvent n m)) (row u p : ℕ) → EndsAbove t later → (outcome_of shape zs row ≡ out.Stored u p → ⊥) → Lawful shape pace e (later ++ zs)
       → outcome_of shape (later ++ zs) row ≡ out.Stored u p → t < u
   stored_over t [] zs row u p ends isnt l s = absurd (isnt s)
   stored_over t (y ∷ later) zs row u p ends isnt l s = by (stored_by shape pace e (later ++ zs) y y.happens row u p s) (λ s. stored_over t later zs row u p ends.1 isnt l.1 s)
@@ -49,10 +51,10 @@ module _ {n m : ℕ} (shape : BankShape) (pace : Pacing) (e : ℕ) where
       by (inl now) go = let lt : t < y.tick = ends.0 now.0 in omega (arith, lt, now.1)
       by (inr s) go = go s
 
-module _ {n m : ℕ} (shape : BankShape) (pace : Pacing) (e : ℕ) (all later now : List (Timed n m)) (t : ℕ) (r : 1 ≤ pace.read) (i : 1 ≤ pace.iter) (l : Lawful shape pace e all) (same : all ≡ later ++ now)
+module _ {n m : ℕ} (shape : BankShape) (pace : Pace) (e : ℕ) (all later now : List (TimedEvent n m)) (t : ℕ) (r : 1 ≤ pace.read) (i : 1 ≤ pace.iter) (l : Lawful shape pace e all) (same : all ≡ later ++ now)
     (up : last_tick now ≤ t) (ends : EndsAbove t later) where
   pub whole : Lawful shape pace e (later ++ now)
-  whole = subst (λ (xs : List (Timed n m)). Lawful shape pace e xs) same l
+  whole = subst (λ (xs : List (TimedEvent n m)). Lawful shape pace e xs) same l
 
   pub here : Lawful shape pace e now
   here = lawful_before shape pace e later now whole
@@ -78,7 +80,7 @@ module _ {n m : ℕ} (shape : BankShape) (pace : Pacing) (e : ℕ) (all later no
       there = stands-row (queue shape (core now)) row line alone.0
 
       last : WriteFate shape all row
-      last = subst (λ (xs : List (Timed n m)). WriteFate shape xs row) (sym same) (write_fate shape pace e later now row whole (inl there))
+      last = subst (λ (xs : List (TimedEvent n m)). WriteFate shape xs row) (sym same) (write_fate shape pace e later now row whole (inl there))
 
       by : WriteFate shape all row → stands_by t tick false (outcome_of shape all row) ≡ true
       by (inl end) = ap (stands_by t tick false) ((opens shape pace e all l).queued row end)
@@ -89,7 +91,7 @@ module _ {n m : ℕ} (shape : BankShape) (pace : Pacing) (e : ℕ) (all later no
       there = stands-row (queue shape (core now)) row line (covered-stands (queue shape (core now)) row line covered.0)
 
       last : CoveredOn shape pace e all row line
-      last = subst (λ (xs : List (Timed n m)). CoveredOn shape pace e xs row line) (sym same) (covered_on shape pace e later now row line whole covered.0)
+      last = subst (λ (xs : List (TimedEvent n m)). CoveredOn shape pace e xs row line) (sym same) (covered_on shape pace e later now row line whole covered.0)
 
       by : CoveredOn shape pace e all row line → stands_by t tick (list_any (accepted_of line) between) (outcome_of shape all row) ≡ true
       by (inl c) = ap (stands_by t tick (list_any (accepted_of line) between)) ((opens shape pace e all l).queued row (stands-row (queue shape (core all)) row line (covered-stands (queue shape (core all)) row line c)))
@@ -113,25 +115,25 @@ module _ {n m : ℕ} (shape : BankShape) (pace : Pacing) (e : ℕ) (all later no
   refused_same row tick any isnt set = by_refused t tick any (outcome_of shape all row) isnt ∙ sym (gone row (outcome_of shape now row) set refl)
 
   -- the writes that stand, the newest first
-  abbrev pub stood : List (Timed n m) → List (Written n)
+  abbrev pub stood : List (TimedEvent n m) → List (Written n)
   stood ys = standing (λ row. has_row (queue shape (core now)) row) (written shape all ys)
 
   -- they are those that a row finds
-  abbrev AreStood : List (Timed n m) → List (Timed n m) → Type 0
+  abbrev AreStood : List (TimedEvent n m) → List (TimedEvent n m) → Type 0
   AreStood mid ys = (pending t (rows_after shape all mid) (rows_from shape all ys) ≡ items (stood ys)) × Each (λ w. IsEntry shape all now w) (stood ys)
 
-  are_stood : (mid ys : List (Timed n m)) → now ≡ mid ++ ys → AreStood mid ys
+  are_stood : (mid ys : List (TimedEvent n m)) → now ≡ mid ++ ys → AreStood mid ys
   are_stood mid [] split = (refl, tt)
   are_stood mid (z ∷ ys) split =
       let rest : AreStood (mid ++ z ∷ []) ys = are_stood (mid ++ z ∷ []) ys (split ∙ sym (append_assoc mid (z ∷ []) ys)) in
       by z.happens z.cancels before.0 (onwards_at shape pace e all (later ++ mid) z ys l in_all)
-      (λ row line f. subst (λ (xs : List (Timed n m)). Fate shape xs (rows_after shape all mid) row line) (sym split) (fate shape pace e all later mid (z ∷ ys) row line l (opens shape pace e all l) in_split f))
-      (λ row set. subst (λ (xs : List (Timed n m)). outcome_of shape xs row ≢ out.Unset) (sym split) (λ un. set (sym (stays shape pace e mid (z ∷ ys) row there set) ∙ un)))
-      (λ row came. ap (λ (xs : List (Timed n m)). tick_of_row row xs) split ∙ tick_stays shape pace e mid (z ∷ ys) row there came)
+      (λ row line f. subst (λ (xs : List (TimedEvent n m)). Fate shape xs (rows_after shape all mid) row line) (sym split) (fate shape pace e all later mid (z ∷ ys) row line l (opens shape pace e all l) in_split f))
+      (λ row set. subst (λ (xs : List (TimedEvent n m)). outcome_of shape xs row ≢ out.Unset) (sym split) (λ un. set (sym (stays shape pace e mid (z ∷ ys) row there set) ∙ un)))
+      (λ row came. ap (λ (xs : List (TimedEvent n m)). tick_of_row row xs) split ∙ tick_stays shape pace e mid (z ∷ ys) row there came)
       (subst (λ (rows : List (Row n)). pending t rows (rows_from shape all ys) ≡ items (stood ys)) (rows_after-more shape all mid z) rest.0) rest.1
     where
       there : Lawful shape pace e (mid ++ z ∷ ys)
-      there = subst (λ (xs : List (Timed n m)). Lawful shape pace e xs) split here
+      there = subst (λ (xs : List (TimedEvent n m)). Lawful shape pace e xs) split here
 
       before : Lawful shape pace e (z ∷ ys)
       before = lawful_before shape pace e mid (z ∷ ys) there
@@ -153,7 +155,7 @@ module _ {n m : ℕ} (shape : BankShape) (pace : Pacing) (e : ℕ) (all later no
         cond_each (λ w. IsEntry shape all now w) (has_row (queue shape (core now)) at) _ (stood ys)
             (λ stands. record {
               there = own stands (accepting answer) refl;
-              came = sym (ticks at (or_on_left (at == at) _ (eqb-same at)) ∙ ap (λ b. cond b z.tick (tick_of_row at ys)) (eqb-same at));
+              came = sym (ticks at (or_left (at == at) _ (eqb-same at)) ∙ ap (λ b. cond b z.tick (tick_of_row at ys)) (eqb-same at));
               fate = refl;
             })
             each,

@@ -1,19 +1,19 @@
 -- All that the rows show of the queue and of the waiting reads, together.
 use Rattle.std.proofs.Common.{◌≡◌, ℕ, ◌==◌, ◌&&◌, ◌||◌, not, Bool, true, false, List, [], ◌∷◌, length}
+use Rattle.std.proofs.lemmas.Bool.{and_from}
+use Rattle.masked_bytes.proofs.Truth.{and_first, and_second}
 use Rattle.std.specs.Prelude.{nat_le, filter}
 use Rattle.masked_bytes.specs.Masked.{gives_all}
-use Rattle.row_laws.specs.declared.Asks.{Asks}
-use Rattle.row_laws.specs.declared.Asks.TheVariants.{Reads, Writes, Cuts}
-use Rattle.row_laws.specs.declared.Row.{Row}
-use Rattle.row_laws.specs.Answers.{is_full}
-use Rattle.row_laws.specs.Rows.{RowTest, each_row, asks_read, asks_write, line_of, write_of}
-use Rattle.row_laws.specs.Rules.{Rules}
-use Rattle.row_laws.specs.Queueing.{pending, waiting, cover, is_refused, is_at_head, read_fits, merge_fits, queue_fits, is_queue_fair}
+use Rattle.row_rules.specs.declared.Asks.{Asks}
+use Rattle.row_rules.specs.declared.Asks.TheVariants.{Reads, Writes, Cuts}
+use Rattle.row_rules.specs.declared.Row.{Row}
+use Rattle.row_rules.specs.Answers.{is_full}
+use Rattle.row_rules.specs.Rows.{RowTest, each_row, asks_read, asks_write, line_of, write_of}
+use Rattle.row_rules.specs.declared.Rules.{Rules}
+use Rattle.row_rules.specs.Queueing.{pending, waiting, cover, is_refused, is_at_head, read_fits, merge_fits, queue_fits, is_queue_fair}
 use Rattle.bank_laws.specs.Laws.{rules_of}
 use Rattle.bank_laws.specs.Outcomes.{table_of}
 use Rattle.bank_laws.specs.RowLaws.{is_room_fair, is_wait_fair, is_merge_fair}
-use Rattle.bank_laws.proofs.Pairs.{and_left, and_right}
-use Rattle.bank_laws.proofs.Walking.{and_both}
 use Rattle.bank_laws.proofs.Merging.{merge_law}
 use Rattle.bank_laws.proofs.Waiting.{wait_law}
 use Rattle.bank_laws.proofs.Pending.{queue_law}
@@ -22,7 +22,7 @@ use Rattle.queue_laws.proofs.Rooms.{pairs_few_law, refusal_law}
 use Rattle.queue_laws.proofs.Forwards.{forward_law}
 
 either_way : (a b c : Bool) → (not a || b) ≡ true → (not a || c) ≡ true → (not a || (b && c)) ≡ true
-either_way true b c h k = and_both b c h k
+either_way true b c h k = and_from b c h k
 either_way false b c h k = h
 
 module _ {n : ℕ} where
@@ -30,13 +30,13 @@ module _ {n : ℕ} where
   each-both : (p q : RowTest n) (rows after : List (Row n)) → each_row p rows after ≡ true → each_row q rows after ≡ true → each_row (λ before r after. p before r after && q before r after) rows after ≡ true
   each-both p q [] after h k = h
   each-both p q (r ∷ before) after h k =
-      and_both (p before r after && q before r after) _ (and_both (p before r after) (q before r after) (and_left (p before r after) _ h) (and_left (q before r after) _ k))
-      (each-both p q before (r ∷ after) (and_right (p before r after) _ h) (and_right (q before r after) _ k))
+      and_from (p before r after && q before r after) _ (and_from (p before r after) (q before r after) (and_first (p before r after) _ h) (and_first (q before r after) _ k))
+      (each-both p q before (r ∷ after) (and_second (p before r after) _ h) (and_second (q before r after) _ k))
 
   each-weaker : (p q : RowTest n) (rows after : List (Row n)) → ((before : List (Row n)) (r : Row n) (after : List (Row n)) → p before r after ≡ true → q before r after ≡ true) → each_row p rows after ≡ true → each_row q rows after ≡ true
   each-weaker p q [] after weaker h = h
   each-weaker p q (r ∷ before) after weaker h =
-      and_both (q before r after) _ (weaker before r after (and_left (p before r after) _ h)) (each-weaker p q before (r ∷ after) weaker (and_right (p before r after) _ h))
+      and_from (q before r after) _ (weaker before r after (and_first (p before r after) _ h)) (each-weaker p q before (r ∷ after) weaker (and_second (p before r after) _ h))
 
   -- a row's own answer fits, by the laws one by one
   fits : (rules : Rules) (ps ws : List (Row n)) (r : Row n) (asks : Asks n) (before after : List (Row n)) → (not (asks_write asks && is_full r.outcome) || length ps == rules.writes) ≡ true
@@ -44,7 +44,7 @@ module _ {n : ℕ} where
       → (not (asks_read asks) || read_fits rules.reads (length ws) (gives_all (cover r.tick (line_of asks) before after)) (is_at_head r.tick (line_of asks) ps before after) r.outcome) ≡ true
       → queue_fits rules ps ws r asks before after ≡ true
   fits rules ps ws r (Writes line bytes given) before after room refused merge read =
-      and_both _ _ (either_way (is_full r.outcome) (length ps == rules.writes) (is_refused r.tick ps (filter (write_of line) ps)) room refused) merge
+      and_from _ _ (either_way (is_full r.outcome) (length ps == rules.writes) (is_refused r.tick ps (filter (write_of line) ps)) room refused) merge
   fits rules ps ws r (Reads line) before after room refused merge read = read
   fits rules ps ws r Cuts before after room refused merge read = merge
 
@@ -56,19 +56,19 @@ module _ {n : ℕ} where
 
   fair : (rules : Rules) (before : List (Row n)) (r : Row n) (after : List (Row n)) → all_tests rules before r after ≡ true → is_queue_fair rules before r after ≡ true
   fair rules before r after h =
-      let first : (is_room_fair rules.writes before r after && is_wait_fair rules.reads before r after) ≡ true = and_left (is_room_fair rules.writes before r after && is_wait_fair rules.reads before r after) _ h in
+      let first : (is_room_fair rules.writes before r after && is_wait_fair rules.reads before r after) ≡ true = and_first (is_room_fair rules.writes before r after && is_wait_fair rules.reads before r after) _ h in
       let rest : ((is_merge_fair before r after && finds_pairs_few before r after) && (is_refusal_fair before r after && is_forward_fair rules.reads before r after)) ≡ true =
-      and_right (is_room_fair rules.writes before r after && is_wait_fair rules.reads before r after) _ h in
-      let second : (is_merge_fair before r after && finds_pairs_few before r after) ≡ true = and_left (is_merge_fair before r after && finds_pairs_few before r after) _ rest in
-      let third : (is_refusal_fair before r after && is_forward_fair rules.reads before r after) ≡ true = and_right (is_merge_fair before r after && finds_pairs_few before r after) _ rest in
-      let room : is_room_fair rules.writes before r after ≡ true = and_left (is_room_fair rules.writes before r after) _ first in
-      let wait : is_wait_fair rules.reads before r after ≡ true = and_right (is_room_fair rules.writes before r after) _ first in
-      and_both _ _
-      (and_both (nat_le (length (pending r.tick [] before)) rules.writes) _ (and_left (nat_le (length (pending r.tick [] before)) rules.writes) _ room)
-      (and_both (nat_le (length (waiting r.tick [] before)) rules.reads) _ (and_left (nat_le (length (waiting r.tick [] before)) rules.reads) _ wait)
-      (and_right (is_merge_fair before r after) (finds_pairs_few before r after) second)))
-      (fits rules (pending r.tick [] before) (waiting r.tick [] before) r r.asks before after (and_right (nat_le (length (pending r.tick [] before)) rules.writes) _ room) (and_left (is_refusal_fair before r after) _ third)
-      (and_left (is_merge_fair before r after) _ second) (and_right (is_refusal_fair before r after) _ third))
+      and_second (is_room_fair rules.writes before r after && is_wait_fair rules.reads before r after) _ h in
+      let second : (is_merge_fair before r after && finds_pairs_few before r after) ≡ true = and_first (is_merge_fair before r after && finds_pairs_few before r after) _ rest in
+      let third : (is_refusal_fair before r after && is_forward_fair rules.reads before r after) ≡ true = and_second (is_merge_fair before r after && finds_pairs_few before r after) _ rest in
+      let room : is_room_fair rules.writes before r after ≡ true = and_first (is_room_fair rules.writes before r after) _ first in
+      let wait : is_wait_fair rules.reads before r after ≡ true = and_second (is_room_fair rules.writes before r after) _ first in
+      and_from _ _
+      (and_from (nat_le (length (pending r.tick [] before)) rules.writes) _ (and_first (nat_le (length (pending r.tick [] before)) rules.writes) _ room)
+      (and_from (nat_le (length (waiting r.tick [] before)) rules.reads) _ (and_first (nat_le (length (waiting r.tick [] before)) rules.reads) _ wait)
+      (and_second (is_merge_fair before r after) (finds_pairs_few before r after) second)))
+      (fits rules (pending r.tick [] before) (waiting r.tick [] before) r r.asks before after (and_second (nat_le (length (pending r.tick [] before)) rules.writes) _ room) (and_first (is_refusal_fair before r after) _ third)
+      (and_first (is_merge_fair before r after) _ second) (and_second (is_refusal_fair before r after) _ third))
 
 pub queue_fair_law : QueueFairLaw
 queue_fair_law n m e shape pace xs sized l idle =

@@ -1,12 +1,12 @@
 -- The writes of a history with their rows' numbers, and which of them stand in the queue.
 use Rattle.std.proofs.Common.{◌≡◌, ℕ, ◌<◌, ◌≤◌, Bool, true, false, suc, List, [], ◌∷◌, ◌++◌, length, refl, ap, arith, cond}
 use Rattle.result_rows.specs.declared.Outcome.{Outcome}
-use Rattle.row_laws.specs.declared.Row.{Row}
-use Rattle.row_laws.specs.declared.Asks.TheVariants.{Writes}
+use Rattle.row_rules.specs.declared.Row.{Row}
+use Rattle.row_rules.specs.declared.Asks.TheVariants.{Writes}
 use Rattle.bank_shape.specs.declared.BankShape.{BankShape}
 use Rattle.bank_model.specs.Events.{Write, Read, Serve, Begin, Iterate, Cut, RowsBelow}
 use Rattle.bank_model.specs.History.{queue}
-use Rattle.bank_model.specs.Timing.{Happens, Core, Regs, Timed, core, core_of}
+use Rattle.bank_model.specs.Timing.{Happens, Core, Regs, TimedEvent, core, core_of}
 use Rattle.bank_model.specs.Told.{tick_of_row}
 use Rattle.bank_laws.specs.Outcomes.{outcome_of, ended}
 use Rattle.bank_laws.proofs.Lines.{Stands}
@@ -67,24 +67,24 @@ module _ {n : ℕ} where
   cond_count true w ys k is = ap suc is
   cond_count false w ys k is = is
 
-module _ {n m : ℕ} (shape : BankShape) (all : List (Timed n m)) where
+module _ {n m : ℕ} (shape : BankShape) (all : List (TimedEvent n m)) where
   -- the writes of these events, where `all` is the whole history
   abbrev pub written_by : Happens n → ℕ → List (Written n)
   written_by (Core (Write row line bytes given answer)) tick =
       record { row = row; tick = tick; line = line; bytes = bytes; given = given; outcome = ended tick (outcome_of shape all row) } ∷ []
   written_by _ tick = []
 
-  abbrev pub written : List (Timed n m) → List (Written n)
+  abbrev pub written : List (TimedEvent n m) → List (Written n)
   written [] = []
   written (x ∷ xs) = written_by x.happens x.tick ++ written xs
 
   -- a write stands in the queue after some events, and has its tick and its outcome
-  pub record IsEntry (now : List (Timed n m)) (w : Written n) : Type 0 where
+  pub record IsEntry (now : List (TimedEvent n m)) (w : Written n) : Type 0 where
     pub there : Stands (queue shape (core now)) w.row w.line
     pub came : w.tick ≡ tick_of_row w.row now
     pub fate : w.outcome ≡ ended w.tick (outcome_of shape all w.row)
 
-  pub standing-falls : (p : ℕ → Bool) (ys : List (Timed n m)) (bound : ℕ) → RowsBelow (core ys) bound → NumbersFall (standing p (written ys)) bound
+  pub standing-falls : (p : ℕ → Bool) (ys : List (TimedEvent n m)) (bound : ℕ) → RowsBelow (core ys) bound → NumbersFall (standing p (written ys)) bound
   standing-falls p [] bound b = tt
   standing-falls p (y ∷ ys) bound b = by y.happens (λ bound b. standing-falls p ys bound b) b
     where
@@ -98,7 +98,7 @@ module _ {n m : ℕ} (shape : BankShape) (all : List (Timed n m)) where
       by (Core (Iterate answer)) go b = go bound b
       by (Core (Cut tearing)) go b = go bound b
 
-  pub standing-count : (p : ℕ → Bool) (ys : List (Timed n m)) → length (items (standing p (written ys))) ≡ hits p (writes_in ys)
+  pub standing-count : (p : ℕ → Bool) (ys : List (TimedEvent n m)) → length (items (standing p (written ys))) ≡ hits p (writes_in ys)
   standing-count p [] = refl
   standing-count p (y ∷ ys) = by y.happens (standing-count p ys)
     where

@@ -4,8 +4,8 @@ use Rattle.masked_bytes.specs.Masked.{laid, gives_all}
 use Rattle.masked_bytes.specs.Entries.{Layer, no_layer, stacked, layer_by, newest_row}
 use Rattle.masked_bytes.specs.declared.entry.Entry.{Entry}
 use Rattle.bank_shape.specs.declared.BankShape.{BankShape}
-use Rattle.bank_model.specs.declared.answer.WriteAnswer.TheVariants as wrote
-use Rattle.bank_model.specs.declared.answer.Step.TheVariants as did
+use Rattle.bank_shape.specs.declared.answer.WriteAnswer.TheVariants as wrote
+use Rattle.bank_shape.specs.declared.answer.Step.TheVariants as did
 use Rattle.bank_model.specs.Events.{Event, Write, Begin, Iterate, RowsBelow}
 use Rattle.bank_model.specs.History.{queue, due_after}
 use Rattle.bank_model.specs.Answers.{MayAll}

@@ -1,20 +1,21 @@
 -- The laws of a bank's queue and of its waiting reads, one by one and together.
 use Rattle.std.specs.Prelude.{ℕ, not, ◌&&◌, ◌||◌, length, filter, IsTrue, List, []}
 use Rattle.masked_bytes.specs.Masked.{gives_all}
-use Rattle.row_laws.specs.Answers.{is_full}
-use Rattle.row_laws.specs.Rows.{RowTest, each_row, asks_read, asks_write, line_of, write_of}
-use Rattle.row_laws.specs.Queueing.{pending, waiting, cover, pairs_few, is_refused, is_at_head, read_fits, is_queue_fair}
+use Rattle.row_rules.specs.Answers.{is_full}
+use Rattle.row_rules.specs.Rows.{RowTest, each_row, asks_read, asks_write, line_of, write_of}
+use Rattle.row_rules.specs.Queueing.{pending, waiting, cover, pairs_few, is_refused, is_at_head, read_fits, is_queue_fair}
 use Rattle.bank_shape.specs.declared.BankShape.{BankShape}
-use Rattle.bank_model.specs.Timing.{Pacing, Timed}
+use Rattle.bank_shape.specs.declared.pace.Pace.{Pace}
+use Rattle.bank_model.specs.Timing.{TimedEvent}
 use Rattle.bank_model.specs.Lawful.{Lawful, IsIdle}
 use Rattle.bank_laws.specs.Laws.{IsSized, rules_of}
 use Rattle.bank_laws.specs.Outcomes.{table_of}
 
 -- a test holds of each row of the table that a lawful history leaves at whose end the bank is idle. The test may depend on how
 -- many entries a line has, on the bank's shape and on its pace
-abbrev pub HoldsOfRows : ((n e : ℕ) → BankShape → Pacing → RowTest n) → Type 0
+abbrev pub HoldsOfRows : ((n e : ℕ) → BankShape → Pace → RowTest n) → Type 0
 HoldsOfRows test =
-    (n m e : ℕ) (shape : BankShape) (pace : Pacing) (xs : List (Timed n m)) → IsSized shape pace → Lawful shape pace e xs
+    (n m e : ℕ) (shape : BankShape) (pace : Pace) (xs : List (TimedEvent n m)) → IsSized shape pace → Lawful shape pace e xs
     → IsIdle shape pace xs → IsTrue (each_row (test n e shape pace) (table_of shape xs) [])
 
 -- of the writes that a row finds in the queue at most two have one line, and then the older one is at the head

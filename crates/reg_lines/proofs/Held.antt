@@ -11,7 +11,7 @@ use Rattle.line_writer.specs.declared.writer.Progress.TheVariants as progress
 use Rattle.line_writer.specs.Writing.{Writes, IsProgress, HasBegun, IsWorn}
 use Rattle.line_writer.specs.Untouched.{HasUntouched, AreUntouched}
 use Rattle.line_writer.proofs.Untouched.{AreUntouched-same, AreUntouched-beside}
-use Rattle.bank_model.specs.declared.answer.Keep.TheVariants as keep
+use Rattle.bank_shape.specs.declared.answer.Keep.TheVariants as keep
 use Rattle.reg_lines.specs.declared.Change.{Change}
 use Rattle.reg_lines.specs.declared.regs.RegLines.TheInside.{Inside}
 use Rattle.reg_lines.specs.Values.{encoded}

@@ -7,10 +7,10 @@ ghost use Rattle.bank_model.specs.Touching.{Touches};
 ghost use Rattle.reg_lines.specs.Values.{encoded};
 ghost use Rattle.reg_lines.specs.Regs.{RegsState, AreHeld, values_held};
 ghost use Rattle.reg_lines.specs.Keeping.{with_change, broken_off, line_of, target_of, torn_line, keep_from, kept_on, IsKeep};
-ghost use Rattle.bank_model.specs.declared.answer.Keep.TheVariants as keep;
+ghost use Rattle.bank_shape.specs.declared.answer.Keep.TheVariants as keep;
 
 use crate::{Change, encode, values_of};
-use bank_model::answer::Keep;
+use bank_shape::answer::Keep;
 use ecp_line::Ecp;
 use line_writer::{LineWriter, Progress};
 use pcm_cells::CellArray;

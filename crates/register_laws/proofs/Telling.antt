@@ -6,18 +6,18 @@ use Rattle.line_writer.specs.declared.writer.LineWriter.{LineWriter}
 use Rattle.line_writer.specs.Writing.{steps_left, most_steps}
 use Rattle.line_writer.proofs.Rounds.{going}
 use Rattle.bank_shape.specs.declared.BankShape.{BankShape}
-use Rattle.bank_model.specs.declared.answer.Keep.{Keep}
-use Rattle.bank_model.specs.declared.answer.Keep.TheVariants as keep
-use Rattle.bank_model.specs.declared.answer.Step.{Step}
+use Rattle.bank_shape.specs.declared.answer.Keep.{Keep}
+use Rattle.bank_shape.specs.declared.answer.Keep.TheVariants as keep
+use Rattle.bank_shape.specs.declared.answer.Step.{Step}
 use Rattle.bank_model.specs.Events.{Write, Read, Serve, Begin, Iterate, Cut}
-use Rattle.bank_model.specs.Timing.{Timed, Happens, Core, Regs, KeepBegin, KeepIterate, KeepCut, core}
+use Rattle.bank_model.specs.Timing.{TimedEvent, Happens, Core, Regs, KeepBegin, KeepIterate, KeepCut, core}
 use Rattle.bank_model.specs.Changes.{change_after, changed_by, change_by, keeping_by, rounds_by, halted_by, keeping_after, rounds_after, halted_after}
 use Rattle.reg_lines.specs.declared.Change.{Change}
 use Rattle.reg_lines.specs.Regs.{RegsState, IsWritingOf}
 use Rattle.reg_lines.specs.Keeping.{HasFewer, with_change, broken_off, kept_on}
 use Rattle.register_laws.specs.Telling.{item_of, AreTold, IsCutting, IsStep, IsAside, ToldBegunLaw, ToldIteratedLaw, ToldLeftLaw, ToldBrokenLaw, ToldPutLaw, ToldStillLaw, ToldAsideLaw}
 
-module _ {n m e : ℕ} (shape : BankShape) (xs : List (Timed n m)) where
+module _ {n m e : ℕ} (shape : BankShape) (xs : List (TimedEvent n m)) where
   -- what the history tells once this has happened
   record Tells (happens : Happens n) (regs : RegsState n m e) : Type 0 where
     change : item_of regs.change ≡ change_by shape (core xs) happens (change_after shape xs)
@@ -25,7 +25,7 @@ module _ {n m e : ℕ} (shape : BankShape) (xs : List (Timed n m)) where
     halted : regs.halted ≡ halted_by happens (halted_after xs)
     steps : IfSome regs.writer (λ writer. rounds_by happens (rounds_after xs) + steps_left writer ≤ most_steps e)
 
-  told : (x : Timed n m) (regs : RegsState n m e) → Tells x.happens regs → AreTold shape (x ∷ xs) regs
+  told : (x : TimedEvent n m) (regs : RegsState n m e) → Tells x.happens regs → AreTold shape (x ∷ xs) regs
   told x regs t = record { change = t.change; writing = t.writing; halted = t.halted; steps = t.steps }
 
   -- A step of the writing

@@ -3,11 +3,11 @@ use Rattle.std.specs.Prelude.{◌≡◌, ◌≢◌, ℕ, ◌+◌, ◌<◌, ◌�
 use Rattle.pcm_cells.specs.Device.{ArrayState}
 use Rattle.bank_shape.specs.declared.BankShape.{BankShape}
 use Rattle.line_writer.specs.Writing.{steps_left, most_steps}
-use Rattle.bank_model.specs.declared.answer.Keep.{Keep}
-use Rattle.bank_model.specs.declared.answer.Keep.TheVariants as keep
-use Rattle.bank_model.specs.declared.answer.Step.{Step}
+use Rattle.bank_shape.specs.declared.answer.Keep.{Keep}
+use Rattle.bank_shape.specs.declared.answer.Keep.TheVariants as keep
+use Rattle.bank_shape.specs.declared.answer.Step.{Step}
 use Rattle.bank_model.specs.Events.{Write, Read, Serve, Begin, Iterate, Cut}
-use Rattle.bank_model.specs.Timing.{Timed, Happens, Core, Regs, KeepBegin, KeepIterate, KeepCut, core}
+use Rattle.bank_model.specs.Timing.{TimedEvent, Happens, Core, Regs, KeepBegin, KeepIterate, KeepCut, core}
 use Rattle.bank_model.specs.Changes.{change_after, changed_by, keeping_after, rounds_after, halted_after}
 use Rattle.reg_lines.specs.declared.Change.{Change}
 use Rattle.reg_lines.specs.Regs.{RegsState, AreHeld}
@@ -19,7 +19,7 @@ item_of None = None
 item_of (Some change) = Some change.item
 
 -- the change, and how far its writing has come, are those that a timed history leaves, with enough steps left
-pub record AreTold {n m e : ℕ} (shape : BankShape) (xs : List (Timed n m)) (regs : RegsState n m e) : Type 0 where
+pub record AreTold {n m e : ℕ} (shape : BankShape) (xs : List (TimedEvent n m)) (regs : RegsState n m e) : Type 0 where
   pub change : item_of regs.change ≡ change_after shape xs
   pub writing : is_some regs.writer ≡ keeping_after xs
   pub halted : regs.halted ≡ halted_after xs
@@ -28,20 +28,20 @@ pub record AreTold {n m e : ℕ} (shape : BankShape) (xs : List (Timed n m)) (re
 -- each step of the writing makes it go on so. It begins only while none goes on, and never ends at a worn line as it begins
 abbrev pub ToldBegunLaw : Type 0
 ToldBegunLaw =
-    (n m e : ℕ) (shape : BankShape) (xs : List (Timed n m)) (x : Timed n m) (regs new : RegsState n m e) (answer : Keep)
+    (n m e : ℕ) (shape : BankShape) (xs : List (TimedEvent n m)) (x : TimedEvent n m) (regs new : RegsState n m e) (answer : Keep)
     → AreTold shape xs regs → x.happens ≡ Regs (KeepBegin answer) → regs.writer ≡ None → answer ≢ keep.Halted → IsKeep regs new answer
     → AreTold shape (x ∷ xs) new
 
 abbrev pub ToldIteratedLaw : Type 0
 ToldIteratedLaw =
-    (n m e : ℕ) (shape : BankShape) (xs : List (Timed n m)) (x : Timed n m) (regs new : RegsState n m e) (answer : Keep)
+    (n m e : ℕ) (shape : BankShape) (xs : List (TimedEvent n m)) (x : TimedEvent n m) (regs new : RegsState n m e) (answer : Keep)
     → AreTold shape xs regs → x.happens ≡ Regs (KeepIterate answer) → IsTrue (is_some regs.writer) → IsKeep regs new answer
     → AreTold shape (x ∷ xs) new
 
 -- a change that is being written has iterations left
 abbrev pub ToldLeftLaw : Type 0
 ToldLeftLaw =
-    (n m e : ℕ) (shape : BankShape) (xs : List (Timed n m)) (regs : RegsState n m e) (array : ArrayState n m)
+    (n m e : ℕ) (shape : BankShape) (xs : List (TimedEvent n m)) (regs : RegsState n m e) (array : ArrayState n m)
     → AreTold shape xs regs → AreHeld regs array → IsTrue (is_some regs.writer) → rounds_after xs < most_steps e
 
 -- a cut of the bank or of the change ends its writing
@@ -52,7 +52,7 @@ IsCutting happens = ⊥
 
 abbrev pub ToldBrokenLaw : Type 0
 ToldBrokenLaw =
-    (n m e : ℕ) (shape : BankShape) (xs : List (Timed n m)) (x : Timed n m) (regs : RegsState n m e)
+    (n m e : ℕ) (shape : BankShape) (xs : List (TimedEvent n m)) (x : TimedEvent n m) (regs : RegsState n m e)
     → AreTold shape xs regs → IsCutting x.happens → AreTold shape (x ∷ xs) (broken_off regs)
 
 -- a step of the bank's line write answers so
@@ -64,13 +64,13 @@ IsStep happens step = ⊥
 -- such a step, which comes only while no change stands, has its change put, or brings none
 abbrev pub ToldPutLaw : Type 0
 ToldPutLaw =
-    (n m e : ℕ) (shape : BankShape) (xs : List (Timed n m)) (x : Timed n m) (regs : RegsState n m e) (answer : Step) (change : Change)
+    (n m e : ℕ) (shape : BankShape) (xs : List (TimedEvent n m)) (x : TimedEvent n m) (regs : RegsState n m e) (answer : Step) (change : Change)
     → AreTold shape xs regs → IsStep x.happens answer → regs.change ≡ None → regs.writer ≡ None → changed_by shape (core xs) answer None ≡ Some change.item
     → AreTold shape (x ∷ xs) (with_change change regs)
 
 abbrev pub ToldStillLaw : Type 0
 ToldStillLaw =
-    (n m e : ℕ) (shape : BankShape) (xs : List (Timed n m)) (x : Timed n m) (regs : RegsState n m e) (answer : Step)
+    (n m e : ℕ) (shape : BankShape) (xs : List (TimedEvent n m)) (x : TimedEvent n m) (regs : RegsState n m e) (answer : Step)
     → AreTold shape xs regs → IsStep x.happens answer → regs.change ≡ None → regs.writer ≡ None → changed_by shape (core xs) answer None ≡ None
     → AreTold shape (x ∷ xs) regs
 
@@ -83,5 +83,5 @@ IsAside happens = ⊥
 
 abbrev pub ToldAsideLaw : Type 0
 ToldAsideLaw =
-    (n m e : ℕ) (shape : BankShape) (xs : List (Timed n m)) (x : Timed n m) (regs : RegsState n m e)
+    (n m e : ℕ) (shape : BankShape) (xs : List (TimedEvent n m)) (x : TimedEvent n m) (regs : RegsState n m e)
     → AreTold shape xs regs → IsAside x.happens → AreTold shape (x ∷ xs) regs

@@ -2,8 +2,8 @@
 use Rattle.std.specs.Prelude.{◌≡◌, ℕ, ◌+◌, Bool, false, [], None, IfSome}
 use Rattle.pcm_cells.specs.Device.{ArrayState}
 use Rattle.ecp_line.specs.Reading.{decode}
-use Rattle.bank_model.specs.declared.answer.Keep.{Keep}
-use Rattle.bank_model.specs.declared.answer.Keep.TheVariants as keep
+use Rattle.bank_shape.specs.declared.answer.Keep.{Keep}
+use Rattle.bank_shape.specs.declared.answer.Keep.TheVariants as keep
 use Rattle.bank_model.specs.Touching.{Touches}
 use Rattle.power_recovery.specs.Kept.{KeptState, IsKept}
 use Rattle.reg_lines.specs.Values.{encoded}

@@ -10,14 +10,14 @@ use Rattle.trace_reader.specs.declared.event.EventOp.{EventOp}
 use Rattle.trace_reader.specs.declared.event.EventOp.TheVariants.{Read, Write, Mask, Cut}
 use Rattle.result_rows.specs.declared.Outcome.{Outcome}
 use Rattle.result_rows.specs.declared.Outcome.TheVariants as out
-use Rattle.row_laws.specs.declared.Row.{Row}
-use Rattle.row_laws.specs.Rows.{asks_write, given_of}
+use Rattle.row_rules.specs.declared.Row.{Row}
+use Rattle.row_rules.specs.Rows.{asks_write, given_of}
 use Rattle.row_judging.specs.Keys.{reach}
 use Rattle.row_judging.specs.Rising.{rising}
 use Rattle.row_judging.specs.Runs.{GivesSized}
 use Rattle.row_verdict.specs.Fitting.{is_brief, all_brief}
 use Rattle.row_verdict.specs.Verdicts.{asks_of, rows_with}
-use Rattle.row_verdict.specs.declared.Rules.{Rules}
+use Rattle.row_rules.specs.declared.Rules.{Rules}
 use Rattle.result_check.specs.Checkable.{IsTimed, IsCheckable}
 use Rattle.result_check.specs.Finding.{IsBelow, row_of}
 use Rattle.result_check.specs.Tables.{IsTable, IsRowOf}

@@ -8,13 +8,13 @@ use Rattle.std.proofs.lemmas.Option.{slice_get_within, get_or_from_slice_get}
 use Rattle.result_check.proofs.Finding.{none_left}
 use Rattle.result_rows.specs.declared.Outcome.{Outcome}
 use Rattle.result_rows.specs.declared.Outcome.TheVariants as out
-use Rattle.row_laws.specs.declared.Asks.{Asks}
-use Rattle.row_laws.specs.declared.Asks.TheVariants.{Reads, Writes, Cuts}
-use Rattle.row_laws.specs.declared.Row.{Row}
-use Rattle.row_laws.specs.Answers.{accepts, is_worn}
-use Rattle.row_laws.specs.Rows.{asks_write_of, asks_write, accepted_of}
-use Rattle.row_laws.specs.Table.{is_of, of_bank}
-use Rattle.row_laws.specs.Wearing.{worn_row}
+use Rattle.row_rules.specs.declared.Asks.{Asks}
+use Rattle.row_rules.specs.declared.Asks.TheVariants.{Reads, Writes, Cuts}
+use Rattle.row_rules.specs.declared.Row.{Row}
+use Rattle.row_rules.specs.Answers.{accepts, is_worn}
+use Rattle.row_rules.specs.Rows.{asks_write_of, asks_write, accepted_of}
+use Rattle.row_rules.specs.Table.{is_of, of_bank}
+use Rattle.row_rules.specs.Wearing.{worn_row}
 use Rattle.row_verdict.specs.Covering.{sooner, soonest}
 use Rattle.row_verdict.specs.QueueLaws.{next_accepted}
 use Rattle.row_verdict.specs.Verdicts.{bank_in}

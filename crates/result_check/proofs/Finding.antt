@@ -5,8 +5,8 @@ use Rattle.result_rows.specs.declared.Outcome.{Outcome}
 use Rattle.result_rows.specs.declared.Outcome.TheVariants as out
 use Rattle.result_rows.specs.Table.{outcome_at}
 use Rattle.trace_reader.specs.declared.event.Event.{Event}
-use Rattle.row_laws.specs.declared.Row.{Row}
-use Rattle.row_laws.specs.Rows.{asks_read, asks_write, is_cut, line_of}
+use Rattle.row_rules.specs.declared.Row.{Row}
+use Rattle.row_rules.specs.Rows.{asks_read, asks_write, is_cut, line_of}
 use Rattle.row_judging.specs.Cutting.{cut_ticks}
 use Rattle.row_judging.specs.Keys.{key, store_key, store_keys, read_key, read_keys}
 use Rattle.row_verdict.specs.Verdicts.{bank_in, rows_with}

@@ -1,5 +1,6 @@
 -- The pass over all rows.
 use Rattle.std.proofs.Common.{◌≡◌, ℕ, zero, suc, ◌+◌, ◌<◌, ◌≤◌, ◌&&◌, Bool, true, false, List, [], ◌∷◌, ◌++◌, length, take, drop, get_or, reverse, Option, Some, None, refl, sym, ap, ◌∙◌, cond, subst, arith}
+use Rattle.masked_bytes.proofs.Truth.{and_first, and_second}
 use Rattle.std.specs.Prelude.{All, IsPermutation, slice_get, nat_le, max, replicate}
 use Rattle.std.specs.List.Sorted.{IsNonDecreasing}
 use Rattle.std.proofs.lemmas.Bool.{leb-true, le-leb}
@@ -11,9 +12,9 @@ use Rattle.std.proofs.Math.ListN.{get_or-append}
 use Rattle.std.proofs.Math.Seq.{get_or-append_seam}
 use Rattle.result_rows.specs.declared.Outcome.{Outcome}
 use Rattle.result_rows.specs.declared.Outcome.TheVariants as out
-use Rattle.row_laws.specs.declared.Row.{Row}
-use Rattle.row_laws.specs.Rules.{Rules}
-use Rattle.row_laws.specs.Rows.{asks_cut, asks_read, asks_write, is_cut, line_of}
+use Rattle.row_rules.specs.declared.Row.{Row}
+use Rattle.row_rules.specs.declared.Rules.{Rules}
+use Rattle.row_rules.specs.Rows.{asks_cut, asks_read, asks_write, is_cut, line_of}
 use Rattle.row_judging.specs.Cutting.{cut_ticks}
 use Rattle.row_judging.specs.Keys.{key, store_key, store_keys, read_key, read_keys, all_short}
 use Rattle.row_judging.specs.Rising.{rising}
@@ -38,23 +39,15 @@ use Rattle.result_check.specs.Lines.{IsFresh, AreFresh}
 use Rattle.result_check.proofs.Lists.{some_same}
 use Rattle.std.proofs.Math.Nat.{le-max_left, le-max_right}
 
-first_of : (a b : Bool) → (a && b) ≡ true → a ≡ true
-first_of true b h = refl
-first_of false b h = h
-
-second_of : (a b : Bool) → (a && b) ≡ true → b ≡ true
-second_of true b h = h
-second_of false b h = absurd (cc)
-
 -- Keys and cuts
 
 -- ticks of cuts don't fall
 cut_bound : {n : ℕ} (t : ℕ) (rows : List (Row n)) → rising t rows ≡ true → (k d : ℕ) → k < length (cut_ticks rows) → t ≤ get_or (cut_ticks rows) k d
 cut_bound t [] h k d lt = absurd (omega (arith, lt))
-cut_bound {n} t (q ∷ rows) h k d lt = by (is_cut q) k lt (λ j less. cut_bound q.tick rows (second_of _ _ h) j d less)
+cut_bound {n} t (q ∷ rows) h k d lt = by (is_cut q) k lt (λ j less. cut_bound q.tick rows (and_second _ _ h) j d less)
   where
     le : t ≤ q.tick
-    le = leb-true t q.tick (first_of _ _ h)
+    le = leb-true t q.tick (and_first _ _ h)
 
     by : (b : Bool) (k : ℕ) → k < length (cond b (q.tick ∷ cut_ticks rows) (cut_ticks rows)) → ((j : ℕ) → j < length (cut_ticks rows) → q.tick ≤ get_or (cut_ticks rows) j d)
         → t ≤ get_or (cond b (q.tick ∷ cut_ticks rows) (cut_ticks rows)) k d
@@ -70,10 +63,10 @@ sorted_front x xs low h (suc i) (suc j) d le lt = h i j d (omega (arith, le)) (o
 
 pub cuts_sorted : {n : ℕ} (t : ℕ) (rows : List (Row n)) → rising t rows ≡ true → IsNonDecreasing (cut_ticks rows)
 cuts_sorted t [] h = λ i j d le lt. absurd (omega (arith, lt))
-cuts_sorted {n} t (q ∷ rows) h = by (is_cut q) (cuts_sorted q.tick rows (second_of _ _ h))
+cuts_sorted {n} t (q ∷ rows) h = by (is_cut q) (cuts_sorted q.tick rows (and_second _ _ h))
   where
     by : (b : Bool) → IsNonDecreasing (cut_ticks rows) → IsNonDecreasing (cond b (q.tick ∷ cut_ticks rows) (cut_ticks rows))
-    by true ih = sorted_front q.tick (cut_ticks rows) (λ k d lt. cut_bound q.tick rows (second_of _ _ h) k d lt) ih
+    by true ih = sorted_front q.tick (cut_ticks rows) (λ k d lt. cut_bound q.tick rows (and_second _ _ h) k d lt) ih
     by false ih = ih
 
 -- what the rows behind a row bring, by its place
@@ -193,10 +186,10 @@ module _ {n : ℕ} (rules : Rules) (banks : List ℕ) (rows : List (Row n)) (tab
   rises_here = ap (rising h.from) (sym here) ∙ h.rises
 
   pub passed_by : h.from ≤ r.tick
-  passed_by = leb-true h.from r.tick (first_of _ _ rises_here)
+  passed_by = leb-true h.from r.tick (and_first _ _ rises_here)
 
   rises_after : rising r.tick after ≡ true
-  rises_after = second_of _ _ rises_here
+  rises_after = and_second _ _ rises_here
 
   sized_before : All (λ (q : Row n). GivesSized q) before
   sized_before = All-permutation (λ (q : Row n). GivesSized q) (take i rows) before (IsPermutation-reverse (take i rows)) (All-take (λ (q : Row n). GivesSized q) i rows table.sized)

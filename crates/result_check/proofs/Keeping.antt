@@ -5,10 +5,10 @@ use Rattle.std.proofs.lemmas.Bool.{cases_eq, cases_lt, eq-eqb, ne_eqb}
 use Rattle.std.proofs.lemmas.Option.{slice_get_past, unwrap_or-slice_get}
 use Rattle.std.proofs.Math.ListN.{length-set}
 use Rattle.result_rows.specs.declared.Outcome.TheVariants as out
-use Rattle.row_laws.specs.declared.Row.{Row}
-use Rattle.row_laws.specs.Rules.{Rules}
-use Rattle.row_laws.specs.Queueing.{has_room}
-use Rattle.row_laws.specs.Table.{of_bank}
+use Rattle.row_rules.specs.declared.Row.{Row}
+use Rattle.row_rules.specs.declared.Rules.{Rules}
+use Rattle.row_rules.specs.Queueing.{has_room}
+use Rattle.row_rules.specs.Table.{of_bank}
 use Rattle.row_verdict.specs.Judged.{a_cut}
 use Rattle.row_verdict.specs.Members.{never}
 use Rattle.row_verdict.specs.Passing.{Passed, put, joined_room}

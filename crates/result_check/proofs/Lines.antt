@@ -5,10 +5,10 @@ use Rattle.std.proofs.lemmas.Bool.{cases_eq, eq-eqb, ne_eqb}
 use Rattle.masked_bytes.specs.Masked.{joined, laid}
 use Rattle.result_rows.specs.declared.Outcome.{Outcome}
 use Rattle.result_rows.specs.declared.Outcome.TheVariants as out
-use Rattle.row_laws.specs.declared.Row.{Row}
-use Rattle.row_laws.specs.Answers.{accepts}
-use Rattle.row_laws.specs.Rows.{accepted_of}
-use Rattle.row_laws.specs.Table.{is_of}
+use Rattle.row_rules.specs.declared.Row.{Row}
+use Rattle.row_rules.specs.Answers.{accepts}
+use Rattle.row_rules.specs.Rows.{accepted_of}
+use Rattle.row_rules.specs.Table.{is_of}
 use Rattle.row_verdict.specs.Covering.{KeptLine, unclosed_behind, runs_behind}
 use Rattle.row_verdict.specs.declared.lines.Line.{Line}
 use Rattle.row_verdict.specs.declared.lines.Run.{Run}

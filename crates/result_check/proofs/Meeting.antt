@@ -1,10 +1,10 @@
 -- A row meets what is known behind the last one before it.
 use Rattle.std.proofs.Common.{◌≡◌, ℕ, suc, ◌+◌, ◌<◌, ◌≤◌, Bool, true, false, List, [], ◌∷◌, length, Option, Some, None, refl, sym, ◌∙◌, subst, cond, arith}
 use Rattle.std.specs.Prelude.{IfSome}
-use Rattle.row_laws.specs.declared.Row.{Row}
-use Rattle.row_laws.specs.Rules.{Rules}
-use Rattle.row_laws.specs.Table.{is_of, of_bank}
-use Rattle.row_laws.specs.Queueing.{waiting, awaits}
+use Rattle.row_rules.specs.declared.Row.{Row}
+use Rattle.row_rules.specs.declared.Rules.{Rules}
+use Rattle.row_rules.specs.Table.{is_of, of_bank}
+use Rattle.row_rules.specs.Queueing.{waiting, awaits}
 use Rattle.row_judging.specs.Keys.{reach}
 use Rattle.row_verdict.specs.declared.lines.Line.{Line}
 use Rattle.row_verdict.specs.Members.{never}

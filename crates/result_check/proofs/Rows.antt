@@ -1,29 +1,22 @@
 -- What is known of a row of a table.
 use Rattle.std.proofs.Common.{◌≡◌, ℕ, zero, suc, ◌&&◌, Bool, true, false, List, [], ◌∷◌, drop, refl, sym, ap, ◌∙◌, subst, arith}
+use Rattle.masked_bytes.proofs.Truth.{and_first, and_second}
 use Rattle.std.specs.Prelude.{All}
 use Rattle.std.specs.List.{list_all}
 use Rattle.std.proofs.lemmas.List.Elements.{All-tail}
 use Rattle.result_rows.specs.declared.Outcome.{Outcome}
 use Rattle.result_rows.specs.declared.Outcome.TheVariants as out
-use Rattle.row_laws.specs.declared.Row.{Row}
+use Rattle.row_rules.specs.declared.Row.{Row}
 use Rattle.row_judging.specs.Keys.{is_short, all_short}
 use Rattle.row_judging.specs.Rising.{rising}
 use Rattle.row_verdict.specs.Fitting.{is_brief, all_brief}
-
-first_of : (a b : Bool) → (a && b) ≡ true → a ≡ true
-first_of true b h = refl
-first_of false b h = h
-
-second_of : (a b : Bool) → (a && b) ≡ true → b ≡ true
-second_of true b h = h
-second_of false b h = absurd (cc)
 
 -- what a test says of all rows, it says of one
 pub one_of_all : {A : Type 0} (p : A → Bool) (xs : List A) (i : ℕ) (x : A) (rest : List A) → drop i xs ≡ x ∷ rest → list_all p xs ≡ true → p x ≡ true
 one_of_all p [] zero x rest is h = absurd (cc)
 one_of_all p [] (suc i) x rest is h = absurd (cc)
-one_of_all p (y ∷ ys) zero x rest is h = let same : y ≡ x = cc in ap p (sym same) ∙ first_of _ _ h
-one_of_all p (y ∷ ys) (suc i) x rest is h = one_of_all p ys i x rest is (second_of _ _ h)
+one_of_all p (y ∷ ys) zero x rest is h = let same : y ≡ x = cc in ap p (sym same) ∙ and_first _ _ h
+one_of_all p (y ∷ ys) (suc i) x rest is h = one_of_all p ys i x rest is (and_second _ _ h)
 
 pub one_of_every : {A : Type 0} (P : A → Type 0) (xs : List A) (i : ℕ) (x : A) (rest : List A) → drop i xs ≡ x ∷ rest → All P xs → P x
 one_of_every P [] zero x rest is h = absurd (cc)
@@ -47,7 +40,7 @@ short_of_brief (out.Cut u) h = refl
 
 pub all_short_of_brief : {n : ℕ} (rows : List (Row n)) → all_brief rows ≡ true → all_short rows ≡ true
 all_short_of_brief [] h = refl
-all_short_of_brief (q ∷ rows) h = ap (λ b. b && all_short rows) (short_of_brief q.outcome (first_of _ _ h)) ∙ all_short_of_brief rows (second_of _ _ h)
+all_short_of_brief (q ∷ rows) h = ap (λ b. b && all_short rows) (short_of_brief q.outcome (and_first _ _ h)) ∙ all_short_of_brief rows (and_second _ _ h)
 
 -- the rows behind one don't come before it
 pub rising_behind : {n : ℕ} (t : ℕ) (rows : List (Row n)) (i : ℕ) (r : Row n) (rest : List (Row n)) → drop i rows ≡ r ∷ rest → rising t rows ≡ true → rising r.tick rest ≡ true
@@ -55,5 +48,5 @@ rising_behind t [] zero r rest is h = absurd (cc)
 rising_behind t [] (suc i) r rest is h = absurd (cc)
 rising_behind t (q ∷ rows) zero r rest is h =
     let same : q ≡ r = cc in let more : rows ≡ rest = cc in
-    ap (λ xs. rising r.tick xs) (sym more) ∙ ap (λ (x : Row _). rising x.tick rows) (sym same) ∙ second_of _ _ h
-rising_behind t (q ∷ rows) (suc i) r rest is h = rising_behind q.tick rows i r rest is (second_of _ _ h)
+    ap (λ xs. rising r.tick xs) (sym more) ∙ ap (λ (x : Row _). rising x.tick rows) (sym same) ∙ and_second _ _ h
+rising_behind t (q ∷ rows) (suc i) r rest is h = rising_behind q.tick rows i r rest is (and_second _ _ h)

@@ -1,19 +1,20 @@
 -- A row comes, and passes where it breaks no rule.
 use Rattle.std.proofs.Common.{◌≡◌, ℕ, suc, ◌+◌, ◌^◌, ◌<◌, ◌≤◌, ◌&&◌, ◌||◌, ◌⊎◌, inl, inr, Bool, true, false, List, [], ◌∷◌, length, Option, Some, None, refl, sym, ap, ◌∙◌, cond, subst, arith}
+use Rattle.masked_bytes.proofs.Truth.{and_first, and_second}
 use Rattle.std.specs.Prelude.{All, slice_get, slice_set, not, nat_lt}
 use Rattle.std.proofs.lemmas.Bool.{eq-eqb, leb-true, le-leb}
 use Rattle.std.proofs.lemmas.List.Elements.{All-tail, All-filter}
 use Rattle.masked_bytes.specs.Masked.{gives_all}
 use Rattle.result_rows.specs.declared.Outcome.{Outcome}
 use Rattle.result_rows.specs.declared.Outcome.TheVariants as out
-use Rattle.row_laws.specs.declared.Asks.{Asks}
-use Rattle.row_laws.specs.declared.Asks.TheVariants.{Reads, Writes, Cuts}
-use Rattle.row_laws.specs.declared.Row.{Row}
-use Rattle.row_laws.specs.Answers.{is_worn}
-use Rattle.row_laws.specs.Rules.{Rules}
-use Rattle.row_laws.specs.Serving.{may_have}
-use Rattle.row_laws.specs.Table.{is_of, of_bank}
-use Rattle.row_laws.specs.Queueing.{has_room, read_fits}
+use Rattle.row_rules.specs.declared.Asks.{Asks}
+use Rattle.row_rules.specs.declared.Asks.TheVariants.{Reads, Writes, Cuts}
+use Rattle.row_rules.specs.declared.Row.{Row}
+use Rattle.row_rules.specs.Answers.{is_worn}
+use Rattle.row_rules.specs.declared.Rules.{Rules}
+use Rattle.row_rules.specs.Serving.{may_have}
+use Rattle.row_rules.specs.Table.{is_of, of_bank}
+use Rattle.row_rules.specs.Queueing.{has_room, read_fits}
 use Rattle.row_judging.specs.Cutting.{cut_ticks}
 use Rattle.row_judging.specs.Distances.{ends_behind}
 use Rattle.row_judging.specs.Rising.{rising}
@@ -46,27 +47,19 @@ use Rattle.result_check.proofs.Keeping.{same_facts, put_set, facts_settled, bank
 use Rattle.result_check.proofs.Lines.{lines_stay}
 use Rattle.result_check.proofs.Rows.{short_of_brief}
 
-first_of : (a b : Bool) → (a && b) ≡ true → a ≡ true
-first_of true b h = refl
-first_of false b h = h
-
-second_of : (a b : Bool) → (a && b) ≡ true → b ≡ true
-second_of true b h = h
-second_of false b h = absurd (cc)
-
 -- rows of a bank don't fall where all rows don't
 rising_less : {n : ℕ} (s t : ℕ) (rows : List (Row n)) → t ≤ s → rising s rows ≡ true → rising t rows ≡ true
 rising_less s t [] le h = refl
 rising_less s t (q ∷ rows) le h =
-    let a = leb-true s q.tick (first_of _ _ h) in
-    ap (λ b. b && rising q.tick rows) (le-leb t q.tick (omega (arith, a, le))) ∙ second_of _ _ h
+    let a = leb-true s q.tick (and_first _ _ h) in
+    ap (λ b. b && rising q.tick rows) (le-leb t q.tick (omega (arith, a, le))) ∙ and_second _ _ h
 
 rising_of_bank : {n : ℕ} (bank_of : ℕ → ℕ) (bank t : ℕ) (rows : List (Row n)) → rising t rows ≡ true → rising t (of_bank bank_of bank rows) ≡ true
 rising_of_bank bank_of bank t [] h = refl
-rising_of_bank {n} bank_of bank t (q ∷ rows) h = by (is_of bank_of bank q.asks) (rising_of_bank bank_of bank q.tick rows (second_of _ _ h))
+rising_of_bank {n} bank_of bank t (q ∷ rows) h = by (is_of bank_of bank q.asks) (rising_of_bank bank_of bank q.tick rows (and_second _ _ h))
   where
     le : t ≤ q.tick
-    le = leb-true t q.tick (first_of _ _ h)
+    le = leb-true t q.tick (and_first _ _ h)
 
     by : (b : Bool) → rising q.tick (of_bank bank_of bank rows) ≡ true → rising t (cond b (q ∷ of_bank bank_of bank rows) (of_bank bank_of bank rows)) ≡ true
     by true ih = ap (λ b. b && rising q.tick (of_bank bank_of bank rows)) (le-leb t q.tick le) ∙ ih
@@ -134,7 +127,7 @@ module _ {n : ℕ} (rules : Rules) (banks : List ℕ) (found : Found) (before : 
 -- a write that is served and stored in time ends behind its arrival
 write_ends : {n : ℕ} (tick line : ℕ) (bytes : List ℕ) (given : List Bool) (some : List ℕ) (latest : ℕ) (o : Outcome n)
     → may_have tick (Writes line bytes given) some o ≡ true → write_timely tick latest o ≡ true → ends_behind tick o ≡ true
-write_ends tick line bytes given some latest (out.Stored u place) served timely = first_of (nat_lt tick u) _ timely
+write_ends tick line bytes given some latest (out.Stored u place) served timely = and_first (nat_lt tick u) _ timely
 write_ends tick line bytes given some latest (out.Read u place more) served timely = absurd (cc)
 write_ends tick line bytes given some latest out.Unset served timely = refl
 write_ends tick line bytes given some latest (out.Merged u) served timely = refl
@@ -150,7 +143,7 @@ write_ends tick line bytes given some latest (out.Cut u) served timely = refl
 read_ends : {n : ℕ} (tick line read bound : ℕ) (cut : Option ℕ) (some : List ℕ) (o : Outcome n)
     → 0 < read → may_have tick (Reads line) some o ≡ true → read_timely tick read bound cut o ≡ true → ends_behind tick o ≡ true
 read_ends tick line read bound cut some (out.Read u place more) pos served timely =
-    let a = leb-true (tick + read) u (first_of _ _ timely) in le-leb (suc tick) u (omega (arith, a, pos))
+    let a = leb-true (tick + read) u (and_first _ _ timely) in le-leb (suc tick) u (omega (arith, a, pos))
 read_ends tick line read bound cut some (out.Stored u place) pos served timely = absurd (cc)
 read_ends tick line read bound cut some out.Unset pos served timely = refl
 read_ends tick line read bound cut some (out.Merged u) pos served timely = refl
@@ -232,7 +225,7 @@ write_taken {n} rules banks found before tick line bytes given o after kept kept
         let stands = write_passes_law n tick line bytes given o rules (beside banks line before) f p.0 some
         (own_stands rules banks found before r after kept joined lines room h line within below)
         ((room_is rules banks found before r after kept joined lines room h line within below).own breaks.has_room) breaks.is_served h.brief
-        (write_ends tick line bytes given some _ o breaks.is_served (first_of _ _ breaks.is_timely)) p.1 in
+        (write_ends tick line bytes given some _ o breaks.is_served (and_first _ _ breaks.is_timely)) p.1 in
         subst (λ j. Knows rules banks tick kept2 j (r ∷ before)) (sym (joins none))
         (row_known rules banks found before r after kept joined lines room h line within below kept1 kept2 g exists is size (p.2 ∙ ap (λ k. slice_set kept1 k (after_write line p.0 o (facts_in kept1 k))) here ∙ ap (λ x. slice_set kept1 b (after_write line p.0 o x)) same)
         breaks.has_room (inr (bytes, given, refl)) stands)
@@ -322,7 +315,7 @@ read_taken {n} rules banks found before tick line o after kept kept1 kept2 joine
         let stands = read_passes_law n tick line o rules (beside banks line before) f ln.newest
         (own_stands rules banks found before r after kept joined lines room h line within below)
         ((room_is rules banks found before r after kept joined lines room h line within below).own breaks.has_room) breaks.is_served h.brief
-        (read_ends tick line rules.read (bound_kept rules found.stores.items b tick f.fourth (length f.waits + f.lost)) (first_of_ticks (cut_ticks after)) ln.newest o pos breaks.is_served (first_of timely apart breaks.is_timely)) in
+        (read_ends tick line rules.read (bound_kept rules found.stores.items b tick f.fourth (length f.waits + f.lost)) (first_of_ticks (cut_ticks after)) ln.newest o pos breaks.is_served (and_first timely apart breaks.is_timely)) in
         subst (λ j. Knows rules banks tick kept2 j (r ∷ before)) (sym (joins none))
         (row_known rules banks found before r after kept joined lines room h line within below kept1 kept2 (after_read tick o f) exists is size (pass none ∙ ap (λ j. slice_set kept1 j (after_read tick o (facts_in kept1 j))) here ∙ ap (λ x. slice_set kept1 b (after_read tick o x)) same)
         breaks.has_room (inl refl) stands)

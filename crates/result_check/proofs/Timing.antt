@@ -5,7 +5,7 @@ use Rattle.std.proofs.lemmas.List.Elements.{All-cons}
 use Rattle.trace_reader.specs.Events.{AreEventsFor}
 use Rattle.trace_reader.specs.declared.event.EventOp.TheVariants.{Write, Read}
 use Rattle.row_verdict.specs.Within.{AreWithin}
-use Rattle.row_verdict.specs.declared.Rules.{Rules}
+use Rattle.row_rules.specs.declared.Rules.{Rules}
 use Rattle.std.proofs.lemmas.Bool.{ltb-true}
 use Rattle.result_rows.specs.declared.Outcome.{Outcome}
 use Rattle.result_rows.specs.Outcomes.{tick_of}

@@ -1,5 +1,6 @@
 -- What ends next in a bank.
 use Rattle.std.proofs.Common.{◌≡◌, ℕ, ◌<◌, ◌≤◌, ◌&&◌, Bool, true, false, List, [], ◌∷◌, Option, refl, sym, ap, ◌∙◌, cond, arith}
+use Rattle.masked_bytes.proofs.Truth.{and_first, and_second}
 use Rattle.std.specs.Prelude.{filter, nat_le, nat_lt, not, min}
 use Rattle.std.specs.List.{list_all}
 use Rattle.std.proofs.lemmas.Bool.{leb-true, le-leb, lt-ltb, lt-leb}
@@ -11,23 +12,15 @@ use Rattle.row_verdict.specs.States.{Facts, settled}
 use Rattle.row_verdict.specs.Members.{never}
 use Rattle.result_check.specs.Watching.{NoneEndsBelow, least_end, least_of}
 
-first_of : (a b : Bool) → (a && b) ≡ true → a ≡ true
-first_of true b h = refl
-first_of false b h = h
-
-second_of : (a b : Bool) → (a && b) ≡ true → b ≡ true
-second_of true b h = h
-second_of false b h = absurd (cc)
-
 -- a bound on some numbers
 module _ {A : Type 0} (f : A → ℕ) where
   pub bound_less : (first next : ℕ) (xs : List A) → nat_le next first ≡ true → list_all (λ y. nat_le first (f y)) xs ≡ true → list_all (λ y. nat_le next (f y)) xs ≡ true
   bound_less first next [] le h = refl
   bound_less first next (y ∷ xs) le h =
-      let a = leb-true first (f y) (first_of _ _ h) in
+      let a = leb-true first (f y) (and_first _ _ h) in
       let b = leb-true next first le in
       let own : nat_le next (f y) ≡ true = le-leb next (f y) (omega (arith, a, b)) in
-      ap (λ c. c && list_all (λ y. nat_le next (f y)) xs) own ∙ bound_less first next xs le (second_of _ _ h)
+      ap (λ c. c && list_all (λ y. nat_le next (f y)) xs) own ∙ bound_less first next xs le (and_second _ _ h)
 
   pub bound_zero : (xs : List A) → list_all (λ y. nat_le 0 (f y)) xs ≡ true
   bound_zero [] = refl
@@ -70,23 +63,23 @@ module _ (tick next : ℕ) (lt : tick < next) where
   members_stay : (ms : List Member) → list_all (λ m. nat_le next m.end) ms ≡ true → filter (λ m. not (nat_le m.end tick)) ms ≡ ms
   members_stay [] h = refl
   members_stay (m ∷ ms) h =
-      let a = leb-true next m.end (first_of _ _ h) in
+      let a = leb-true next m.end (and_first _ _ h) in
       ap (λ b. cond (not b) (m ∷ filter (λ m. not (nat_le m.end tick)) ms) (filter (λ m. not (nat_le m.end tick)) ms)) (lt-leb m.end tick (omega (arith, a, lt)))
-      ∙ ap (λ xs. m ∷ xs) (members_stay ms (second_of _ _ h))
+      ∙ ap (λ xs. m ∷ xs) (members_stay ms (and_second _ _ h))
 
   waits_stay : (vs : List ℕ) → list_all (λ v. nat_le next v) vs ≡ true → filter (λ v. nat_lt tick v) vs ≡ vs
   waits_stay [] h = refl
   waits_stay (v ∷ vs) h =
-      let a = leb-true next v (first_of _ _ h) in
+      let a = leb-true next v (and_first _ _ h) in
       ap (λ b. cond b (v ∷ filter (λ v. nat_lt tick v) vs) (filter (λ v. nat_lt tick v) vs)) (lt-ltb tick v (omega (arith, a, lt)))
-      ∙ ap (λ xs. v ∷ xs) (waits_stay vs (second_of _ _ h))
+      ∙ ap (λ xs. v ∷ xs) (waits_stay vs (and_second _ _ h))
 
   none_ended : (ms : List Member) (last : Option ℕ) → list_all (λ m. nat_le next m.end) ms ≡ true → ended tick ms last ≡ last
   none_ended [] last h = refl
   none_ended (m ∷ ms) last h =
-      let a = leb-true next m.end (first_of _ _ h) in
+      let a = leb-true next m.end (and_first _ _ h) in
       ap (λ b. ended tick ms (cond b (later_of m.end last) last)) (lt-leb m.end tick (omega (arith, a, lt)))
-      ∙ none_ended ms last (second_of _ _ h)
+      ∙ none_ended ms last (and_second _ _ h)
 
   -- a bank that nothing leaves is settled
   pub settled_already : (f : Facts) → NoneEndsBelow next f → f ≡ settled tick f

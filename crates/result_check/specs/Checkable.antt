@@ -5,7 +5,7 @@ use Rattle.trace_reader.specs.Events.{AreEventsFor}
 use Rattle.trace_reader.specs.Trace.{most_rows}
 use Rattle.result_rows.specs.declared.Outcome.{Outcome}
 use Rattle.result_rows.specs.Outcomes.{tick_of}
-use Rattle.row_verdict.specs.declared.Rules.{Rules}
+use Rattle.row_rules.specs.declared.Rules.{Rules}
 use Rattle.row_verdict.specs.Within.{AreWithin}
 
 -- an outcome is set, and its tick has at most 15 digits

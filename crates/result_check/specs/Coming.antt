@@ -1,9 +1,9 @@
 -- What the rows behind a row bring.
 use Rattle.std.specs.Prelude.{◌≡◌, ℕ, List, [], ◌∷◌, ◌++◌, length, Option, Some, None, slice_get, min}
 use Rattle.result_rows.specs.declared.Outcome.{Outcome}
-use Rattle.row_laws.specs.declared.Asks.{Asks}
-use Rattle.row_laws.specs.declared.Row.{Row}
-use Rattle.row_laws.specs.Table.{of_bank}
+use Rattle.row_rules.specs.declared.Asks.{Asks}
+use Rattle.row_rules.specs.declared.Row.{Row}
+use Rattle.row_rules.specs.Table.{of_bank}
 use Rattle.row_verdict.specs.Covering.{soonest}
 use Rattle.row_verdict.specs.Judged.{beside}
 use Rattle.row_verdict.specs.QueueLaws.{next_accepted}

@@ -1,8 +1,8 @@
 -- What is kept of the rows that have passed, and what a row that comes leaves.
 use Rattle.std.specs.Prelude.{◌≡◌, ◌<◌, ◌≤◌, ◌+◌, max, ℕ, Bool, true, false, IsTrue, List, [], ◌∷◌, Option, Some, None, All, length}
 use Rattle.std.specs.Prelude.{slice_get, unwrap_or}
-use Rattle.row_laws.specs.declared.Row.{Row}
-use Rattle.row_laws.specs.Rules.{Rules}
+use Rattle.row_rules.specs.declared.Row.{Row}
+use Rattle.row_rules.specs.declared.Rules.{Rules}
 use Rattle.row_judging.specs.Keys.{reach}
 use Rattle.row_judging.specs.Rising.{rising}
 use Rattle.row_judging.specs.Runs.{GivesSized}
@@ -15,7 +15,7 @@ use Rattle.row_verdict.specs.Passing.{Passed}
 use Rattle.row_verdict.specs.States.{Facts, no_facts}
 use Rattle.row_verdict.specs.VerdictLaws.{HasKeys}
 use Rattle.row_verdict.specs.Verdicts.{all_rules, broken_by, all_have_room}
-use Rattle.row_laws.specs.Rows.{asks_cut}
+use Rattle.row_rules.specs.Rows.{asks_cut}
 use Rattle.row_judging.specs.Cutting.{cut_ticks}
 use Rattle.result_check.specs.declared.ahead.Coming.{Coming}
 use Rattle.result_check.specs.declared.found.Found.{Found}

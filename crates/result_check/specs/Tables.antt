@@ -1,7 +1,7 @@
 -- A whole table, as a checker goes over it.
 use Rattle.std.specs.Prelude.{◌≡◌, ℕ, ◌<◌, ◌≤◌, IsTrue, List, All, length, IsPermutation}
 use Rattle.std.specs.List.Sorted.{IsNonDecreasing}
-use Rattle.row_laws.specs.declared.Row.{Row}
+use Rattle.row_rules.specs.declared.Row.{Row}
 use Rattle.row_judging.specs.Cutting.{cut_ticks}
 use Rattle.row_judging.specs.Keys.{reach, store_keys, read_keys}
 use Rattle.row_judging.specs.Rising.{rising}

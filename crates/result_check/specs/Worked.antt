@@ -1,19 +1,19 @@
--- Worked tables of lines of two bytes, beside those of row_laws.
+-- Worked tables of lines of two bytes, beside those of row_rules.
 use Rattle.std.specs.Prelude.{ℕ, List, [], ◌∷◌, Bool, true, false, if◌then◌else◌, Option, Some, None, nat_lt, ◌^◌}
 use Rattle.result_rows.specs.declared.Outcome.{Outcome}
 use Rattle.result_rows.specs.declared.Outcome.TheVariants as out
 use Rattle.result_rows.specs.Outcomes.{tick_of}
-use Rattle.bank_shape.specs.Pausing.{Pausing}
-use Rattle.row_laws.specs.declared.Row.{Row}
-use Rattle.row_laws.specs.Rules.{Rules}
-use Rattle.row_laws.specs.Worked.{W, R, C, whole}
+use Rattle.bank_shape.specs.declared.pace.Policy.{Policy}
+use Rattle.row_rules.specs.declared.Row.{Row}
+use Rattle.row_rules.specs.declared.Rules.{Rules}
+use Rattle.row_rules.specs.Worked.{W, R, C, whole}
 
 -- four lines of one bank
 abbrev pub one_bank : List ℕ
 one_bank = 0 ∷ 0 ∷ 0 ∷ 0 ∷ []
 
 -- the small bank with its registers in the array
-abbrev pub with_registers : Pausing → Rules
+abbrev pub with_registers : Policy → Rules
 with_registers policy =
     record { writes = 4; reads = 4; spares = 2; read = 5; iter = 10; steps = 160; policy = policy; twice = true }
 

@@ -1,8 +1,8 @@
 //! What the rows behind each row bring, by one pass from the last row to the first.
 
 ghost use Rattle.std.specs.Prelude.{◌≡◌, ◌<◌, ◌≤◌, ◌++◌, [], ◌∷◌, length, replicate, List, None, Some, IfOk};
-ghost use Rattle.row_laws.specs.declared.Asks.{Asks};
-ghost use Rattle.row_laws.specs.declared.Row.{Row};
+ghost use Rattle.row_rules.specs.declared.Asks.{Asks};
+ghost use Rattle.row_rules.specs.declared.Row.{Row};
 ghost use Rattle.row_verdict.specs.Verdicts.{asks_of, rows_with};
 ghost use Rattle.result_check.specs.Finding.{row_of, line_asked, line_written, IsBelow};
 ghost use Rattle.result_check.specs.Coming as spec;

@@ -3,11 +3,11 @@
 ghost use Rattle.std.specs.Prelude.{◌≡◌, ◌<◌, ◌≤◌, ◌+◌, ℕ, List, [], None, Some, true, length, max};
 ghost use Rattle.std.specs.Prelude.{slice_get, slice_set, All, IsTrue, IfOk, IfSome};
 ghost use Rattle.std.specs.List.Sorted.{IsNonDecreasing};
-ghost use Rattle.row_laws.specs.Answers as answers;
-ghost use Rattle.row_laws.specs.Serving.{may_have};
-ghost use Rattle.row_laws.specs.declared.Asks.TheVariants.{Reads, Writes, Cuts};
-ghost use Rattle.row_laws.specs.declared.Row.{Row};
-ghost use Rattle.row_laws.specs.Rules as laws;
+ghost use Rattle.row_rules.specs.Answers as answers;
+ghost use Rattle.row_rules.specs.Serving.{may_have};
+ghost use Rattle.row_rules.specs.declared.Asks.TheVariants.{Reads, Writes, Cuts};
+ghost use Rattle.row_rules.specs.declared.Row.{Row};
+ghost use Rattle.row_rules.specs.declared.Rules as laws;
 ghost use Rattle.result_check.specs.declared.found.Found.{Found};
 ghost use Rattle.row_judging.specs.Keys.{reach, is_short};
 ghost use Rattle.row_verdict.specs.Judged as judged;
@@ -16,7 +16,7 @@ ghost use Rattle.row_verdict.specs.Passing.{joined_room};
 ghost use Rattle.row_verdict.specs.Fitting.{room_kept};
 ghost use Rattle.row_verdict.specs.Members.{never};
 ghost use Rattle.row_verdict.specs.States.{no_facts, settled, cut_off, after_write, after_read};
-ghost use Rattle.row_verdict.specs.Verdicts.{asks_of, bank_in, rules_by};
+ghost use Rattle.row_verdict.specs.Verdicts.{asks_of, bank_in};
 ghost use Rattle.row_verdict.specs.Within.{AreWithin};
 ghost use Rattle.row_judging.specs.Cutting.{cut_ticks};
 ghost use Rattle.row_verdict.specs.Covering.{soonest};
@@ -223,13 +223,13 @@ impl<const B: usize> Kept<B> {
     fn find_room(&mut self, rules: &Rules, banks: &[u8], tick: u64) -> bool
         requires line { IfSome self.old.joined (λ line. line < length banks.now) }
         requires exist { All (λ bank. bank < length self.old.banks.items) banks.now }
-        ensures room { result ≡ joined_room (rules_by rules.now) banks.now tick (facts_in self.old.banks.items) self.old.joined }
+        ensures room { result ≡ joined_room rules.now banks.now tick (facts_in self.old.banks.items) self.old.joined }
         ensures knows { (from : ℕ) (before : List (Row B)) → from ≤ tick → tick < never
-            → Knows (rules_by rules.now) banks.now from self.old.banks.items self.old.joined before
-            → Knows (rules_by rules.now) banks.now tick self.new.banks.items self.old.joined before }
+            → Knows rules.now banks.now from self.old.banks.items self.old.joined before
+            → Knows rules.now banks.now tick self.new.banks.items self.old.joined before }
         ensures seen { (from : ℕ) (before : List (Row B)) → from ≤ tick → tick < never
-            → Knows (rules_by rules.now) banks.now from self.old.banks.items self.old.joined before → result ≡ true
-            → Knows (rules_by rules.now) banks.now tick self.new.banks.items None before }
+            → Knows rules.now banks.now from self.old.banks.items self.old.joined before → result ≡ true
+            → Knows rules.now banks.now tick self.new.banks.items None before }
         ensures number { length self.new.banks.items ≡ length self.old.banks.items }
         ensures lines { self.new.lines.items ≡ self.old.lines.items }
         ensures joined { self.new.joined ≡ self.old.joined }
@@ -324,9 +324,9 @@ impl<const B: usize> Kept<B> {
         ensures lines { IfOk result (λ _. length self.new.lines.items ≡ length self.old.lines.items) }
         ensures passes { (before after : List (Row B)) → coming.next ≡ next_accepted line (beside banks.now line after)
             → coming.worn ≡ first_worn (beside banks.now line after) → cuts.now ≡ cut_ticks after
-            → IsNext (rules_by rules.now) banks.now found.now before (a_write tick line bytes.now given.now outcome.now) after
+            → IsNext rules.now banks.now found.now before (a_write tick line bytes.now given.now outcome.now) after
             self.old.banks.items self.old.joined self.old.lines.items room
-            → IfOk result (λ broken. HasPassed (rules_by rules.now) banks.now before (a_write tick line bytes.now given.now outcome.now) after
+            → IfOk result (λ broken. HasPassed rules.now banks.now before (a_write tick line bytes.now given.now outcome.now) after
             broken self.new.banks.items self.new.joined self.new.lines.items) }
     {
         let number = bank_of(banks, line);
@@ -393,9 +393,9 @@ impl<const B: usize> Kept<B> {
         ensures lines { IfOk result (λ _. length self.new.lines.items ≡ length self.old.lines.items) }
         ensures passes { (before after : List (Row B))
             → coming.soonest ≡ soonest line (beside banks.now line after) → cuts.now ≡ cut_ticks after
-            → IsNext (rules_by rules.now) banks.now found.now before (a_read tick line outcome.now) after
+            → IsNext rules.now banks.now found.now before (a_read tick line outcome.now) after
             self.old.banks.items self.old.joined self.old.lines.items room
-            → IfOk result (λ broken. HasPassed (rules_by rules.now) banks.now before (a_read tick line outcome.now) after
+            → IfOk result (λ broken. HasPassed rules.now banks.now before (a_read tick line outcome.now) after
             broken self.new.banks.items self.new.joined self.new.lines.items) }
     {
         let number = bank_of(banks, line);
@@ -475,14 +475,14 @@ impl<const B: usize> Kept<B> {
         requires cuts { IsNonDecreasing cuts.now }
         requires few { length cuts.now ≤ 400_000 }
         requires met { (before : List (Row B)) × (after : List (Row B))
-            × Meets (rules_by rules.now) banks.now found.now before (row_of event.now outcome.now) after
+            × Meets rules.now banks.now found.now before (row_of event.now outcome.now) after
             self.old.banks.items self.old.joined self.old.lines.items cuts.now coming }
         ensures number { IfOk result (λ _. length self.new.banks.items ≡ length self.old.banks.items) }
         ensures lines { IfOk result (λ _. length self.new.lines.items ≡ length self.old.lines.items) }
         ensures passes { (before after : List (Row B))
-            → Meets (rules_by rules.now) banks.now found.now before (row_of event.now outcome.now) after
+            → Meets rules.now banks.now found.now before (row_of event.now outcome.now) after
             self.old.banks.items self.old.joined self.old.lines.items cuts.now coming
-            → IfOk result (λ broken. HasPassed (rules_by rules.now) banks.now before (row_of event.now outcome.now) after
+            → IfOk result (λ broken. HasPassed rules.now banks.now before (row_of event.now outcome.now) after
             broken self.new.banks.items self.new.joined self.new.lines.items) }
     {
         let tick = event.tick;

@@ -3,9 +3,9 @@
 #![tactic(auto)]
 
 ghost use Rattle.std.specs.Prelude.{◌≡◌, ◌+◌, ◌≤◌, if◌then◌else◌, drop, length, slice_get, Some, ◌<◌, IfOk};
-ghost use Rattle.row_laws.specs.Rows.{asks_cut};
+ghost use Rattle.row_rules.specs.Rows.{asks_cut};
 ghost use Rattle.row_verdict.specs.Within.{AreWithin};
-ghost use Rattle.row_verdict.specs.Verdicts.{asks_of, rows_with, rules_by, verdict_of};
+ghost use Rattle.row_verdict.specs.Verdicts.{asks_of, rows_with, verdict_of};
 ghost use Rattle.result_check.specs.Checkable.{IsCheckable};
 ghost use Rattle.result_check.specs.Coming.{coming_of};
 ghost use Rattle.result_check.specs.Going.{GoesOn};
@@ -68,9 +68,9 @@ fn pass_rows<const B: usize>(
     requires table { IsTable (length banks.now) (rows_with events.now results.now) }
     requires found { IsFound banks.now (rows_with events.now results.now) found.now }
     requires coming { coming.now ≡ coming_of banks.now (rows_with events.now results.now) }
-    requires begun { GoesOn (rules_by rules.now) banks.now (rows_with events.now results.now) 0 found.now 0
+    requires begun { GoesOn rules.now banks.now (rows_with events.now results.now) 0 found.now 0
         kept.old.banks.items kept.old.joined kept.old.lines.items }
-    ensures exact { IfOk result (λ verdict. verdict ≡ verdict_of (rules_by rules.now) banks.now (rows_with events.now results.now)) }
+    ensures exact { IfOk result (λ verdict. verdict ≡ verdict_of rules.now banks.now (rows_with events.now results.now)) }
 {
     let mut cuts = 0;
     for (i, event) in events.iter().enumerate() {
@@ -99,7 +99,7 @@ pub fn check<const B: usize>(
 ) -> Result<Verdict, AllocError>
     requires small { B ≤ 128 }
     requires checkable { IsCheckable events.now results.now banks.now rules.now }
-    ensures exact { IfOk result (λ verdict. verdict ≡ verdict_of (rules_by rules.now) banks.now (rows_with events.now results.now)) }
+    ensures exact { IfOk result (λ verdict. verdict ≡ verdict_of rules.now banks.now (rows_with events.now results.now)) }
 {
     let found = Found::of(alloc, events, results, banks)?;
     let coming = look_ahead(alloc, events, results, banks)?;

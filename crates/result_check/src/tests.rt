@@ -1,10 +1,10 @@
 //! Worked tables get their verdicts. Those of the definitions are computed from them; there is nothing to run.
 
 ghost use Rattle.std.specs.Prelude.{◌≡◌, [], ◌∷◌, true};
-ghost use Rattle.bank_shape.specs.Pausing.{Pause, Plain, Cancel};
-ghost use Rattle.row_laws.specs.Altered as altered;
-ghost use Rattle.row_laws.specs.Worked.{narrow, small, whole};
-ghost use Rattle.row_laws.specs.Worked.{cancelled, cancelled_begin, cancelled_often, lost_read, no_spare, one_entry, paused};
+ghost use Rattle.bank_shape.specs.declared.pace.Policy.TheVariants.{Pause, Plain, Cancel};
+ghost use Rattle.row_rules.specs.Altered as altered;
+ghost use Rattle.row_rules.specs.Worked.{narrow, small, whole};
+ghost use Rattle.row_rules.specs.Worked.{cancelled, cancelled_begin, cancelled_often, lost_read, no_spare, one_entry, paused};
 ghost use Rattle.row_verdict.specs.Verdicts.{verdict_of, no};
 ghost use Rattle.row_verdict.specs.declared.Rule.TheVariants.{Serves, Queue, Worn, Tick};
 ghost use Rattle.row_verdict.specs.declared.Verdict.TheVariants.{Yes};
@@ -87,10 +87,10 @@ fn verdict_on(alloc: Global, written: Outcome<64>, read: Outcome<64>) -> Result<
         writes: 4,
         reads: 4,
         spares: 2,
-        read_ticks: 5,
-        iter_ticks: 10,
+        read: 5,
+        iter: 10,
         steps: 160,
-        policy: RulePolicy::Pause,
+        policy: Policy::Pause,
         twice: false,
     };
     check(alloc, &events, &results, &banks, &rules)

@@ -5,7 +5,7 @@ use Rattle.std.proofs.lemmas.Bool.{lt-ltb}
 use Rattle.std.proofs.lemmas.List.Sums.{sum_by-cons}
 use Rattle.result_rows.specs.declared.Outcome.{Outcome}
 use Rattle.result_rows.specs.declared.Outcome.TheVariants as out
-use Rattle.row_laws.specs.Answers.{is_stored, is_merged, is_queued, is_full, is_worn, is_answered, is_forwarded, is_busy, is_lost}
+use Rattle.row_rules.specs.Answers.{is_stored, is_merged, is_queued, is_full, is_worn, is_answered, is_forwarded, is_busy, is_lost}
 use Rattle.result_summary.specs.Counting.{is_cut, counts_of}
 use Rattle.result_summary.specs.Shortfall.{is_short}
 use Rattle.result_summary.specs.Laws.{is_unset, rows_counted, rows_short, EachRowIsCountedOnce, ShortRowsAreCounted}

@@ -2,7 +2,7 @@
 use Rattle.std.specs.Prelude.{ℕ, Bool, ◌||◌, List}
 use Rattle.std.specs.List.{list_any}
 use Rattle.result_rows.specs.declared.Outcome.{Outcome}
-use Rattle.row_laws.specs.Answers.{is_queued, is_full, is_worn, is_busy, is_lost}
+use Rattle.row_rules.specs.Answers.{is_queued, is_full, is_worn, is_busy, is_lost}
 
 module _ {n : ℕ} where
   -- a write that was refused or still stands in the queue, or a read that was refused or lost

@@ -5,8 +5,8 @@ use Rattle.std.specs.List.{list_all}
 use Rattle.std.proofs.lemmas.Bool.{le-leb, lt-leb, lt-ltb, ltb-true, le-ltb, ne_eqb, cases_lt}
 use Rattle.result_rows.specs.declared.Outcome.{Outcome}
 use Rattle.result_rows.specs.declared.Outcome.TheVariants as out
-use Rattle.row_laws.specs.declared.Row.{Row}
-use Rattle.row_laws.specs.Ticking.{apart}
+use Rattle.row_rules.specs.declared.Row.{Row}
+use Rattle.row_rules.specs.Ticking.{apart}
 use Rattle.row_judging.specs.Distances.{later_of, is_far_below, end_above, ends_above, wait_above, waits_above, end_to, last_end, read_to, last_read, is_apart, ends_behind, ApartLaw}
 
 and_turn : (a b c : Bool) → (a && (b && c)) ≡ (b && (a && c))

@@ -8,12 +8,12 @@ use Rattle.std.proofs.lemmas.List.Sorted.{sum_by-IsPermutation, IsPermutation-re
 use Rattle.std.proofs.lemmas.List.Sums.{sum_by-append}
 use Rattle.result_rows.specs.declared.Outcome.{Outcome}
 use Rattle.result_rows.specs.declared.Outcome.TheVariants as out
-use Rattle.row_laws.specs.declared.Asks.{Asks}
-use Rattle.row_laws.specs.declared.Row.{Row}
-use Rattle.row_laws.specs.Answers.{is_stored, stored_after, stored_by, stored_before}
-use Rattle.row_laws.specs.Rows.{asks_write, write_of}
-use Rattle.row_laws.specs.Queueing.{least, store_of, next_store, is_first}
-use Rattle.row_laws.specs.Ticking.{store_up_to, last_store, stores_in}
+use Rattle.row_rules.specs.declared.Asks.{Asks}
+use Rattle.row_rules.specs.declared.Row.{Row}
+use Rattle.row_rules.specs.Answers.{is_stored, stored_after, stored_by, stored_before}
+use Rattle.row_rules.specs.Rows.{asks_write, write_of}
+use Rattle.row_rules.specs.Queueing.{least, store_of, next_store, is_first}
+use Rattle.row_rules.specs.Ticking.{store_up_to, last_store, stores_in}
 use Rattle.row_judging.specs.Standing.{at_end}
 use Rattle.row_judging.specs.Counting.{line_stores, FirstByCountLaw, LastByCountLaw}
 use Rattle.row_judging.proofs.Cuts.{count-cons}

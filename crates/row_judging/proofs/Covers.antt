@@ -1,5 +1,6 @@
 -- What a checker keeps of a line's bytes is what the queue gives.
 use Rattle.std.proofs.Common.{◌≡◌, ℕ, ◌&&◌, Bool, true, false, List, [], ◌∷◌, length, refl, sym, ap, ◌∙◌, cond, arith}
+use Rattle.masked_bytes.proofs.Truth.{and_first}
 use Rattle.std.specs.Prelude.{All, nat_le}
 use Rattle.std.proofs.lemmas.List.Elements.{All-head, All-tail}
 use Rattle.std.proofs.lemmas.List.{length-replicate}
@@ -7,12 +8,12 @@ use Rattle.masked_bytes.specs.Masked.{joined, none_given}
 use Rattle.masked_bytes.proofs.Layering.{length-joined, joined-none_given, joined-joined}
 use Rattle.result_rows.specs.declared.Outcome.{Outcome}
 use Rattle.result_rows.specs.declared.Outcome.TheVariants as out
-use Rattle.row_laws.specs.declared.Asks.{Asks}
-use Rattle.row_laws.specs.declared.Asks.TheVariants.{Reads, Writes, Cuts}
-use Rattle.row_laws.specs.declared.Row.{Row}
-use Rattle.row_laws.specs.Answers.{accepts, is_stored, stored_by}
-use Rattle.row_laws.specs.Rows.{asks_write, asks_write_of, accepted_of, given_of}
-use Rattle.row_laws.specs.Queueing.{unstored}
+use Rattle.row_rules.specs.declared.Asks.{Asks}
+use Rattle.row_rules.specs.declared.Asks.TheVariants.{Reads, Writes, Cuts}
+use Rattle.row_rules.specs.declared.Row.{Row}
+use Rattle.row_rules.specs.Answers.{accepts, is_stored, stored_by}
+use Rattle.row_rules.specs.Rows.{asks_write, asks_write_of, accepted_of, given_of}
+use Rattle.row_rules.specs.Queueing.{unstored}
 use Rattle.row_judging.specs.Runs.{run, held, GivesSized, CoverLaw}
 
 none_long : (n : ℕ) → length (none_given n) ≡ n
@@ -20,10 +21,6 @@ none_long n = length-replicate n false
 
 joined_long : (n : ℕ) (given other : List Bool) → length given ≡ n → length other ≡ n → length (joined given other) ≡ n
 joined_long n given other g o = length-joined given other (omega (arith, g, o)) ∙ o
-
-and_first : (a b : Bool) → (a && b) ≡ true → a ≡ true
-and_first true b h = refl
-and_first false b h = h
 
 module _ {n : ℕ} where
   -- a row's part, by whether it is a write of the line, and by its outcome

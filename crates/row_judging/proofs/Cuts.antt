@@ -1,32 +1,17 @@
 -- The rules on later cuts, by the ticks of the cut rows.
 use Rattle.std.proofs.Common.{◌≡◌, ℕ, ◌+◌, ◌≤◌, ◌==◌, ◌&&◌, ◌||◌, Bool, true, false, List, [], ◌∷◌, refl, sym, ap, ◌∙◌, cond, arith}
+use Rattle.masked_bytes.proofs.Truth.{and_first, and_second}
 use Rattle.std.specs.Prelude.{nat_le, not, count_by}
-use Rattle.std.proofs.lemmas.Bool.{le-leb, leb-true}
+use Rattle.std.proofs.lemmas.Bool.{le-leb, leb-true, and_from, or_right}
 use Rattle.std.proofs.lemmas.List.Sums.{sum_by-cons}
-use Rattle.row_laws.specs.declared.Asks.{Asks}
-use Rattle.row_laws.specs.declared.Asks.TheVariants.{Reads, Writes, Cuts}
-use Rattle.row_laws.specs.declared.Row.{Row}
-use Rattle.row_laws.specs.Rows.{asks_cut, is_cut}
-use Rattle.row_laws.specs.Table.{is_of, of_bank}
-use Rattle.row_laws.specs.Ticking.{no_cut_below, first_cut_at, cuts_to}
+use Rattle.row_rules.specs.declared.Asks.{Asks}
+use Rattle.row_rules.specs.declared.Asks.TheVariants.{Reads, Writes, Cuts}
+use Rattle.row_rules.specs.declared.Row.{Row}
+use Rattle.row_rules.specs.Rows.{asks_cut, is_cut}
+use Rattle.row_rules.specs.Table.{is_of, of_bank}
+use Rattle.row_rules.specs.Ticking.{no_cut_below, first_cut_at, cuts_to}
 use Rattle.row_judging.specs.Rising.{rising}
 use Rattle.row_judging.specs.Cutting.{cut_ticks, first_from, first_is, FirstCutLaw, CutsOfBankLaw}
-
-first_of : (a b : Bool) → (a && b) ≡ true → a ≡ true
-first_of true b h = refl
-first_of false b h = h
-
-second_of : (a b : Bool) → (a && b) ≡ true → b ≡ true
-second_of true b h = h
-second_of false b h = absurd (cc)
-
-either : (a b : Bool) → b ≡ true → (a || b) ≡ true
-either true b h = refl
-either false b h = h
-
-both : (a b : Bool) → a ≡ true → b ≡ true → (a && b) ≡ true
-both true b h k = k
-both false b h k = h
 
 pub count-cons : {X : Type 0} (p : X → Bool) (x : X) (xs : List X) → count_by p (x ∷ xs) ≡ cond (p x) 1 0 + count_by p xs
 count-cons p x xs = sum_by-cons (λ x. cond (p x) 1 0) x xs
@@ -36,14 +21,14 @@ module _ {n : ℕ} where
   none_below : (t u : ℕ) → u ≤ t → (rows : List (Row n)) → rising t rows ≡ true → no_cut_below u rows ≡ true
   none_below t u le [] h = refl
   none_below t u le (q ∷ rows) h =
-      let k : t ≤ q.tick = leb-true t q.tick (first_of (nat_le t q.tick) _ h) in
-      both (not (is_cut q) || nat_le u q.tick) _ (either (not (is_cut q)) _ (le-leb u q.tick (omega (arith, k, le))))
-      (none_below q.tick u (omega (arith, k, le)) rows (second_of (nat_le t q.tick) _ h))
+      let k : t ≤ q.tick = leb-true t q.tick (and_first (nat_le t q.tick) _ h) in
+      and_from (not (is_cut q) || nat_le u q.tick) _ (or_right (not (is_cut q)) _ (le-leb u q.tick (omega (arith, k, le))))
+      (none_below q.tick u (omega (arith, k, le)) rows (and_second (nat_le t q.tick) _ h))
 
   below : (t u : ℕ) (rows : List (Row n)) → rising t rows ≡ true → no_cut_below u rows ≡ first_from u (cut_ticks rows)
   below t u [] h = refl
   below t u (q ∷ rows) h =
-      let rest = second_of (nat_le t q.tick) (rising q.tick rows) h in
+      let rest = and_second (nat_le t q.tick) (rising q.tick rows) h in
       by (is_cut q) (nat_le u q.tick) (λ k. none_below q.tick u (leb-true u q.tick k) rows rest) (below q.tick u rows rest) refl
     where
       late : (c : Bool) → (c ≡ true → no_cut_below u rows ≡ true) → (c && no_cut_below u rows) ≡ c

@@ -4,8 +4,8 @@ use Rattle.std.specs.Prelude.{nat_le, nat_lt, not, filter, count_by}
 use Rattle.std.specs.List.{list_all}
 use Rattle.std.proofs.lemmas.Bool.{le-leb, lt-leb}
 use Rattle.std.proofs.lemmas.List.Sums.{length-filter}
-use Rattle.row_laws.specs.declared.Row.{Row}
-use Rattle.row_laws.specs.Queueing.{none_before, is_older, has_few, is_refused}
+use Rattle.row_rules.specs.declared.Row.{Row}
+use Rattle.row_rules.specs.Queueing.{none_before, is_older, has_few, is_refused}
 use Rattle.row_judging.specs.Few.{few_by}
 use Rattle.row_judging.proofs.Cuts.{count-cons}
 

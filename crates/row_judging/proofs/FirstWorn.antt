@@ -1,32 +1,17 @@
 -- The rules on worn rows, by the first of them.
 use Rattle.std.proofs.Common.{◌≡◌, ℕ, ◌<◌, ◌≤◌, ◌&&◌, ◌||◌, Bool, true, false, List, [], ◌∷◌, refl, sym, ap, ◌∙◌, cond, arith}
+use Rattle.masked_bytes.proofs.Truth.{and_first, and_second}
 use Rattle.std.specs.Prelude.{nat_le, not}
 use Rattle.std.specs.List.{list_any}
-use Rattle.std.proofs.lemmas.Bool.{leb-true, leb-false, lt-leb}
+use Rattle.std.proofs.lemmas.Bool.{leb-true, leb-false, lt-leb, and_right, or_from}
 use Rattle.result_rows.specs.declared.Outcome.{Outcome}
 use Rattle.result_rows.specs.declared.Outcome.TheVariants as out
-use Rattle.row_laws.specs.declared.Row.{Row}
-use Rattle.row_laws.specs.Answers.{is_worn}
-use Rattle.row_laws.specs.Rows.{asks_write}
-use Rattle.row_laws.specs.Wearing.{worn_row, worn_by, store_fits}
+use Rattle.row_rules.specs.declared.Row.{Row}
+use Rattle.row_rules.specs.Answers.{is_worn}
+use Rattle.row_rules.specs.Rows.{asks_write}
+use Rattle.row_rules.specs.Wearing.{worn_row, worn_by, store_fits}
 use Rattle.row_judging.specs.Rising.{rising}
 use Rattle.row_judging.specs.Worn.{first_worn_by, store_precedes, WornLaw}
-
-first_of : (a b : Bool) → (a && b) ≡ true → a ≡ true
-first_of true b h = refl
-first_of false b h = h
-
-second_of : (a b : Bool) → (a && b) ≡ true → b ≡ true
-second_of true b h = h
-second_of false b h = absurd (cc)
-
-neither : (a b : Bool) → a ≡ false → b ≡ false → (a || b) ≡ false
-neither true b h k = h
-neither false b h k = k
-
-without : (a b : Bool) → b ≡ false → (a && b) ≡ false
-without true b h = h
-without false b h = refl
 
 plain : (b : Bool) → ((not b || false) && true) ≡ (not b && true)
 plain true = refl
@@ -37,15 +22,15 @@ module _ {n : ℕ} where
   none_by : (t u : ℕ) → nat_le t u ≡ false → (rows : List (Row n)) → rising t rows ≡ true → worn_by u rows ≡ false
   none_by t u above [] h = refl
   none_by t u above (q ∷ rows) h =
-      let k : t ≤ q.tick = leb-true t q.tick (first_of (nat_le t q.tick) _ h) in
+      let k : t ≤ q.tick = leb-true t q.tick (and_first (nat_le t q.tick) _ h) in
       let l : u < t = leb-false t u above in
       let m : nat_le q.tick u ≡ false = lt-leb q.tick u (omega (arith, k, l)) in
-      neither (worn_row q && nat_le q.tick u) _ (without (worn_row q) _ m) (none_by q.tick u m rows (second_of (nat_le t q.tick) _ h))
+      or_from (worn_row q && nat_le q.tick u) _ (and_right (worn_row q) _ m) (none_by q.tick u m rows (and_second (nat_le t q.tick) _ h))
 
   by_first : (t u : ℕ) (rows : List (Row n)) → rising t rows ≡ true → worn_by u rows ≡ first_worn_by u rows
   by_first t u [] h = refl
   by_first t u (q ∷ rows) h =
-      let rest = second_of (nat_le t q.tick) (rising q.tick rows) h in
+      let rest = and_second (nat_le t q.tick) (rising q.tick rows) h in
       by (worn_row q) (nat_le q.tick u) refl (λ k. none_by q.tick u k rows rest) (by_first q.tick u rows rest)
     where
       by : (b c : Bool) → c ≡ nat_le q.tick u → (nat_le q.tick u ≡ false → worn_by u rows ≡ false) → worn_by u rows ≡ first_worn_by u rows

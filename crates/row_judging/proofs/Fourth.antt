@@ -1,26 +1,15 @@
 -- Whether four reads came since a tick, by the fourth last of them.
 use Rattle.std.proofs.Common.{◌≡◌, ℕ, ◌+◌, ◌<◌, ◌≤◌, ◌&&◌, ◌||◌, ◌⊎◌, inl, inr, Bool, true, false, List, [], ◌∷◌, refl, sym, ap, ◌∙◌, cond, arith}
+use Rattle.masked_bytes.proofs.Truth.{and_first, and_second}
 use Rattle.std.specs.Prelude.{nat_le, nat_lt, not, count_by}
-use Rattle.std.proofs.lemmas.Bool.{le-leb, leb-true, leb-false, lt-leb, lt-ltb, le-ltb, cases_lt}
-use Rattle.row_laws.specs.declared.Row.{Row}
-use Rattle.row_laws.specs.Answers.{is_answered, is_lost}
-use Rattle.row_laws.specs.Rows.{asks_read}
-use Rattle.row_laws.specs.Ticking.{came_since}
+use Rattle.std.proofs.lemmas.Bool.{le-leb, leb-true, leb-false, lt-leb, lt-ltb, le-ltb, cases_lt, and_from}
+use Rattle.row_rules.specs.declared.Row.{Row}
+use Rattle.row_rules.specs.Answers.{is_answered, is_lost}
+use Rattle.row_rules.specs.Rows.{asks_read}
+use Rattle.row_rules.specs.Ticking.{came_since}
 use Rattle.row_judging.specs.Rising.{falling}
 use Rattle.row_judging.specs.Coming.{came, fourth_from, FourthLaw}
 use Rattle.row_judging.proofs.Cuts.{count-cons}
-
-first_of : (a b : Bool) → (a && b) ≡ true → a ≡ true
-first_of true b h = refl
-first_of false b h = h
-
-second_of : (a b : Bool) → (a && b) ≡ true → b ≡ true
-second_of true b h = h
-second_of false b h = absurd (cc)
-
-both : (a b : Bool) → a ≡ true → b ≡ true → (a && b) ≡ true
-both true b h k = k
-both false b h k = h
 
 -- one where the test holds
 abbrev one_if : Bool → ℕ
@@ -34,8 +23,8 @@ sinking t (a ∷ more) = nat_le a t && sinking a more
 sink-more : (t u : ℕ) → t ≤ u → (ticks : List ℕ) → sinking t ticks ≡ true → sinking u ticks ≡ true
 sink-more t u le [] h = refl
 sink-more t u le (a ∷ more) h =
-    let k : a ≤ t = leb-true a t (first_of (nat_le a t) _ h) in
-    both (nat_le a u) _ (le-leb a u (omega (arith, k, le))) (second_of (nat_le a t) _ h)
+    let k : a ≤ t = leb-true a t (and_first (nat_le a t) _ h) in
+    and_from (nat_le a u) _ (le-leb a u (omega (arith, k, le))) (and_second (nat_le a t) _ h)
 
 module _ {n : ℕ} where
   counted : (v : ℕ) (rows : List (Row n)) → came_since v rows ≡ count_by (λ c. nat_le v c) (came rows)
@@ -55,23 +44,23 @@ module _ {n : ℕ} where
   sunk : (t : ℕ) (rows : List (Row n)) → falling t rows ≡ true → sinking t (came rows) ≡ true
   sunk t [] h = refl
   sunk t (q ∷ rows) h =
-      let k = first_of (nat_le q.tick t) (falling q.tick rows) h in
-      by (asks_read q.asks && (is_answered q.outcome || is_lost q.outcome)) k (leb-true q.tick t k) (sunk q.tick rows (second_of (nat_le q.tick t) _ h))
+      let k = and_first (nat_le q.tick t) (falling q.tick rows) h in
+      by (asks_read q.asks && (is_answered q.outcome || is_lost q.outcome)) k (leb-true q.tick t k) (sunk q.tick rows (and_second (nat_le q.tick t) _ h))
     where
       by : (b : Bool) → nat_le q.tick t ≡ true → q.tick ≤ t → sinking q.tick (came rows) ≡ true → sinking t (cond b (q.tick ∷ came rows) (came rows)) ≡ true
-      by true k le ih = both (nat_le q.tick t) _ k ih
+      by true k le ih = and_from (nat_le q.tick t) _ k ih
       by false k le ih = sink-more q.tick t le (came rows) ih
 
 -- none is v or above where all are below it
 none_from : (v t : ℕ) (ticks : List ℕ) → nat_le v t ≡ false → sinking t ticks ≡ true → count_by (λ c. nat_le v c) ticks ≡ 0
 none_from v t [] low h = refl
 none_from v t (a ∷ more) low h =
-    let k : a ≤ t = leb-true a t (first_of (nat_le a t) _ h) in
+    let k : a ≤ t = leb-true a t (and_first (nat_le a t) _ h) in
     let l : t < v = leb-false v t low in
     let m : nat_le v a ≡ false = lt-leb v a (omega (arith, k, l)) in
     let j : one_if (nat_le v a) ≡ 0 = ap one_if m in
     let i = count-cons (λ c. nat_le v c) a more in
-    let r = none_from v a more m (second_of (nat_le a t) _ h) in
+    let r = none_from v a more m (and_second (nat_le a t) _ h) in
     omega (arith, i, j, r)
 
 one_most : (b : Bool) → cond b 1 0 ≤ 1
@@ -107,13 +96,13 @@ told v t (a ∷ b ∷ c ∷ []) h =
     let o = one_most (nat_le v c) in
     lt-ltb (count_by (λ c. nat_le v c) (a ∷ b ∷ c ∷ [])) 4 (omega (arith, i, j, k, l, m, o))
 told v t (a ∷ b ∷ c ∷ d ∷ more) h =
-    let ha = second_of (nat_le a t) _ h in
-    let hb = second_of (nat_le b a) _ ha in
-    let hc = second_of (nat_le c b) _ hb in
-    let hd : sinking d more ≡ true = second_of (nat_le d c) _ hc in
-    let ba : b ≤ a = leb-true b a (first_of (nat_le b a) _ ha) in
-    let cb : c ≤ b = leb-true c b (first_of (nat_le c b) _ hb) in
-    let dc : d ≤ c = leb-true d c (first_of (nat_le d c) _ hc) in
+    let ha = and_second (nat_le a t) _ h in
+    let hb = and_second (nat_le b a) _ ha in
+    let hc = and_second (nat_le c b) _ hb in
+    let hd : sinking d more ≡ true = and_second (nat_le d c) _ hc in
+    let ba : b ≤ a = leb-true b a (and_first (nat_le b a) _ ha) in
+    let cb : c ≤ b = leb-true c b (and_first (nat_le c b) _ hb) in
+    let dc : d ≤ c = leb-true d c (and_first (nat_le d c) _ hc) in
     let i = count-cons (λ c. nat_le v c) a (b ∷ c ∷ d ∷ more) in
     let k = count-cons (λ c. nat_le v c) b (c ∷ d ∷ more) in
     let m = count-cons (λ c. nat_le v c) c (d ∷ more) in

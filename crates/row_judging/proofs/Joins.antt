@@ -1,37 +1,18 @@
 -- A write that joins the queue leaves its pairs in order exactly where it isn't stored before them.
 use Rattle.std.proofs.Common.{◌≡◌, ℕ, ◌<◌, ◌≤◌, ◌&&◌, ◌||◌, ◌⊎◌, inl, inr, Bool, true, false, List, [], ◌∷◌, ◌++◌, refl, sym, ap, ◌∙◌, subst, cond, arith, append_assoc}
+use Rattle.masked_bytes.proofs.Truth.{and_first, and_second}
 use Rattle.std.specs.Prelude.{All, nat_lt, nat_le, not, filter}
 use Rattle.std.specs.List.{list_all, list_any}
-use Rattle.std.proofs.lemmas.Bool.{le-leb, leb-true, lt-ltb, le-ltb, lt-leb, cases_lt}
+use Rattle.std.proofs.lemmas.Bool.{le-leb, leb-true, lt-ltb, le-ltb, lt-leb, cases_lt, or_from, or_left, or_right}
 use Rattle.std.proofs.lemmas.List.Elements.{All-nil, All-cons, All-head, All-tail}
 use Rattle.std.proofs.lemmas.List.Folds.{list_any-append}
 use Rattle.result_rows.specs.declared.Outcome.{Outcome}
 use Rattle.result_rows.specs.declared.Outcome.TheVariants as out
-use Rattle.row_laws.specs.declared.Row.{Row}
-use Rattle.row_laws.specs.Answers.{is_merged, is_stored, stored_before, stored_by}
-use Rattle.row_laws.specs.Rows.{accepted_of, line_of}
-use Rattle.row_laws.specs.Queueing.{none_before, is_older, has_few, pairs_few}
+use Rattle.row_rules.specs.declared.Row.{Row}
+use Rattle.row_rules.specs.Answers.{is_merged, is_stored, stored_before, stored_by}
+use Rattle.row_rules.specs.Rows.{accepted_of, line_of}
+use Rattle.row_rules.specs.Queueing.{none_before, is_older, has_few, pairs_few}
 use Rattle.row_judging.specs.Joining.{has_pair, comes_behind, JoinLaw}
-
-first_of : (a b : Bool) → (a && b) ≡ true → a ≡ true
-first_of true b h = refl
-first_of false b h = h
-
-second_of : (a b : Bool) → (a && b) ≡ true → b ≡ true
-second_of true b h = h
-second_of false b h = absurd (cc)
-
-or_both : (a b : Bool) → a ≡ false → b ≡ false → (a || b) ≡ false
-or_both true b h k = absurd (cc)
-or_both false b h k = k
-
-or_left : (a b : Bool) → a ≡ true → (a || b) ≡ true
-or_left true b h = refl
-or_left false b h = absurd (cc)
-
-or_right : (a b : Bool) → b ≡ true → (a || b) ≡ true
-or_right true b h = refl
-or_right false b h = h
 
 not_true : (a : Bool) → not a ≡ true → a ≡ false
 not_true true h = absurd (cc)
@@ -42,7 +23,7 @@ module _ {n : ℕ} where
   none_by : (u v : ℕ) → u < v → (ps : List (Row n)) → list_all (λ q. not (stored_before v q.outcome)) ps ≡ true → list_any (λ q. stored_by u q.outcome) ps ≡ false
   none_by u v lt [] h = refl
   none_by u v lt (q ∷ ps) h =
-      or_both (stored_by u q.outcome) _ (one q.outcome (first_of (not (stored_before v q.outcome)) _ h)) (none_by u v lt ps (second_of (not (stored_before v q.outcome)) _ h))
+      or_from (stored_by u q.outcome) _ (one q.outcome (and_first (not (stored_before v q.outcome)) _ h)) (none_by u v lt ps (and_second (not (stored_before v q.outcome)) _ h))
     where
       one : (o : Outcome n) → not (stored_before v o) ≡ true → stored_by u o ≡ false
       one (out.Stored tick place) k = by (cases_lt u tick)
@@ -65,7 +46,7 @@ module _ {n : ℕ} where
   none_at_all : (u : ℕ) (ps : List (Row n)) → list_all (λ q. not (is_stored q.outcome)) ps ≡ true → list_any (λ q. stored_by u q.outcome) ps ≡ false
   none_at_all u [] h = refl
   none_at_all u (q ∷ ps) h =
-      or_both (stored_by u q.outcome) _ (one q.outcome (first_of (not (is_stored q.outcome)) _ h)) (none_at_all u ps (second_of (not (is_stored q.outcome)) _ h))
+      or_from (stored_by u q.outcome) _ (one q.outcome (and_first (not (is_stored q.outcome)) _ h)) (none_at_all u ps (and_second (not (is_stored q.outcome)) _ h))
     where
       one : (o : Outcome n) → not (is_stored o) ≡ true → stored_by u o ≡ false
       one (out.Stored tick place) k = absurd (cc)
@@ -164,10 +145,10 @@ module _ {n : ℕ} where
     -- the older of a pair that is in order
     older_is : (newer older : Row n) → IsIn older → is_older ps newer older ≡ true → is_older (new ∷ ps) newer older ≡ comes_behind new.outcome ps
     older_is newer older within h =
-        let lt : nat_lt older.tick newer.tick ≡ true = first_of (nat_lt older.tick newer.tick) _ h in
-        let rest = second_of (nat_lt older.tick newer.tick) (not (is_merged older.outcome) && none_before older.outcome ps) h in
-        let nm : not (is_merged older.outcome) ≡ true = first_of (not (is_merged older.outcome)) _ rest in
-        let none : none_before older.outcome ps ≡ true = second_of (not (is_merged older.outcome)) _ rest in
+        let lt : nat_lt older.tick newer.tick ≡ true = and_first (nat_lt older.tick newer.tick) _ h in
+        let rest = and_second (nat_lt older.tick newer.tick) (not (is_merged older.outcome) && none_before older.outcome ps) h in
+        let nm : not (is_merged older.outcome) ≡ true = and_first (not (is_merged older.outcome)) _ rest in
+        let none : none_before older.outcome ps ≡ true = and_second (not (is_merged older.outcome)) _ rest in
         ap (λ b. b && (not (is_merged older.outcome) && none_before older.outcome (new ∷ ps))) lt
         ∙ ap (λ b. b && none_before older.outcome (new ∷ ps)) nm
         ∙ behind_older older.outcome (not_true (is_merged older.outcome) nm) within none
@@ -193,8 +174,8 @@ module _ {n : ℕ} where
     pairs_by (q ∷ xs) all h =
         let rest = All-tail (λ q. IsIn q) q xs all in
         by (filter (accepted_of (line_of q.asks)) xs) (filter-in (accepted_of (line_of q.asks)) xs rest)
-        (first_of (has_few ps q (filter (accepted_of (line_of q.asks)) xs)) (pairs_few ps xs) h)
-        (pairs_by xs rest (second_of (has_few ps q (filter (accepted_of (line_of q.asks)) xs)) (pairs_few ps xs) h))
+        (and_first (has_few ps q (filter (accepted_of (line_of q.asks)) xs)) (pairs_few ps xs) h)
+        (pairs_by xs rest (and_second (has_few ps q (filter (accepted_of (line_of q.asks)) xs)) (pairs_few ps xs) h))
         ∙ ap (λ b. not (b || has_pair xs) || comes_behind new.outcome ps) (sym (any-filter (accepted_of (line_of q.asks)) xs))
       where
         by : (ys : List (Row n)) → All (λ q. IsIn q) ys → has_few ps q ys ≡ true → pairs_few (new ∷ ps) xs ≡ (not (has_pair xs) || comes_behind new.outcome ps)

@@ -1,23 +1,16 @@
 -- Whether a write is first to leave the queue, by the least tick at which one is stored.
 use Rattle.std.proofs.Common.{◌≡◌, ℕ, ◌<◌, ◌≤◌, ◌&&◌, ◌||◌, ◌⊎◌, inl, inr, Bool, true, false, List, [], ◌∷◌, Option, Some, None, refl, sym, ap, ◌∙◌, cond, arith}
+use Rattle.masked_bytes.proofs.Truth.{and_first, and_second}
 use Rattle.std.specs.Prelude.{nat_le, nat_lt, not, min}
 use Rattle.std.specs.List.{list_all}
 use Rattle.std.proofs.lemmas.Bool.{le-leb, lt-leb, lt-ltb, ltb-true, le-ltb, cases_lt}
 use Rattle.result_rows.specs.declared.Outcome.{Outcome}
 use Rattle.result_rows.specs.declared.Outcome.TheVariants as out
-use Rattle.row_laws.specs.declared.Row.{Row}
-use Rattle.row_laws.specs.Answers.{is_stored, stored_before}
-use Rattle.row_laws.specs.Rows.{write_of}
-use Rattle.row_laws.specs.Queueing.{none_before, is_first}
+use Rattle.row_rules.specs.declared.Row.{Row}
+use Rattle.row_rules.specs.Answers.{is_stored, stored_before}
+use Rattle.row_rules.specs.Rows.{write_of}
+use Rattle.row_rules.specs.Queueing.{none_before, is_first}
 use Rattle.row_judging.specs.Heads.{end_of, leave_of, least_end, least_other, next_of, stored_below, all_stored_below, NoneBeforeLaw, FirstLaw}
-
-first_of : (a b : Bool) → (a && b) ≡ true → a ≡ true
-first_of true b h = refl
-first_of false b h = h
-
-second_of : (a b : Bool) → (a && b) ≡ true → b ≡ true
-second_of true b h = h
-second_of false b h = absurd (cc)
 
 -- at most the lesser of two is at most both
 under_both : (u v w : ℕ) → nat_le u (min v w) ≡ (nat_le u v && nat_le u w)
@@ -73,8 +66,8 @@ module _ {n : ℕ} (never : ℕ) where
   none_stored : (rows : List (Row n)) → all_stored_below never rows ≡ true → list_all (λ q. not (is_stored q.outcome)) rows ≡ nat_le never (least_end never rows)
   none_stored [] h = sym (le-leb never never (omega arith))
   none_stored (q ∷ rows) h =
-      ap (λ b. b && list_all (λ q. not (is_stored q.outcome)) rows) (at_all q.outcome (first_of (stored_below never q.outcome) _ h))
-      ∙ ap (λ b. nat_le never (end_of never q.outcome) && b) (none_stored rows (second_of (stored_below never q.outcome) _ h))
+      ap (λ b. b && list_all (λ q. not (is_stored q.outcome)) rows) (at_all q.outcome (and_first (stored_below never q.outcome) _ h))
+      ∙ ap (λ b. nat_le never (end_of never q.outcome) && b) (none_stored rows (and_second (stored_below never q.outcome) _ h))
       ∙ sym (under_both never (end_of never q.outcome) (least_end never rows))
 
   -- of those that are no writes of the line
@@ -95,7 +88,7 @@ module _ {n : ℕ} (never : ℕ) where
       → list_all (λ q. write_of line q || not (is_stored q.outcome)) rows ≡ nat_le never (least_other never line rows)
   others_stored line [] h = sym (le-leb never never (omega arith))
   others_stored line (q ∷ rows) h =
-      by (write_of line q) (first_of (stored_below never q.outcome) _ h) (others_stored line rows (second_of (stored_below never q.outcome) _ h))
+      by (write_of line q) (and_first (stored_below never q.outcome) _ h) (others_stored line rows (and_second (stored_below never q.outcome) _ h))
     where
       by : (b : Bool) → stored_below never q.outcome ≡ true → list_all (λ q. write_of line q || not (is_stored q.outcome)) rows ≡ nat_le never (least_other never line rows)
           → ((b || not (is_stored q.outcome)) && list_all (λ q. write_of line q || not (is_stored q.outcome)) rows)

@@ -1,24 +1,17 @@
 -- How many reads wait.
 use Rattle.std.proofs.Common.{◌≡◌, ℕ, ◌+◌, ◌&&◌, ◌||◌, Bool, true, false, List, [], ◌∷◌, length, refl, cond, arith}
+use Rattle.masked_bytes.proofs.Truth.{and_first, and_second}
 use Rattle.std.specs.Prelude.{nat_lt, not}
 use Rattle.std.specs.List.{list_all, list_any}
 use Rattle.result_rows.specs.declared.Outcome.{Outcome}
 use Rattle.result_rows.specs.declared.Outcome.TheVariants as out
-use Rattle.row_laws.specs.declared.Row.{Row}
-use Rattle.row_laws.specs.Answers.{is_stored, is_answered, read_after, is_lost}
-use Rattle.row_laws.specs.Rows.{asks_read, asks_write, is_cut}
-use Rattle.row_laws.specs.Queueing.{waiting}
+use Rattle.row_rules.specs.declared.Row.{Row}
+use Rattle.row_rules.specs.Answers.{is_stored, is_answered, read_after, is_lost}
+use Rattle.row_rules.specs.Rows.{asks_read, asks_write, is_cut}
+use Rattle.row_rules.specs.Queueing.{waiting}
 use Rattle.row_judging.specs.Distances.{wait_above, waits_above}
 use Rattle.row_judging.specs.Standing.{is_own}
 use Rattle.row_judging.specs.Lost.{lost_since, WaitingLaw}
-
-first_of : (a b : Bool) → (a && b) ≡ true → a ≡ true
-first_of true b h = refl
-first_of false b h = h
-
-second_of : (a b : Bool) → (a && b) ≡ true → b ≡ true
-second_of true b h = h
-second_of false b h = absurd (cc)
 
 and_false : (b : Bool) → (b && false) ≡ false
 and_false true = refl
@@ -57,7 +50,7 @@ module _ {n : ℕ} (t : ℕ) where
   number between [] own = refl
   number between (q ∷ rows) own =
       one (asks_read q.asks) (not (list_any is_cut between)) q q.outcome (waits_above t rows) (waiting t (q ∷ between) rows) (lost_since (q ∷ between) rows)
-      (second_of (not (is_stored q.outcome) || asks_write q.asks) _ (first_of (is_own q) _ own)) (number (q ∷ between) rows (second_of (is_own q) _ own))
+      (and_second (not (is_stored q.outcome) || asks_write q.asks) _ (and_first (is_own q) _ own)) (number (q ∷ between) rows (and_second (is_own q) _ own))
 
 pub waiting_law : WaitingLaw
 waiting_law n t rows own = number t [] rows own

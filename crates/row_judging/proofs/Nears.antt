@@ -1,13 +1,14 @@
 -- Pairs that are in order stay so as time passes and, but for the newest, behind one row more.
 use Rattle.std.proofs.Common.{◌≡◌, ℕ, ◌≤◌, ◌&&◌, Bool, true, false, List, [], ◌∷◌, inl, inr, refl, sym, ap, ◌∙◌, subst, cond}
+use Rattle.masked_bytes.proofs.Truth.{and_first, and_second}
 use Rattle.std.specs.Prelude.{drop, filter}
-use Rattle.row_laws.specs.declared.Row.{Row}
-use Rattle.row_laws.specs.Rules.{Rules}
-use Rattle.row_laws.specs.Queueing.{stands, pending, waiting, pairs_few, has_room}
+use Rattle.row_rules.specs.declared.Row.{Row}
+use Rattle.row_rules.specs.declared.Rules.{Rules}
+use Rattle.row_rules.specs.Queueing.{stands, pending, waiting, pairs_few, has_room}
 use Rattle.row_judging.specs.Near.{NearRoom}
 use Rattle.row_judging.specs.Steps.{stays_behind}
 use Rattle.row_judging.proofs.Steps.{step_law}
-use Rattle.row_judging.proofs.Sublists.{Sub, first_of, second_of, sub-filter, pairs-sub, pending-later}
+use Rattle.row_judging.proofs.Sublists.{Sub, sub-filter, pairs-sub, pending-later}
 
 sub-whole : {A : Type 0} (xs : List A) → Sub xs xs
 sub-whole [] = refl
@@ -40,7 +41,7 @@ pub near_stays : {n : ℕ} (t u : ℕ) (rows : List (Row n)) → t ≤ u → Nea
 near_stays t u rows le h = pairs-less (drop 1 (pending t [] rows)) (drop 1 (pending u [] rows)) (sub-drop (pending t [] rows) (pending u [] rows) (pending-later t u le [] rows)) h
 
 pub room_pairs : {n : ℕ} (rules : Rules) (t : ℕ) (rows : List (Row n)) → has_room rules t rows ≡ true → pairs_few (pending t [] rows) (pending t [] rows) ≡ true
-room_pairs rules t rows h = second_of _ _ (second_of _ _ h)
+room_pairs rules t rows h = and_second _ _ (and_second _ _ h)
 
 -- where there is room
 pub room_near : {n : ℕ} (rules : Rules) (t : ℕ) (rows : List (Row n)) → has_room rules t rows ≡ true → NearRoom t rows

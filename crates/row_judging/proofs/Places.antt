@@ -1,17 +1,18 @@
 -- Counts of a bank's rows by sorted keys.
 use Rattle.std.proofs.Common.{◌≡◌, ℕ, zero, suc, ◌+◌, ◌<◌, ◌≤◌, ◌==◌, ◌&&◌, ◌⊎◌, inl, inr, Bool, true, false, List, [], ◌∷◌, length, refl, ap, ◌∙◌, cond, arith}
+use Rattle.masked_bytes.proofs.Truth.{and_first, and_second}
 use Rattle.std.specs.Prelude.{nat_le, nat_lt, count_by, slice_index_or}
 use Rattle.std.proofs.lemmas.Bool.{le-leb, lt-leb, lt-ltb, ltb-true, le-ltb, cases_lt, cases_order, eq-eqb, ne_eqb}
 use Rattle.std.proofs.lemmas.List.Sorted.{sum_by-IsPermutation}
 use Rattle.result_rows.specs.declared.Outcome.{Outcome}
 use Rattle.result_rows.specs.declared.Outcome.TheVariants as out
-use Rattle.row_laws.specs.declared.Asks.{Asks}
-use Rattle.row_laws.specs.declared.Asks.TheVariants.{Reads, Writes, Cuts}
-use Rattle.row_laws.specs.declared.Row.{Row}
-use Rattle.row_laws.specs.Answers.{stored_after, stored_by, read_after, read_by}
-use Rattle.row_laws.specs.Rows.{asks_read, asks_write}
-use Rattle.row_laws.specs.Table.{is_of, of_bank}
-use Rattle.row_laws.specs.Ticking.{stores_in, reads_in}
+use Rattle.row_rules.specs.declared.Asks.{Asks}
+use Rattle.row_rules.specs.declared.Asks.TheVariants.{Reads, Writes, Cuts}
+use Rattle.row_rules.specs.declared.Row.{Row}
+use Rattle.row_rules.specs.Answers.{stored_after, stored_by, read_after, read_by}
+use Rattle.row_rules.specs.Rows.{asks_read, asks_write}
+use Rattle.row_rules.specs.Table.{is_of, of_bank}
+use Rattle.row_rules.specs.Ticking.{stores_in, reads_in}
 use Rattle.row_judging.specs.Keys.{reach, key, up_to, is_short, all_short, store_key, store_keys, read_key, read_keys, PlaceLaw, CountLaw}
 use Rattle.row_judging.proofs.Cuts.{count-cons}
 
@@ -108,14 +109,6 @@ step bank other a u v le us vs = by (cases_order other bank)
         let z : one_if (nat_le (key other v) (key bank u)) ≡ 0 = ap one_if (lt-leb (key other v) (key bank u) (omega (arith, higher, us))) in
         omega (arith, x, y, z)
 
-first_of : (a b : Bool) → (a && b) ≡ true → a ≡ true
-first_of true b h = refl
-first_of false b h = h
-
-second_of : (a b : Bool) → (a && b) ≡ true → b ≡ true
-second_of true b h = h
-second_of false b h = absurd (cc)
-
 -- what one row more adds to a count over a bank's rows
 filtered : {X : Type 0} (own test : X → Bool) (x : X) (k : ℕ) (rest : List X) → count_by test rest ≡ k
     → count_by test (cond (own x) (x ∷ rest) rest) ≡ one_if (own x && test x) + k
@@ -178,8 +171,8 @@ module _ {n : ℕ} (bank_of : ℕ → ℕ) (bank a u : ℕ) (le : a ≤ u) (us :
   stores (q ∷ rows) short =
       let k = filtered (λ r. is_of bank_of bank r.asks) (λ r. asks_write r.asks && (stored_after a r.outcome && stored_by u r.outcome)) q
       (stores_in a u (of_bank bank_of bank rows)) (of_bank bank_of bank rows) refl in
-      let s = store_step q.tick q.asks q.outcome q.outcome (store_keys bank_of rows) (stores_in a u (of_bank bank_of bank rows)) (first_of (is_short q.outcome) _ short)
-      (stores rows (second_of (is_short q.outcome) _ short)) in
+      let s = store_step q.tick q.asks q.outcome q.outcome (store_keys bank_of rows) (stores_in a u (of_bank bank_of bank rows)) (and_first (is_short q.outcome) _ short)
+      (stores rows (and_second (is_short q.outcome) _ short)) in
       ap (λ c. up_to (key bank a) (store_keys bank_of (q ∷ rows)) + c) k ∙ s
 
   reads : (rows : List (Row n)) → all_short rows ≡ true → up_to (key bank a) (read_keys bank_of rows) + reads_in a u (of_bank bank_of bank rows) ≡ up_to (key bank u) (read_keys bank_of rows)
@@ -187,8 +180,8 @@ module _ {n : ℕ} (bank_of : ℕ → ℕ) (bank a u : ℕ) (le : a ≤ u) (us :
   reads (q ∷ rows) short =
       let k = filtered (λ r. is_of bank_of bank r.asks) (λ r. asks_read r.asks && (read_after a r.outcome && read_by u r.outcome)) q
       (reads_in a u (of_bank bank_of bank rows)) (of_bank bank_of bank rows) refl in
-      let s = read_step q.tick q.asks q.outcome q.outcome (read_keys bank_of rows) (reads_in a u (of_bank bank_of bank rows)) (first_of (is_short q.outcome) _ short)
-      (reads rows (second_of (is_short q.outcome) _ short)) in
+      let s = read_step q.tick q.asks q.outcome q.outcome (read_keys bank_of rows) (reads_in a u (of_bank bank_of bank rows)) (and_first (is_short q.outcome) _ short)
+      (reads rows (and_second (is_short q.outcome) _ short)) in
       ap (λ c. up_to (key bank a) (read_keys bank_of (q ∷ rows)) + c) k ∙ s
 
 pub count_law : CountLaw

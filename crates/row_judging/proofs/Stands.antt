@@ -1,23 +1,16 @@
 -- Ticks still to come are those of the writes that stand and of the reads that wait.
 use Rattle.std.proofs.Common.{◌≡◌, ℕ, ◌&&◌, ◌||◌, Bool, true, false, List, [], ◌∷◌, refl, sym, ap, ◌∙◌, cond}
+use Rattle.masked_bytes.proofs.Truth.{and_first, and_second}
 use Rattle.std.specs.Prelude.{nat_lt, not}
 use Rattle.std.specs.List.{list_all, list_any}
 use Rattle.result_rows.specs.declared.Outcome.{Outcome}
 use Rattle.result_rows.specs.declared.Outcome.TheVariants as out
-use Rattle.row_laws.specs.declared.Row.{Row}
-use Rattle.row_laws.specs.Answers.{accepts, is_stored, is_answered, stored_after, read_after, is_queued, is_merged, is_lost}
-use Rattle.row_laws.specs.Rows.{asks_write, asks_read, accepted_of, is_cut, line_of}
-use Rattle.row_laws.specs.Queueing.{pending, waiting}
+use Rattle.row_rules.specs.declared.Row.{Row}
+use Rattle.row_rules.specs.Answers.{accepts, is_stored, is_answered, stored_after, read_after, is_queued, is_merged, is_lost}
+use Rattle.row_rules.specs.Rows.{asks_write, asks_read, accepted_of, is_cut, line_of}
+use Rattle.row_rules.specs.Queueing.{pending, waiting}
 use Rattle.row_judging.specs.Distances.{end_above, ends_above, wait_above, waits_above}
 use Rattle.row_judging.specs.Standing.{is_own, at_end, at_read, StandLaw}
-
-first_of : (a b : Bool) → (a && b) ≡ true → a ≡ true
-first_of true b h = refl
-first_of false b h = h
-
-second_of : (a b : Bool) → (a && b) ≡ true → b ≡ true
-second_of true b h = h
-second_of false b h = absurd (cc)
 
 or_false : (a : Bool) → (a || false) ≡ a
 or_false true = refl
@@ -75,13 +68,13 @@ module _ {n : ℕ} (t : ℕ) (test : ℕ → Bool) where
   writes between [] own = refl
   writes between (q ∷ rows) own =
       one (asks_write q.asks) (not (list_any (accepted_of (line_of q.asks)) between)) q q.outcome (ends_above t rows) (pending t (q ∷ between) rows) refl
-      (first_of (not (is_stored q.outcome) || asks_write q.asks) _ (first_of (is_own q) _ own)) (writes (q ∷ between) rows (second_of (is_own q) _ own))
+      (and_first (not (is_stored q.outcome) || asks_write q.asks) _ (and_first (is_own q) _ own)) (writes (q ∷ between) rows (and_second (is_own q) _ own))
 
   reads : (between rows : List (Row n)) → list_all is_own rows ≡ true → list_all test (waits_above t rows) ≡ list_all (λ q. at_read test q.outcome) (waiting t between rows)
   reads between [] own = refl
   reads between (q ∷ rows) own =
       two (asks_read q.asks) (not (list_any is_cut between)) q q.outcome (waits_above t rows) (waiting t (q ∷ between) rows) refl
-      (second_of (not (is_stored q.outcome) || asks_write q.asks) _ (first_of (is_own q) _ own)) (reads (q ∷ between) rows (second_of (is_own q) _ own))
+      (and_second (not (is_stored q.outcome) || asks_write q.asks) _ (and_first (is_own q) _ own)) (reads (q ∷ between) rows (and_second (is_own q) _ own))
 
 pub stand_law : StandLaw
 stand_law n t test rows own = record { writes = writes t test [] rows own; reads = reads t test [] rows own }

@@ -5,10 +5,10 @@ use Rattle.std.specs.List.{list_any}
 use Rattle.std.proofs.lemmas.Bool.{le-leb, lt-leb, lt-ltb, le-ltb, cases_lt}
 use Rattle.result_rows.specs.declared.Outcome.{Outcome}
 use Rattle.result_rows.specs.declared.Outcome.TheVariants as out
-use Rattle.row_laws.specs.declared.Row.{Row}
-use Rattle.row_laws.specs.Answers.{stored_after, stored_by, read_after, read_by, is_queued, is_merged, is_lost}
-use Rattle.row_laws.specs.Rows.{accepted, accepted_of, asks_read, is_cut, line_of}
-use Rattle.row_laws.specs.Queueing.{stands, pending, awaits, waiting}
+use Rattle.row_rules.specs.declared.Row.{Row}
+use Rattle.row_rules.specs.Answers.{stored_after, stored_by, read_after, read_by, is_queued, is_merged, is_lost}
+use Rattle.row_rules.specs.Rows.{accepted, accepted_of, asks_read, is_cut, line_of}
+use Rattle.row_rules.specs.Queueing.{stands, pending, awaits, waiting}
 use Rattle.row_judging.specs.Steps.{stays, stays_behind, waits_on, waits_behind, SettleLaw, StepLaw}
 
 -- a list that is kept by a sharper test, one element more

@@ -1,34 +1,23 @@
 -- A bank's writes and reads only leave as time passes, and what leaves breaks nothing.
 use Rattle.std.proofs.Common.{◌≡◌, ℕ, ◌<◌, ◌≤◌, ◌&&◌, ◌||◌, ◌⊎◌, inl, inr, Bool, true, false, List, [], ◌∷◌, length, refl, sym, ap, ◌∙◌, subst, cond, arith}
+use Rattle.masked_bytes.proofs.Truth.{and_first, and_second}
 use Rattle.std.specs.Prelude.{nat_lt, nat_le, not, filter}
 use Rattle.std.specs.List.{list_all, list_any}
-use Rattle.std.proofs.lemmas.Bool.{le-leb, leb-true, lt-ltb, ltb-true}
+use Rattle.std.proofs.lemmas.Bool.{le-leb, leb-true, lt-ltb, ltb-true, and_from}
 use Rattle.result_rows.specs.declared.Outcome.{Outcome}
 use Rattle.result_rows.specs.declared.Outcome.TheVariants as out
-use Rattle.row_laws.specs.declared.Asks.{Asks}
-use Rattle.row_laws.specs.declared.Asks.TheVariants.{Reads, Writes, Cuts}
-use Rattle.row_laws.specs.declared.Row.{Row}
-use Rattle.row_laws.specs.Answers.{accepts, stored_after, read_after, is_merged, is_queued, is_lost, is_stored, stored_before}
-use Rattle.row_laws.specs.Rows.{accepted, accepted_of, line_of, asks_read, asks_write, asks_write_of, asks_cut, is_cut}
-use Rattle.row_laws.specs.Queueing.{stands, pending, awaits, waiting, none_before, is_older, has_few, pairs_few}
+use Rattle.row_rules.specs.declared.Asks.{Asks}
+use Rattle.row_rules.specs.declared.Asks.TheVariants.{Reads, Writes, Cuts}
+use Rattle.row_rules.specs.declared.Row.{Row}
+use Rattle.row_rules.specs.Answers.{accepts, stored_after, read_after, is_merged, is_queued, is_lost, is_stored, stored_before}
+use Rattle.row_rules.specs.Rows.{accepted, accepted_of, line_of, asks_read, asks_write, asks_write_of, asks_cut, is_cut}
+use Rattle.row_rules.specs.Queueing.{stands, pending, awaits, waiting, none_before, is_older, has_few, pairs_few}
 use Rattle.row_judging.specs.Staying.{RoomStaysLaw, RoomBehindCutLaw}
 
 -- the second list is the first one with some left out
 abbrev pub Sub : {A : Type 0} → List A → List A → Type 0
 Sub [] qs = qs ≡ []
 Sub {A} (p ∷ ps) qs = Sub ps qs ⊎ ((rest : List A) × (qs ≡ p ∷ rest) × Sub ps rest)
-
-pub first_of : (a b : Bool) → (a && b) ≡ true → a ≡ true
-first_of true b h = refl
-first_of false b h = h
-
-pub second_of : (a b : Bool) → (a && b) ≡ true → b ≡ true
-second_of true b h = h
-second_of false b h = absurd (cc)
-
-both : (a b : Bool) → a ≡ true → b ≡ true → (a && b) ≡ true
-both true b h k = k
-both false b h k = h
 
 or_weaker : (a b c : Bool) → (a ≡ true → b ≡ true) → (a || c) ≡ true → (b || c) ≡ true
 or_weaker true true c up h = refl
@@ -53,7 +42,7 @@ or_more : (a b c : Bool) → (b ≡ true → c ≡ true) → (a || b) ≡ true �
 or_more true b c up h = refl
 or_more false b c up h = up h
 
--- one element more in front: kept by both, by the first, or by none
+-- one element more in front: kept by and_from, by the first, or by none
 sub-step : {A : Type 0} (a b : Bool) (q : A) (ps qs : List A) → (b ≡ true → a ≡ true) → Sub ps qs → Sub (cond a (q ∷ ps) ps) (cond b (q ∷ qs) qs)
 sub-step true true q ps qs up s = inr (qs, refl, s)
 sub-step true false q ps qs up s = inl s
@@ -72,9 +61,9 @@ sub-filter f (p ∷ ps) qs (inr s) =
 
 sub-all : {A : Type 0} (f : A → Bool) (ps qs : List A) → Sub ps qs → list_all f ps ≡ true → list_all f qs ≡ true
 sub-all f [] qs s h = ap (list_all f) s
-sub-all f (p ∷ ps) qs (inl s) h = sub-all f ps qs s (second_of (f p) (list_all f ps) h)
+sub-all f (p ∷ ps) qs (inl s) h = sub-all f ps qs s (and_second (f p) (list_all f ps) h)
 sub-all f (p ∷ ps) qs (inr s) h =
-    ap (list_all f) s.1 ∙ both (f p) (list_all f s.0) (first_of (f p) (list_all f ps) h) (sub-all f ps s.0 s.2 (second_of (f p) (list_all f ps) h))
+    ap (list_all f) s.1 ∙ and_from (f p) (list_all f s.0) (and_first (f p) (list_all f ps) h) (sub-all f ps s.0 s.2 (and_second (f p) (list_all f ps) h))
 
 pub sub-length : {A : Type 0} (ps qs : List A) → Sub ps qs → length qs ≤ length ps
 sub-length [] qs s = let k : length qs ≡ 0 = ap length s in omega (arith, k)
@@ -115,13 +104,13 @@ module _ {n : ℕ} where
 
   pub pairs-sub : (all less ps qs : List (Row n)) → Sub all less → Sub ps qs → pairs_few all ps ≡ true → pairs_few less qs ≡ true
   pairs-sub all less [] qs s sub h = ap (pairs_few less) sub
-  pairs-sub all less (p ∷ ps) qs s (inl sub) h = pairs-sub all less ps qs s sub (second_of (has_few all p (filter (accepted_of (line_of p.asks)) ps)) (pairs_few all ps) h)
+  pairs-sub all less (p ∷ ps) qs s (inl sub) h = pairs-sub all less ps qs s sub (and_second (has_few all p (filter (accepted_of (line_of p.asks)) ps)) (pairs_few all ps) h)
   pairs-sub all less (p ∷ ps) qs s (inr sub) h =
       ap (pairs_few less) sub.1
-      ∙ both (has_few less p (filter (accepted_of (line_of p.asks)) sub.0)) (pairs_few less sub.0)
+      ∙ and_from (has_few less p (filter (accepted_of (line_of p.asks)) sub.0)) (pairs_few less sub.0)
       (few-sub all less p (filter (accepted_of (line_of p.asks)) ps) (filter (accepted_of (line_of p.asks)) sub.0) s
-      (sub-filter (accepted_of (line_of p.asks)) ps sub.0 sub.2) (first_of (has_few all p (filter (accepted_of (line_of p.asks)) ps)) (pairs_few all ps) h))
-      (pairs-sub all less ps sub.0 s sub.2 (second_of (has_few all p (filter (accepted_of (line_of p.asks)) ps)) (pairs_few all ps) h))
+      (sub-filter (accepted_of (line_of p.asks)) ps sub.0 sub.2) (and_first (has_few all p (filter (accepted_of (line_of p.asks)) ps)) (pairs_few all ps) h))
+      (pairs-sub all less ps sub.0 s sub.2 (and_second (has_few all p (filter (accepted_of (line_of p.asks)) ps)) (pairs_few all ps) h))
 
   stored_above : (t u : ℕ) → t ≤ u → (o : Outcome n) → stored_after u o ≡ true → stored_after t o ≡ true
   stored_above t u le (out.Stored tick place) h = above t u tick le h
@@ -173,9 +162,9 @@ pub room_stays_law : RoomStaysLaw
 room_stays_law n t u rules rows le h =
     let ps = pending-later t u le [] rows in
     let ws = waiting-later t u le [] rows in
-    both _ _ (fewer (pending t [] rows) (pending u [] rows) rules.writes ps (first_of _ _ h))
-    (both _ _ (fewer (waiting t [] rows) (waiting u [] rows) rules.reads ws (first_of _ _ (second_of _ _ h)))
-    (pairs-sub (pending t [] rows) (pending u [] rows) (pending t [] rows) (pending u [] rows) ps ps (second_of _ _ (second_of _ _ h))))
+    and_from _ _ (fewer (pending t [] rows) (pending u [] rows) rules.writes ps (and_first _ _ h))
+    (and_from _ _ (fewer (waiting t [] rows) (waiting u [] rows) rules.reads ws (and_first _ _ (and_second _ _ h)))
+    (pairs-sub (pending t [] rows) (pending u [] rows) (pending t [] rows) (pending u [] rows) ps ps (and_second _ _ (and_second _ _ h))))
 
 -- Behind a cut
 
@@ -235,6 +224,6 @@ room_behind_cut_law n t rules r rows cut h =
     ap (λ b. cond b (r ∷ pending t (r ∷ []) rows) (pending t (r ∷ []) rows)) (cut_stands t r cut)
     ∙ pending-same t (r ∷ []) [] rows (λ line. ap (λ b. b || false) (cut_accepts line r cut)) in
     let ws : waiting t [] (r ∷ rows) ≡ waiting t (r ∷ []) rows = ap (λ b. cond b (r ∷ waiting t (r ∷ []) rows) (waiting t (r ∷ []) rows)) (cut_awaits t r cut) in
-    both _ _ (ap (λ qs. nat_le (length qs) rules.writes) ps ∙ first_of _ _ h)
-    (both _ _ (ap (λ qs. nat_le (length qs) rules.reads) ws ∙ fewer (waiting t [] rows) (waiting t (r ∷ []) rows) rules.reads (waiting-cut t [] (r ∷ []) rows (λ none. absurd (cc))) (first_of _ _ (second_of _ _ h)))
-    (ap (λ qs. pairs_few qs qs) ps ∙ second_of _ _ (second_of _ _ h)))
+    and_from _ _ (ap (λ qs. nat_le (length qs) rules.writes) ps ∙ and_first _ _ h)
+    (and_from _ _ (ap (λ qs. nat_le (length qs) rules.reads) ws ∙ fewer (waiting t [] rows) (waiting t (r ∷ []) rows) rules.reads (waiting-cut t [] (r ∷ []) rows (λ none. absurd (cc))) (and_first _ _ (and_second _ _ h)))
+    (ap (λ qs. pairs_few qs qs) ps ∙ and_second _ _ (and_second _ _ h)))

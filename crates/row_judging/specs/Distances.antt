@@ -3,8 +3,8 @@ use Rattle.std.specs.Prelude.{◌≡◌, ℕ, ◌+◌, ◌==◌, not, ◌&&◌, 
 use Rattle.std.specs.List.{list_all}
 use Rattle.result_rows.specs.declared.Outcome.{Outcome}
 use Rattle.result_rows.specs.declared.Outcome.TheVariants as out
-use Rattle.row_laws.specs.declared.Row.{Row}
-use Rattle.row_laws.specs.Ticking.{apart}
+use Rattle.row_rules.specs.declared.Row.{Row}
+use Rattle.row_rules.specs.Ticking.{apart}
 
 -- the greater of a tick and another, if there is one
 abbrev pub later_of : ℕ → Option ℕ → Option ℕ

@@ -3,9 +3,9 @@ use Rattle.std.specs.Prelude.{◌≡◌, ℕ, ◌≤◌, Bool, true, IsTrue, if�
 use Rattle.std.specs.List.{list_all}
 use Rattle.result_rows.specs.declared.Outcome.{Outcome}
 use Rattle.result_rows.specs.declared.Outcome.TheVariants as out
-use Rattle.row_laws.specs.declared.Row.{Row}
-use Rattle.row_laws.specs.Rows.{write_of}
-use Rattle.row_laws.specs.Queueing.{none_before, is_first}
+use Rattle.row_rules.specs.declared.Row.{Row}
+use Rattle.row_rules.specs.Rows.{write_of}
+use Rattle.row_rules.specs.Queueing.{none_before, is_first}
 
 module _ {n : ℕ} (never : ℕ) where
   -- the tick at which a write is stored, or never

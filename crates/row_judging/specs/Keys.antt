@@ -4,10 +4,10 @@ use Rattle.std.specs.List.{list_all}
 use Rattle.std.specs.List.Sorted.{IsPartitionPoint}
 use Rattle.result_rows.specs.declared.Outcome.{Outcome}
 use Rattle.result_rows.specs.declared.Outcome.TheVariants as out
-use Rattle.row_laws.specs.declared.Row.{Row}
-use Rattle.row_laws.specs.Rows.{asks_read, asks_write, line_of}
-use Rattle.row_laws.specs.Table.{of_bank}
-use Rattle.row_laws.specs.Ticking.{stores_in, reads_in}
+use Rattle.row_rules.specs.declared.Row.{Row}
+use Rattle.row_rules.specs.Rows.{asks_read, asks_write, line_of}
+use Rattle.row_rules.specs.Table.{of_bank}
+use Rattle.row_rules.specs.Ticking.{stores_in, reads_in}
 
 -- ticks lie below this
 abbrev pub reach : ℕ

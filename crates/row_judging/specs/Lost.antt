@@ -1,10 +1,10 @@
 -- How many reads wait: those that are read later, and those that a cut will lose.
 use Rattle.std.specs.Prelude.{◌≡◌, ℕ, ◌+◌, ◌&&◌, not, IsTrue, if◌then◌else◌, List, [], ◌∷◌, length}
 use Rattle.std.specs.List.{list_all, list_any}
-use Rattle.row_laws.specs.declared.Row.{Row}
-use Rattle.row_laws.specs.Answers.{is_lost}
-use Rattle.row_laws.specs.Rows.{asks_read, is_cut}
-use Rattle.row_laws.specs.Queueing.{waiting}
+use Rattle.row_rules.specs.declared.Row.{Row}
+use Rattle.row_rules.specs.Answers.{is_lost}
+use Rattle.row_rules.specs.Rows.{asks_read, is_cut}
+use Rattle.row_rules.specs.Queueing.{waiting}
 use Rattle.row_judging.specs.Distances.{waits_above}
 use Rattle.row_judging.specs.Standing.{is_own}
 

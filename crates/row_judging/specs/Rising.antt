@@ -1,6 +1,6 @@
 -- Rows whose ticks don't fall.
 use Rattle.std.specs.Prelude.{ℕ, ◌&&◌, Bool, true, List, [], ◌∷◌, nat_le}
-use Rattle.row_laws.specs.declared.Row.{Row}
+use Rattle.row_rules.specs.declared.Row.{Row}
 
 module _ {n : ℕ} where
   -- the ticks of these rows, the oldest first, are at least t and don't fall

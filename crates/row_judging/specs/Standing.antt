@@ -3,10 +3,10 @@ use Rattle.std.specs.Prelude.{◌≡◌, ℕ, Bool, true, IsTrue, not, ◌&&◌,
 use Rattle.std.specs.List.{list_all}
 use Rattle.result_rows.specs.declared.Outcome.{Outcome}
 use Rattle.result_rows.specs.declared.Outcome.TheVariants as out
-use Rattle.row_laws.specs.declared.Row.{Row}
-use Rattle.row_laws.specs.Answers.{is_stored, is_answered}
-use Rattle.row_laws.specs.Rows.{asks_write, asks_read}
-use Rattle.row_laws.specs.Queueing.{pending, waiting}
+use Rattle.row_rules.specs.declared.Row.{Row}
+use Rattle.row_rules.specs.Answers.{is_stored, is_answered}
+use Rattle.row_rules.specs.Rows.{asks_write, asks_read}
+use Rattle.row_rules.specs.Queueing.{pending, waiting}
 use Rattle.row_judging.specs.Distances.{ends_above, waits_above}
 
 module _ {n : ℕ} where

@@ -3,10 +3,10 @@ use Rattle.std.specs.Prelude.{◌≡◌, ℕ, not, ◌&&◌, ◌||◌, Bool, tru
 use Rattle.std.specs.List.{list_any}
 use Rattle.result_rows.specs.declared.Outcome.{Outcome}
 use Rattle.result_rows.specs.declared.Outcome.TheVariants as out
-use Rattle.row_laws.specs.declared.Row.{Row}
-use Rattle.row_laws.specs.Answers.{is_worn}
-use Rattle.row_laws.specs.Rows.{asks_write}
-use Rattle.row_laws.specs.Wearing.{worn_row, is_wear_final}
+use Rattle.row_rules.specs.declared.Row.{Row}
+use Rattle.row_rules.specs.Answers.{is_worn}
+use Rattle.row_rules.specs.Rows.{asks_write}
+use Rattle.row_rules.specs.Wearing.{worn_row, is_wear_final}
 use Rattle.row_judging.specs.Rising.{rising}
 
 module _ {n : ℕ} where

@@ -7,8 +7,8 @@ use Rattle.std.proofs.lemmas.List.{reverse-append}
 use Rattle.std.proofs.lemmas.List.Folds.{list_all-append, list_all-map}
 use Rattle.result_rows.specs.declared.Outcome.{Outcome}
 use Rattle.result_rows.specs.declared.Outcome.TheVariants as out
-use Rattle.row_laws.specs.declared.Row.{Row}
-use Rattle.row_laws.specs.Queueing.{pending}
+use Rattle.row_rules.specs.declared.Row.{Row}
+use Rattle.row_rules.specs.Queueing.{pending}
 use Rattle.row_judging.specs.Distances.{is_far_below, ends_above, waits_above, is_apart}
 use Rattle.row_judging.specs.Heads.{end_of}
 use Rattle.row_judging.specs.Keys.{reach, is_short}

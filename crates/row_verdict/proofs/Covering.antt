@@ -7,10 +7,10 @@ use Rattle.std.proofs.lemmas.List.{reverse-append, reverse-reverse}
 use Rattle.masked_bytes.specs.Masked.{joined, laid, none_given}
 use Rattle.result_rows.specs.declared.Outcome.{Outcome}
 use Rattle.result_rows.specs.declared.Outcome.TheVariants as out
-use Rattle.row_laws.specs.declared.Row.{Row}
-use Rattle.row_laws.specs.Answers.{is_stored, stored_by}
-use Rattle.row_laws.specs.Rows.{accepted_of, write_of, newest, bytes_of, given_of}
-use Rattle.row_laws.specs.Queueing.{unstored, cover}
+use Rattle.row_rules.specs.declared.Row.{Row}
+use Rattle.row_rules.specs.Answers.{is_stored, stored_by}
+use Rattle.row_rules.specs.Rows.{accepted_of, write_of, newest, bytes_of, given_of}
+use Rattle.row_rules.specs.Queueing.{unstored, cover}
 use Rattle.row_judging.specs.Runs.{run, held}
 use Rattle.row_judging.proofs.Covers.{cover_law}
 use Rattle.row_verdict.specs.declared.lines.Run.{Run}

@@ -1,5 +1,6 @@
 -- The queue's rule, by what is kept of a bank.
 use Rattle.std.proofs.Common.{◌≡◌, ℕ, suc, ◌+◌, ◌-◌, ◌<◌, ◌≤◌, ◌==◌, ◌&&◌, ◌||◌, ◌⊎◌, inl, inr, Bool, true, false, List, [], ◌∷◌, ◌++◌, Option, Some, None, length, refl, sym, ap, ◌∙◌, subst, cond, arith}
+use Rattle.masked_bytes.proofs.Truth.{and_first, and_second}
 use Rattle.std.specs.Prelude.{nat_le, nat_lt, not, reverse, map, filter, drop, take, slice_get, count_by}
 use Rattle.std.specs.List.{list_all, list_any}
 use Rattle.std.proofs.lemmas.Bool.{le-leb, lt-leb, lt-ltb, ltb-true, eq-eqb, ne_eqb, eqb-true, cases_eq}
@@ -8,13 +9,13 @@ use Rattle.std.proofs.lemmas.List.Folds.{list_any-append, list_all-map}
 use Rattle.std.proofs.lemmas.List.Sorted.{IsPermutation-reverse}
 use Rattle.result_rows.specs.declared.Outcome.{Outcome}
 use Rattle.result_rows.specs.declared.Outcome.TheVariants as out
-use Rattle.row_laws.specs.declared.Asks.{Asks}
-use Rattle.row_laws.specs.declared.Asks.TheVariants.{Reads, Writes, Cuts}
-use Rattle.row_laws.specs.declared.Row.{Row}
-use Rattle.row_laws.specs.Answers.{accepts, is_merged, is_queued, stored_after, stored_by}
-use Rattle.row_laws.specs.Rules.{Rules}
-use Rattle.row_laws.specs.Rows.{asks_write, asks_write_of, accepted, accepted_of, write_of, line_of}
-use Rattle.row_laws.specs.Queueing.{stands, pending, waiting, none_before, is_older, has_few, pairs_few, is_refused, has_room}
+use Rattle.row_rules.specs.declared.Asks.{Asks}
+use Rattle.row_rules.specs.declared.Asks.TheVariants.{Reads, Writes, Cuts}
+use Rattle.row_rules.specs.declared.Row.{Row}
+use Rattle.row_rules.specs.Answers.{accepts, is_merged, is_queued, stored_after, stored_by}
+use Rattle.row_rules.specs.declared.Rules.{Rules}
+use Rattle.row_rules.specs.Rows.{asks_write, asks_write_of, accepted, accepted_of, write_of, line_of}
+use Rattle.row_rules.specs.Queueing.{stands, pending, waiting, none_before, is_older, has_few, pairs_few, is_refused, has_room}
 use Rattle.row_judging.specs.Few.{few_by}
 use Rattle.row_judging.specs.Heads.{end_of, leave_of, stored_below, all_stored_below}
 use Rattle.row_judging.specs.Joining.{has_pair, comes_behind}
@@ -31,14 +32,6 @@ use Rattle.row_verdict.specs.Members.{never}
 use Rattle.row_verdict.specs.Kept.{Sight, sight, sight_of, Shows, KeptBank}
 use Rattle.row_verdict.proofs.Apart.{all-reverse, all-same}
 use Rattle.row_verdict.proofs.Numbers.{numbers_law}
-
-first_of : (a b : Bool) → (a && b) ≡ true → a ≡ true
-first_of true b h = refl
-first_of false b h = h
-
-second_of : (a b : Bool) → (a && b) ≡ true → b ≡ true
-second_of true b h = h
-second_of false b h = absurd (cc)
 
 -- Tests of lists in either order
 
@@ -86,12 +79,12 @@ map-reverse f (x ∷ xs) =
 pub all-where : {X : Type 0} (w p q : X → Bool) → ((x : X) → w x ≡ true → p x ≡ q x) → (xs : List X) → list_all w xs ≡ true → list_all p xs ≡ list_all q xs
 all-where w p q same [] h = refl
 all-where w p q same (x ∷ xs) h =
-    ap (λ b. b && list_all p xs) (same x (first_of (w x) _ h)) ∙ ap (λ b. q x && b) (all-where w p q same xs (second_of (w x) _ h))
+    ap (λ b. b && list_all p xs) (same x (and_first (w x) _ h)) ∙ ap (λ b. q x && b) (all-where w p q same xs (and_second (w x) _ h))
 
 pub any-where : {X : Type 0} (w p q : X → Bool) → ((x : X) → w x ≡ true → p x ≡ q x) → (xs : List X) → list_all w xs ≡ true → list_any p xs ≡ list_any q xs
 any-where w p q same [] h = refl
 any-where w p q same (x ∷ xs) h =
-    ap (λ b. b || list_any p xs) (same x (first_of (w x) _ h)) ∙ ap (λ b. q x || b) (any-where w p q same xs (second_of (w x) _ h))
+    ap (λ b. b || list_any p xs) (same x (and_first (w x) _ h)) ∙ ap (λ b. q x || b) (any-where w p q same xs (and_second (w x) _ h))
 
 abbrev one_if : Bool → ℕ
 one_if b = cond b 1 0
@@ -101,8 +94,8 @@ count-where w p q same [] h = refl
 count-where w p q same (x ∷ xs) h =
     let i = count-cons p x xs in
     let j = count-cons q x xs in
-    let k : one_if (p x) ≡ one_if (q x) = ap one_if (same x (first_of (w x) _ h)) in
-    let r = count-where w p q same xs (second_of (w x) _ h) in
+    let k : one_if (p x) ≡ one_if (q x) = ap one_if (same x (and_first (w x) _ h)) in
+    let r = count-where w p q same xs (and_second (w x) _ h) in
     omega (arith, i, j, k, r)
 
 -- Twins
@@ -176,10 +169,10 @@ module _ {n : ℕ} where
   -- a test of all rows is one of all that stand
   pub stands_all : (p : Row n → Bool) (t : ℕ) (between rows : List (Row n)) → list_all p rows ≡ true → list_all p (pending t between rows) ≡ true
   stands_all p t between [] h = refl
-  stands_all p t between (q ∷ rows) h = by (stands t between q) (stands_all p t (q ∷ between) rows (second_of (p q) _ h))
+  stands_all p t between (q ∷ rows) h = by (stands t between q) (stands_all p t (q ∷ between) rows (and_second (p q) _ h))
     where
       by : (b : Bool) → list_all p (pending t (q ∷ between) rows) ≡ true → list_all p (cond b (q ∷ pending t (q ∷ between) rows) (pending t (q ∷ between) rows)) ≡ true
-      by true ih = ap (λ c. c && list_all p (pending t (q ∷ between) rows)) (first_of (p q) _ h) ∙ ih
+      by true ih = ap (λ c. c && list_all p (pending t (q ∷ between) rows)) (and_first (p q) _ h) ∙ ih
       by false ih = ih
 
   pub of_line : (line : ℕ) (q : Row n) → accepted q ≡ true → accepted_of line q ≡ (line_of q.asks == line)
@@ -249,7 +242,7 @@ module _ {n : ℕ} where
   all_below : (rows : List (Row n)) → all_brief rows ≡ true → all_stored_below never rows ≡ true
   all_below [] h = refl
   all_below (q ∷ rows) h =
-      ap (λ b. b && all_stored_below never rows) (brief_below q.outcome (first_of (is_brief q.outcome) _ h)) ∙ all_below rows (second_of (is_brief q.outcome) _ h)
+      ap (λ b. b && all_stored_below never rows) (brief_below q.outcome (and_first (is_brief q.outcome) _ h)) ∙ all_below rows (and_second (is_brief q.outcome) _ h)
 
   -- whether a row leaves first, by the members
   leaves_shown : (members : List Member) (rows : List (Row n)) → Flat members rows → all_brief rows ≡ true → (q : Row n) → is_brief q.outcome ≡ true
@@ -265,9 +258,9 @@ module _ {n : ℕ} where
   fine : (rows : List (Row n)) → list_all accepted rows ≡ true → all_brief rows ≡ true → list_all Fine rows ≡ true
   fine [] h k = refl
   fine (q ∷ rows) h k =
-      ap (λ b. (b && is_brief q.outcome) && list_all Fine rows) (first_of (accepted q) _ h)
-      ∙ ap (λ b. b && list_all Fine rows) (first_of (is_brief q.outcome) _ k)
-      ∙ fine rows (second_of (accepted q) _ h) (second_of (is_brief q.outcome) _ k)
+      ap (λ b. (b && is_brief q.outcome) && list_all Fine rows) (and_first (accepted q) _ h)
+      ∙ ap (λ b. b && list_all Fine rows) (and_first (is_brief q.outcome) _ k)
+      ∙ fine rows (and_second (accepted q) _ h) (and_second (is_brief q.outcome) _ k)
 
   -- at most one of a line, by the members
   few_shown : (line : ℕ) (own one : Row n → Bool) (g : Sight → Bool) (others : List Member) (rows : List (Row n)) → Flat others rows
@@ -289,8 +282,8 @@ module _ {n : ℕ} where
       refused_is tick rows (write_of line) rows
       ∙ few_shown line (write_of line) (λ q. nat_lt q.tick tick && none_before q.outcome rows) (λ s. nat_lt s.arrived tick && list_all (λ m. nat_le s.leave m.end) members) members rows shows
       (fine rows acc brief)
-      (λ q w. write_of_line line q (first_of (accepted q) _ w))
-      (λ q w. ap (λ b. nat_lt q.tick tick && b) (leaves_shown members rows shows brief q (second_of (accepted q) _ w)))
+      (λ q w. write_of_line line q (and_first (accepted q) _ w))
+      (λ q w. ap (λ b. nat_lt q.tick tick && b) (leaves_shown members rows shows brief q (and_second (accepted q) _ w)))
 
   -- Pairs
 
@@ -301,9 +294,9 @@ module _ {n : ℕ} where
       lines [] h = refl
       lines (q ∷ rows) h =
           ap (λ b. b || has_pair rows)
-          (any-where accepted (accepted_of (line_of q.asks)) (λ p. line_of p.asks == line_of q.asks) (λ p w. of_line (line_of q.asks) p w) rows (second_of (accepted q) _ h)
+          (any-where accepted (accepted_of (line_of q.asks)) (λ p. line_of p.asks == line_of q.asks) (λ p w. of_line (line_of q.asks) p w) rows (and_second (accepted q) _ h)
           ∙ sym (any-map (λ y. y == line_of q.asks) (λ p. line_of p.asks) rows))
-          ∙ ap (λ b. list_any (λ y. y == line_of q.asks) (map (λ p. line_of p.asks) rows) || b) (lines rows (second_of (accepted q) _ h))
+          ∙ ap (λ b. list_any (λ y. y == line_of q.asks) (map (λ p. line_of p.asks) rows) || b) (lines rows (and_second (accepted q) _ h))
 
       whole : map (λ m. m.line) members ≡ map (λ q. line_of q.asks) rows
       whole = sym (map-map (λ s. s.line) sight members) ∙ ap (map (λ s. s.line)) flat ∙ map-map (λ s. s.line) sight_of rows
@@ -352,9 +345,9 @@ module _ {n : ℕ} where
   joins_shown m new others all rows shows whole is acc brief fair =
       join_law n new rows fair
       ∙ ap (λ b. b && (not (has_pair rows) || comes_behind new.outcome rows)) few
-      ∙ ap (λ b. few_by (is_of m.line) (precedes all m) others && (not b || comes_behind new.outcome rows)) (pairs_shown others rows shows (second_of (accepted new) _ acc))
+      ∙ ap (λ b. few_by (is_of m.line) (precedes all m) others && (not b || comes_behind new.outcome rows)) (pairs_shown others rows shows (and_second (accepted new) _ acc))
       ∙ ap (λ b. few_by (is_of m.line) (precedes all m) others && (not (has_twins others) || b))
-      (follows_shown m new others rows shows (first_of (is_brief new.outcome) _ brief) is (second_of (is_brief new.outcome) _ brief))
+      (follows_shown m new others rows shows (and_first (is_brief new.outcome) _ brief) is (and_second (is_brief new.outcome) _ brief))
       ∙ ap (λ b. few_by (is_of m.line) (precedes all m) others && b) (or_turn (not (has_twins others)) (follows m others))
     where
       or_turn : (a b : Bool) → (a || b) ≡ (b || a)
@@ -368,9 +361,9 @@ module _ {n : ℕ} where
           few_is (new ∷ rows) new (accepted_of (line_of new.asks)) rows
           ∙ few_shown (line_of new.asks) (accepted_of (line_of new.asks)) (λ o. is_older (new ∷ rows) new o)
           (λ s. nat_lt s.arrived new.tick && (not s.merged && list_all (λ p. nat_le s.leave p.end) all)) others rows shows
-          (fine rows (second_of (accepted new) _ acc) (second_of (is_brief new.outcome) _ brief))
-          (λ q w. of_line (line_of new.asks) q (first_of (accepted q) _ w))
-          (λ q w. ap (λ b. nat_lt q.tick new.tick && (not (is_merged q.outcome) && b)) (leaves_shown all (new ∷ rows) whole brief q (second_of (accepted q) _ w)))
+          (fine rows (and_second (accepted new) _ acc) (and_second (is_brief new.outcome) _ brief))
+          (λ q w. of_line (line_of new.asks) q (and_first (accepted q) _ w))
+          (λ q w. ap (λ b. nat_lt q.tick new.tick && (not (is_merged q.outcome) && b)) (leaves_shown all (new ∷ rows) whole brief q (and_second (accepted q) _ w)))
           ∙ ap (λ s. few_by (is_of s.line) (λ o. nat_lt o.arrived s.arrived && (not o.merged && leaves_first all o)) others) (sym is)
 
 -- Room

@@ -1,16 +1,18 @@
 -- What is kept of a bank, with one row more.
 use Rattle.std.proofs.Common.{◌≡◌, ℕ, ◌+◌, ◌==◌, ◌&&◌, ◌||◌, Bool, true, false, List, [], ◌∷◌, ◌++◌, Option, refl, sym, ap, ◌∙◌, cond, arith}
+use Rattle.std.proofs.lemmas.Bool.{and_from}
+use Rattle.masked_bytes.proofs.Truth.{and_first, and_second}
 use Rattle.std.specs.Prelude.{nat_lt, not, reverse, map, filter}
 use Rattle.std.specs.List.{list_any}
 use Rattle.std.proofs.lemmas.List.{reverse-append, map-append}
 use Rattle.result_rows.specs.declared.Outcome.{Outcome}
 use Rattle.result_rows.specs.declared.Outcome.TheVariants as out
-use Rattle.row_laws.specs.declared.Asks.{Asks}
-use Rattle.row_laws.specs.declared.Asks.TheVariants.{Reads, Writes, Cuts}
-use Rattle.row_laws.specs.declared.Row.{Row}
-use Rattle.row_laws.specs.Answers.{accepts, is_stored, is_answered, is_merged, is_queued, is_lost, stored_after}
-use Rattle.row_laws.specs.Rows.{asks_read, asks_write, asks_write_of, asks_cut, accepted, accepted_of, is_cut, line_of}
-use Rattle.row_laws.specs.Queueing.{pending}
+use Rattle.row_rules.specs.declared.Asks.{Asks}
+use Rattle.row_rules.specs.declared.Asks.TheVariants.{Reads, Writes, Cuts}
+use Rattle.row_rules.specs.declared.Row.{Row}
+use Rattle.row_rules.specs.Answers.{accepts, is_stored, is_answered, is_merged, is_queued, is_lost, stored_after}
+use Rattle.row_rules.specs.Rows.{asks_read, asks_write, asks_write_of, asks_cut, accepted, accepted_of, is_cut, line_of}
+use Rattle.row_rules.specs.Queueing.{pending}
 use Rattle.row_judging.specs.Distances.{later_of, is_far_below, wait_above, waits_above, end_to, last_end, read_to, last_read}
 use Rattle.row_judging.specs.Lost.{lost_since}
 use Rattle.row_judging.specs.Standing.{is_own}
@@ -21,18 +23,6 @@ use Rattle.row_verdict.specs.declared.members.Member.{Member}
 use Rattle.row_verdict.specs.Kept.{sight, sight_of, Shows}
 use Rattle.row_verdict.specs.Joined.{stays_beside, JoinKeptLaw, CutKeptLaw}
 use Rattle.row_verdict.proofs.Settles.{filter-map, filter-same, filter-reverse}
-
-first_of : (a b : Bool) → (a && b) ≡ true → a ≡ true
-first_of true b h = refl
-first_of false b h = h
-
-second_of : (a b : Bool) → (a && b) ≡ true → b ≡ true
-second_of true b h = h
-second_of false b h = absurd (cc)
-
-pub both : (a b : Bool) → a ≡ true → b ≡ true → (a && b) ≡ true
-both true b h k = k
-both false b h k = h
 
 and_true : (a : Bool) → (a && true) ≡ a
 and_true true = refl
@@ -168,12 +158,12 @@ own_cut asks o is = ap (λ p. (not (is_stored p) || asks_write asks) && (not (is
 
 pub join_kept_law : JoinKeptLaw
 join_kept_law n t r rows members waits lost last_answer last_store m kept own is stood shown =
-    let write = first_of (asks_write r.asks) (accepts r.outcome) is in
-    let ok = second_of (asks_write r.asks) (accepts r.outcome) is in
+    let write = and_first (asks_write r.asks) (accepts r.outcome) is in
+    let ok = and_second (asks_write r.asks) (accepts r.outcome) is in
     let only = writes_only r.asks write in
     let quiet = accepts_unanswered r.outcome ok in
     record {
-      own = both (is_own r) _ own kept.own;
+      own = and_from (is_own r) _ own kept.own;
       writes =
           show_more (filter (stays_beside (line_of r.asks)) members) m r (filter (stays_behind r) (pending t [] rows)) (show_beside r is members (pending t [] rows) kept.writes) shown
           ∙ ap (λ qs. reverse (map sight_of qs))
@@ -184,14 +174,14 @@ join_kept_law n t r rows members waits lost last_answer last_store m kept own is
           ∙ sym (ap (λ b. cond (b && (is_lost r.outcome && true)) 1 0 + lost_since (r ∷ []) rows) only.0
           ∙ (let k : lost_since (r ∷ []) rows ≡ lost_since [] rows = lost_same (r ∷ []) [] rows (ap (λ b. b || false) only.1) in omega (arith, k)));
       answered = λ read u. kept.answered read u ∙ ap (is_far_below read u) (sym (no_answer r.outcome (last_read rows) quiet));
-      stored = λ read u. kept.stored read u ∙ ap (is_far_below read u) (sym (not_yet t true r.outcome (last_end t rows) ok (second_of (accepted r) _ stood)));
+      stored = λ read u. kept.stored read u ∙ ap (is_far_below read u) (sym (not_yet t true r.outcome (last_end t rows) ok (and_second (accepted r) _ stood)));
     }
 
 pub cut_kept_law : CutKeptLaw
 cut_kept_law n t r rows members waits lost at last_answer last_store kept cut is =
     let free : (line : ℕ) → accepted_of line r ≡ false = λ line. cut_accepts line r cut in
     record {
-      own = both (is_own r) _ (own_cut r.asks r.outcome is) kept.own;
+      own = and_from (is_own r) _ (own_cut r.asks r.outcome is) kept.own;
       writes =
           kept.writes
           ∙ ap (λ qs. reverse (map sight_of qs))

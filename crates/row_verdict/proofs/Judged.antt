@@ -6,16 +6,16 @@ use Rattle.std.proofs.lemmas.Bool.{le-leb}
 use Rattle.masked_bytes.specs.Masked.{gives_all}
 use Rattle.result_rows.specs.declared.Outcome.{Outcome}
 use Rattle.result_rows.specs.declared.Outcome.TheVariants as out
-use Rattle.row_laws.specs.declared.Asks.{Asks}
-use Rattle.row_laws.specs.declared.Asks.TheVariants.{Reads, Writes, Cuts}
-use Rattle.row_laws.specs.declared.Row.{Row}
-use Rattle.row_laws.specs.Answers.{is_worn}
-use Rattle.row_laws.specs.Rules.{Rules}
-use Rattle.row_laws.specs.Rows.{newest}
-use Rattle.row_laws.specs.Serving.{may_have, owed}
-use Rattle.row_laws.specs.Queueing.{pending, waiting, cover, read_fits, queue_fits, has_room}
-use Rattle.row_laws.specs.Ticking.{bound, is_in_time}
-use Rattle.row_laws.specs.Wearing.{worn_row, is_wear_final}
+use Rattle.row_rules.specs.declared.Asks.{Asks}
+use Rattle.row_rules.specs.declared.Asks.TheVariants.{Reads, Writes, Cuts}
+use Rattle.row_rules.specs.declared.Row.{Row}
+use Rattle.row_rules.specs.Answers.{is_worn}
+use Rattle.row_rules.specs.declared.Rules.{Rules}
+use Rattle.row_rules.specs.Rows.{newest}
+use Rattle.row_rules.specs.Serving.{may_have, owed}
+use Rattle.row_rules.specs.Queueing.{pending, waiting, cover, read_fits, queue_fits, has_room}
+use Rattle.row_rules.specs.Ticking.{bound, is_in_time}
+use Rattle.row_rules.specs.Wearing.{worn_row, is_wear_final}
 use Rattle.row_judging.specs.Cutting.{cut_ticks}
 use Rattle.row_judging.proofs.FirstWorn.{worn_law}
 use Rattle.row_verdict.specs.declared.Rule.{Rule}

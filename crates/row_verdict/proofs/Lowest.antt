@@ -1,11 +1,13 @@
 -- A verdict names the lowest row that breaks a rule.
 use Rattle.std.proofs.Common.{◌≡◌, ℕ, ◌+◌, ◌&&◌, Bool, true, false, List, [], ◌∷◌, ◌++◌, length, Option, Some, None, refl, sym, ap, ◌∙◌, subst, cond, arith, append_assoc}
+use Rattle.std.proofs.lemmas.Bool.{and_from}
+use Rattle.masked_bytes.proofs.Truth.{and_first, and_second}
 use Rattle.std.specs.Prelude.{reverse}
 use Rattle.std.specs.List.{list_all}
 use Rattle.std.proofs.lemmas.List.{append-nil, reverse-append}
-use Rattle.row_laws.specs.declared.Row.{Row}
-use Rattle.row_laws.specs.Rules.{Rules}
-use Rattle.row_laws.specs.Rows.{RowTest, each_row}
+use Rattle.row_rules.specs.declared.Row.{Row}
+use Rattle.row_rules.specs.declared.Rules.{Rules}
+use Rattle.row_rules.specs.Rows.{RowTest, each_row}
 use Rattle.row_verdict.specs.declared.Rule.{Rule}
 use Rattle.row_verdict.specs.declared.Verdict.{Verdict}
 use Rattle.row_verdict.specs.declared.Verdict.TheVariants.{Yes, No}
@@ -15,18 +17,6 @@ use Rattle.row_verdict.specs.Judging.{VerdictLaw}
 and_true : (a : Bool) → a ≡ (a && true)
 and_true true = refl
 and_true false = refl
-
-and_first : (a b : Bool) → (a && b) ≡ true → a ≡ true
-and_first true b h = refl
-and_first false b h = h
-
-and_second : (a b : Bool) → (a && b) ≡ true → b ≡ true
-and_second true b h = h
-and_second false b h = absurd (cc)
-
-and_both : (a b : Bool) → a ≡ true → b ≡ true → (a && b) ≡ true
-and_both true b h k = k
-and_both false b h k = h
 
 and_turn : (a b c : Bool) → ((a && b) && c) ≡ (b && (a && c))
 and_turn true true c = refl
@@ -83,7 +73,7 @@ module _ {n : ℕ} (rules : Rules) (banks : List ℕ) where
           → (verdict_from rules banks (row + 1) (r ∷ before) rest ≡ Yes → forward (keeps_all rules banks) (r ∷ before) rest ≡ true)
           → forward (keeps_all rules banks) before (r ∷ rest) ≡ true
       by (Some one) is h ih = absurd (cc)
-      by None is h ih = and_both (keeps_all rules banks before r rest) _ (unbroken all_rules before r rest is) (ih h)
+      by None is h ih = and_from (keeps_all rules banks before r rest) _ (unbroken all_rules before r rest is) (ih h)
 
   yes_forward : (rest before : List (Row n)) (row : ℕ) → forward (keeps_all rules banks) before rest ≡ true → verdict_from rules banks row before rest ≡ Yes
   yes_forward [] before row h = refl
@@ -128,7 +118,7 @@ module _ {n : ℕ} (rules : Rules) (banks : List ℕ) where
         first = is ∙ ap (λ v. Some (no_rule v other)) h;
       }
       by None is h ih =
-          let f = ih (and_both (keeps_all rules banks before r rest) _ (unbroken all_rules before r rest is) fine) h in
+          let f = ih (and_from (keeps_all rules banks before r rest) _ (unbroken all_rules before r rest is) fine) h in
           let same = sym (turned r f.below before) in
           record {
             below = r ∷ f.below;

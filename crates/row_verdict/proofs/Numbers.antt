@@ -2,7 +2,7 @@
 use Rattle.std.proofs.Common.{◌≡◌, ◌+◌, [], length, sym, ap, ◌∙◌, arith}
 use Rattle.std.specs.Prelude.{map}
 use Rattle.std.proofs.lemmas.List.{length-reverse, length-map}
-use Rattle.row_laws.specs.Queueing.{pending, waiting}
+use Rattle.row_rules.specs.Queueing.{pending, waiting}
 use Rattle.row_judging.specs.Distances.{waits_above}
 use Rattle.row_judging.specs.Lost.{lost_since}
 use Rattle.row_judging.proofs.Losing.{waiting_law}

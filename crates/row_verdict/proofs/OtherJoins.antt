@@ -1,13 +1,14 @@
 -- What is kept of a bank, behind a row that changes nothing.
 use Rattle.std.proofs.Common.{◌≡◌, ℕ, ◌+◌, ◌&&◌, ◌||◌, ◌==◌, Bool, true, false, [], ◌∷◌, Option, refl, sym, ap, ◌∙◌, cond, arith}
+use Rattle.std.proofs.lemmas.Bool.{and_from}
 use Rattle.std.specs.Prelude.{not, reverse, map, filter}
 use Rattle.result_rows.specs.declared.Outcome.{Outcome}
 use Rattle.result_rows.specs.declared.Outcome.TheVariants as out
-use Rattle.row_laws.specs.declared.Asks.{Asks}
-use Rattle.row_laws.specs.declared.Asks.TheVariants.{Reads, Writes, Cuts}
-use Rattle.row_laws.specs.Answers.{accepts, is_stored, is_merged, is_queued, stored_after}
-use Rattle.row_laws.specs.Rows.{asks_read, asks_write, asks_write_of, line_of}
-use Rattle.row_laws.specs.Queueing.{pending}
+use Rattle.row_rules.specs.declared.Asks.{Asks}
+use Rattle.row_rules.specs.declared.Asks.TheVariants.{Reads, Writes, Cuts}
+use Rattle.row_rules.specs.Answers.{accepts, is_stored, is_merged, is_queued, stored_after}
+use Rattle.row_rules.specs.Rows.{asks_read, asks_write, asks_write_of, line_of}
+use Rattle.row_rules.specs.Queueing.{pending}
 use Rattle.row_judging.specs.Distances.{is_far_below, waits_above, end_to, last_end, last_read}
 use Rattle.row_judging.specs.Lost.{lost_since}
 use Rattle.row_judging.specs.Standing.{is_own}
@@ -15,7 +16,7 @@ use Rattle.row_judging.specs.Steps.{stays_behind}
 use Rattle.row_judging.proofs.Steps.{step_law}
 use Rattle.row_verdict.specs.Kept.{sight_of}
 use Rattle.row_verdict.specs.Joined.{OtherKeptLaw}
-use Rattle.row_verdict.proofs.Joins.{both, filter-all, not_both, lost_same, no_wait, no_answer}
+use Rattle.row_verdict.proofs.Joins.{filter-all, not_both, lost_same, no_wait, no_answer}
 
 and_false : (b : Bool) → (b && false) ≡ false
 and_false true = refl
@@ -52,7 +53,7 @@ pub other_kept_law : OtherKeptLaw
 other_kept_law n t r rows members waits lost last_answer last_store kept own refused whole stored answered gone =
     let k : lost_since (r ∷ []) rows ≡ lost_since [] rows = lost_same (r ∷ []) [] rows (ap (λ b. b || false) whole) in
     record {
-      own = both (is_own r) _ own kept.own;
+      own = and_from (is_own r) _ own kept.own;
       writes =
           kept.writes
           ∙ ap (λ qs. reverse (map sight_of qs))

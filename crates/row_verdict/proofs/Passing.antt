@@ -1,13 +1,14 @@
 -- What the pass over the rows keeps of all banks.
 use Rattle.std.proofs.Common.{◌≡◌, ℕ, zero, suc, ◌+◌, ◌<◌, ◌≤◌, ◌==◌, ◌&&◌, ◌⊎◌, inl, inr, Bool, true, false, List, [], ◌∷◌, Option, Some, None, length, refl, sym, ap, ◌∙◌, subst, cond, arith}
+use Rattle.masked_bytes.proofs.Truth.{and_first, and_second}
 use Rattle.std.specs.Prelude.{slice_get, unwrap_or}
 use Rattle.std.specs.List.{list_all}
 use Rattle.std.proofs.lemmas.Bool.{eq-eqb, ne_eqb, eqb-true, cases_eq}
-use Rattle.row_laws.specs.declared.Asks.TheVariants.{Reads, Writes, Cuts}
-use Rattle.row_laws.specs.declared.Row.{Row}
-use Rattle.row_laws.specs.Rules.{Rules}
-use Rattle.row_laws.specs.Table.{is_of, of_bank}
-use Rattle.row_laws.specs.Queueing.{has_room}
+use Rattle.row_rules.specs.declared.Asks.TheVariants.{Reads, Writes, Cuts}
+use Rattle.row_rules.specs.declared.Row.{Row}
+use Rattle.row_rules.specs.declared.Rules.{Rules}
+use Rattle.row_rules.specs.Table.{is_of, of_bank}
+use Rattle.row_rules.specs.Queueing.{has_room}
 use Rattle.row_judging.proofs.Sublists.{room_stays_law, room_behind_cut_law}
 use Rattle.row_verdict.specs.Fitting.{room_kept}
 use Rattle.row_verdict.specs.Judged.{a_cut}
@@ -18,19 +19,11 @@ use Rattle.row_verdict.specs.Passing.{is_joined, Passed, joined_room, put, AllRo
 use Rattle.row_verdict.proofs.Fits.{room_shown}
 use Rattle.row_verdict.proofs.States.{stands_later_law, cut_passes_law}
 
-first_of : (a b : Bool) → (a && b) ≡ true → a ≡ true
-first_of true b h = refl
-first_of false b h = h
-
-second_of : (a b : Bool) → (a && b) ≡ true → b ≡ true
-second_of true b h = h
-second_of false b h = absurd (cc)
-
 -- what holds of all banks holds of a line's
 at_line : (p : ℕ → Bool) (banks : List ℕ) (line : ℕ) → line < length banks → list_all p banks ≡ true → p (bank_in banks line) ≡ true
 at_line p [] line lt h = absurd (omega (arith, lt))
-at_line p (b ∷ banks) zero lt h = first_of (p b) _ h
-at_line p (b ∷ banks) (suc line) lt h = at_line p banks line (omega (arith, lt)) (second_of (p b) _ h)
+at_line p (b ∷ banks) zero lt h = and_first (p b) _ h
+at_line p (b ∷ banks) (suc line) lt h = at_line p banks line (omega (arith, lt)) (and_second (p b) _ h)
 
 all_pass : (p : ℕ → Bool) (banks : List ℕ) → ((bank : ℕ) → p bank ≡ true) → list_all p banks ≡ true
 all_pass p [] all = refl

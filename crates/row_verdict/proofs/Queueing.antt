@@ -1,15 +1,16 @@
 -- The rule on the queue, by what is kept of a bank.
 use Rattle.std.proofs.Common.{◌≡◌, ℕ, ◌+◌, ◌<◌, ◌≤◌, ◌==◌, ◌&&◌, ◌||◌, Bool, true, false, List, [], ◌∷◌, ◌++◌, Option, Some, None, length, refl, sym, ap, ◌∙◌, cond, arith}
+use Rattle.masked_bytes.proofs.Truth.{and_first, and_second}
 use Rattle.std.specs.Prelude.{nat_lt, not, reverse, filter}
 use Rattle.std.specs.List.{list_all, list_any}
 use Rattle.std.proofs.lemmas.Bool.{ltb-true, ne_eqb}
 use Rattle.masked_bytes.specs.Masked.{gives_all}
 use Rattle.result_rows.specs.declared.Outcome.{Outcome}
 use Rattle.result_rows.specs.declared.Outcome.TheVariants as out
-use Rattle.row_laws.specs.declared.Row.{Row}
-use Rattle.row_laws.specs.Answers.{accepts, is_full, is_merged, is_queued, stored_after}
-use Rattle.row_laws.specs.Rows.{asks_write, accepted, accepted_of, write_of, line_of}
-use Rattle.row_laws.specs.Queueing.{stands, pending, waiting, cover, merges_at, merge_fits, next_store, is_first, is_refused, read_fits}
+use Rattle.row_rules.specs.declared.Row.{Row}
+use Rattle.row_rules.specs.Answers.{accepts, is_full, is_merged, is_queued, stored_after}
+use Rattle.row_rules.specs.Rows.{asks_write, accepted, accepted_of, write_of, line_of}
+use Rattle.row_rules.specs.Queueing.{stands, pending, waiting, cover, merges_at, merge_fits, next_store, is_first, is_refused, read_fits}
 use Rattle.row_judging.specs.Counting.{line_stores}
 use Rattle.row_judging.specs.Distances.{ends_behind}
 use Rattle.row_judging.specs.Heads.{end_of}
@@ -24,14 +25,6 @@ use Rattle.row_verdict.specs.QueueLaws.{next_accepted, KeysTell, RoomKeptLaw, Wr
 use Rattle.row_verdict.proofs.Apart.{all-reverse, shown}
 use Rattle.row_verdict.proofs.Fits.{all-where, any-where, any-reverse, flat_any, turned, stands_accepted, stands_all, write_of_line, refusal_shown, room_shown}
 use Rattle.row_verdict.proofs.Numbers.{numbers_law}
-
-first_of : (a b : Bool) → (a && b) ≡ true → a ≡ true
-first_of true b h = refl
-first_of false b h = h
-
-second_of : (a b : Bool) → (a && b) ≡ true → b ≡ true
-second_of true b h = h
-second_of false b h = absurd (cc)
 
 plain : (b : Bool) → (b || false) ≡ true → b ≡ true
 plain true h = refl
@@ -66,8 +59,8 @@ module _ {n : ℕ} where
 
   -- what stands at a tick is stored above it, if at all
   stood : (t : ℕ) (w m : Bool) (o : Outcome n) → ((w && accepts o) && (stored_after t o || (is_queued o || (is_merged o && m)))) ≡ true → ends_behind t o ≡ true
-  stood t w m (out.Stored v place) h = plain (nat_lt t v) (second_of (w && true) _ h)
-  stood t w m (out.Read v place bytes) h = let k : false ≡ true = second_of w false (first_of (w && false) _ h) in absurd (cc)
+  stood t w m (out.Stored v place) h = plain (nat_lt t v) (and_second (w && true) _ h)
+  stood t w m (out.Read v place bytes) h = let k : false ≡ true = and_second w false (and_first (w && false) _ h) in absurd (cc)
   stood t w m out.Unset h = refl
   stood t w m (out.Merged v) h = refl
   stood t w m (out.Queued v) h = refl
@@ -94,10 +87,10 @@ module _ {n : ℕ} where
   known : (t : ℕ) (rows : List (Row n)) → list_all accepted rows ≡ true → all_brief rows ≡ true → list_all (λ q. ends_behind t q.outcome) rows ≡ true → list_all (Known t) rows ≡ true
   known t [] a b c = refl
   known t (q ∷ rows) a b c =
-      ap (λ x. (x && (is_brief q.outcome && ends_behind t q.outcome)) && list_all (Known t) rows) (first_of (accepted q) _ a)
-      ∙ ap (λ x. (x && ends_behind t q.outcome) && list_all (Known t) rows) (first_of (is_brief q.outcome) _ b)
-      ∙ ap (λ x. x && list_all (Known t) rows) (first_of (ends_behind t q.outcome) _ c)
-      ∙ known t rows (second_of (accepted q) _ a) (second_of (is_brief q.outcome) _ b) (second_of (ends_behind t q.outcome) _ c)
+      ap (λ x. (x && (is_brief q.outcome && ends_behind t q.outcome)) && list_all (Known t) rows) (and_first (accepted q) _ a)
+      ∙ ap (λ x. (x && ends_behind t q.outcome) && list_all (Known t) rows) (and_first (is_brief q.outcome) _ b)
+      ∙ ap (λ x. x && list_all (Known t) rows) (and_first (ends_behind t q.outcome) _ c)
+      ∙ known t rows (and_second (accepted q) _ a) (and_second (is_brief q.outcome) _ b) (and_second (ends_behind t q.outcome) _ c)
 
   module _ (keys : List ℕ) (line t : ℕ) (rows : List (Row n)) (tell : KeysTell keys line t rows) where
     told : (o : Outcome n) → is_brief o ≡ true → ends_behind t o ≡ true
@@ -121,15 +114,15 @@ module _ {n : ℕ} where
         → (write_of line q || at_end (λ e. nat_lt 0 (line_stores line t e rows)) q.outcome)
         ≡ ((line_of q.asks == line) || ((end_of never q.outcome == never) || stores_between keys line t (end_of never q.outcome)))
     behind q w =
-        let rest = second_of (accepted q) _ w in
-        ap (λ b. b || at_end (λ e. nat_lt 0 (line_stores line t e rows)) q.outcome) (write_of_line line q (first_of (accepted q) _ w))
-        ∙ ap (λ b. (line_of q.asks == line) || b) (told q.outcome (first_of (is_brief q.outcome) _ rest) (second_of (is_brief q.outcome) _ rest))
+        let rest = and_second (accepted q) _ w in
+        ap (λ b. b || at_end (λ e. nat_lt 0 (line_stores line t e rows)) q.outcome) (write_of_line line q (and_first (accepted q) _ w))
+        ∙ ap (λ b. (line_of q.asks == line) || b) (told q.outcome (and_first (is_brief q.outcome) _ rest) (and_second (is_brief q.outcome) _ rest))
 
     head_shown : (members : List Member) (ps : List (Row n)) → Shows members ps → list_all (Known t) ps ≡ true
         → (list_any (write_of line) ps && is_first line (next_store t line rows) ps) ≡ at_head_kept keys line t members
     head_shown members ps shows all =
         ap (λ b. b && is_first line (next_store t line rows) ps)
-        (any-where (Known t) (write_of line) (λ q. line_of q.asks == line) (λ q w. write_of_line line q (first_of (accepted q) _ w)) ps all
+        (any-where (Known t) (write_of line) (λ q. line_of q.asks == line) (λ q w. write_of_line line q (and_first (accepted q) _ w)) ps all
         ∙ flat_any (λ s. s.line == line) (λ q. line_of q.asks == line) (reverse members) ps (λ q. refl) (turned members ps shows)
         ∙ any-reverse (is_of line) members)
         ∙ ap (λ b. list_any (is_of line) members && b)

@@ -1,16 +1,16 @@
 -- What is kept of a bank, with a read more.
 use Rattle.std.proofs.Common.{◌≡◌, ℕ, ◌+◌, ◌&&◌, ◌||◌, Bool, true, false, List, [], ◌∷◌, ◌++◌, refl, sym, ap, ◌∙◌, cond, arith}
 use Rattle.std.specs.Prelude.{nat_le, not, reverse, map, filter}
-use Rattle.std.proofs.lemmas.Bool.{lt-ltb}
+use Rattle.std.proofs.lemmas.Bool.{lt-ltb, and_from}
 use Rattle.std.proofs.lemmas.List.{reverse-append}
 use Rattle.result_rows.specs.declared.Outcome.{Outcome}
 use Rattle.result_rows.specs.declared.Outcome.TheVariants as out
-use Rattle.row_laws.specs.declared.Asks.{Asks}
-use Rattle.row_laws.specs.declared.Asks.TheVariants.{Reads, Writes, Cuts}
-use Rattle.row_laws.specs.declared.Row.{Row}
-use Rattle.row_laws.specs.Answers.{accepts, is_stored, is_answered, is_merged, is_queued, is_lost, stored_after}
-use Rattle.row_laws.specs.Rows.{asks_read, asks_write, asks_write_of, asks_cut, line_of}
-use Rattle.row_laws.specs.Queueing.{stands, pending}
+use Rattle.row_rules.specs.declared.Asks.{Asks}
+use Rattle.row_rules.specs.declared.Asks.TheVariants.{Reads, Writes, Cuts}
+use Rattle.row_rules.specs.declared.Row.{Row}
+use Rattle.row_rules.specs.Answers.{accepts, is_stored, is_answered, is_merged, is_queued, is_lost, stored_after}
+use Rattle.row_rules.specs.Rows.{asks_read, asks_write, asks_write_of, asks_cut, line_of}
+use Rattle.row_rules.specs.Queueing.{stands, pending}
 use Rattle.row_judging.specs.Distances.{is_far_below, wait_above, waits_above, end_to, last_end, read_to, last_read}
 use Rattle.row_judging.specs.Lost.{lost_since}
 use Rattle.row_judging.specs.Standing.{is_own}
@@ -19,7 +19,7 @@ use Rattle.row_judging.proofs.Apart.{far_later}
 use Rattle.row_judging.proofs.Steps.{step_law}
 use Rattle.row_verdict.specs.Kept.{sight_of}
 use Rattle.row_verdict.specs.Joined.{AnswerKeptLaw, LossKeptLaw}
-use Rattle.row_verdict.proofs.Joins.{both, filter-all, not_both, lost_same}
+use Rattle.row_verdict.proofs.Joins.{filter-all, not_both, lost_same}
 
 module _ {n : ℕ} where
   reads_only : (asks : Asks n) → asks_read asks ≡ true → (asks_write asks ≡ false) × (asks_cut asks ≡ false) × ((line : ℕ) → asks_write_of line asks ≡ false)
@@ -39,7 +39,7 @@ module _ {n : ℕ} where
 
   own_read : (r : Row n) (o : Outcome n) → r.outcome ≡ o → asks_read r.asks ≡ true → is_stored o ≡ false → is_own r ≡ true
   own_read r o is reads stored =
-      both (not (is_stored r.outcome) || asks_write r.asks) _ (ap (λ b. not b || asks_write r.asks) (ap is_stored is ∙ stored))
+      and_from (not (is_stored r.outcome) || asks_write r.asks) _ (ap (λ b. not b || asks_write r.asks) (ap is_stored is ∙ stored))
       (ap (λ b. not (is_answered r.outcome) || b) reads ∙ last (not (is_answered r.outcome)))
     where
       last : (a : Bool) → (a || true) ≡ true
@@ -48,7 +48,7 @@ module _ {n : ℕ} where
 
 pub answer_kept_law : AnswerKeptLaw
 answer_kept_law n t u place bytes r rows members waits lost last_answer last_store kept reads is above = record {
-  own = both (is_own r) _ (own_read r (out.Read u place bytes) is reads refl) kept.own;
+  own = and_from (is_own r) _ (own_read r (out.Read u place bytes) is reads refl) kept.own;
   writes = kept.writes ∙ ap (λ qs. reverse (map sight_of qs)) (sym (writes_same t r rows reads));
   to_come =
       ap (λ vs. vs ++ u ∷ []) kept.to_come
@@ -71,7 +71,7 @@ answer_kept_law n t u place bytes r rows members waits lost last_answer last_sto
 
 pub loss_kept_law : LossKeptLaw
 loss_kept_law n t u r rows members waits lost last_answer last_store kept reads is = record {
-  own = both (is_own r) _ (own_read r (out.Lost u) is reads refl) kept.own;
+  own = and_from (is_own r) _ (own_read r (out.Lost u) is reads refl) kept.own;
   writes = kept.writes ∙ ap (λ qs. reverse (map sight_of qs)) (sym (writes_same t r rows reads));
   to_come = kept.to_come ∙ ap (λ o. reverse (wait_above t o (waits_above t rows))) (sym is);
   losing =

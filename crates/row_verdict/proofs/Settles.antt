@@ -6,9 +6,9 @@ use Rattle.std.proofs.lemmas.Bool.{le-leb, lt-leb, lt-ltb, le-ltb, cases_lt}
 use Rattle.std.proofs.lemmas.List.{reverse-append, append-nil}
 use Rattle.result_rows.specs.declared.Outcome.{Outcome}
 use Rattle.result_rows.specs.declared.Outcome.TheVariants as out
-use Rattle.row_laws.specs.declared.Row.{Row}
-use Rattle.row_laws.specs.Answers.{stored_by}
-use Rattle.row_laws.specs.Queueing.{pending}
+use Rattle.row_rules.specs.declared.Row.{Row}
+use Rattle.row_rules.specs.Answers.{stored_by}
+use Rattle.row_rules.specs.Queueing.{pending}
 use Rattle.row_judging.specs.Distances.{later_of, is_far_below, end_above, ends_above, wait_above, waits_above, end_to, last_end}
 use Rattle.row_judging.specs.Heads.{end_of}
 use Rattle.row_judging.specs.Steps.{stays}

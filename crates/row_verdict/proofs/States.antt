@@ -2,16 +2,16 @@
 use Rattle.std.proofs.Common.{◌≡◌, ℕ, ◌+◌, ◌<◌, ◌≤◌, ◌&&◌, ◌||◌, Bool, true, false, List, [], ◌∷◌, ◌++◌, Option, Some, None, refl, sym, ap, ◌∙◌, cond, arith}
 use Rattle.std.specs.Prelude.{nat_le, nat_lt, not}
 use Rattle.std.specs.List.{list_all, list_any}
-use Rattle.std.proofs.lemmas.Bool.{le-leb, leb-true, ltb-true}
+use Rattle.std.proofs.lemmas.Bool.{le-leb, leb-true, ltb-true, and_from}
 use Rattle.result_rows.specs.declared.Outcome.{Outcome}
 use Rattle.result_rows.specs.declared.Outcome.TheVariants as out
-use Rattle.row_laws.specs.declared.Asks.TheVariants.{Reads, Writes, Cuts}
-use Rattle.row_laws.specs.declared.Row.{Row}
-use Rattle.row_laws.specs.Answers.{accepts, is_stored, is_answered, is_lost, is_merged, is_queued, is_worn, stored_after}
-use Rattle.row_laws.specs.Rules.{Rules}
-use Rattle.row_laws.specs.Queueing.{stands, has_room}
-use Rattle.row_laws.specs.Serving.{may_have}
-use Rattle.row_laws.specs.Wearing.{worn_row}
+use Rattle.row_rules.specs.declared.Asks.TheVariants.{Reads, Writes, Cuts}
+use Rattle.row_rules.specs.declared.Row.{Row}
+use Rattle.row_rules.specs.Answers.{accepts, is_stored, is_answered, is_lost, is_merged, is_queued, is_worn, stored_after}
+use Rattle.row_rules.specs.declared.Rules.{Rules}
+use Rattle.row_rules.specs.Queueing.{stands, has_room}
+use Rattle.row_rules.specs.Serving.{may_have}
+use Rattle.row_rules.specs.Wearing.{worn_row}
 use Rattle.row_judging.specs.Coming.{came}
 use Rattle.row_judging.specs.Distances.{ends_behind}
 use Rattle.row_judging.specs.Keys.{reach}
@@ -29,15 +29,11 @@ use Rattle.row_verdict.proofs.ReadJoins.{answer_kept_law, loss_kept_law}
 use Rattle.row_verdict.proofs.Settles.{settle_kept_law}
 use Rattle.row_verdict.proofs.Tables.{four_law}
 
-both : (a b : Bool) → a ≡ true → b ≡ true → (a && b) ≡ true
-both true b h k = k
-both false b h k = h
-
 -- ticks that don't rise from one on don't from a later one
 falls_later : {n : ℕ} (t u : ℕ) → t ≤ u → (rows : List (Row n)) → falling t rows ≡ true → falling u rows ≡ true
 falls_later t u le [] h = refl
 falls_later t u le (q ∷ rows) h =
-    both (nat_le q.tick u) _ (let k : q.tick ≤ t = leb-true q.tick t (first_of (nat_le q.tick t) _ h) in le-leb q.tick u (omega (arith, k, le))) (second_of (nat_le q.tick t) _ h)
+    and_from (nat_le q.tick u) _ (let k : q.tick ≤ t = leb-true q.tick t (first_of (nat_le q.tick t) _ h) in le-leb q.tick u (omega (arith, k, le))) (second_of (nat_le q.tick t) _ h)
   where
     first_of : (a b : Bool) → (a && b) ≡ true → a ≡ true
     first_of true b h = refl
@@ -57,7 +53,7 @@ stands_later_law n t u rows f le below s = record {
 }
 
 falls_on : {n : ℕ} (tick : ℕ) (rows : List (Row n)) → falling tick rows ≡ true → (nat_le tick tick && falling tick rows) ≡ true
-falls_on tick rows h = both (nat_le tick tick) _ (le-leb tick tick (omega arith)) h
+falls_on tick rows h = and_from (nat_le tick tick) _ (le-leb tick tick (omega arith)) h
 
 module _ {n : ℕ} (tick line : ℕ) (bytes : List ℕ) (given : List Bool) (rules : Rules) (rows : List (Row n)) (f : Facts) (s : Stands tick rows f) (room : has_room rules tick rows ≡ true) where
   -- an accepted write
@@ -67,8 +63,8 @@ module _ {n : ℕ} (tick line : ℕ) (bytes : List ℕ) (given : List Bool) (rul
   joins o m own quiet is brief stood fresh shown = record {
     finds = record {
       kept = join_kept_law n tick (a_write tick line bytes given o) rows f.members f.waits f.lost f.last_answer f.last_store m s.finds.kept
-          (both (not (is_stored o) || true) (not (is_answered o) || false) own quiet) is stood shown;
-      brief = both (is_brief o) _ brief s.finds.brief;
+          (and_from (not (is_stored o) || true) (not (is_answered o) || false) own quiet) is stood shown;
+      brief = and_from (is_brief o) _ brief s.finds.brief;
     };
     near = near_behind rules tick (a_write tick line bytes given o) rows room;
     worn_is = s.worn_is ∙ ap (λ b. b || list_any worn_row rows) (sym fresh);
@@ -95,7 +91,7 @@ module _ {n : ℕ} (tick line : ℕ) (bytes : List ℕ) (given : List Bool) (rul
     finds = record {
       kept = other_kept_law n tick (a_write tick line bytes given o) rows f.members f.waits f.lost f.last_answer f.last_store s.finds.kept
           (ap (λ b. (not b || true) && (not (is_answered o) || false)) unstored ∙ ap (λ b. not b || false) unread) not_in refl unstored unread kept;
-      brief = both (is_brief o) _ brief s.finds.brief;
+      brief = and_from (is_brief o) _ brief s.finds.brief;
     };
     near = near_behind rules tick (a_write tick line bytes given o) rows room;
     worn_is = is;
@@ -136,7 +132,7 @@ module _ {n : ℕ} (tick line : ℕ) (rules : Rules) (rows : List (Row n)) (f : 
     finds = record {
       kept = other_kept_law n tick (a_read tick line o) rows f.members f.waits f.lost f.last_answer f.last_store s.finds.kept
           (ap (λ b. (not b || false) && (not (is_answered o) || true)) unstored ∙ ap (λ b. not b || true) unread) refl refl unstored unread kept;
-      brief = both (is_brief o) _ brief s.finds.brief;
+      brief = and_from (is_brief o) _ brief s.finds.brief;
     };
     near = near_behind rules tick (a_read tick line o) rows room;
     worn_is = s.worn_is;
@@ -153,7 +149,7 @@ read_passes_law n tick line outcome rules rows f some s room served brief above 
     by (out.Read u place more) k b a = record {
       finds = record {
         kept = answer_kept_law n tick u place more (a_read tick line (out.Read u place more)) rows f.members f.waits f.lost f.last_answer f.last_store s.finds.kept refl refl (ltb-true tick u a);
-        brief = both (nat_lt u reach) _ b s.finds.brief;
+        brief = and_from (nat_lt u reach) _ b s.finds.brief;
       };
       near = near_behind rules tick (a_read tick line (out.Read u place more)) rows room;
       worn_is = s.worn_is;
@@ -163,7 +159,7 @@ read_passes_law n tick line outcome rules rows f some s room served brief above 
     by (out.Lost u) k b a = record {
       finds = record {
         kept = loss_kept_law n tick u (a_read tick line (out.Lost u)) rows f.members f.waits f.lost f.last_answer f.last_store s.finds.kept refl refl;
-        brief = both (nat_lt u reach) _ b s.finds.brief;
+        brief = and_from (nat_lt u reach) _ b s.finds.brief;
       };
       near = near_behind rules tick (a_read tick line (out.Lost u)) rows room;
       worn_is = s.worn_is;
@@ -187,7 +183,7 @@ cut_passes_law n tick outcome rules rows f some s room served brief = by outcome
     by (out.Cut u) k b = record {
       finds = record {
         kept = cut_kept_law n tick (a_cut tick (out.Cut u)) rows f.members f.waits f.lost u f.last_answer f.last_store s.finds.kept refl refl;
-        brief = both (nat_lt u reach) _ b s.finds.brief;
+        brief = and_from (nat_lt u reach) _ b s.finds.brief;
       };
       near = near_behind rules tick (a_cut tick (out.Cut u)) rows room;
       worn_is = s.worn_is;

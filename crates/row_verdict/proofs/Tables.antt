@@ -4,16 +4,17 @@ use Rattle.std.specs.Prelude.{nat_le, nat_lt, not, reverse, filter, count_by, Is
 use Rattle.std.proofs.lemmas.Bool.{lt-ltb, le-ltb, eq-eqb, eqb-true, cases_lt}
 use Rattle.result_rows.specs.declared.Outcome.{Outcome}
 use Rattle.result_rows.specs.declared.Outcome.TheVariants as out
-use Rattle.row_laws.specs.declared.Asks.{Asks}
-use Rattle.row_laws.specs.declared.Asks.TheVariants.{Reads, Writes, Cuts}
-use Rattle.row_laws.specs.declared.Row.{Row}
-use Rattle.row_laws.specs.Answers.{is_stored, is_answered, stored_after, stored_by, read_after, read_by}
-use Rattle.row_laws.specs.Rules.{Rules}
-use Rattle.row_laws.specs.Rows.{asks_write, asks_read, asks_write_of, write_of}
-use Rattle.row_laws.specs.Serving.{may_have}
-use Rattle.row_laws.specs.Table.{is_of, of_bank}
-use Rattle.row_laws.specs.Ticking.{stores_in, reads_in, delay, came_since, last_store}
-use Rattle.bank_shape.specs.Pausing.{Pausing, Pause, Plain, Cancel}
+use Rattle.row_rules.specs.declared.Asks.{Asks}
+use Rattle.row_rules.specs.declared.Asks.TheVariants.{Reads, Writes, Cuts}
+use Rattle.row_rules.specs.declared.Row.{Row}
+use Rattle.row_rules.specs.Answers.{is_stored, is_answered, stored_after, stored_by, read_after, read_by}
+use Rattle.row_rules.specs.declared.Rules.{Rules}
+use Rattle.row_rules.specs.Rows.{asks_write, asks_read, asks_write_of, write_of}
+use Rattle.row_rules.specs.Serving.{may_have}
+use Rattle.row_rules.specs.Table.{is_of, of_bank}
+use Rattle.row_rules.specs.Ticking.{stores_in, reads_in, delay, came_since, last_store}
+use Rattle.bank_shape.specs.declared.pace.Policy.{Policy}
+use Rattle.bank_shape.specs.declared.pace.Policy.TheVariants.{Pause, Plain, Cancel}
 use Rattle.row_judging.specs.Coming.{came, fourth_from}
 use Rattle.row_judging.specs.Counting.{line_stores}
 use Rattle.row_judging.specs.Keys.{reach, key, up_to, store_keys, read_keys}
@@ -177,7 +178,7 @@ delay_law n t a rules before after first second third fourth kept h = by rules.p
     turn true m = refl
     turn false m = refl
 
-    by : (policy : Pausing) → delay rules policy a before after ≡ delay_by rules policy (four_came a fourth (before ++ after))
+    by : (policy : Policy) → delay rules policy a before after ≡ delay_by rules policy (four_came a fourth (before ++ after))
     by Pause = refl
     by Plain = refl
     by Cancel =

@@ -1,17 +1,18 @@
 -- The times of a row, by what is kept of its bank.
 use Rattle.std.proofs.Common.{◌≡◌, ℕ, ◌+◌, ◌^◌, ◌<◌, ◌≤◌, ◌&&◌, ◌||◌, ◌⊎◌, inl, inr, Bool, true, false, List, [], ◌∷◌, Option, refl, sym, ap, ◌∙◌, arith}
+use Rattle.masked_bytes.proofs.Truth.{and_first, and_second}
 use Rattle.std.specs.Prelude.{nat_le, nat_lt, not}
 use Rattle.std.specs.List.{list_all}
 use Rattle.std.proofs.lemmas.Bool.{lt-leb, lt-ltb, cases_lt}
 use Rattle.result_rows.specs.declared.Outcome.{Outcome}
 use Rattle.result_rows.specs.declared.Outcome.TheVariants as out
-use Rattle.row_laws.specs.declared.Asks.{Asks}
-use Rattle.row_laws.specs.declared.Asks.TheVariants.{Reads, Writes, Cuts}
-use Rattle.row_laws.specs.declared.Row.{Row}
-use Rattle.row_laws.specs.Answers.{is_stored, is_answered}
-use Rattle.row_laws.specs.Rules.{Rules}
-use Rattle.row_laws.specs.Rows.{asks_read, asks_write}
-use Rattle.row_laws.specs.Ticking.{bound, read_in_time, store_in_time, asks_in_time, apart}
+use Rattle.row_rules.specs.declared.Asks.{Asks}
+use Rattle.row_rules.specs.declared.Asks.TheVariants.{Reads, Writes, Cuts}
+use Rattle.row_rules.specs.declared.Row.{Row}
+use Rattle.row_rules.specs.Answers.{is_stored, is_answered}
+use Rattle.row_rules.specs.declared.Rules.{Rules}
+use Rattle.row_rules.specs.Rows.{asks_read, asks_write}
+use Rattle.row_rules.specs.Ticking.{bound, read_in_time, store_in_time, asks_in_time, apart}
 use Rattle.row_judging.specs.Rising.{rising}
 use Rattle.row_judging.specs.Cutting.{cut_ticks, first_from, first_is}
 use Rattle.row_judging.specs.Keys.{is_short}
@@ -22,14 +23,6 @@ use Rattle.row_verdict.specs.Keeping.{before_cut, at_cut, read_timely, write_tim
 use Rattle.row_verdict.specs.Kept.{KeptBank, apart_kept}
 use Rattle.row_verdict.specs.Timely.{first_of_ticks, latest_store, ReadTimesLaw, WriteTimesLaw}
 use Rattle.row_verdict.proofs.Apart.{apart_kept_law}
-
-first_of : (a b : Bool) → (a && b) ≡ true → a ≡ true
-first_of true b h = refl
-first_of false b h = h
-
-second_of : (a b : Bool) → (a && b) ≡ true → b ≡ true
-second_of true b h = h
-second_of false b h = absurd (cc)
 
 -- where the first test passes, the last two are the same
 under : (a b x y : Bool) → (a ≡ true → x ≡ y) → ((a && b) && x) ≡ ((a && b) && y)
@@ -104,7 +97,7 @@ read_times_law n rules before r after members waits lost last_answer last_store 
     by : (asks : Asks n) → ((not (is_stored r.outcome) || asks_write asks) && (not (is_answered r.outcome) || asks_read asks)) ≡ true → asks_read asks ≡ true
         → (asks_in_time rules r asks before after && list_all (λ q. apart rules.read r.outcome q.outcome) before)
         ≡ (read_timely r.tick rules.read (bound rules r.tick before after) (first_of_ticks (cut_ticks after)) r.outcome && apart_kept rules.read members waits last_answer last_store r.outcome)
-    by (Reads line) own reads = a_read rules before r.tick after members waits lost last_answer last_store f.kept f.later f.some f.small r.outcome f.short (first_of (not (is_stored r.outcome) || false) _ own)
+    by (Reads line) own reads = a_read rules before r.tick after members waits lost last_answer last_store f.kept f.later f.some f.small r.outcome f.short (and_first (not (is_stored r.outcome) || false) _ own)
     by (Writes line bytes given) own reads = absurd (cc)
     by Cuts own reads = absurd (cc)
 
@@ -115,6 +108,6 @@ write_times_law n rules before r after members waits lost last_answer last_store
         → (asks_in_time rules r asks before after && list_all (λ q. apart rules.read r.outcome q.outcome) before)
         ≡ (write_timely r.tick latest r.outcome && apart_kept rules.read members waits last_answer last_store r.outcome)
     by (Writes line bytes given) own writes =
-        a_write rules before r.tick after members waits lost last_answer last_store f.kept f.later f.some f.small r r.outcome latest refl f.short (second_of (not (is_stored r.outcome) || true) _ own) is
+        a_write rules before r.tick after members waits lost last_answer last_store f.kept f.later f.some f.small r r.outcome latest refl f.short (and_second (not (is_stored r.outcome) || true) _ own) is
     by (Reads line) own writes = absurd (cc)
     by Cuts own writes = absurd (cc)

@@ -1,22 +1,23 @@
 -- A row's verdict in the words of the code.
 use Rattle.std.proofs.Common.{◌≡◌, ℕ, zero, suc, ◌+◌, ◌-◌, ◌*◌, ◌<◌, ◌≤◌, ◌==◌, ◌&&◌, ◌||◌, ◌⊎◌, inl, inr, Bool, true, false, List, [], ◌∷◌, ◌++◌, Option, Some, None, length, refl, sym, ap, ◌∙◌, subst, cond, arith}
+use Rattle.masked_bytes.proofs.Truth.{and_first, and_second}
 use Rattle.std.specs.Prelude.{nat_le, nat_lt, not, slice_get, unwrap_or, count_by}
 use Rattle.std.specs.List.{list_any}
 use Rattle.std.proofs.lemmas.Bool.{leb-true, lt-ltb, ltb-true, le-ltb, eq-eqb, eqb-true, ne_eqb, cases_lt, cases_eq}
 use Rattle.masked_bytes.specs.Masked.{gives_all, laid}
 use Rattle.result_rows.specs.declared.Outcome.{Outcome}
 use Rattle.result_rows.specs.declared.Outcome.TheVariants as out
-use Rattle.row_laws.specs.declared.Asks.{Asks}
-use Rattle.row_laws.specs.declared.Asks.TheVariants.{Reads, Writes, Cuts}
-use Rattle.row_laws.specs.declared.Row.{Row}
-use Rattle.row_laws.specs.Answers.{accepts, is_worn, is_answered, is_lost, stored_after, stored_by}
-use Rattle.row_laws.specs.Rules.{Rules}
-use Rattle.row_laws.specs.Rows.{newest, asks_write, asks_read, asks_write_of, lay_row, bytes_of, given_of}
-use Rattle.row_laws.specs.Serving.{may_have}
-use Rattle.row_laws.specs.Table.{is_of, of_bank}
-use Rattle.row_laws.specs.Queueing.{waiting, cover, read_fits}
-use Rattle.row_laws.specs.Ticking.{bound, delay, longest, stores_in, reads_in, cuts_to}
-use Rattle.row_laws.specs.Wearing.{worn_row}
+use Rattle.row_rules.specs.declared.Asks.{Asks}
+use Rattle.row_rules.specs.declared.Asks.TheVariants.{Reads, Writes, Cuts}
+use Rattle.row_rules.specs.declared.Row.{Row}
+use Rattle.row_rules.specs.Answers.{accepts, is_worn, is_answered, is_lost, stored_after, stored_by}
+use Rattle.row_rules.specs.declared.Rules.{Rules}
+use Rattle.row_rules.specs.Rows.{newest, asks_write, asks_read, asks_write_of, lay_row, bytes_of, given_of}
+use Rattle.row_rules.specs.Serving.{may_have}
+use Rattle.row_rules.specs.Table.{is_of, of_bank}
+use Rattle.row_rules.specs.Queueing.{waiting, cover, read_fits}
+use Rattle.row_rules.specs.Ticking.{bound, delay, longest, stores_in, reads_in, cuts_to}
+use Rattle.row_rules.specs.Wearing.{worn_row}
 use Rattle.row_judging.specs.Coming.{came}
 use Rattle.row_judging.specs.Cutting.{cut_ticks}
 use Rattle.row_judging.specs.Keys.{reach, is_short, key, up_to}
@@ -40,14 +41,6 @@ use Rattle.row_verdict.proofs.Covering.{cover_kept_law}
 use Rattle.row_verdict.proofs.Judged.{judge_write_law, judge_read_law}
 use Rattle.row_verdict.proofs.Numbers.{numbers_law}
 use Rattle.row_verdict.proofs.Tables.{counts_told_law, line_keys_law, delay_law}
-
-first_of : (a b : Bool) → (a && b) ≡ true → a ≡ true
-first_of true b h = refl
-first_of false b h = h
-
-second_of : (a b : Bool) → (a && b) ≡ true → b ≡ true
-second_of true b h = h
-second_of false b h = absurd (cc)
 
 -- one where the test holds
 abbrev one_if : Bool → ℕ
@@ -105,10 +98,10 @@ pub came_below : {n : ℕ} (t : ℕ) (rows : List (Row n)) → falling t rows �
 came_below t [] h k d is = absurd (cc)
 came_below {n} t (q ∷ rows) h k d is =
     by (asks_read q.asks && (is_answered q.outcome || is_lost q.outcome)) k is
-    (λ k is. came_below q.tick rows (second_of (nat_le q.tick t) _ h) k d is)
+    (λ k is. came_below q.tick rows (and_second (nat_le q.tick t) _ h) k d is)
   where
     tick : q.tick ≤ t
-    tick = leb-true q.tick t (first_of (nat_le q.tick t) _ h)
+    tick = leb-true q.tick t (and_first (nat_le q.tick t) _ h)
 
     by : (c : Bool) (k : ℕ) → slice_get (cond c (q.tick ∷ came rows) (came rows)) k ≡ Some d → ((k : ℕ) → slice_get (came rows) k ≡ Some d → d ≤ q.tick) → d ≤ t
     by true zero is rest = let e : q.tick ≡ d = ap (λ o. unwrap_or o 0) is in omega (arith, e, tick)

@@ -1,12 +1,12 @@
 -- What is kept of a bank, with one row more.
-use Rattle.row_laws.specs.Answers.{is_stored, is_answered, is_lost}
-use Rattle.row_laws.specs.Rows.{asks_read}
+use Rattle.row_rules.specs.Answers.{is_stored, is_answered, is_lost}
+use Rattle.row_rules.specs.Rows.{asks_read}
 use Rattle.row_judging.specs.Distances.{later_of}
 use Rattle.std.specs.Prelude.{◌≡◌, ℕ, ◌+◌, ◌<◌, ◌==◌, ◌&&◌, not, Bool, true, false, IsTrue, List, [], ◌∷◌, ◌++◌, Option, filter}
 use Rattle.result_rows.specs.declared.Outcome.TheVariants as out
-use Rattle.row_laws.specs.declared.Row.{Row}
-use Rattle.row_laws.specs.Rows.{accepted, asks_cut, line_of}
-use Rattle.row_laws.specs.Queueing.{stands}
+use Rattle.row_rules.specs.declared.Row.{Row}
+use Rattle.row_rules.specs.Rows.{accepted, asks_cut, line_of}
+use Rattle.row_rules.specs.Queueing.{stands}
 use Rattle.row_judging.specs.Standing.{is_own}
 use Rattle.row_verdict.specs.declared.members.Member.{Member}
 use Rattle.row_verdict.specs.Kept.{sight, sight_of, KeptBank}

@@ -1,8 +1,9 @@
 -- The rules of a row in the words of what a checker keeps.
 use Rattle.std.specs.Prelude.{ℕ, ◌+◌, ◌==◌, ◌&&◌, Bool, true, false, not, Option, Some, None, nat_le, nat_lt, max, if◌then◌else◌}
-use Rattle.bank_shape.specs.Pausing.{Pausing, Pause, Plain, Cancel}
-use Rattle.row_laws.specs.Rules.{Rules}
-use Rattle.row_laws.specs.Ticking.{attempt}
+use Rattle.bank_shape.specs.declared.pace.Policy.{Policy}
+use Rattle.bank_shape.specs.declared.pace.Policy.TheVariants.{Pause, Plain, Cancel}
+use Rattle.row_rules.specs.declared.Rules.{Rules}
+use Rattle.row_rules.specs.Ticking.{attempt}
 use Rattle.result_rows.specs.declared.Outcome.{Outcome}
 use Rattle.result_rows.specs.declared.Outcome.TheVariants as out
 
@@ -39,7 +40,7 @@ module _ {n : ℕ} where
   write_timely arrived latest _ = true
 
 -- how long a read may find its bank busy with something else than reads, where four reads came since the last store or not
-abbrev pub delay_by : Rules → Pausing → Bool → ℕ
+abbrev pub delay_by : Rules → Policy → Bool → ℕ
 delay_by rules Pause four_came = max rules.read rules.iter
 delay_by rules Plain four_came = attempt rules
 delay_by rules Cancel four_came = if four_came then max rules.read rules.iter else 0

@@ -3,11 +3,11 @@ use Rattle.std.specs.Prelude.{◌≡◌, ℕ, ◌<◌, ◌≤◌, ◌^◌, ◌==
 use Rattle.std.specs.List.{list_all}
 use Rattle.result_rows.specs.declared.Outcome.{Outcome}
 use Rattle.result_rows.specs.declared.Outcome.TheVariants as out
-use Rattle.row_laws.specs.declared.Row.{Row}
-use Rattle.row_laws.specs.Answers.{is_merged}
-use Rattle.row_laws.specs.Rows.{line_of}
-use Rattle.row_laws.specs.Queueing.{pending}
-use Rattle.row_laws.specs.Ticking.{apart}
+use Rattle.row_rules.specs.declared.Row.{Row}
+use Rattle.row_rules.specs.Answers.{is_merged}
+use Rattle.row_rules.specs.Rows.{line_of}
+use Rattle.row_rules.specs.Queueing.{pending}
+use Rattle.row_rules.specs.Ticking.{apart}
 use Rattle.row_judging.specs.Distances.{is_far_below, later_of, waits_above, last_end, last_read, ends_behind}
 use Rattle.row_judging.specs.Heads.{end_of, leave_of}
 use Rattle.row_judging.specs.Keys.{is_short}

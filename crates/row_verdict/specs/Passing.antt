@@ -1,12 +1,12 @@
 -- What the pass over the rows keeps, once some of them are passed.
 use Rattle.std.specs.Prelude.{◌≡◌, ℕ, ◌<◌, ◌≤◌, ◌==◌, ◌⊎◌, Bool, true, false, IsTrue, if◌then◌else◌, List, [], ◌∷◌, Option, Some, None, length}
 use Rattle.result_rows.specs.declared.Outcome.{Outcome}
-use Rattle.row_laws.specs.declared.Asks.TheVariants.{Reads, Writes, Cuts}
-use Rattle.row_laws.specs.declared.Row.{Row}
-use Rattle.row_laws.specs.Rules.{Rules}
-use Rattle.row_laws.specs.Table.{of_bank}
-use Rattle.row_laws.specs.Queueing.{has_room}
-use Rattle.row_laws.specs.Serving.{may_have}
+use Rattle.row_rules.specs.declared.Asks.TheVariants.{Reads, Writes, Cuts}
+use Rattle.row_rules.specs.declared.Row.{Row}
+use Rattle.row_rules.specs.declared.Rules.{Rules}
+use Rattle.row_rules.specs.Table.{of_bank}
+use Rattle.row_rules.specs.Queueing.{has_room}
+use Rattle.row_rules.specs.Serving.{may_have}
 use Rattle.row_verdict.specs.Fitting.{room_kept, is_brief}
 use Rattle.row_verdict.specs.Judged.{RoomIs, a_cut}
 use Rattle.row_verdict.specs.Members.{never}

@@ -1,11 +1,11 @@
 -- The rule on the queue is told by what is kept of a bank.
 use Rattle.std.specs.Prelude.{◌≡◌, ℕ, ◌+◌, ◌<◌, ◌≤◌, IsTrue, if◌then◌else◌, List, [], ◌∷◌, ◌++◌, Bool, Option, Some, None, length, nat_lt}
 use Rattle.masked_bytes.specs.Masked.{gives_all}
-use Rattle.row_laws.specs.declared.Asks.TheVariants.{Reads, Writes, Cuts}
-use Rattle.row_laws.specs.declared.Row.{Row}
-use Rattle.row_laws.specs.Rules.{Rules}
-use Rattle.row_laws.specs.Rows.{accepted_of}
-use Rattle.row_laws.specs.Queueing.{pending, waiting, cover, read_fits, queue_fits, has_room}
+use Rattle.row_rules.specs.declared.Asks.TheVariants.{Reads, Writes, Cuts}
+use Rattle.row_rules.specs.declared.Row.{Row}
+use Rattle.row_rules.specs.declared.Rules.{Rules}
+use Rattle.row_rules.specs.Rows.{accepted_of}
+use Rattle.row_rules.specs.Queueing.{pending, waiting, cover, read_fits, queue_fits, has_room}
 use Rattle.row_judging.specs.Counting.{line_stores}
 use Rattle.row_judging.specs.Keys.{reach}
 use Rattle.row_judging.specs.Near.{NearRoom}

@@ -1,7 +1,7 @@
 -- The rule on the queue, by what is kept of a bank.
 use Rattle.std.specs.Prelude.{◌≡◌, ℕ, ◌+◌, List, [], Option, length}
-use Rattle.row_laws.specs.declared.Row.{Row}
-use Rattle.row_laws.specs.Queueing.{pending, waiting}
+use Rattle.row_rules.specs.declared.Row.{Row}
+use Rattle.row_rules.specs.Queueing.{pending, waiting}
 use Rattle.row_verdict.specs.declared.members.Member.{Member}
 use Rattle.row_verdict.specs.Kept.{KeptBank}
 

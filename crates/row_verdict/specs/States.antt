@@ -3,12 +3,12 @@ use Rattle.std.specs.Prelude.{◌≡◌, ℕ, ◌+◌, ◌<◌, ◌≤◌, not, 
 use Rattle.std.specs.List.{list_any}
 use Rattle.result_rows.specs.declared.Outcome.{Outcome}
 use Rattle.result_rows.specs.declared.Outcome.TheVariants as out
-use Rattle.row_laws.specs.declared.Asks.TheVariants.{Reads, Writes, Cuts}
-use Rattle.row_laws.specs.declared.Row.{Row}
-use Rattle.row_laws.specs.Rules.{Rules}
-use Rattle.row_laws.specs.Queueing.{has_room}
-use Rattle.row_laws.specs.Serving.{may_have}
-use Rattle.row_laws.specs.Wearing.{worn_row}
+use Rattle.row_rules.specs.declared.Asks.TheVariants.{Reads, Writes, Cuts}
+use Rattle.row_rules.specs.declared.Row.{Row}
+use Rattle.row_rules.specs.declared.Rules.{Rules}
+use Rattle.row_rules.specs.Queueing.{has_room}
+use Rattle.row_rules.specs.Serving.{may_have}
+use Rattle.row_rules.specs.Wearing.{worn_row}
 use Rattle.row_judging.specs.Distances.{later_of, ends_behind}
 use Rattle.row_judging.specs.Near.{NearRoom}
 use Rattle.row_judging.specs.Rising.{falling}

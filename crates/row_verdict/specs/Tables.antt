@@ -1,11 +1,11 @@
 -- What sorted keys of a whole table tell of a row of it, and what the reads that came tell.
 use Rattle.std.specs.Prelude.{◌≡◌, ℕ, ◌+◌, ◌<◌, ◌≤◌, ◌==◌, Bool, true, false, IsTrue, List, [], ◌∷◌, ◌++◌, Option, Some, None, IsPermutation, reverse, slice_get}
-use Rattle.row_laws.specs.declared.Row.{Row}
-use Rattle.row_laws.specs.Rules.{Rules}
-use Rattle.row_laws.specs.Rows.{asks_write}
-use Rattle.row_laws.specs.Serving.{may_have}
-use Rattle.row_laws.specs.Table.{of_bank}
-use Rattle.row_laws.specs.Ticking.{stores_in, reads_in, delay}
+use Rattle.row_rules.specs.declared.Row.{Row}
+use Rattle.row_rules.specs.declared.Rules.{Rules}
+use Rattle.row_rules.specs.Rows.{asks_write}
+use Rattle.row_rules.specs.Serving.{may_have}
+use Rattle.row_rules.specs.Table.{of_bank}
+use Rattle.row_rules.specs.Ticking.{stores_in, reads_in, delay}
 use Rattle.row_judging.specs.Coming.{came}
 use Rattle.row_judging.specs.Keys.{reach, key, up_to, store_keys, read_keys, all_short}
 use Rattle.row_judging.specs.Rising.{falling}

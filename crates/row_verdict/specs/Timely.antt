@@ -1,9 +1,9 @@
 -- The times of a row, by what is kept of its bank.
 use Rattle.std.specs.Prelude.{◌≡◌, ℕ, ◌+◌, ◌<◌, ◌^◌, ◌&&◌, true, IsTrue, List, [], ◌∷◌, ◌++◌, Option, Some, None}
-use Rattle.row_laws.specs.declared.Row.{Row}
-use Rattle.row_laws.specs.Rules.{Rules}
-use Rattle.row_laws.specs.Rows.{asks_read, asks_write}
-use Rattle.row_laws.specs.Ticking.{bound, longest, stores_in, reads_in, cuts_to, is_in_time}
+use Rattle.row_rules.specs.declared.Row.{Row}
+use Rattle.row_rules.specs.declared.Rules.{Rules}
+use Rattle.row_rules.specs.Rows.{asks_read, asks_write}
+use Rattle.row_rules.specs.Ticking.{bound, longest, stores_in, reads_in, cuts_to, is_in_time}
 use Rattle.row_judging.specs.Rising.{rising}
 use Rattle.row_judging.specs.Cutting.{cut_ticks}
 use Rattle.row_judging.specs.Keys.{is_short}

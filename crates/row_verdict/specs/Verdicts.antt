@@ -5,18 +5,18 @@ use Rattle.trace_reader.specs.declared.event.Event.{Event}
 use Rattle.trace_reader.specs.declared.event.EventOp.{EventOp}
 use Rattle.trace_reader.specs.declared.event.EventOp.TheVariants.{Read, Write, Mask, Cut}
 use Rattle.result_rows.specs.declared.Outcome.{Outcome}
-use Rattle.bank_shape.specs.Pausing.{Pausing}
-use Rattle.bank_shape.specs.Pausing as when
-use Rattle.row_laws.specs.declared.Asks.{Asks}
-use Rattle.row_laws.specs.declared.Asks.TheVariants.{Reads, Writes, Cuts}
-use Rattle.row_laws.specs.declared.Row.{Row}
-use Rattle.row_laws.specs.Rules.{Rules}
-use Rattle.row_laws.specs.Rows.{RowTest, each_row}
-use Rattle.row_laws.specs.Table.{of_bank}
-use Rattle.row_laws.specs.Serving.{is_served}
-use Rattle.row_laws.specs.Queueing.{has_room, is_queue_fair}
-use Rattle.row_laws.specs.Wearing.{is_wear_final}
-use Rattle.row_laws.specs.Ticking.{is_in_time}
+use Rattle.bank_shape.specs.declared.pace.Policy.{Policy}
+use Rattle.bank_shape.specs.declared.pace.Policy.TheVariants as when
+use Rattle.row_rules.specs.declared.Asks.{Asks}
+use Rattle.row_rules.specs.declared.Asks.TheVariants.{Reads, Writes, Cuts}
+use Rattle.row_rules.specs.declared.Row.{Row}
+use Rattle.row_rules.specs.declared.Rules.{Rules}
+use Rattle.row_rules.specs.Rows.{RowTest, each_row}
+use Rattle.row_rules.specs.Table.{of_bank}
+use Rattle.row_rules.specs.Serving.{is_served}
+use Rattle.row_rules.specs.Queueing.{has_room, is_queue_fair}
+use Rattle.row_rules.specs.Wearing.{is_wear_final}
+use Rattle.row_rules.specs.Ticking.{is_in_time}
 use Rattle.row_verdict.specs.declared.Rule.{Rule}
 use Rattle.row_verdict.specs.declared.Rule.TheVariants as rule
 use Rattle.row_verdict.specs.declared.RulePolicy.{RulePolicy}
@@ -88,13 +88,13 @@ abbrev pub no : ℕ → Rule → Verdict
 no row one = No row one
 
 -- the rules as the definitions know them
-abbrev pub pausing_by : RulePolicy → Pausing
+abbrev pub pausing_by : RulePolicy → Policy
 pausing_by policy.Pause = when.Pause
 pausing_by policy.Plain = when.Plain
 pausing_by policy.Cancel = when.Cancel
 
 abbrev pub rules_by : code.Rules → Rules
-rules_by r = record { writes = r.writes; reads = r.reads; spares = r.spares; read = r.read_ticks; iter = r.iter_ticks; steps = r.steps; policy = pausing_by r.policy; twice = r.twice }
+r = record { writes = r.writes; reads = r.reads; spares = r.spares; read = r.read; iter = r.iter; steps = r.steps; policy = pausing_by r.policy; twice = r.twice }
 
 -- what an operation asks: a whole write gives every byte
 abbrev pub asks_of : {n : ℕ} → EventOp n → Asks n

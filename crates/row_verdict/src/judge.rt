@@ -3,9 +3,9 @@
 ghost use Rattle.std.specs.Prelude.{◌≡◌, ◌+◌, ◌<◌, ◌≤◌, ◌^◌, ◌==◌, ◌&&◌, ◌||◌, ◌-◌, not, true, length, IsTrue, IfSome};
 ghost use Rattle.std.specs.List.Sorted.{IsNonDecreasing};
 ghost use Rattle.masked_bytes.specs.Masked.{gives_all};
-ghost use Rattle.row_laws.specs.Answers.{is_worn};
-ghost use Rattle.row_laws.specs.Queueing as queueing;
-ghost use Rattle.row_laws.specs.Serving as serving;
+ghost use Rattle.row_rules.specs.Answers.{is_worn};
+ghost use Rattle.row_rules.specs.Queueing as queueing;
+ghost use Rattle.row_rules.specs.Serving as serving;
 ghost use Rattle.row_judging.specs.Keys as spec;
 ghost use Rattle.row_judging.specs.Keys.{reach, is_short};
 ghost use Rattle.row_verdict.specs.Ahead.{four_kept, bound_kept, latest_kept, at_store};
@@ -16,7 +16,7 @@ ghost use Rattle.row_verdict.specs.Judged.{first_broken};
 ghost use Rattle.row_verdict.specs.Keeping.{stored_early, read_timely, write_timely};
 ghost use Rattle.row_verdict.specs.Kept.{apart_kept};
 ghost use Rattle.row_verdict.specs.Timely.{first_of_ticks};
-ghost use Rattle.row_verdict.specs.Verdicts.{asks_of, rules_by};
+ghost use Rattle.row_verdict.specs.Verdicts.{asks_of};
 ghost use Rattle.row_verdict.specs.Within.{AreWithin};
 
 use crate::bank::Bank;
@@ -80,7 +80,7 @@ fn latest_store(
     requires few_cuts { length cuts.now ≤ 400_000 }
     requires order { arrived ≤ at }
     requires short { at < reach }
-    ensures { result ≡ latest_kept (rules_by rules.now) stores.now reads.now cuts.now bank arrived at }
+    ensures { result ≡ latest_kept rules.now stores.now reads.now cuts.now bank arrived at }
 {
     let from = key(bank, arrived);
     let to = key(bank, at);
@@ -107,7 +107,7 @@ pub fn write_in_time<const B: usize>(
     requires few_reads { length reads.now ≤ 400_000 }
     requires few_cuts { length cuts.now ≤ 400_000 }
     requires short { IsTrue (is_short outcome.now) }
-    ensures { result ≡ write_timely arrived (at_store (latest_kept (rules_by rules.now) stores.now reads.now cuts.now bank arrived) outcome.now) outcome.now }
+    ensures { result ≡ write_timely arrived (at_store (latest_kept rules.now stores.now reads.now cuts.now bank arrived) outcome.now) outcome.now }
 {
     match outcome {
         Outcome::Stored { tick, .. } => {
@@ -192,11 +192,11 @@ pub fn judge_write<const B: usize>(
     requires few_cuts { length ahead.cuts.now ≤ 400_000 }
     requires short { IsTrue (is_short outcome.now) }
     ensures { let f = facts_of bank.now in
-        let by = latest_kept (rules_by rules.now) keys.entry.stores.now keys.entry.reads.now ahead.entry.cuts.now number tick in
+        let by = latest_kept rules.now keys.entry.stores.now keys.entry.reads.now ahead.entry.cuts.now number tick in
         result ≡ first_broken (serving.may_have tick (asks_of op.now) newest.now outcome.now) room
         (write_fits rules.now.writes tick line f.members ahead.entry.next outcome.now)
         (is_worn outcome.now || (not f.worn && stored_early ahead.entry.worn outcome.now))
-        (write_timely tick (at_store by outcome.now) outcome.now && apart_kept rules.now.read_ticks f.members f.waits f.last_answer f.last_store outcome.now) }
+        (write_timely tick (at_store by outcome.now) outcome.now && apart_kept rules.now.read f.members f.waits f.last_answer f.last_store outcome.now) }
 {
     let served = may_have(tick, op, newest, outcome);
     let fits = write_fits(rules.writes, tick, line, &bank.members, ahead.next, outcome);
@@ -215,7 +215,7 @@ pub fn judge_write<const B: usize>(
         &bank.waits,
         bank.last_answer,
         bank.last_store,
-        rules.read_ticks,
+        rules.read,
         outcome,
     );
     first_broken(served, room, fits, keeps, in_time && apart)
@@ -246,11 +246,11 @@ pub fn judge_read<const B: usize>(
         let count = length f.waits + f.lost in
         let covered = gives_all (cover_kept B tick ahead.entry.soonest kept.now.unclosed kept.now.runs.items) in
         let first = first_of_ticks ahead.entry.cuts.now in
-        let by = bound_kept (rules_by rules.now) keys.entry.stores.now number tick f.fourth count in
+        let by = bound_kept rules.now keys.entry.stores.now number tick f.fourth count in
         result ≡ first_broken (serving.may_have tick (asks_of op.now) kept.now.newest outcome.now) room
         (queueing.read_fits rules.now.reads count covered (at_head_kept keys.entry.lines.now line tick f.members) outcome.now)
         true
-        (read_timely tick rules.now.read_ticks by first outcome.now && apart_kept rules.now.read_ticks f.members f.waits f.last_answer f.last_store outcome.now) }
+        (read_timely tick rules.now.read by first outcome.now && apart_kept rules.now.read f.members f.waits f.last_answer f.last_store outcome.now) }
 {
     let served = may_have(tick, op, &kept.newest, outcome);
     let count = bank.waits.len() as u32 + bank.lost;
@@ -269,7 +269,7 @@ pub fn judge_read<const B: usize>(
     let latest = bound(rules, tick, count as u64, four);
     let in_time = read_in_time(
         tick,
-        rules.read_ticks,
+        rules.read,
         latest,
         ahead.cuts.first().copied(),
         outcome,
@@ -279,7 +279,7 @@ pub fn judge_read<const B: usize>(
         &bank.waits,
         bank.last_answer,
         bank.last_store,
-        rules.read_ticks,
+        rules.read,
         outcome,
     );
     first_broken(served, room, fits, true, in_time && apart)

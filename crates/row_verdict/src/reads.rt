@@ -1,7 +1,7 @@
 //! What the queue and the times say of a read's answer.
 
 ghost use Rattle.std.specs.Prelude.{◌≡◌, ◌&&◌, ◌||◌, ◌+◌, ◌*◌, ◌^◌, ◌<◌, ◌≤◌, not, nat_le, nat_lt};
-ghost use Rattle.row_laws.specs.Queueing as queueing;
+ghost use Rattle.row_rules.specs.Queueing as queueing;
 ghost use Rattle.row_verdict.specs.Keeping.{read_timely};
 
 use result_rows::Outcome;

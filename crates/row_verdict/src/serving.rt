@@ -1,7 +1,7 @@
 //! Whether a row has an outcome that it may have.
 
 ghost use Rattle.std.specs.Prelude.{◌≡◌};
-ghost use Rattle.row_laws.specs.Serving as serving;
+ghost use Rattle.row_rules.specs.Serving as serving;
 ghost use Rattle.row_verdict.specs.Verdicts.{asks_of};
 
 use result_rows::Outcome;

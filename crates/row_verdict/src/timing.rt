@@ -1,8 +1,7 @@
 //! How long a write may take, and a read.
 
 ghost use Rattle.std.specs.Prelude.{◌≡◌, ◌<◌, ◌≤◌, ◌^◌, ◌+◌, ◌*◌};
-ghost use Rattle.row_laws.specs.Ticking as ticking;
-ghost use Rattle.row_verdict.specs.Verdicts.{rules_by, pausing_by};
+ghost use Rattle.row_rules.specs.Ticking as ticking;
 ghost use Rattle.row_verdict.specs.Within.{AreWithin};
 ghost use Rattle.row_verdict.specs.Keeping.{delay_kept};
 
@@ -21,10 +20,10 @@ fn times(number: u64, other: u64) -> u64
 /// The longest time of one attempt to write a line.
 fn attempt(rules: &Rules) -> u64
     requires { AreWithin rules.now }
-    ensures value { result ≡ ticking.attempt (rules_by rules.now) }
+    ensures value { result ≡ ticking.attempt rules.now }
     ensures bound { result ≤ 53_295 }
 {
-    rules.read_ticks as u64 + rules.steps as u64 * rules.iter_ticks as u64
+    rules.read as u64 + rules.steps as u64 * rules.iter as u64
 }
 
 /// How often one line write may be begun.
@@ -33,7 +32,7 @@ fn tries(policy: RulePolicy) -> u64
     ensures bound { result ≤ 5 }
 {
     match policy {
-        RulePolicy::Cancel => 5,
+        Policy::Cancel => 5,
         _ => 1,
     }
 }
@@ -59,29 +58,29 @@ pub fn longest(rules: &Rules, stores: u64, reads: u64, cuts: u64) -> u64
     requires stores { stores ≤ 400_000 }
     requires reads { reads ≤ 400_000 }
     requires cuts { cuts ≤ 400_000 }
-    ensures value { result ≡ ticking.longest (rules_by rules.now) stores reads cuts }
+    ensures value { result ≡ ticking.longest rules.now stores reads cuts }
     ensures bound { result < 2 ^ 63 }
 {
     let once = times(tries(rules.policy), attempt(rules));
-    times(once, line_writes(rules, stores, cuts)) + times(rules.read_ticks as u64, 2 * reads + cuts)
+    times(once, line_writes(rules, stores, cuts)) + times(rules.read as u64, 2 * reads + cuts)
 }
 
 /// How long a read may find its bank busy with something else than reads; under Cancel it may only where four reads came since
 /// the last store.
 fn delay(rules: &Rules, four_came: bool) -> u64
     requires { AreWithin rules.now }
-    ensures value { result ≡ delay_kept (rules_by rules.now) four_came }
+    ensures value { result ≡ delay_kept rules.now four_came }
     ensures bound { result ≤ 53_295 }
 {
-    let one = if rules.iter_ticks < rules.read_ticks {
-        rules.read_ticks
+    let one = if rules.iter < rules.read {
+        rules.read
     } else {
-        rules.iter_ticks
+        rules.iter
     };
     match rules.policy {
-        RulePolicy::Pause => one as u64,
-        RulePolicy::Plain => attempt(rules),
-        RulePolicy::Cancel => { if four_came { one as u64 } else { 0 } }
+        Policy::Pause => one as u64,
+        Policy::Plain => attempt(rules),
+        Policy::Cancel => { if four_came { one as u64 } else { 0 } }
     }
 }
 
@@ -90,8 +89,8 @@ pub fn bound(rules: &Rules, arrived: u64, waiting: u64, four_came: bool) -> u64
     requires within { AreWithin rules.now }
     requires arrived { arrived < 2 ^ 50 }
     requires waiting { waiting ≤ 400_000 }
-    ensures value { result ≡ arrived + delay_kept (rules_by rules.now) four_came + (waiting + 1) * rules.now.read_ticks }
+    ensures value { result ≡ arrived + delay_kept rules.now four_came + (waiting + 1) * rules.now.read }
     ensures bound { result < 2 ^ 63 }
 {
-    arrived + delay(rules, four_came) + times(waiting + 1, rules.read_ticks as u64)
+    arrived + delay(rules, four_came) + times(waiting + 1, rules.read as u64)
 }

@@ -1,7 +1,7 @@
 //! Whether a write keeps to the worn rows of its bank.
 
 ghost use Rattle.std.specs.Prelude.{◌≡◌, ◌&&◌, ◌||◌, not, nat_le};
-ghost use Rattle.row_laws.specs.Answers.{is_worn};
+ghost use Rattle.row_rules.specs.Answers.{is_worn};
 ghost use Rattle.row_verdict.specs.Keeping.{stored_early};
 
 use result_rows::Outcome;

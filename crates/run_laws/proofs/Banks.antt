@@ -5,7 +5,8 @@ use Rattle.masked_bytes.specs.declared.entry.Entry.{Entry}
 use Rattle.masked_bytes.specs.Masked.{gives_all}
 use Rattle.pcm_cells.specs.Device.{ArrayState}
 use Rattle.bank_shape.specs.declared.BankShape.{BankShape}
-use Rattle.bank_model.specs.Timing.{Pacing, Timed, core}
+use Rattle.bank_shape.specs.declared.pace.Pace.{Pace}
+use Rattle.bank_model.specs.Timing.{TimedEvent, core}
 use Rattle.bank_model.specs.Lawful.{Lawful, IsIdle}
 use Rattle.bank_laws.specs.Outcomes.{table_of}
 use Rattle.bank_laws.specs.Laws.{IsSized, LeavesArray, is_worn_at}
@@ -25,7 +26,7 @@ excepted-whole (x ∷ es) = by (gives_all x.given) refl
     by true all = (refl, all)
     by false lacks = tt
 
-module _ {n m e : ℕ} (xs : List (Timed n m)) (clock : ClockState n m e) (array : ArrayState n m) (leads : Leads xs clock array) where
+module _ {n m e : ℕ} (xs : List (TimedEvent n m)) (clock : ClockState n m e) (array : ArrayState n m) (leads : Leads xs clock array) where
   -- the end of a bank is that of what it keeps
   pub is_end : IsEndOf clock.bank.kept (end_of clock.bank.kept (core xs))
   is_end = record {
@@ -34,12 +35,12 @@ module _ {n m e : ℕ} (xs : List (Timed n m)) (clock : ClockState n m e) (array
     excepted = excepted-whole clock.bank.kept.entries;
   }
 
-  module _ (shape : BankShape) (pace : Pacing) (same : clock.bank.kept.shape ≡ shape) (paced : clock.pace ≡ pace) where
+  module _ (shape : BankShape) (pace : Pace) (same : clock.bank.kept.shape ≡ shape) (paced : clock.pace ≡ pace) where
     -- its history is lawful by its shape and pacing
     pub is_lawful : Lawful shape pace e xs
     is_lawful =
         subst (λ (s : BankShape). Lawful s pace e xs) same
-        (subst (λ (p : Pacing). Lawful clock.bank.kept.shape p e xs) paced leads.lawful)
+        (subst (λ (p : Pace). Lawful clock.bank.kept.shape p e xs) paced leads.lawful)
 
     pub leaves : LeavingLaw → LeavesArray e shape xs array
     leaves law = subst (λ (s : BankShape). LeavesArray e s xs array) same (law n m e xs clock array leads)
@@ -60,7 +61,7 @@ module _ {n m e : ℕ} (xs : List (Timed n m)) (clock : ClockState n m e) (array
         sized' = subst (λ (s : BankShape). IsSized s pace) (sym same) sized
 
         lawful' : Lawful clock.bank.kept.shape pace e xs
-        lawful' = subst (λ (p : Pacing). Lawful clock.bank.kept.shape p e xs) paced leads.lawful
+        lawful' = subst (λ (p : Pace). Lawful clock.bank.kept.shape p e xs) paced leads.lawful
 
         -- where the writing of a change has halted, its control line is worn
         halted : IsHaltedWorn e clock.bank.kept.shape xs array

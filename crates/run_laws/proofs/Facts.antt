@@ -1,5 +1,6 @@
 -- What the laws of a bank's table say of a row, by its outcome.
 use Rattle.std.proofs.Common.{◌≡◌, ℕ, ◌+◌, ◌-◌, ◌*◌, ◌/◌, ◌%◌, ◌<◌, ◌≤◌, ◌==◌, ◌&&◌, ◌||◌, not, Bool, true, false, List, [], ◌∷◌, length, Some, inl, inr, ◌⊎◌, refl, sym, ap, ◌∙◌, subst, arith, cond, eqb-true}
+use Rattle.masked_bytes.proofs.Truth.{and_first, and_second}
 use Rattle.std.specs.Prelude.{nat_le, All, map}
 use Rattle.std.specs.Option.{ForSome}
 use Rattle.std.proofs.lemmas.Bool.{ltb-true, leb-true}
@@ -9,33 +10,25 @@ use Rattle.result_rows.specs.declared.Op.TheVariants as op
 use Rattle.result_rows.specs.declared.Outcome.{Outcome}
 use Rattle.result_rows.specs.declared.Outcome.TheVariants as out
 use Rattle.result_rows.specs.Outcomes.{op_of, place_of}
-use Rattle.row_laws.specs.declared.Asks.{Asks}
-use Rattle.row_laws.specs.declared.Asks.TheVariants.{Reads, Writes, Cuts}
-use Rattle.row_laws.specs.declared.Row.{Row}
-use Rattle.row_laws.specs.Answers.{accepts, is_queued, is_lost, is_busy, is_forwarded, is_answered}
-use Rattle.row_laws.specs.Rows.{each_row, asks_read, asks_cut, is_cut}
-use Rattle.row_laws.specs.Table.{is_of, of_bank}
+use Rattle.row_rules.specs.declared.Asks.{Asks}
+use Rattle.row_rules.specs.declared.Asks.TheVariants.{Reads, Writes, Cuts}
+use Rattle.row_rules.specs.declared.Row.{Row}
+use Rattle.row_rules.specs.Answers.{accepts, is_queued, is_lost, is_busy, is_forwarded, is_answered}
+use Rattle.row_rules.specs.Rows.{each_row, asks_read, asks_cut, is_cut}
+use Rattle.row_rules.specs.Table.{is_of, of_bank}
 use Rattle.masked_bytes.specs.Masked.{gives_all}
 use Rattle.result_summary.specs.Shortfall.{is_short}
 use Rattle.module_laws.specs.Asking.{asks_in, row_in, bank_table}
-use Rattle.row_laws.specs.Rules.{Rules}
-use Rattle.row_laws.specs.Queueing.{waiting, queue_fits, cover, is_at_head}
-use Rattle.row_laws.specs.Serving.{may_have}
-use Rattle.row_laws.specs.Ticking.{first_cut_at, is_in_time, read_in_time, asks_in_time}
+use Rattle.row_rules.specs.declared.Rules.{Rules}
+use Rattle.row_rules.specs.Queueing.{waiting, queue_fits, cover, is_at_head}
+use Rattle.row_rules.specs.Serving.{may_have}
+use Rattle.row_rules.specs.Ticking.{first_cut_at, is_in_time, read_in_time, asks_in_time}
 use Rattle.bank_shape.specs.declared.BankShape.{BankShape}
 use Rattle.bank_shape.specs.Shape.{slots_of, slot_moved, lines_in}
 use Rattle.bank_laws.specs.Places.{is_place_after, is_place_about, outcome_placed}
 use Rattle.place_laws.proofs.Slots.{slot_moved-within}
 use Rattle.run_laws.specs.RowsOfRuns.{op_asked}
 use Rattle.run_laws.proofs.Lifting.{Each}
-
-first_of_both : (a b : Bool) → (a && b) ≡ true → a ≡ true
-first_of_both true b h = refl
-first_of_both false b h = h
-
-second_of_both : (a b : Bool) → (a && b) ≡ true → b ≡ true
-second_of_both true b h = h
-second_of_both false b h = absurd (cc)
 
 one_of : (a b : Bool) → (a || b) ≡ true → (a ≡ true) ⊎ (b ≡ true)
 one_of true b h = inl refl
@@ -107,9 +100,9 @@ module _ (shape : BankShape) (worn : ℕ → Bool) (line place : ℕ) (some : 1 
             let at : place ≡ shape.base + slot_moved shape line moves = eqb-true place (shape.base + slot_moved shape line moves) home in
             record { from = omega (arith, at); below = omega (arith, at, within) }
         | inr spare ↦
-            let range = second_of_both (worn (shape.base + slot_moved shape line moves)) _ spare in
-            let low = leb-true (shape.base + slots_of shape) place (first_of_both _ _ range) in
-            let high = ltb-true place (shape.base + slots_of shape + shape.spares) (second_of_both (nat_le (shape.base + slots_of shape) place) _ range) in
+            let range = and_second (worn (shape.base + slot_moved shape line moves)) _ spare in
+            let low = leb-true (shape.base + slots_of shape) place (and_first _ _ range) in
+            let high = ltb-true place (shape.base + slots_of shape + shape.spares) (and_second (nat_le (shape.base + slots_of shape) place) _ range) in
             record { from = omega (arith, low); below = omega (arith, high) }
       ]
 
@@ -117,7 +110,7 @@ module _ (shape : BankShape) (worn : ℕ → Bool) (line place : ℕ) (some : 1 
   about-of_bank count h =
       elim (one_of (is_place_after shape worn line place (count / shape.psi)) _ h) [
         | inl now ↦ after-of_bank (count / shape.psi) now
-        | inr due ↦ after-of_bank (count / shape.psi - 1) (second_of_both (not (count == 0)) _ (second_of_both (count % shape.psi == 0) _ due))
+        | inr due ↦ after-of_bank (count / shape.psi - 1) (and_second (not (count == 0)) _ (and_second (count % shape.psi == 0) _ due))
       ]
 
 -- the place of a row that is placed is an array line of the bank
@@ -150,7 +143,7 @@ no_first_cut u (q ∷ rows) all =
 read-kept : {n : ℕ} (rules : Rules) (tick : ℕ) (o : Outcome n) (before after : List (Row n)) → All Uncut after → read_in_time rules tick o before after ≡ true → is_lost o ≡ false
 read-kept rules tick (out.Lost u) before after all h =
     let none = no_first_cut u after all in
-    let some = first_of_both (first_cut_at u after) _ h in
+    let some = and_first (first_cut_at u after) _ h in
     absurd (cc (none, some))
 read-kept rules tick out.Unset before after all h = refl
 read-kept rules tick (out.Stored at place) before after all h = refl
@@ -176,9 +169,9 @@ row-kept rules r Cuts before after all h is = absurd (cc)
 pub reads-kept : {n : ℕ} (rules : Rules) (rows after : List (Row n)) → All Uncut rows → All Uncut after → each_row (is_in_time rules) rows after ≡ true → Each IsKept rows
 reads-kept rules [] after uncut all h = tt
 reads-kept rules (r ∷ before) after uncut all h = (
-  row-kept rules r r.asks before after all (first_of_both (asks_in_time rules r r.asks before after) _ (first_of_both (is_in_time rules before r after) _ h)),
+  row-kept rules r r.asks before after all (and_first (asks_in_time rules r r.asks before after) _ (and_first (is_in_time rules before r after) _ h)),
   reads-kept rules before (r ∷ after) (All-tail Uncut r before uncut) (All-cons Uncut r after (All-head Uncut r before uncut) all)
-      (second_of_both (is_in_time rules before r after) _ h),
+      (and_second (is_in_time rules before r after) _ h),
 )
 
 module _ {n : ℕ} (bank_of line_in : ℕ → ℕ) (bank : ℕ) where

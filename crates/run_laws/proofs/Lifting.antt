@@ -1,22 +1,15 @@
 -- What each row of each bank's table is, over the rows before it, the row of the module is over the rows of its bank.
 use Rattle.std.proofs.Common.{◌≡◌, ℕ, ◌<◌, ◌&&◌, Bool, true, false, List, [], ◌∷◌, ◌++◌, map, refl, sym, ap, ◌∙◌, subst, cond, eq-eqb, append_assoc}
+use Rattle.masked_bytes.proofs.Truth.{and_first, and_second}
 use Rattle.std.specs.Prelude.{All}
 use Rattle.std.proofs.lemmas.List.Elements.{All-nil, All-cons, All-head, All-tail}
-use Rattle.row_laws.specs.declared.Asks.{Asks}
-use Rattle.row_laws.specs.declared.Asks.TheVariants.{Reads, Writes, Cuts}
-use Rattle.row_laws.specs.declared.Row.{Row}
-use Rattle.row_laws.specs.Rows.{RowTest, each_row}
-use Rattle.row_laws.specs.Table.{is_of, of_bank}
+use Rattle.row_rules.specs.declared.Asks.{Asks}
+use Rattle.row_rules.specs.declared.Asks.TheVariants.{Reads, Writes, Cuts}
+use Rattle.row_rules.specs.declared.Row.{Row}
+use Rattle.row_rules.specs.Rows.{RowTest, each_row}
+use Rattle.row_rules.specs.Table.{is_of, of_bank}
 use Rattle.module_laws.specs.Asking.{asks_in, row_in, bank_table}
 use Rattle.module_laws.specs.Serves.{IsOfLines}
-
-first_of_both : (a b : Bool) → (a && b) ≡ true → a ≡ true
-first_of_both true b h = refl
-first_of_both false b h = h
-
-second_of_both : (a b : Bool) → (a && b) ≡ true → b ≡ true
-second_of_both true b h = h
-second_of_both false b h = absurd (cc)
 
 module _ {n : ℕ} where
   -- each of these rows, the newest first, is this over the rows before it
@@ -29,7 +22,7 @@ module _ {n : ℕ} where
       → (rows after : List (Row n)) → each_row test rows after ≡ true → Each P rows
   each-passes P test f [] after h = tt
   each-passes P test f (r ∷ before) after h =
-      (f before r after (first_of_both _ _ h), each-passes P test f before (r ∷ after) (second_of_both (test before r after) _ h))
+      (f before r after (and_first _ _ h), each-passes P test f before (r ∷ after) (and_second (test before r after) _ h))
 
   pub each-all : (P : List (Row n) → Row n → Type 0) (Q : Row n → Type 0) → ((before : List (Row n)) (r : Row n) → P before r → Q r)
       → (rows : List (Row n)) → Each P rows → All Q rows

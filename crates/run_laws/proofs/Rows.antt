@@ -1,5 +1,6 @@
 -- What a right run says of each row.
 use Rattle.std.proofs.Common.{◌≡◌, ℕ, ◌+◌, ◌*◌, ◌<◌, ◌≤◌, ◌&&◌, ◌||◌, Bool, true, false, List, [], ◌∷◌, ◌++◌, map, length, Some, refl, ap, ◌∙◌, subst, arith}
+use Rattle.masked_bytes.proofs.Truth.{and_second}
 use Rattle.std.specs.Prelude.{All, nat_lt}
 use Rattle.std.specs.Option.{ForSome}
 use Rattle.std.proofs.lemmas.Bool.{lt-ltb}
@@ -8,13 +9,13 @@ use Rattle.pcm_cells.specs.Device.{ArrayState}
 use Rattle.result_rows.specs.declared.Op.TheVariants as op
 use Rattle.result_summary.specs.Shortfall.{is_short, any_short}
 use Rattle.result_rows.specs.Outcomes.{op_of, place_of}
-use Rattle.row_laws.specs.declared.Asks.{Asks}
-use Rattle.row_laws.specs.declared.Asks.TheVariants.{Reads, Writes, Cuts}
-use Rattle.row_laws.specs.declared.Row.{Row}
-use Rattle.row_laws.specs.Answers.{accepts, is_queued, is_lost}
-use Rattle.row_laws.specs.Rows.{line_of, is_cut}
-use Rattle.row_laws.specs.Queueing.{pending, has_room, is_queue_fair}
-use Rattle.row_laws.specs.Serving.{is_served, owed}
+use Rattle.row_rules.specs.declared.Asks.{Asks}
+use Rattle.row_rules.specs.declared.Asks.TheVariants.{Reads, Writes, Cuts}
+use Rattle.row_rules.specs.declared.Row.{Row}
+use Rattle.row_rules.specs.Answers.{accepts, is_queued, is_lost}
+use Rattle.row_rules.specs.Rows.{line_of, is_cut}
+use Rattle.row_rules.specs.Queueing.{pending, has_room, is_queue_fair}
+use Rattle.row_rules.specs.Serving.{is_served, owed}
 use Rattle.bank_laws.specs.Laws.{is_worn_at}
 use Rattle.bank_laws.specs.Places.{is_placed, is_taken, may_leave}
 use Rattle.bank_shape.specs.declared.Home.{Home}
@@ -35,10 +36,6 @@ use Rattle.run_laws.proofs.Facts.{IsOfBank, own_outcome, placed-of_bank, cut-now
 -- a row has an outcome of its own operation
 abbrev IsOwn : {n : ℕ} → Row n → Type 0
 IsOwn r = op_of r.outcome ≡ Some (op_asked r.asks)
-
-second_of_both : (a b : Bool) → (a && b) ≡ true → b ≡ true
-second_of_both true b h = h
-second_of_both false b h = absurd (cc)
 
 pub own_outcomes_law : OwnOutcomesLaw
 own_outcomes_law n m e raw seed rows array ends right =
@@ -158,7 +155,7 @@ module _ {n m : ℕ} (e : ℕ) (raw : RawShape) (seed : ℕ) (rows : List (Row n
   busy_in : (bank : ℕ) → bank < raw.banks → Each (IsBusyFair raw.reads) (table_in raw seed bank rows)
   busy_in bank few =
       each-passes (IsBusyFair raw.reads) (is_queue_fair (rules_in e raw bank))
-      (λ before r after h. busy-fair (rules_in e raw bank) r r.asks (pending r.tick [] before) before after (second_of_both (has_room (rules_in e raw bank) r.tick before) _ h))
+      (λ before r after h. busy-fair (rules_in e raw bank) r r.asks (pending r.tick [] before) before after (and_second (has_room (rules_in e raw bank) r.tick before) _ h))
       (table_in raw seed bank rows) [] (right.serves.banks bank few).queue
 
   abbrev NotShort : Row n → Type 0

@@ -1,5 +1,6 @@
 -- The worked run is right, and altered ones are not.
 use Rattle.std.proofs.Common.{◌≡◌, ℕ, zero, suc, ◌+◌, ◌*◌, ◌/◌, ◌%◌, ◌<◌, ◌≤◌, ◌==◌, ◌&&◌, if◌then◌else◌, Bool, true, false, List, [], ◌∷◌, ◌++◌, inl, inr, lit<, lit≤, refl, sym, ap, ◌∙◌, subst, arith, cond}
+use Rattle.masked_bytes.proofs.Truth.{and_first, and_second}
 use Rattle.std.specs.Prelude.{nat_lt, nat_eq, slice_index}
 use Rattle.std.specs.Int.{bit_at}
 use Rattle.std.proofs.lemmas.Nat.Bits.{bit_at-zero}
@@ -11,11 +12,11 @@ use Rattle.ecp_line.specs.Reading.{decode}
 use Rattle.ecp_line.specs.Layout as layout
 use Rattle.pcm_cells.specs.Rows as cells
 use Rattle.line_writer.specs.Untouched.{HasUntouched}
-use Rattle.row_laws.specs.declared.Row.{Row}
-use Rattle.row_laws.specs.Worked.{whole}
-use Rattle.row_laws.specs.Rows.{each_row}
-use Rattle.row_laws.specs.Serving.{is_served}
-use Rattle.row_laws.specs.Table.{KeepsRows}
+use Rattle.row_rules.specs.declared.Row.{Row}
+use Rattle.row_rules.specs.Worked.{whole}
+use Rattle.row_rules.specs.Rows.{each_row}
+use Rattle.row_rules.specs.Serving.{is_served}
+use Rattle.row_rules.specs.Table.{KeepsRows}
 use Rattle.module_shape.specs.Addresses.{module_of, bank_shape}
 use Rattle.module_laws.specs.Serves.{finds_room_in}
 use Rattle.bank_laws.specs.Laws.{KeepsPlaces, KeepsLog, is_worn_at}
@@ -39,14 +40,6 @@ pub second_table : (written other : ℕ) → table_in small 0 1 (reading written
 unfolding next_u64 stream_of
 second_table written other = refl
 
-first_of_both : (a b : Bool) → (a && b) ≡ true → a ≡ true
-first_of_both true b h = refl
-first_of_both false b h = h
-
-second_of_both : (a b : Bool) → (a && b) ≡ true → b ≡ true
-second_of_both true b h = h
-second_of_both false b h = absurd (cc)
-
 -- each of so many numbers from one on passes a test
 abbrev each_from : (ℕ → Bool) → ℕ → ℕ → Bool
 each_from test from zero = true
@@ -56,8 +49,8 @@ each-from : (test : ℕ → Bool) (n from at : ℕ) → each_from test from n �
 each-from test zero from at all low high = absurd (omega (arith, low, high))
 each-from test (suc n) from at all low high =
     elim (cases_eq at from) [
-      | inl is ↦ ap test is ∙ first_of_both (test from) _ all
-      | inr other ↦ each-from test n (from + 1) at (second_of_both (test from) _ all) (omega (arith, low, other)) (omega (arith, high))
+      | inl is ↦ ap test is ∙ and_first (test from) _ all
+      | inr other ↦ each-from test n (from + 1) at (and_second (test from) _ all) (omega (arith, low, other)) (omega (arith, high))
     ]
 
 -- the worked rows

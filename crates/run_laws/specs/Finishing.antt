@@ -4,7 +4,7 @@ use Rattle.pcm_cells.specs.Device.{ArrayState}
 use Rattle.pcm_cells.specs.declared.array.Sense.{Sense}
 use Rattle.result_rows.specs.declared.Outcome.{Outcome}
 use Rattle.bank_model.specs.Adding.{senses_of}
-use Rattle.bank_model.specs.Timing.{Timed}
+use Rattle.bank_model.specs.Timing.{TimedEvent}
 use Rattle.bank_model.specs.Lawful.{IsIdle}
 use Rattle.module_shape.specs.declared.raw.RawShape.{RawShape}
 use Rattle.module_shape.specs.Limits.{total_of}
@@ -18,7 +18,7 @@ use Rattle.run_laws.specs.Runs.{bank_of_line, line_in_bank, pacing_in}
 
 module _ {n m e : ℕ} (raw : RawShape) (seed : ℕ) where
   -- each bank's history, which asked for the bank's rows, leads to what it is now, and nothing is left to do
-  pub record IsFinished (h : ℕ → List (Timed n m)) (trace : List (Asked n)) (banks : ℕ → ClockState n m e) (array : ArrayState n m) (outcome : ℕ → Outcome n) : Type 0 where
+  pub record IsFinished (h : ℕ → List (TimedEvent n m)) (trace : List (Asked n)) (banks : ℕ → ClockState n m e) (array : ArrayState n m) (outcome : ℕ → Outcome n) : Type 0 where
     pub size : array.lines ≡ raw.banks * array_lines_of (module_of raw)
     pub shapes : (bank : ℕ) → bank < raw.banks → (banks bank).bank.kept.shape ≡ bank_shape (module_of raw) bank
     pub paces : (bank : ℕ) → bank < raw.banks → (banks bank).pace ≡ pacing_in raw

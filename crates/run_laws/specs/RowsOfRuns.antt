@@ -6,12 +6,12 @@ use Rattle.result_rows.specs.declared.Op.{Op}
 use Rattle.result_rows.specs.declared.Op.TheVariants as op
 use Rattle.result_rows.specs.Outcomes.{op_of, place_of}
 use Rattle.result_summary.specs.Shortfall.{any_short}
-use Rattle.row_laws.specs.declared.Asks.{Asks}
-use Rattle.row_laws.specs.declared.Asks.TheVariants.{Reads, Writes, Cuts}
-use Rattle.row_laws.specs.declared.Row.{Row}
-use Rattle.row_laws.specs.Answers.{accepts, is_queued, is_lost}
-use Rattle.row_laws.specs.Rows.{is_cut}
-use Rattle.row_laws.specs.Queueing.{pending, waiting}
+use Rattle.row_rules.specs.declared.Asks.{Asks}
+use Rattle.row_rules.specs.declared.Asks.TheVariants.{Reads, Writes, Cuts}
+use Rattle.row_rules.specs.declared.Row.{Row}
+use Rattle.row_rules.specs.Answers.{accepts, is_queued, is_lost}
+use Rattle.row_rules.specs.Rows.{is_cut}
+use Rattle.row_rules.specs.Queueing.{pending, waiting}
 use Rattle.bank_laws.specs.Laws.{is_worn_at}
 use Rattle.bank_laws.specs.Places.{may_leave}
 use Rattle.module_shape.specs.declared.raw.RawShape.{RawShape}

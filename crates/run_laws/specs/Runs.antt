@@ -6,13 +6,12 @@ use Rattle.feistel_map.specs.Network.{network_of, feistel, unfeistel}
 use Rattle.pcm_cells.specs.Device.{ArrayState}
 use Rattle.pcm_cells.specs.declared.array.Sense.{Sense}
 use Rattle.line_writer.specs.Untouched.{HasUntouched}
-use Rattle.row_laws.specs.declared.Row.{Row}
-use Rattle.row_laws.specs.Rows.{each_row}
-use Rattle.row_laws.specs.Rules.{Rules}
-use Rattle.row_laws.specs.Serving.{is_served}
-use Rattle.row_laws.specs.Table.{KeepsRows}
-use Rattle.bank_model.specs.Timing.{Pacing}
-use Rattle.pace.specs.Policies.{pacing_of}
+use Rattle.row_rules.specs.declared.Row.{Row}
+use Rattle.row_rules.specs.Rows.{each_row}
+use Rattle.row_rules.specs.declared.Rules.{Rules}
+use Rattle.row_rules.specs.Serving.{is_served}
+use Rattle.row_rules.specs.Table.{KeepsRows}
+use Rattle.bank_shape.specs.declared.pace.Pace.{Pace}
 use Rattle.module_shape.specs.declared.raw.RawShape.{RawShape}
 use Rattle.module_shape.specs.Limits.{total_of}
 use Rattle.module_shape.specs.Addresses.{module_of, pace_of, lines_of, array_lines_of, bank_shape, bank_of, bank_line_of}
@@ -40,8 +39,8 @@ module _ (raw : RawShape) (seed : ℕ) where
   line_named bank own = unfeistel (network_of (log2 (total_of raw)) seed) (bank * lines_of (module_of raw) + own)
 
 -- the pacing of its banks
-abbrev pub pacing_in : RawShape → Pacing
-pacing_in raw = pacing_of (pace_of raw)
+abbrev pub pacing_in : RawShape → Pace
+pacing_in raw = pace_of raw
 
 -- the rules of a bank
 abbrev pub rules_in : ℕ → RawShape → ℕ → Rules

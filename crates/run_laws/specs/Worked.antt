@@ -4,10 +4,10 @@ use Rattle.std.specs.Prelude.{ℕ, ◌+◌, ◌*◌, ◌==◌, false, if◌then�
 use Rattle.pcm_cells.specs.declared.array.Sense.{Sense}
 use Rattle.pcm_cells.specs.Device.{ArrayState, LineState}
 use Rattle.result_rows.specs.declared.Outcome.TheVariants as out
-use Rattle.row_laws.specs.declared.Row.{Row}
-use Rattle.row_laws.specs.Worked.{W, R, whole}
+use Rattle.row_rules.specs.declared.Row.{Row}
+use Rattle.row_rules.specs.Worked.{W, R, whole}
 use Rattle.bank_model.specs.Worked.{holds}
-use Rattle.pace.specs.declared.Policy.TheVariants.{Pause}
+use Rattle.bank_shape.specs.declared.pace.Policy.TheVariants.{Pause}
 use Rattle.bank_shape.specs.declared.Home.TheVariants.{Guarded}
 use Rattle.module_shape.specs.declared.raw.RawShape.{RawShape}
 use Rattle.end_laws.specs.Ends.{BankEnd}

@@ -1,7 +1,7 @@
 //! What worked tables show of the laws. Each clause is computed from the definitions; there is nothing to run.
 ghost use Rattle.std.specs.Prelude.{◌≡◌, [], true, false};
-ghost use Rattle.bank_shape.specs.Pausing.{Pause};
-ghost use Rattle.row_laws.specs.Rows.{each_row};
+ghost use Rattle.bank_shape.specs.declared.pace.Policy.TheVariants.{Pause};
+ghost use Rattle.row_rules.specs.Rows.{each_row};
 ghost use Rattle.bank_model.specs.Worked.{pace};
 ghost use Rattle.bank_laws.specs.Laws.{rules_of};
 ghost use Rattle.bank_laws.specs.Places.{is_wear_true, is_taken, most_pulses, worn_among};

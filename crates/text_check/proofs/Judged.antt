@@ -13,7 +13,7 @@ use Rattle.result_reader.specs.ResultRows.{MayStand, EachMayStand}
 use Rattle.module_shape.specs.declared.raw.RawShape.{RawShape}
 use Rattle.module_shape.specs.Limits.{total_of}
 use Rattle.run_laws.specs.Runs.{bank_of_line}
-use Rattle.row_verdict.specs.declared.Rules.{Rules}
+use Rattle.row_rules.specs.declared.Rules.{Rules}
 use Rattle.row_verdict.specs.Within.{AreWithin}
 use Rattle.result_check.specs.Checkable.{IsCheckable, IsTimed}
 use Rattle.text_check.specs.Checked.{asks_in, banks_of}

@@ -1,8 +1,6 @@
 //! The rules that a module's rows keep.
 ghost use Rattle.std.specs.Prelude.{◌≡◌, ◌≤◌};
-ghost use Rattle.row_verdict.specs.Verdicts.{rules_by, pausing_by};
 ghost use Rattle.row_verdict.specs.Within.{AreWithin};
-ghost use Rattle.pace.specs.Policies.{pausing_of};
 ghost use Rattle.run_laws.specs.Runs.{rules_in};
 
 use module_shape::{Home, Policy, Shape};
@@ -22,7 +20,7 @@ fn policy_of(policy: Policy) -> RulePolicy
 /// The rules of the banks of a module of this shape, whose lines have E error-correcting pointers.
 pub fn rules<const E: usize>(shape: &Shape) -> Rules
     requires few { E ≤ 8 }
-    ensures exact { rules_by result ≡ rules_in E shape.now 0 }
+    ensures exact { result ≡ rules_in E shape.now 0 }
     ensures within { AreWithin result }
 {
     let raw = shape.raw();

@@ -4,18 +4,22 @@ use Rattle.std.specs.Prelude.{IfSome, nat_lt, is_some}
 use Rattle.std.proofs.lemmas.Bool.{ltb-false}
 use Rattle.bank_shape.specs.Pausing.{is_cancelling}
 use Rattle.bank_shape.specs.declared.BankShape.{BankShape}
-use Rattle.bank_model.specs.declared.answer.ReadAnswer.TheVariants as came
-use Rattle.bank_model.specs.declared.answer.Step.TheVariants as did
-use Rattle.bank_model.specs.declared.clock.Doing.{Doing}
-use Rattle.bank_model.specs.declared.clock.Doing.TheVariants.{Serving, Beginning, Iterating}
-use Rattle.bank_model.specs.declared.clock.Action.{Action}
+use Rattle.bank_shape.specs.declared.answer.ReadAnswer.TheVariants as came
+use Rattle.bank_shape.specs.declared.answer.Step.TheVariants as did
+use Rattle.bank_shape.specs.declared.clock.Doing.{Doing}
+use Rattle.bank_shape.specs.declared.clock.Doing.TheVariants.{Serving, Beginning, Iterating}
+use Rattle.bank_shape.specs.declared.clock.Action.{Action}
 use Rattle.bank_model.specs.Events.{Write, Read, Serve, Begin, Iterate, Cut}
 use Rattle.bank_model.specs.History.{Awaited, waits, in_progress, iterated}
 use Rattle.bank_model.specs.Sensing.{most_steps}
-use Rattle.bank_model.specs.Timing.{Pacing, Happens, Core, Regs, KeepBegin, KeepIterate, KeepCut, Timed, lasts, is_empty, core, core_of, last_tick}
-use Rattle.bank_model.specs.Running.{busy_by, made_by, busy_after, made_after, ready_after, drops_begin, gives_way, choice, chosen_by, started, left_by, running, running_at, chosen_after, cancels_after}
+use Rattle.bank_shape.specs.declared.pace.Pace.{Pace}
+use Rattle.bank_shape.specs.Acting.{lasts}
+use Rattle.bank_model.specs.Timing.{Happens, Core, Regs, KeepBegin, KeepIterate, KeepCut, TimedEvent, is_empty, core, core_of, last_tick}
+use Rattle.bank_shape.specs.Pausing.{gives_way}
+use Rattle.bank_shape.specs.Acting.{choice, chosen_by}
+use Rattle.bank_model.specs.Running.{busy_by, made_by, busy_after, made_after, ready_after, drops_begin, started, left_by, running, running_at, chosen_after, cancels_after}
 use Rattle.bank_model.specs.Changes.{change_after, change_by, keeping_after, keeping_by, rounds_after, rounds_by}
-use Rattle.bank_model.specs.declared.answer.Keep.TheVariants as keep
+use Rattle.bank_shape.specs.declared.answer.Keep.TheVariants as keep
 use Rattle.bank_laws.proofs.Changing.{changed-idle}
 use Rattle.bank_model.specs.Lawful.{Lawful, MayCome, IsEnd, would_cancel}
 use Rattle.bank_laws.proofs.Ticks.{last_tick-rises}
@@ -103,20 +107,20 @@ cancels_not : (a b : Bool) → a ≡ false → (a && b) ≡ true → ⊥
 cancels_not true b h k = absurd (cc)
 cancels_not false b h k = absurd (cc)
 
-module _ {n m : ℕ} (shape : BankShape) (pace : Pacing) where
-  abbrev pub since_of : List (Timed n m) → ℕ
+module _ {n m : ℕ} (shape : BankShape) (pace : Pace) where
+  abbrev pub since_of : List (TimedEvent n m) → ℕ
   since_of xs = since (running shape pace xs) (last_tick xs)
 
   -- whether reads wait
-  abbrev pub reads_of : List (Timed n m) → Bool
+  abbrev pub reads_of : List (TimedEvent n m) → Bool
   reads_of xs = not (is_empty (waits shape (core xs)))
 
   -- the action that runs at a later tick fits what the list leaves
-  abbrev pub FitsAll : List (Timed n m) → Option Action → Type 0
+  abbrev pub FitsAll : List (TimedEvent n m) → Option Action → Type 0
   FitsAll xs r = IfSome r (λ a. Fits (gives_way pace.policy) (busy_after shape xs) (reads_of xs) a.doing)
 
-module _ {n m : ℕ} (shape : BankShape) (pace : Pacing) (e : ℕ) where
-  pub since-up : (xs : List (Timed n m)) → 1 ≤ pace.read → 1 ≤ pace.iter → Lawful shape pace e xs → since_of shape pace xs ≤ last_tick xs
+module _ {n m : ℕ} (shape : BankShape) (pace : Pace) (e : ℕ) where
+  pub since-up : (xs : List (TimedEvent n m)) → 1 ≤ pace.read → 1 ≤ pace.iter → Lawful shape pace e xs → since_of shape pace xs ≤ last_tick xs
   since-up [] r i l = omega arith
   since-up (x ∷ xs) r i l =
       by x.happens (started-up (running shape pace xs) (chosen_after shape pace xs) (last_tick xs) x.tick (last_tick-rises shape pace e xs x r i l) (since-up xs r i l.1))
@@ -137,7 +141,7 @@ module _ {n m : ℕ} (shape : BankShape) (pace : Pacing) (e : ℕ) where
       by (Core (Cut tearing)) up = omega arith
 
   -- what runs never starts earlier than before
-  pub since-rises : (xs : List (Timed n m)) (x : Timed n m) → 1 ≤ pace.read → 1 ≤ pace.iter → Lawful shape pace e (x ∷ xs) → since_of shape pace xs ≤ since_of shape pace (x ∷ xs)
+  pub since-rises : (xs : List (TimedEvent n m)) (x : TimedEvent n m) → 1 ≤ pace.read → 1 ≤ pace.iter → Lawful shape pace e (x ∷ xs) → since_of shape pace xs ≤ since_of shape pace (x ∷ xs)
   since-rises xs x r i l =
       by x.happens (started-more (running shape pace xs) (chosen_after shape pace xs) (last_tick xs) x.tick (last_tick-rises shape pace e xs x r i l))
     where
@@ -163,13 +167,13 @@ module _ {n m : ℕ} (shape : BankShape) (pace : Pacing) (e : ℕ) where
       by (Core (Cut tearing)) up = top
 
   -- an action that ends lasted from there
-  pub end-since : (xs : List (Timed n m)) (x : Timed n m) (doing : Doing) → IsEnd pace doing (running_at shape pace xs x.tick) x
+  pub end-since : (xs : List (TimedEvent n m)) (x : TimedEvent n m) (doing : Doing) → IsEnd pace doing (running_at shape pace xs x.tick) x
       → (x.first ≡ since_of shape pace xs) × (x.tick ≡ since_of shape pace xs + lasts pace.read pace.iter doing)
   end-since xs x doing is =
       let first : x.first ≡ since_of shape pace xs = since-first (running shape pace xs) (chosen_after shape pace xs) (last_tick xs) x.tick (record { doing = doing; first = x.first }) is.0 in
       (first, is.1 ∙ ap (λ k. k + lasts pace.read pace.iter doing) first)
 
-  pub running-fits : (xs : List (Timed n m)) → FitsAll shape pace xs (running shape pace xs)
+  pub running-fits : (xs : List (TimedEvent n m)) → FitsAll shape pace xs (running shape pace xs)
   running-fits [] = tt
   running-fits (x ∷ xs) =
       by x.happens
@@ -202,13 +206,13 @@ module _ {n m : ℕ} (shape : BankShape) (pace : Pacing) (e : ℕ) where
       by (Core (Iterate answer)) f = tt
       by (Core (Cut tearing)) f = tt
 
-  pub running_at-fits : (xs : List (Timed n m)) (tick : ℕ) → FitsAll shape pace xs (running_at shape pace xs tick)
+  pub running_at-fits : (xs : List (TimedEvent n m)) (tick : ℕ) → FitsAll shape pace xs (running_at shape pace xs tick)
   running_at-fits xs tick =
       started-fits (gives_way pace.policy) (busy_after shape xs) (reads_of shape pace xs) (running shape pace xs) (chosen_after shape pace xs) (last_tick xs) tick (running-fits xs)
       (chosen-fits (gives_way pace.policy) (busy_after shape xs) (reads_of shape pace xs) (ready_after shape xs))
 
   -- a line write in progress was iterated less often than it may be
-  pub iterated-few : (xs : List (Timed n m)) → Lawful shape pace e xs → busy_after shape xs ≡ true → made_after shape xs < most_steps e
+  pub iterated-few : (xs : List (TimedEvent n m)) → Lawful shape pace e xs → busy_after shape xs ≡ true → made_after shape xs < most_steps e
   iterated-few [] l busy = absurd (cc)
   iterated-few (x ∷ xs) l busy = by x.happens l.0 (iterated-few xs l.1) busy
     where
@@ -262,7 +266,7 @@ module _ {n m : ℕ} (shape : BankShape) (pace : Pacing) (e : ℕ) where
           ended (Some item) some busy = absurd (cc)
 
   -- where reads cancel nothing, no cut is a cancel
-  pub not-cancelled : (xs : List (Timed n m)) (x : Timed n m) (h : Happens n) → is_cancelling pace.policy ≡ false → MayCome shape pace e xs x h → x.cancels ≡ false
+  pub not-cancelled : (xs : List (TimedEvent n m)) (x : TimedEvent n m) (h : Happens n) → is_cancelling pace.policy ≡ false → MayCome shape pace e xs x h → x.cancels ≡ false
   not-cancelled xs x (Core (Write row line bytes given answer)) none may = may.on_time.1
   not-cancelled xs x (Core (Read row line answer)) none may = may.on_time.1
   not-cancelled xs x (Core (Serve answer)) none may = may.on_time.1

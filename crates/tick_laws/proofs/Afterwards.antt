@@ -2,19 +2,20 @@
 use Rattle.std.proofs.Common.{◌≡◌, ℕ, ◌≤◌, ◌==◌, ◌&&◌, ◌||◌, not, Bool, true, false, List, [], ◌∷◌, ◌++◌, refl, sym, ap, ◌∙◌, arith, cond, append_assoc}
 use Rattle.std.specs.Prelude.{nat_le}
 use Rattle.std.specs.List.{list_any}
-use Rattle.std.proofs.lemmas.Bool.{le-leb}
+use Rattle.std.proofs.lemmas.Bool.{le-leb, and_from}
 use Rattle.std.proofs.lemmas.List.{append-nil}
 use Rattle.std.proofs.lemmas.List.Folds.{list_all-append}
-use Rattle.row_laws.specs.declared.Row.{Row}
-use Rattle.row_laws.specs.Rows.{is_cut}
-use Rattle.row_laws.specs.Ticking.{no_cut_below, first_cut_at}
+use Rattle.row_rules.specs.declared.Row.{Row}
+use Rattle.row_rules.specs.Rows.{is_cut}
+use Rattle.row_rules.specs.Ticking.{no_cut_below, first_cut_at}
 use Rattle.bank_shape.specs.declared.BankShape.{BankShape}
 use Rattle.bank_model.specs.Events.{Write, Read, Serve, Begin, Iterate, Cut}
-use Rattle.bank_model.specs.Timing.{Pacing, Happens, Core, Regs, Timed, last_tick}
+use Rattle.bank_shape.specs.declared.pace.Pace.{Pace}
+use Rattle.bank_model.specs.Timing.{Happens, Core, Regs, TimedEvent, last_tick}
 use Rattle.bank_model.specs.Lawful.{Lawful}
 use Rattle.bank_laws.specs.Outcomes.{row_with}
 use Rattle.bank_laws.proofs.Ticks.{last_tick-rises}
-use Rattle.bank_laws.proofs.Walking.{rows_after, and_both}
+use Rattle.bank_laws.proofs.Walking.{rows_after}
 use Rattle.bank_laws.proofs.Pending.{last-later}
 
 module _ {n : ℕ} where
@@ -36,19 +37,19 @@ module _ {n : ℕ} where
       by true none go = absurd (cc)
       by false none go = go none
 
-module _ {n m : ℕ} (shape : BankShape) (all : List (Timed n m)) where
-  pub rows_after-append : (xs ys : List (Timed n m)) → rows_after shape all (xs ++ ys) ≡ rows_after shape all ys ++ rows_after shape all xs
+module _ {n m : ℕ} (shape : BankShape) (all : List (TimedEvent n m)) where
+  pub rows_after-append : (xs ys : List (TimedEvent n m)) → rows_after shape all (xs ++ ys) ≡ rows_after shape all ys ++ rows_after shape all xs
   rows_after-append [] ys = sym (append-nil (rows_after shape all ys))
   rows_after-append (x ∷ xs) ys =
       ap (λ rows. rows ++ row_with shape all x.happens x.tick x.cancels) (rows_after-append xs ys)
       ∙ append_assoc (rows_after shape all ys) (rows_after shape all xs) (row_with shape all x.happens x.tick x.cancels)
 
   -- the cuts behind an event come no earlier
-  pub late-cuts : (pace : Pacing) (e u : ℕ) (late zs : List (Timed n m)) → 1 ≤ pace.read → 1 ≤ pace.iter → Lawful shape pace e (late ++ zs) → u ≤ last_tick zs → no_cut_below u (rows_after shape all late) ≡ true
+  pub late-cuts : (pace : Pace) (e u : ℕ) (late zs : List (TimedEvent n m)) → 1 ≤ pace.read → 1 ≤ pace.iter → Lawful shape pace e (late ++ zs) → u ≤ last_tick zs → no_cut_below u (rows_after shape all late) ≡ true
   late-cuts pace e u [] zs r i l le = refl
   late-cuts pace e u (y ∷ late) zs r i l le =
       list_all-append (λ (q : Row n). not (is_cut q) || nat_le u q.tick) (rows_after shape all late) _
-      ∙ and_both _ _ (late-cuts pace e u late zs r i l.1 le) (by y.happens y.cancels)
+      ∙ and_from _ _ (late-cuts pace e u late zs r i l.1 le) (by y.happens y.cancels)
     where
       up : u ≤ y.tick
       up =
@@ -64,4 +65,4 @@ module _ {n m : ℕ} (shape : BankShape) (all : List (Timed n m)) where
       by (Core (Begin answer)) cancels = refl
       by (Core (Iterate answer)) cancels = refl
       by (Core (Cut tearing)) true = refl
-      by (Core (Cut tearing)) false = and_both _ _ (le-leb u y.tick up) refl
+      by (Core (Cut tearing)) false = and_from _ _ (le-leb u y.tick up) refl

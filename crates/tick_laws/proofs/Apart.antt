@@ -2,20 +2,21 @@
 use Rattle.std.proofs.Common.{◌≡◌, ℕ, ◌+◌, ◌<◌, ◌≤◌, ◌⊎◌, inl, inr, Bool, true, false, List, [], ◌∷◌, ◌++◌, Some, None, drop, refl, sym, ◌∙◌, arith, cond, eqb, eqb-true}
 use Rattle.std.specs.Prelude.{unwrap_or}
 use Rattle.std.specs.List.{list_all}
-use Rattle.std.proofs.lemmas.Bool.{cases_lt}
+use Rattle.std.proofs.lemmas.Bool.{cases_lt, and_from}
 use Rattle.result_rows.specs.declared.Outcome.{Outcome}
 use Rattle.result_rows.specs.declared.Outcome.TheVariants as out
-use Rattle.row_laws.specs.declared.Row.{Row}
-use Rattle.row_laws.specs.Ticking.{apart}
+use Rattle.row_rules.specs.declared.Row.{Row}
+use Rattle.row_rules.specs.Ticking.{apart}
 use Rattle.bank_shape.specs.declared.BankShape.{BankShape}
-use Rattle.bank_model.specs.declared.answer.WriteAnswer.TheVariants as wrote
-use Rattle.bank_model.specs.declared.answer.ReadAnswer.TheVariants as came
-use Rattle.bank_model.specs.declared.answer.Step.TheVariants as did
-use Rattle.bank_model.specs.declared.answer.Served.{Served}
-use Rattle.bank_model.specs.declared.clock.Doing.TheVariants.{Serving, Beginning, Iterating}
+use Rattle.bank_shape.specs.declared.answer.WriteAnswer.TheVariants as wrote
+use Rattle.bank_shape.specs.declared.answer.ReadAnswer.TheVariants as came
+use Rattle.bank_shape.specs.declared.answer.Step.TheVariants as did
+use Rattle.bank_shape.specs.declared.answer.Served.{Served}
+use Rattle.bank_shape.specs.declared.clock.Doing.TheVariants.{Serving, Beginning, Iterating}
 use Rattle.bank_model.specs.Events.{Write, Read, Serve, Begin, Iterate, Cut, RowsBelow}
 use Rattle.bank_model.specs.History.{Awaited, waits, in_progress}
-use Rattle.bank_model.specs.Timing.{Pacing, Happens, Core, Regs, Timed, core, core_of}
+use Rattle.bank_shape.specs.declared.pace.Pace.{Pace}
+use Rattle.bank_model.specs.Timing.{Happens, Core, Regs, TimedEvent, core, core_of}
 use Rattle.bank_model.specs.Running.{left_by, running_at}
 use Rattle.bank_model.specs.Changes.{change_after}
 use Rattle.bank_model.specs.Lawful.{Lawful, MayCome}
@@ -24,7 +25,7 @@ use Rattle.bank_laws.specs.Standing.{has_wait}
 use Rattle.bank_laws.proofs.Entries.{either, no_wait-push}
 use Rattle.bank_laws.proofs.Answering.{IsFirst, served-first}
 use Rattle.bank_laws.proofs.Settling.{opens, above_all, rows_below-more}
-use Rattle.bank_laws.proofs.Walking.{Passes, walk, rows_after, and_both}
+use Rattle.bank_laws.proofs.Walking.{Passes, walk, rows_after}
 use Rattle.bank_laws.proofs.Serves.{may_at}
 use Rattle.tick_laws.specs.TickLaws.{is_apart, ApartLaw}
 use Rattle.tick_laws.proofs.Actions.{since, since_of, since-rises, end-since}
@@ -42,16 +43,16 @@ module _ {n : ℕ} where
   plain_lost o tick true = inr refl
   plain_lost o tick false = inl refl
 
-module _ {n m : ℕ} (shape : BankShape) (pace : Pacing) (e : ℕ) where
-  abbrev Spaced : List (Timed n m) → Type 0
+module _ {n m : ℕ} (shape : BankShape) (pace : Pace) (e : ℕ) where
+  abbrev Spaced : List (TimedEvent n m) → Type 0
   Spaced xs = AreSpaced pace.read (outcome_of shape xs) (since_of shape pace xs) (in_progress (core xs)) (waits shape (core xs))
 
-  abbrev SpacedBy : List (Timed n m) → Timed n m → Happens n → Type 0
+  abbrev SpacedBy : List (TimedEvent n m) → TimedEvent n m → Happens n → Type 0
   SpacedBy xs x h =
       AreSpaced pace.read (λ row. unwrap_or (outcome_with shape xs h x.tick row) (outcome_of shape xs row)) (since (left_by shape (core xs) (change_after shape xs) h (running_at shape pace xs x.tick)) x.tick)
       (in_progress (core_of h (core xs))) (waits shape (core_of h (core xs)))
 
-  module _ (xs : List (Timed n m)) (x : Timed n m) (some : 1 ≤ pace.read) (l : Lawful shape pace e xs) (s : Spaced xs) where
+  module _ (xs : List (TimedEvent n m)) (x : TimedEvent n m) (some : 1 ≤ pace.read) (l : Lawful shape pace e xs) (s : Spaced xs) where
     -- an event that ends nothing for a row, and leaves line write and reads as they were
     same : (h : Happens n) → since_of shape pace xs ≤ since (left_by shape (core xs) (change_after shape xs) h (running_at shape pace xs x.tick)) x.tick
         → Plain pace.read (outcome_of shape xs) (since_of shape pace xs) (in_progress (core xs)) (waits shape (core xs)) s (λ row. unwrap_or (outcome_with shape xs h x.tick row) (outcome_of shape xs row))
@@ -118,7 +119,7 @@ module _ {n m : ℕ} (shape : BankShape) (pace : Pacing) (e : ℕ) where
     step i (Core (Cut tearing)) rises may =
         same (Core (Cut tearing)) rises (λ at. plain_lost (outcome_of shape xs at) x.tick (has_wait (waits shape (core xs)) at)) (λ is. absurd (cc)) (λ other there. absurd (cc))
 
-  spaced : (xs : List (Timed n m)) → 1 ≤ pace.read → 1 ≤ pace.iter → Lawful shape pace e xs → Spaced xs
+  spaced : (xs : List (TimedEvent n m)) → 1 ≤ pace.read → 1 ≤ pace.iter → Lawful shape pace e xs → Spaced xs
   spaced [] r i l = record {
     stores = λ row u p is. absurd (cc);
     writing = λ is row u p k. absurd (cc);
@@ -131,7 +132,7 @@ module _ {n m : ℕ} (shape : BankShape) (pace : Pacing) (e : ℕ) where
       record { stores = s.stores; writing = s.writing; reads = s.reads; order = s.order; pairs = s.pairs }
 
   -- an outcome is apart from those of all rows before
-  apart_rows : (all zs : List (Timed n m)) (bound : ℕ) (o : Outcome n) → RowsBelow (core zs) bound → ((lower : ℕ) → lower < bound → apart pace.read o (outcome_of shape all lower) ≡ true)
+  apart_rows : (all zs : List (TimedEvent n m)) (bound : ℕ) (o : Outcome n) → RowsBelow (core zs) bound → ((lower : ℕ) → lower < bound → apart pace.read o (outcome_of shape all lower) ≡ true)
       → list_all (λ q. apart pace.read o q.outcome) (rows_from shape all zs) ≡ true
   apart_rows all [] bound o b far = refl
   apart_rows all (z ∷ zs) bound o b far = by z.happens z.cancels (λ bound b far. apart_rows all zs bound o b far) b
@@ -140,17 +141,17 @@ module _ {n m : ℕ} (shape : BankShape) (pace : Pacing) (e : ℕ) where
           → ((bound : ℕ) → RowsBelow (core zs) bound → ((lower : ℕ) → lower < bound → apart pace.read o (outcome_of shape all lower) ≡ true) → list_all (λ q. apart pace.read o q.outcome) (rows_from shape all zs) ≡ true)
           → RowsBelow (core_of h (core zs)) bound → list_all (λ q. apart pace.read o q.outcome) (row_with shape all h z.tick cancels ++ rows_from shape all zs) ≡ true
       by (Core (Write row line bytes given answer)) cancels go b =
-          and_both _ _ (ended-right pace.read z.tick o (outcome_of shape all row) (far row b.0)) (go row b.1 (λ lower lt. far lower (let up : row < bound = b.0 in omega (arith, lt, up))))
-      by (Core (Read row line answer)) cancels go b = and_both _ _ (far row b.0) (go row b.1 (λ lower lt. far lower (let up : row < bound = b.0 in omega (arith, lt, up))))
+          and_from _ _ (ended-right pace.read z.tick o (outcome_of shape all row) (far row b.0)) (go row b.1 (λ lower lt. far lower (let up : row < bound = b.0 in omega (arith, lt, up))))
+      by (Core (Read row line answer)) cancels go b = and_from _ _ (far row b.0) (go row b.1 (λ lower lt. far lower (let up : row < bound = b.0 in omega (arith, lt, up))))
       by (Core (Serve answer)) cancels go b = go bound b far
       by (Regs event) cancels go b = go bound b far
       by (Core (Begin answer)) cancels go b = go bound b far
       by (Core (Iterate answer)) cancels go b = go bound b far
       by (Core (Cut tearing)) true go b = go bound b far
-      by (Core (Cut tearing)) false go b = and_both _ _ (apart-right pace.read o (out.Cut z.tick) refl) (go bound b far)
+      by (Core (Cut tearing)) false go b = and_from _ _ (apart-right pace.read o (out.Cut z.tick) refl) (go bound b far)
 
   -- the row of each event stands apart
-  pub apart_at : (all later : List (Timed n m)) (x : Timed n m) (ys : List (Timed n m)) → 1 ≤ pace.read → 1 ≤ pace.iter → Lawful shape pace e all → all ≡ later ++ x ∷ ys
+  pub apart_at : (all later : List (TimedEvent n m)) (x : TimedEvent n m) (ys : List (TimedEvent n m)) → 1 ≤ pace.read → 1 ≤ pace.iter → Lawful shape pace e all → all ≡ later ++ x ∷ ys
       → Passes (is_apart pace.read) (rows_from shape all ys) (row_with shape all x.happens x.tick x.cancels) (rows_after shape all later)
   apart_at all later x ys r i l split = by x.happens x.cancels (may_at shape pace e all later x ys l split)
     where
@@ -169,7 +170,7 @@ module _ {n m : ℕ} (shape : BankShape) (pace : Pacing) (e : ℕ) where
       by (Core (Cut tearing)) true may = tt
       by (Core (Cut tearing)) false may = all_cut ys
         where
-          all_cut : (ys : List (Timed n m)) → list_all (λ q. apart pace.read (out.Cut x.tick) q.outcome) (rows_from shape all ys) ≡ true
+          all_cut : (ys : List (TimedEvent n m)) → list_all (λ q. apart pace.read (out.Cut x.tick) q.outcome) (rows_from shape all ys) ≡ true
           all_cut ys = each (rows_from shape all ys)
             where
               each : (rows : List (Row n)) → list_all (λ q. apart pace.read (out.Cut x.tick) q.outcome) rows ≡ true

@@ -4,24 +4,29 @@ use Rattle.std.specs.Prelude.{unwrap_or, nat_lt, nat_le, max, count_by, if◌the
 use Rattle.std.proofs.lemmas.Bool.{le-ltb, le-leb, leb-true, ltb-true, ltb-false, eq-eqb, cases_lt, and_from, false_from_ne_true}
 use Rattle.result_rows.specs.declared.Outcome.{Outcome}
 use Rattle.result_rows.specs.declared.Outcome.TheVariants as out
-use Rattle.row_laws.specs.declared.Asks.TheVariants.{Reads, Writes}
-use Rattle.row_laws.specs.declared.Row.{Row}
-use Rattle.row_laws.specs.Answers.{is_answered, is_lost}
-use Rattle.row_laws.specs.Rows.{asks_read, asks_write}
-use Rattle.row_laws.specs.Ticking.{store_up_to, last_store, came_since}
+use Rattle.row_rules.specs.declared.Asks.TheVariants.{Reads, Writes}
+use Rattle.row_rules.specs.declared.Row.{Row}
+use Rattle.row_rules.specs.Answers.{is_answered, is_lost}
+use Rattle.row_rules.specs.Rows.{asks_read, asks_write}
+use Rattle.row_rules.specs.Ticking.{store_up_to, last_store, came_since}
 use Rattle.masked_bytes.specs.Entries.{layer_of}
-use Rattle.bank_shape.specs.Pausing.{Pausing, Pause, Plain, Cancel, is_cancelling, most_cancels}
+use Rattle.bank_shape.specs.declared.pace.Policy.{Policy}
+use Rattle.bank_shape.specs.declared.pace.Policy.TheVariants.{Pause, Plain, Cancel}
+use Rattle.bank_shape.specs.Pausing.{is_cancelling, most_cancels}
 use Rattle.bank_shape.specs.declared.BankShape.{BankShape}
-use Rattle.bank_model.specs.declared.answer.ReadAnswer.TheVariants as came
-use Rattle.bank_model.specs.declared.answer.Keep.TheVariants as keep
-use Rattle.bank_model.specs.declared.answer.Step.TheVariants as did
-use Rattle.bank_model.specs.declared.clock.Doing.{Doing}
-use Rattle.bank_model.specs.declared.clock.Doing.TheVariants.{Serving}
-use Rattle.bank_model.specs.declared.clock.Action.{Action}
+use Rattle.bank_shape.specs.declared.answer.ReadAnswer.TheVariants as came
+use Rattle.bank_shape.specs.declared.answer.Keep.TheVariants as keep
+use Rattle.bank_shape.specs.declared.answer.Step.TheVariants as did
+use Rattle.bank_shape.specs.declared.clock.Doing.{Doing}
+use Rattle.bank_shape.specs.declared.clock.Doing.TheVariants.{Serving}
+use Rattle.bank_shape.specs.declared.clock.Action.{Action}
 use Rattle.bank_model.specs.Events.{Event, Write, Read, Serve, Begin, Iterate, Cut, newest}
 use Rattle.bank_model.specs.History.{Awaited, awaited, queue, waits}
-use Rattle.bank_model.specs.Timing.{Pacing, Happens, Core, Regs, KeepBegin, KeepIterate, KeepCut, Timed, is_writing, is_empty, core, core_of, last_tick}
-use Rattle.bank_model.specs.Running.{busy_after, ready_after, drops_begin, gives_way, choice, chosen_by, started, left_by, running, running_at, chosen_after, cancels_with, cancels_after}
+use Rattle.bank_shape.specs.declared.pace.Pace.{Pace}
+use Rattle.bank_model.specs.Timing.{Happens, Core, Regs, KeepBegin, KeepIterate, KeepCut, TimedEvent, is_writing, is_empty, core, core_of, last_tick}
+use Rattle.bank_shape.specs.Pausing.{gives_way}
+use Rattle.bank_shape.specs.Acting.{choice, chosen_by}
+use Rattle.bank_model.specs.Running.{busy_after, ready_after, drops_begin, started, left_by, running, running_at, chosen_after, cancels_with, cancels_after}
 use Rattle.bank_model.specs.Changes.{change_after}
 use Rattle.bank_model.specs.Lawful.{Lawful, MayCome, FollowsCancel, IsRead, IsUncancelled}
 use Rattle.bank_laws.specs.Outcomes.{outcome_with, outcome_of, ended, row_with, rows_from}
@@ -38,7 +43,7 @@ use Rattle.tick_laws.proofs.Counts.{count-cons}
 use Rattle.tick_laws.proofs.StoreTimes.{store_event}
 
 -- what gives way to reads lets none of its line writes start while they wait
-gives : (p : Pausing) → is_cancelling p ≡ true → gives_way p ≡ true
+gives : (p : Policy) → is_cancelling p ≡ true → gives_way p ≡ true
 gives Pause is = refl
 gives Plain is = absurd (cc)
 gives Cancel is = refl
@@ -64,9 +69,9 @@ started-now : (d : Option Doing) (last tick : ℕ) → tick ≡ last → started
 started-now None last tick is = refl
 started-now (Some doing) last tick is = ap (λ b. cond b (Some (record { doing = doing; first = last })) None) (le-ltb last tick (omega (arith, is)))
 
-module _ {n m : ℕ} (shape : BankShape) (pace : Pacing) (e : ℕ) where
+module _ {n m : ℕ} (shape : BankShape) (pace : Pace) (e : ℕ) where
   -- a line write runs on while reads wait only where it may be cancelled no more
-  full_count : (zs : List (Timed n m)) → is_cancelling pace.policy ≡ true → Lawful shape pace e zs → is_writing (running shape pace zs) ≡ true → reads_of shape pace zs ≡ true → 4 ≤ cancels_after zs
+  full_count : (zs : List (TimedEvent n m)) → is_cancelling pace.policy ≡ true → Lawful shape pace e zs → is_writing (running shape pace zs) ≡ true → reads_of shape pace zs ≡ true → 4 ≤ cancels_after zs
   full_count [] cancelling l writes waits_some = absurd (cc)
   full_count (z ∷ zs) cancelling l writes waits_some =
       by z.happens l.0
@@ -99,12 +104,12 @@ module _ {n m : ℕ} (shape : BankShape) (pace : Pacing) (e : ℕ) where
       by (Core (Cut tearing)) may go w some = absurd (cc)
 
 -- the tick of the last store, or 0
-abbrev pub stored_at : {n m : ℕ} → List (Timed n m) → ℕ
+abbrev pub stored_at : {n m : ℕ} → List (TimedEvent n m) → ℕ
 stored_at [] = 0
 stored_at (x ∷ xs) = if stores_by x.happens == 1 then x.tick else stored_at xs
 
 -- one where the last event is a cancel, whose read is still to come
-abbrev pub pending_cancel : {n m : ℕ} → List (Timed n m) → ℕ
+abbrev pub pending_cancel : {n m : ℕ} → List (TimedEvent n m) → ℕ
 pending_cancel [] = 0
 pending_cancel (x ∷ xs) = cond x.cancels 1 0
 
@@ -190,7 +195,7 @@ module _ {n : ℕ} where
   ended-was tick (out.Lost at) t p is = is
   ended-was tick (out.Cut at) t p is = is
 
-module _ {n m : ℕ} (shape : BankShape) (all : List (Timed n m)) (a most : ℕ) (f : (row t p : ℕ) → outcome_of shape all row ≡ out.Stored t p → t ≤ a → t ≤ most) where
+module _ {n m : ℕ} (shape : BankShape) (all : List (TimedEvent n m)) (a most : ℕ) (f : (row t p : ℕ) → outcome_of shape all row ≡ out.Stored t p → t ≤ a → t ≤ most) where
   own_stored : (h : Happens n) (tick : ℕ) (cancels : Bool) → StoredUpTo a most (row_with shape all h tick cancels)
   own_stored (Core (Write row line bytes given answer)) tick cancels = ((λ t p is. f row t p (ended-was tick (outcome_of shape all row) t p is)), tt)
   own_stored (Core (Read row line answer)) tick cancels = (f row, tt)
@@ -201,16 +206,16 @@ module _ {n m : ℕ} (shape : BankShape) (all : List (Timed n m)) (a most : ℕ)
   own_stored (Core (Cut tearing)) tick true = tt
   own_stored (Core (Cut tearing)) tick false = ((λ t p is. absurd (cc)), tt)
 
-  from_stored : (zs : List (Timed n m)) → StoredUpTo a most (rows_from shape all zs)
+  from_stored : (zs : List (TimedEvent n m)) → StoredUpTo a most (rows_from shape all zs)
   from_stored [] = tt
   from_stored (z ∷ zs) = stored-append a most (row_with shape all z.happens z.tick z.cancels) (rows_from shape all zs) (own_stored z.happens z.tick z.cancels) (from_stored zs)
 
-  after_stored : (later : List (Timed n m)) → StoredUpTo a most (rows_after shape all later)
+  after_stored : (later : List (TimedEvent n m)) → StoredUpTo a most (rows_after shape all later)
   after_stored [] = tt
   after_stored (z ∷ later) = stored-append a most (rows_after shape all later) (row_with shape all z.happens z.tick z.cancels) (after_stored later) (own_stored z.happens z.tick z.cancels)
 
 module _ {n m : ℕ} where
-  no_pending : (shape : BankShape) (pace : Pacing) (zs : List (Timed n m)) (at : ℕ) (event : Event n) → FollowsCancel shape pace zs at event → (IsRead (last_tick zs) at event → ⊥) → pending_cancel zs ≡ 0
+  no_pending : (shape : BankShape) (pace : Pace) (zs : List (TimedEvent n m)) (at : ℕ) (event : Event n) → FollowsCancel shape pace zs at event → (IsRead (last_tick zs) at event → ⊥) → pending_cancel zs ≡ 0
   no_pending shape pace [] at event f other = refl
   no_pending shape pace (y ∷ ys) at event f other = by y.cancels f
     where
@@ -218,7 +223,7 @@ module _ {n m : ℕ} where
       by true f = absurd (other (f refl))
       by false f = refl
 
-  few_pending : (zs : List (Timed n m)) → pending_cancel zs ≤ 1
+  few_pending : (zs : List (TimedEvent n m)) → pending_cancel zs ≤ 1
   few_pending [] = omega arith
   few_pending (y ∷ ys) = elim y.cancels as (λ b. cond b 1 0 ≤ 1) [ true ↦ omega arith | false ↦ omega arith ]
 
@@ -236,9 +241,9 @@ module _ {n : ℕ} where
   came-settled owed (out.Lost at) h = refl
   came-settled owed (out.Cut at) h = absurd h
 
-module _ {n m : ℕ} (shape : BankShape) (pace : Pacing) (e : ℕ) where
+module _ {n m : ℕ} (shape : BankShape) (pace : Pace) (e : ℕ) where
   -- a cancel leaves nothing running
-  cancel-drops : (zs : List (Timed n m)) (z : Timed n m) (h : Happens n) → MayCome shape pace e zs z h → z.cancels ≡ true → left_by shape (core zs) (change_after shape zs) h (running_at shape pace zs z.tick) ≡ None
+  cancel-drops : (zs : List (TimedEvent n m)) (z : TimedEvent n m) (h : Happens n) → MayCome shape pace e zs z h → z.cancels ≡ true → left_by shape (core zs) (change_after shape zs) h (running_at shape pace zs z.tick) ≡ None
   cancel-drops zs z (Core (Write row line bytes given answer)) may is = absurd (cc (may.on_time.1))
   cancel-drops zs z (Core (Read row line answer)) may is = absurd (cc (may.on_time.1))
   cancel-drops zs z (Core (Serve answer)) may is = refl
@@ -248,7 +253,7 @@ module _ {n m : ℕ} (shape : BankShape) (pace : Pacing) (e : ℕ) where
   cancel-drops zs z (Core (Cut tearing)) may is = refl
 
   -- a read that waits comes behind no cancel, or finds nothing running behind its own
-  cancelled_or : (ys : List (Timed n m)) (tick row line : ℕ) → Lawful shape pace e ys → FollowsCancel shape pace ys tick (Read row line came.Waiting)
+  cancelled_or : (ys : List (TimedEvent n m)) (tick row line : ℕ) → Lawful shape pace e ys → FollowsCancel shape pace ys tick (Read row line came.Waiting)
       → (pending_cancel ys ≡ 0) ⊎ (running_at shape pace ys tick ≡ None)
   cancelled_or [] tick row line l f = inl refl
   cancelled_or (y ∷ ys) tick row line l f = by y.cancels refl
@@ -259,7 +264,7 @@ module _ {n m : ℕ} (shape : BankShape) (pace : Pacing) (e : ℕ) where
           ∙ started-now (chosen_after shape pace (y ∷ ys)) y.tick tick (f is))
       by false is = inl (ap (λ b. cond b 1 0) is)
 
-  stored_at-up : (zs : List (Timed n m)) → 1 ≤ pace.read → 1 ≤ pace.iter → Lawful shape pace e zs → stored_at zs ≤ last_tick zs
+  stored_at-up : (zs : List (TimedEvent n m)) → 1 ≤ pace.read → 1 ≤ pace.iter → Lawful shape pace e zs → stored_at zs ≤ last_tick zs
   stored_at-up [] r i l = omega arith
   stored_at-up (z ∷ zs) r i l =
       by (stores_by z.happens == 1)
@@ -272,7 +277,7 @@ module _ {n m : ℕ} (shape : BankShape) (pace : Pacing) (e : ℕ) where
       by false up = up
 
   -- what is stored is stored by then
-  stored_to : (zs : List (Timed n m)) (row t p : ℕ) → 1 ≤ pace.read → 1 ≤ pace.iter → Lawful shape pace e zs → outcome_of shape zs row ≡ out.Stored t p → t ≤ stored_at zs
+  stored_to : (zs : List (TimedEvent n m)) (row t p : ℕ) → 1 ≤ pace.read → 1 ≤ pace.iter → Lawful shape pace e zs → outcome_of shape zs row ≡ out.Stored t p → t ≤ stored_at zs
   stored_to [] row t p r i l is = absurd (cc)
   stored_to (z ∷ zs) row t p r i l is = by (outcome_with shape zs z.happens z.tick row) refl (λ k. stored_to zs row t p r i l.1 k) is
     where
@@ -290,24 +295,24 @@ module _ {n m : ℕ} (shape : BankShape) (pace : Pacing) (e : ℕ) where
           subst (λ b. t ≤ cond b z.tick (stored_at zs)) (sym (eq-eqb (stores_by z.happens) 1 event.one)) (omega (arith, now))
       by None same go is = let k : t ≤ stored_at zs = go is in let more : stored_at zs ≤ stored_at (z ∷ zs) = rises (stores_by z.happens == 1) in omega (arith, k, more)
 
-  module _ (all : List (Timed n m)) (r : 1 ≤ pace.read) (i : 1 ≤ pace.iter) (l : Lawful shape pace e all) (idle : waits shape (core all) ≡ []) where
+  module _ (all : List (TimedEvent n m)) (r : 1 ≤ pace.read) (i : 1 ≤ pace.iter) (l : Lawful shape pace e all) (idle : waits shape (core all) ≡ []) where
     settled : (row : ℕ) (owed : List ℕ) → ReadFate shape all row owed → IsSettled owed (outcome_of shape all row)
     settled row owed (inl a) = absurd (subst (λ ws. Awaits ws row owed) idle a)
     settled row owed (inr s) = s
 
     -- where no cancel stands none is pending
-    unpending : (zs : List (Timed n m)) → IsUncancelled shape pace zs → pending_cancel zs ≡ 0
+    unpending : (zs : List (TimedEvent n m)) → IsUncancelled shape pace zs → pending_cancel zs ≡ 0
     unpending [] h = refl
     unpending (y ∷ ys) h = ap (λ b. cond b 1 0) h
 
     -- behind each cancel came its read
-    counted : (later zs : List (Timed n m)) → all ≡ later ++ zs → cancels_after zs ≤ came_since (stored_at zs) (rows_from shape all zs) + pending_cancel zs
+    counted : (later zs : List (TimedEvent n m)) → all ≡ later ++ zs → cancels_after zs ≤ came_since (stored_at zs) (rows_from shape all zs) + pending_cancel zs
     counted later [] same = omega arith
     counted later (z ∷ zs) same =
         by z.happens z.cancels (may_at shape pace e all later z zs l same) (onwards_at shape pace e all later z zs l same) (λ is. is) (counted (later ++ z ∷ []) zs (same ∙ sym (append_assoc later (z ∷ []) zs)))
       where
         here : Lawful shape pace e (z ∷ zs)
-        here = lawful_before shape pace e later (z ∷ zs) (subst (λ (xs : List (Timed n m)). Lawful shape pace e xs) same l)
+        here = lawful_before shape pace e later (z ∷ zs) (subst (λ (xs : List (TimedEvent n m)). Lawful shape pace e xs) same l)
 
         up : stored_at zs ≤ z.tick
         up =
@@ -358,9 +363,9 @@ module _ {n m : ℕ} (shape : BankShape) (pace : Pacing) (e : ℕ) where
         by (Core (Cut tearing)) true may on whole ih = let none = no_pending shape pace zs z.tick (Cut tearing) may.behind (λ f. f) in omega (arith, ih, none)
         by (Core (Cut tearing)) false may on whole ih = omega arith
 
-    module _ (later : List (Timed n m)) (x : Timed n m) (ys : List (Timed n m)) (same : all ≡ later ++ x ∷ ys) where
+    module _ (later : List (TimedEvent n m)) (x : TimedEvent n m) (ys : List (TimedEvent n m)) (same : all ≡ later ++ x ∷ ys) where
       whole : Lawful shape pace e (later ++ x ∷ ys)
-      whole = subst (λ (xs : List (Timed n m)). Lawful shape pace e xs) same l
+      whole = subst (λ (xs : List (TimedEvent n m)). Lawful shape pace e xs) same l
 
       here : Lawful shape pace e (x ∷ ys)
       here = lawful_before shape pace e later (x ∷ ys) whole
@@ -373,7 +378,7 @@ module _ {n m : ℕ} (shape : BankShape) (pace : Pacing) (e : ℕ) where
           by (inr k) = k
           by (inl lt) =
               let up : x.tick < t =
-              stored_above shape pace e later (x ∷ ys) row t p r i whole (λ k. let h : t ≤ stored_at (x ∷ ys) = stored_to (x ∷ ys) row t p r i here k in omega (arith, h, lt)) (ap (λ (xs : List (Timed n m)). outcome_of shape xs row) (sym same) ∙ is) in
+              stored_above shape pace e later (x ∷ ys) row t p r i whole (λ k. let h : t ≤ stored_at (x ∷ ys) = stored_to (x ∷ ys) row t p r i here k in omega (arith, h, lt)) (ap (λ (xs : List (TimedEvent n m)). outcome_of shape xs row) (sym same) ∙ is) in
               omega (arith, up, le)
 
       last-early : last_store x.tick (rows_from shape all ys ++ rows_after shape all later) ≤ stored_at (x ∷ ys)

@@ -2,14 +2,17 @@
 use Rattle.std.proofs.Common.{◌≡◌, ℕ, ◌+◌, ◌*◌, ◌<◌, ◌≤◌, ◌&&◌, Bool, true, false, List, [], ◌∷◌, ◌++◌, refl, arith}
 use Rattle.std.specs.Prelude.{nat_lt}
 use Rattle.std.proofs.lemmas.Bool.{ltb-true}
-use Rattle.row_laws.specs.Ticking.{tries}
-use Rattle.bank_shape.specs.Pausing.{Pausing, Pause, Plain, Cancel, is_cancelling, most_cancels}
+use Rattle.row_rules.specs.Ticking.{tries}
+use Rattle.bank_shape.specs.declared.pace.Policy.{Policy}
+use Rattle.bank_shape.specs.declared.pace.Policy.TheVariants.{Pause, Plain, Cancel}
+use Rattle.bank_shape.specs.Pausing.{is_cancelling, most_cancels}
 use Rattle.bank_shape.specs.declared.BankShape.{BankShape}
-use Rattle.bank_model.specs.declared.answer.Keep.TheVariants as keep
-use Rattle.bank_model.specs.declared.answer.Step.TheVariants as did
+use Rattle.bank_shape.specs.declared.answer.Keep.TheVariants as keep
+use Rattle.bank_shape.specs.declared.answer.Step.TheVariants as did
 use Rattle.bank_model.specs.Events.{Event, Write, Read, Serve, Begin, Iterate, Cut}
 use Rattle.bank_model.specs.History.{waits, has_exhausted}
-use Rattle.bank_model.specs.Timing.{Pacing, Happens, Core, Regs, KeepBegin, KeepIterate, KeepCut, Timed, is_writing, is_empty, core, core_of}
+use Rattle.bank_shape.specs.declared.pace.Pace.{Pace}
+use Rattle.bank_model.specs.Timing.{Happens, Core, Regs, KeepBegin, KeepIterate, KeepCut, TimedEvent, is_writing, is_empty, core, core_of}
 use Rattle.bank_model.specs.Running.{running_at, cancels_with, cancels_after}
 use Rattle.bank_model.specs.Changes.{halted_after, halted_by}
 use Rattle.bank_model.specs.Lawful.{Lawful, MayCome, would_cancel}
@@ -37,9 +40,9 @@ module _ {n : ℕ} where
   runs_before (Regs (KeepIterate keep.Halted)) old runs = absurd (cc)
   runs_before (Regs (KeepCut tearing)) old runs = runs
 
-module _ {n m : ℕ} (shape : BankShape) (pace : Pacing) (e : ℕ) where
+module _ {n m : ℕ} (shape : BankShape) (pace : Pace) (e : ℕ) where
   -- the present line write was cancelled at most as often as may be
-  pub few_cancels : (zs : List (Timed n m)) → Lawful shape pace e zs → cancels_after zs ≤ 4
+  pub few_cancels : (zs : List (TimedEvent n m)) → Lawful shape pace e zs → cancels_after zs ≤ 4
   few_cancels [] l = omega arith
   few_cancels (z ∷ zs) l = by z.happens l.0 (few_cancels zs l.1)
     where
@@ -76,7 +79,7 @@ module _ {n m : ℕ} (shape : BankShape) (pace : Pacing) (e : ℕ) where
       by (Core (Cut tearing)) may le = cut tearing z.cancels may.on_time.2 le
 
   -- four cancels at most come to each line write that ends, and to the present one
-  cancels_few : (mid zs : List (Timed n m)) → Lawful shape pace e (mid ++ zs) → has_exhausted (core (mid ++ zs)) ≡ false → halted_after (mid ++ zs) ≡ false
+  cancels_few : (mid zs : List (TimedEvent n m)) → Lawful shape pace e (mid ++ zs) → has_exhausted (core (mid ++ zs)) ≡ false → halted_after (mid ++ zs) ≡ false
       → tally_cuts cancelled_by mid ≤ 4 * (tally stores_by mid + tally moves_by mid + tally others_by mid + tally_cuts cuts_by mid) + cancels_after (mid ++ zs)
   cancels_few [] zs l fine runs = omega arith
   cancels_few (y ∷ mid) zs l fine runs =
@@ -110,7 +113,7 @@ module _ {n m : ℕ} (shape : BankShape) (pace : Pacing) (e : ℕ) where
       by (Core (Cut tearing)) true may fine runs le ih = omega (arith, ih)
       by (Core (Cut tearing)) false may fine runs le ih = omega (arith, ih, le)
 
-  none_cancelled : (mid zs : List (Timed n m)) → is_cancelling pace.policy ≡ false → Lawful shape pace e (mid ++ zs) → tally_cuts cancelled_by mid ≡ 0
+  none_cancelled : (mid zs : List (TimedEvent n m)) → is_cancelling pace.policy ≡ false → Lawful shape pace e (mid ++ zs) → tally_cuts cancelled_by mid ≡ 0
   none_cancelled [] zs none l = refl
   none_cancelled (y ∷ mid) zs none l =
       let before : tally_cuts cancelled_by mid ≡ 0 = none_cancelled mid zs none l.1 in
@@ -130,7 +133,7 @@ module _ {n m : ℕ} (shape : BankShape) (pace : Pacing) (e : ℕ) where
       by (Core (Cut tearing)) false whole = refl
 
   -- the attempts, with those that were cancelled, where the present line write was not
-  pub tried_few : (mid zs : List (Timed n m)) → Lawful shape pace e (mid ++ zs) → has_exhausted (core (mid ++ zs)) ≡ false → halted_after (mid ++ zs) ≡ false → cancels_after (mid ++ zs) ≡ 0
+  pub tried_few : (mid zs : List (TimedEvent n m)) → Lawful shape pace e (mid ++ zs) → has_exhausted (core (mid ++ zs)) ≡ false → halted_after (mid ++ zs) ≡ false → cancels_after (mid ++ zs) ≡ 0
       → (tally stores_by mid + tally moves_by mid + tally others_by mid + tally_cuts cuts_by mid) + tally_cuts cancelled_by mid
       ≤ tries pace.policy * (tally stores_by mid + tally moves_by mid + tally others_by mid + tally_cuts cuts_by mid)
   tried_few mid zs l fine runs whole = by pace.policy (λ none. none_cancelled mid zs none l)
@@ -138,7 +141,7 @@ module _ {n m : ℕ} (shape : BankShape) (pace : Pacing) (e : ℕ) where
       few : tally_cuts cancelled_by mid ≤ 4 * (tally stores_by mid + tally moves_by mid + tally others_by mid + tally_cuts cuts_by mid) + cancels_after (mid ++ zs)
       few = cancels_few mid zs l fine runs
 
-      by : (p : Pausing) → (is_cancelling p ≡ false → tally_cuts cancelled_by mid ≡ 0) → (tally stores_by mid + tally moves_by mid + tally others_by mid + tally_cuts cuts_by mid) + tally_cuts cancelled_by mid
+      by : (p : Policy) → (is_cancelling p ≡ false → tally_cuts cancelled_by mid ≡ 0) → (tally stores_by mid + tally moves_by mid + tally others_by mid + tally_cuts cuts_by mid) + tally_cuts cancelled_by mid
           ≤ tries p * (tally stores_by mid + tally moves_by mid + tally others_by mid + tally_cuts cuts_by mid)
       by Pause none = let k : tally_cuts cancelled_by mid ≡ 0 = none refl in omega (arith, k)
       by Plain none = let k : tally_cuts cancelled_by mid ≡ 0 = none refl in omega (arith, k)

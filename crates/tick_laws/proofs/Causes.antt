@@ -2,16 +2,17 @@
 use Rattle.std.proofs.Common.{◌≡◌, ℕ, ◌+◌, ◌*◌, ◌/◌, ◌≤◌, Bool, true, false, List, [], ◌∷◌, ◌++◌, length, Option, Some, None, refl, sym, ap, ◌∙◌, subst, arith}
 use Rattle.std.specs.Prelude.{is_some, nat_lt}
 use Rattle.std.proofs.lemmas.Bool.{lt-ltb}
-use Rattle.row_laws.specs.Ticking.{writings}
+use Rattle.row_rules.specs.Ticking.{writings}
 use Rattle.bank_shape.specs.declared.BankShape.{BankShape}
 use Rattle.bank_shape.specs.declared.Home.{Home}
 use Rattle.bank_shape.specs.declared.Home.TheVariants as home
 use Rattle.bank_shape.specs.Shape.{controls_of, if_array}
-use Rattle.bank_model.specs.declared.answer.Step.TheVariants as did
-use Rattle.bank_model.specs.declared.answer.Keep.TheVariants as keep
+use Rattle.bank_shape.specs.declared.answer.Step.TheVariants as did
+use Rattle.bank_shape.specs.declared.answer.Keep.TheVariants as keep
 use Rattle.bank_model.specs.Events.{Write, Read, Serve, Begin, Iterate, Cut, line_of_row}
 use Rattle.bank_model.specs.History.{first_or, stores, retired, has_exhausted}
-use Rattle.bank_model.specs.Timing.{Pacing, Happens, Core, Regs, KeepBegin, KeepIterate, KeepCut, Timed, core, core_of}
+use Rattle.bank_shape.specs.declared.pace.Pace.{Pace}
+use Rattle.bank_model.specs.Timing.{Happens, Core, Regs, KeepBegin, KeepIterate, KeepCut, TimedEvent, core, core_of}
 use Rattle.bank_model.specs.Changes.{change_after, change_by, halted_after, halted_by, item_if}
 use Rattle.bank_model.specs.Lawful.{Lawful, MayCome}
 use Rattle.bank_laws.proofs.Changing.{halted-stops}
@@ -39,9 +40,9 @@ sums : (g o a b p q r : ℕ) (s m t ss mm tt : ℕ) → o + a ≤ (t + b) + g * 
     → (o + p) + a ≤ (t + q) + r + g * ((s + ss) + (m + mm) + (t + tt))
 sums g o a b p q r s m t ss mm tt h k = let d : g * ((s + ss) + (m + mm) + (t + tt)) ≡ g * (s + m + t) + g * (ss + mm + tt) = grind arith in omega (arith, h, k, d)
 
-module _ {n m : ℕ} (shape : BankShape) (pace : Pacing) (e : ℕ) where
+module _ {n m : ℕ} (shape : BankShape) (pace : Pace) (e : ℕ) where
   -- what is written stood before, and what stands was brought
-  one_more : (zs : List (Timed n m)) (y : Timed n m) (h : Happens n) → MayCome shape pace e zs y h → has_exhausted (core_of h (core zs)) ≡ false
+  one_more : (zs : List (TimedEvent n m)) (y : TimedEvent n m) (h : Happens n) → MayCome shape pace e zs y h → has_exhausted (core_of h (core zs)) ≡ false
       → others_by h + stands (change_by shape (core zs) h (change_after shape zs)) ≤ (retires_by h + stands (change_after shape zs)) + brought shape.home * (stores_by h + moves_by h + retires_by h)
   one_more zs y (Core (Write row line bytes given answer)) may fine = omega arith
   one_more zs y (Core (Read row line answer)) may fine = omega arith
@@ -65,7 +66,7 @@ module _ {n m : ℕ} (shape : BankShape) (pace : Pacing) (e : ℕ) where
   one_more zs y (Regs (KeepIterate keep.Halted)) may fine = omega arith
   one_more zs y (Regs (KeepCut tearing)) may fine = omega arith
 
-  pub others_few : (mid zs : List (Timed n m)) → Lawful shape pace e (mid ++ zs) → has_exhausted (core (mid ++ zs)) ≡ false
+  pub others_few : (mid zs : List (TimedEvent n m)) → Lawful shape pace e (mid ++ zs) → has_exhausted (core (mid ++ zs)) ≡ false
       → tally others_by mid + stands (change_after shape (mid ++ zs)) ≤ tally retires_by mid + stands (change_after shape zs) + brought shape.home * (tally stores_by mid + tally moves_by mid + tally retires_by mid)
   others_few [] zs l fine = omega arith
   others_few (y ∷ mid) zs l fine =
@@ -74,7 +75,7 @@ module _ {n m : ℕ} (shape : BankShape) (pace : Pacing) (e : ℕ) where
       (one_more (mid ++ zs) y y.happens l.0 fine) (others_few mid zs l.1 (fine_before y.happens (core (mid ++ zs)) fine))
 
   -- only a bank whose registers are kept in the array has changes
-  pub stood : (zs : List (Timed n m)) → Lawful shape pace e zs → stands (change_after shape zs) ≤ brought shape.home
+  pub stood : (zs : List (TimedEvent n m)) → Lawful shape pace e zs → stands (change_after shape zs) ≤ brought shape.home
   stood [] l = omega arith
   stood (z ∷ zs) l = by z.happens l.0 (stood zs l.1)
     where
@@ -102,7 +103,7 @@ module _ {n m : ℕ} (shape : BankShape) (pace : Pacing) (e : ℕ) where
       by (Regs (KeepCut tearing)) may le = le
 
   -- what has halted stands for good
-  halted-some : (zs : List (Timed n m)) → Lawful shape pace e zs → halted_after zs ≡ true → is_some (change_after shape zs) ≡ true
+  halted-some : (zs : List (TimedEvent n m)) → Lawful shape pace e zs → halted_after zs ≡ true → is_some (change_after shape zs) ≡ true
   halted-some [] l is = absurd (cc)
   halted-some (z ∷ zs) l is = by z.happens l.0 (halted-some zs l.1) is
     where
@@ -125,7 +126,7 @@ module _ {n m : ℕ} (shape : BankShape) (pace : Pacing) (e : ℕ) where
       by (Regs (KeepCut tearing)) may ih is = ih is
 
   -- so where none stands none has halted
-  pub written-runs : (zs : List (Timed n m)) → Lawful shape pace e zs → change_after shape zs ≡ None → halted_after zs ≡ false
+  pub written-runs : (zs : List (TimedEvent n m)) → Lawful shape pace e zs → change_after shape zs ≡ None → halted_after zs ≡ false
   written-runs zs l none = by (halted_after zs) (halted-some zs l)
     where
       by : (b : Bool) → (b ≡ true → is_some (change_after shape zs) ≡ true) → b ≡ false

@@ -5,13 +5,14 @@ use Rattle.std.proofs.lemmas.Bool.{le-leb, or_right}
 use Rattle.std.proofs.lemmas.List.Sums.{sum_by-append, sum_by-cons}
 use Rattle.result_rows.specs.declared.Outcome.{Outcome}
 use Rattle.result_rows.specs.declared.Outcome.TheVariants as out
-use Rattle.row_laws.specs.declared.Asks.TheVariants.{Reads, Writes, Cuts}
-use Rattle.row_laws.specs.declared.Row.{Row}
-use Rattle.row_laws.specs.Rows.{asks_read, asks_write}
-use Rattle.row_laws.specs.Ticking.{cuts_to}
+use Rattle.row_rules.specs.declared.Asks.TheVariants.{Reads, Writes, Cuts}
+use Rattle.row_rules.specs.declared.Row.{Row}
+use Rattle.row_rules.specs.Rows.{asks_read, asks_write}
+use Rattle.row_rules.specs.Ticking.{cuts_to}
 use Rattle.bank_shape.specs.declared.BankShape.{BankShape}
 use Rattle.bank_model.specs.Events.{Write, Read, Serve, Begin, Iterate, Cut}
-use Rattle.bank_model.specs.Timing.{Pacing, Happens, Core, Regs, Timed, last_tick}
+use Rattle.bank_shape.specs.declared.pace.Pace.{Pace}
+use Rattle.bank_model.specs.Timing.{Happens, Core, Regs, TimedEvent, last_tick}
 use Rattle.bank_model.specs.Lawful.{Lawful}
 use Rattle.bank_laws.specs.Outcomes.{outcome_of, ended, row_with, rows_from}
 use Rattle.bank_laws.proofs.Settling.{opens, step_stays, stays}
@@ -60,7 +61,7 @@ count-cons p x xs = sum_by-cons (λ x. cond (p x) 1 0) x xs
 count-skip : {X : Type 0} (p : X → Bool) (x : X) (xs : List X) (k : ℕ) → p x ≡ false → count_by p xs ≡ k → count_by p (x ∷ xs) ≡ k
 count-skip p x xs k no_hit is = count-cons p x xs ∙ subst (λ b. cond b 1 0 + count_by p xs ≡ k) (sym no_hit) (omega (arith, is))
 
-pub among-later : {n m : ℕ} (rows : Happens n → List ℕ) (of : List (Timed n m) → List ℕ) → ((x : Timed n m) (xs : List (Timed n m)) → of (x ∷ xs) ≡ rows x.happens ++ of xs) → (late xs : List (Timed n m)) (c : ℕ)
+pub among-later : {n m : ℕ} (rows : Happens n → List ℕ) (of : List (TimedEvent n m) → List ℕ) → ((x : TimedEvent n m) (xs : List (TimedEvent n m)) → of (x ∷ xs) ≡ rows x.happens ++ of xs) → (late xs : List (TimedEvent n m)) (c : ℕ)
     → among (of xs) c ≡ true → among (of (late ++ xs)) c ≡ true
 among-later rows of unfolds [] xs c there = there
 among-later rows of unfolds (y ∷ late) xs c there = subst (λ rs. among rs c ≡ true) (sym (unfolds y (late ++ xs))) (behind (rows y.happens) (of (late ++ xs)) (among-later rows of unfolds late xs c there))
@@ -69,19 +70,19 @@ among-later rows of unfolds (y ∷ late) xs c there = subst (λ rs. among rs c �
     behind [] more h = h
     behind (r ∷ rs) more h = or_right (r == c) _ (behind rs more h)
 
-module _ {n m : ℕ} (shape : BankShape) (pace : Pacing) (e : ℕ) (all : List (Timed n m)) where
+module _ {n m : ℕ} (shape : BankShape) (pace : Pace) (e : ℕ) (all : List (TimedEvent n m)) where
   -- an event ends nothing that is counted, or sets the outcome of one of these rows
-  abbrev pub Sets : (Happens n → ℕ) → List ℕ → (Outcome n → Bool) → Timed n m → List (Timed n m) → Type 0
+  abbrev pub Sets : (Happens n → ℕ) → List ℕ → (Outcome n → Bool) → TimedEvent n m → List (TimedEvent n m) → Type 0
   Sets by rows p y zs =
       (by y.happens ≡ 0) ⊎ ((by y.happens ≡ 1) × (c : ℕ) × (among rows c ≡ true) × (outcome_of shape zs c ≡ out.Unset) × (p (outcome_of shape (y ∷ zs) c) ≡ true))
 
-  module _ (by : Happens n → ℕ) (rows : List ℕ) (p : Outcome n → Bool) (none : p out.Unset ≡ false) (zs : List (Timed n m)) (u : ℕ) where
+  module _ (by : Happens n → ℕ) (rows : List ℕ) (p : Outcome n → Bool) (none : p out.Unset ≡ false) (zs : List (TimedEvent n m)) (u : ℕ) where
     set_from : (o : Outcome n) → p o ≡ true → o ≢ out.Unset
     set_from o is un = let k : p out.Unset ≡ true = subst (λ o. p o ≡ true) un is in absurd (cc)
 
     -- what events end is counted among rows with such outcomes
-    tallied : ((late back : List (Timed n m)) (y : Timed n m) → all ≡ late ++ y ∷ (back ++ zs) → Lawful shape pace e (y ∷ back ++ zs) → y.tick ≤ u → Sets by rows p y (back ++ zs)) → 1 ≤ pace.read → 1 ≤ pace.iter
-        → (late mid : List (Timed n m)) → all ≡ late ++ (mid ++ zs) → Lawful shape pace e (mid ++ zs) → last_tick (mid ++ zs) ≤ u
+    tallied : ((late back : List (TimedEvent n m)) (y : TimedEvent n m) → all ≡ late ++ y ∷ (back ++ zs) → Lawful shape pace e (y ∷ back ++ zs) → y.tick ≤ u → Sets by rows p y (back ++ zs)) → 1 ≤ pace.read → 1 ≤ pace.iter
+        → (late mid : List (TimedEvent n m)) → all ≡ late ++ (mid ++ zs) → Lawful shape pace e (mid ++ zs) → last_tick (mid ++ zs) ≤ u
         → tally by mid ≤ hits (λ row. p (outcome_of shape (mid ++ zs) row)) rows
     tallied each r i late [] same l le = omega arith
     tallied each r i late (y ∷ mid) same l le =
@@ -100,20 +101,20 @@ module _ {n m : ℕ} (shape : BankShape) (pace : Pacing) (e : ℕ) (all : List (
             hits-new _ _ rows s.1 stay (ap p s.3 ∙ none) s.4 s.2 in
             omega (arith, s.0, more, before)
 
-    pub tallied_all : ((late back : List (Timed n m)) (y : Timed n m) → all ≡ late ++ y ∷ (back ++ zs) → Lawful shape pace e (y ∷ back ++ zs) → y.tick ≤ u → Sets by rows p y (back ++ zs)) → 1 ≤ pace.read → 1 ≤ pace.iter
-        → (late mid : List (Timed n m)) → all ≡ late ++ (mid ++ zs) → Lawful shape pace e all → Lawful shape pace e (mid ++ zs) → last_tick (mid ++ zs) ≤ u
+    pub tallied_all : ((late back : List (TimedEvent n m)) (y : TimedEvent n m) → all ≡ late ++ y ∷ (back ++ zs) → Lawful shape pace e (y ∷ back ++ zs) → y.tick ≤ u → Sets by rows p y (back ++ zs)) → 1 ≤ pace.read → 1 ≤ pace.iter
+        → (late mid : List (TimedEvent n m)) → all ≡ late ++ (mid ++ zs) → Lawful shape pace e all → Lawful shape pace e (mid ++ zs) → last_tick (mid ++ zs) ≤ u
         → tally by mid ≤ hits (λ row. p (outcome_of shape all row)) rows
     tallied_all each r i late mid same whole l le =
         let some : tally by mid ≤ hits (λ row. p (outcome_of shape (mid ++ zs) row)) rows = tallied each r i late mid same l le in
         let more : hits (λ row. p (outcome_of shape (mid ++ zs) row)) rows ≤ hits (λ row. p (outcome_of shape all row)) rows =
         hits-more _ _ rows (λ row is.
-        ap p (ap (λ (xs : List (Timed n m)). outcome_of shape xs row) same
-        ∙ stays shape pace e late (mid ++ zs) row (subst (λ (xs : List (Timed n m)). Lawful shape pace e xs) same whole) (set_from (outcome_of shape (mid ++ zs) row) is)) ∙ is) in
+        ap p (ap (λ (xs : List (TimedEvent n m)). outcome_of shape xs row) same
+        ∙ stays shape pace e late (mid ++ zs) row (subst (λ (xs : List (TimedEvent n m)). Lawful shape pace e xs) same whole) (set_from (outcome_of shape (mid ++ zs) row) is)) ∙ is) in
         omega (arith, some, more)
 
-module _ {n m : ℕ} (shape : BankShape) (all : List (Timed n m)) where
+module _ {n m : ℕ} (shape : BankShape) (all : List (TimedEvent n m)) where
   -- the rows with such outcomes, by the rows and by the events
-  pub writes-counted : (p : Outcome n → Bool) → ((tick : ℕ) (o : Outcome n) → p (ended tick o) ≡ p o) → (xs : List (Timed n m))
+  pub writes-counted : (p : Outcome n → Bool) → ((tick : ℕ) (o : Outcome n) → p (ended tick o) ≡ p o) → (xs : List (TimedEvent n m))
       → count_by (λ q. asks_write q.asks && p q.outcome) (rows_from shape all xs) ≡ hits (λ row. p (outcome_of shape all row)) (writes_in xs)
   writes-counted p same [] = refl
   writes-counted p same (x ∷ xs) = by x.happens x.cancels (writes-counted p same xs)
@@ -135,7 +136,7 @@ module _ {n m : ℕ} (shape : BankShape) (all : List (Timed n m)) where
       by (Core (Cut tearing)) true ih = ih
       by (Core (Cut tearing)) false ih = count-skip _ (record { tick = x.tick; asks = Cuts; outcome = out.Cut x.tick }) (rows_from shape all xs) _ refl ih
 
-  pub reads-counted : (p : Outcome n → Bool) → (xs : List (Timed n m))
+  pub reads-counted : (p : Outcome n → Bool) → (xs : List (TimedEvent n m))
       → count_by (λ q. asks_read q.asks && p q.outcome) (rows_from shape all xs) ≡ hits (λ row. p (outcome_of shape all row)) (reads_in xs)
   reads-counted p [] = refl
   reads-counted p (x ∷ xs) = by x.happens x.cancels (reads-counted p xs)
@@ -156,7 +157,7 @@ module _ {n m : ℕ} (shape : BankShape) (all : List (Timed n m)) where
       by (Core (Cut tearing)) false ih = count-skip _ (record { tick = x.tick; asks = Cuts; outcome = out.Cut x.tick }) (rows_from shape all xs) _ refl ih
 
   -- the rows of a table are those behind an event and those before it
-  pub rows-counted : (t : Row n → Bool) (later zs : List (Timed n m)) → count_by t (rows_from shape all (later ++ zs)) ≡ count_by t (rows_after shape all later) + count_by t (rows_from shape all zs)
+  pub rows-counted : (t : Row n → Bool) (later zs : List (TimedEvent n m)) → count_by t (rows_from shape all (later ++ zs)) ≡ count_by t (rows_after shape all later) + count_by t (rows_from shape all zs)
   rows-counted t [] zs = omega arith
   rows-counted t (y ∷ later) zs =
       let before : count_by t (rows_from shape all (later ++ zs)) ≡ count_by t (rows_after shape all later) + count_by t (rows_from shape all zs) = rows-counted t later zs in
@@ -167,7 +168,7 @@ module _ {n m : ℕ} (shape : BankShape) (all : List (Timed n m)) where
       omega (arith, before, front, back)
 
   -- the cuts among some events
-  pub cuts-counted : (pace : Pacing) (e u : ℕ) (mid zs : List (Timed n m)) → 1 ≤ pace.read → 1 ≤ pace.iter → Lawful shape pace e (mid ++ zs) → last_tick (mid ++ zs) ≤ u
+  pub cuts-counted : (pace : Pace) (e u : ℕ) (mid zs : List (TimedEvent n m)) → 1 ≤ pace.read → 1 ≤ pace.iter → Lawful shape pace e (mid ++ zs) → last_tick (mid ++ zs) ≤ u
       → tally_cuts cuts_by mid ≤ cuts_to u (rows_after shape all mid)
   cuts-counted pace e u [] zs r i l le = omega arith
   cuts-counted pace e u (y ∷ mid) zs r i l le =

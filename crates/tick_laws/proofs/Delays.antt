@@ -5,20 +5,24 @@ use Rattle.std.proofs.lemmas.Bool.{and_parts}
 use Rattle.masked_bytes.specs.Entries.{has_row, layer_of}
 use Rattle.bank_shape.specs.Pausing.{is_cancelling, most_cancels}
 use Rattle.bank_shape.specs.declared.BankShape.{BankShape}
-use Rattle.bank_model.specs.declared.answer.WriteAnswer.TheVariants as wrote
-use Rattle.bank_model.specs.declared.answer.ReadAnswer.TheVariants as came
-use Rattle.bank_model.specs.declared.answer.Keep.{Keep}
-use Rattle.bank_model.specs.declared.answer.Keep.TheVariants as keep
-use Rattle.bank_model.specs.declared.answer.Step.{Step}
-use Rattle.bank_model.specs.declared.answer.Step.TheVariants as did
-use Rattle.bank_model.specs.declared.clock.Doing.{Doing}
-use Rattle.bank_model.specs.declared.clock.Doing.TheVariants.{Serving, Beginning, Iterating}
-use Rattle.bank_model.specs.declared.clock.Action.{Action}
+use Rattle.bank_shape.specs.declared.answer.WriteAnswer.TheVariants as wrote
+use Rattle.bank_shape.specs.declared.answer.ReadAnswer.TheVariants as came
+use Rattle.bank_shape.specs.declared.answer.Keep.{Keep}
+use Rattle.bank_shape.specs.declared.answer.Keep.TheVariants as keep
+use Rattle.bank_shape.specs.declared.answer.Step.{Step}
+use Rattle.bank_shape.specs.declared.answer.Step.TheVariants as did
+use Rattle.bank_shape.specs.declared.clock.Doing.{Doing}
+use Rattle.bank_shape.specs.declared.clock.Doing.TheVariants.{Serving, Beginning, Iterating}
+use Rattle.bank_shape.specs.declared.clock.Action.{Action}
 use Rattle.bank_model.specs.Events.{Event, Write, Read, Serve, Begin, Iterate, Cut, newest}
 use Rattle.bank_model.specs.History.{awaited, queue, waits, has_exhausted, in_progress, iterated}
 use Rattle.bank_model.specs.After.{work_after, is_store_of}
-use Rattle.bank_model.specs.Timing.{Pacing, Happens, Core, Regs, KeepBegin, KeepIterate, KeepCut, Timed, lasts, ends, is_doing, is_writing, is_empty, core, core_of, last_tick}
-use Rattle.bank_model.specs.Running.{busy_by, made_by, busy_after, made_after, ready_after, drops_begin, gives_way, choice, chosen_by, started, left_by, running, running_at, chosen_after, cancels_after}
+use Rattle.bank_shape.specs.declared.pace.Pace.{Pace}
+use Rattle.bank_shape.specs.Acting.{lasts}
+use Rattle.bank_model.specs.Timing.{Happens, Core, Regs, KeepBegin, KeepIterate, KeepCut, TimedEvent, ends, is_doing, is_writing, is_empty, core, core_of, last_tick}
+use Rattle.bank_shape.specs.Pausing.{gives_way}
+use Rattle.bank_shape.specs.Acting.{choice, chosen_by}
+use Rattle.bank_model.specs.Running.{busy_by, made_by, busy_after, made_after, ready_after, drops_begin, started, left_by, running, running_at, chosen_after, cancels_after}
 use Rattle.bank_model.specs.Changes.{change_after, change_by, keeping_after, keeping_by, rounds_after, rounds_by, halted_after, halted_by}
 use Rattle.bank_laws.proofs.Changing.{busy-none, busy-some, made-none, made-some}
 use Rattle.bank_model.specs.Lawful.{Lawful, MayCome}
@@ -98,18 +102,18 @@ writing_of true true c d h = refl
 writing_of true false c d h = absurd (cc)
 writing_of false b c d h = absurd (cc)
 
-module _ {n m : ℕ} (shape : BankShape) (pace : Pacing) (e : ℕ) where
-  abbrev pub In : ℕ → List (Timed n m) → Option Action → ℕ → Type 0
+module _ {n m : ℕ} (shape : BankShape) (pace : Pace) (e : ℕ) where
+  abbrev pub In : ℕ → List (TimedEvent n m) → Option Action → ℕ → Type 0
   In base zs r top = InTime shape pace.read pace.iter base (change_after shape zs) (busy_after shape zs) (made_after shape zs) (core zs) r top
 
-  abbrev pub Delay : ℕ → List (Timed n m) → Type 0
+  abbrev pub Delay : ℕ → List (TimedEvent n m) → Type 0
   Delay base zs = In base zs (running shape pace zs) (since_of shape pace zs)
 
   -- the same at the tick of the next event, before that
-  abbrev pub DelayAt : ℕ → List (Timed n m) → ℕ → Type 0
+  abbrev pub DelayAt : ℕ → List (TimedEvent n m) → ℕ → Type 0
   DelayAt base zs tick = In base zs (running_at shape pace zs tick) (since (running_at shape pace zs tick) tick)
 
-  pub delay_at : (base : ℕ) (zs : List (Timed n m)) (tick row : ℕ) → last_tick zs ≤ tick → has_row (queue shape (core zs)) row ≡ true → has_exhausted (core zs) ≡ false → halted_after zs ≡ false → Delay base zs
+  pub delay_at : (base : ℕ) (zs : List (TimedEvent n m)) (tick row : ℕ) → last_tick zs ≤ tick → has_row (queue shape (core zs)) row ≡ true → has_exhausted (core zs) ≡ false → halted_after zs ≡ false → Delay base zs
       → DelayAt base zs tick
   delay_at base zs tick row rises there fine runs d = by d
     where
@@ -136,7 +140,7 @@ module _ {n m : ℕ} (shape : BankShape) (pace : Pacing) (e : ℕ) where
               subst (λ d. is_doing Beginning (started (running shape pace zs) d (last_tick zs) tick) ≡ false) (sym chosen)
               (not_begun-next (gives_way pace.policy) (busy_after shape zs) (running shape pace zs) (last_tick zs) tick h.1)
 
-  module _ (base : ℕ) (zs : List (Timed n m)) (y : Timed n m) (l : Lawful shape pace e (y ∷ zs)) where
+  module _ (base : ℕ) (zs : List (TimedEvent n m)) (y : TimedEvent n m) (l : Lawful shape pace e (y ∷ zs)) where
     abbrev pub DelayBy : Happens n → Type 0
     DelayBy h =
         InTime shape pace.read pace.iter (gain pace.read (work_time pace e) h y.cancels + base) (change_by shape (core zs) h (change_after shape zs))

@@ -6,12 +6,13 @@ use Rattle.std.proofs.Math.Nat.{mul-le-mul_left}
 use Rattle.masked_bytes.specs.declared.entry.Entry.{Entry}
 use Rattle.bank_shape.specs.declared.BankShape.{BankShape}
 use Rattle.bank_shape.specs.declared.Work.TheVariants.{Nothing}
-use Rattle.bank_model.specs.declared.answer.Step.TheVariants as did
+use Rattle.bank_shape.specs.declared.answer.Step.TheVariants as did
 use Rattle.bank_model.specs.Events.{Event, Write, Read, Serve, Begin, Iterate, Cut, line_of_row}
 use Rattle.bank_model.specs.History.{first_or, stores, stored_in, moved_in, due_after, retired, queue, has_exhausted}
 use Rattle.bank_model.specs.After.{work_after, due_work}
 use Rattle.bank_model.specs.Answers.{IsDone}
-use Rattle.bank_model.specs.Timing.{Pacing, Happens, Core, Regs, Timed, core, core_of}
+use Rattle.bank_shape.specs.declared.pace.Pace.{Pace}
+use Rattle.bank_model.specs.Timing.{Happens, Core, Regs, TimedEvent, core, core_of}
 use Rattle.bank_model.specs.Lawful.{Lawful, MayCome}
 use Rattle.tick_laws.proofs.Tallies.{stores_by, moves_by, retires_by, tally}
 
@@ -105,8 +106,8 @@ module _ {n : ℕ} (shape : BankShape) where
       (stored_in shape.lines h (first_or 0 (stores h) / shape.lines))) (Some (first_or 0 (stores h) / shape.lines)) None) ≡ 0
   moved_flag h some b = ap (λ c. flag (cond c (Some (first_or 0 (stores h) / shape.lines)) None)) (not-due _ _ _ _ b some)
 
-module _ {n m : ℕ} (shape : BankShape) (pace : Pacing) (e : ℕ) where
-  balanced : (xs : List (Timed n m)) → 1 ≤ shape.psi → Lawful shape pace e xs → Balanced shape (core xs)
+module _ {n m : ℕ} (shape : BankShape) (pace : Pace) (e : ℕ) where
+  balanced : (xs : List (TimedEvent n m)) → 1 ≤ shape.psi → Lawful shape pace e xs → Balanced shape (core xs)
   balanced [] some l = record { most = λ at. omega arith; others = λ at ne. grind arith }
   balanced (x ∷ xs) some l = by x.happens l.0 (balanced xs some l.1)
     where
@@ -130,7 +131,7 @@ module _ {n m : ℕ} (shape : BankShape) (pace : Pacing) (e : ℕ) where
       by (Core (Cut tearing)) may b = record { most = b.most; others = b.others }
 
   -- a move takes away what was due, and only a store brings it
-  moves_step : (xs : List (Timed n m)) (x : Timed n m) (h : Happens n) → 1 ≤ shape.psi → Balanced shape (core xs) → MayCome shape pace e xs x h
+  moves_step : (xs : List (TimedEvent n m)) (x : TimedEvent n m) (h : Happens n) → 1 ≤ shape.psi → Balanced shape (core xs) → MayCome shape pace e xs x h
       → moves_by h + flag (due_after shape (core_of h (core xs))) ≤ stores_by h + flag (due_after shape (core xs))
   moves_step xs x (Core (Write row line bytes given answer)) some b may = omega arith
   moves_step xs x (Core (Read row line answer)) some b may = omega arith
@@ -150,7 +151,7 @@ module _ {n m : ℕ} (shape : BankShape) (pace : Pacing) (e : ℕ) where
   moves_step xs x (Core (Iterate did.Exhausted)) some b may = omega arith
   moves_step xs x (Core (Cut tearing)) some b may = omega arith
 
-  pub moves_few : (mid zs : List (Timed n m)) → 1 ≤ shape.psi → Lawful shape pace e (mid ++ zs)
+  pub moves_few : (mid zs : List (TimedEvent n m)) → 1 ≤ shape.psi → Lawful shape pace e (mid ++ zs)
       → tally moves_by mid + flag (due_after shape (core (mid ++ zs))) ≤ tally stores_by mid + flag (due_after shape (core zs))
   moves_few [] zs some l = omega arith
   moves_few (y ∷ mid) zs some l =
@@ -162,7 +163,7 @@ module _ {n m : ℕ} (shape : BankShape) (pace : Pacing) (e : ℕ) where
       sums : (a b c d e f g : ℕ) → b + g ≤ e + f → a + c ≤ d + g → (a + b) + c ≤ (d + e) + f
       sums a b c d e f g h k = omega arith
 
-  retires_step : (xs : List (Timed n m)) (x : Timed n m) (h : Happens n) → MayCome shape pace e xs x h → length (retired (core_of h (core xs))) ≡ retires_by h + length (retired (core xs))
+  retires_step : (xs : List (TimedEvent n m)) (x : TimedEvent n m) (h : Happens n) → MayCome shape pace e xs x h → length (retired (core_of h (core xs))) ≡ retires_by h + length (retired (core xs))
   retires_step xs x (Core (Write row line bytes given answer)) may = omega arith
   retires_step xs x (Core (Read row line answer)) may = omega arith
   retires_step xs x (Core (Serve answer)) may = omega arith
@@ -179,7 +180,7 @@ module _ {n m : ℕ} (shape : BankShape) (pace : Pacing) (e : ℕ) where
   retires_step xs x (Core (Iterate did.Exhausted)) may = omega arith
   retires_step xs x (Core (Cut tearing)) may = omega arith
 
-  retired_few : (xs : List (Timed n m)) → Lawful shape pace e xs → length (retired (core xs)) ≤ shape.spares
+  retired_few : (xs : List (TimedEvent n m)) → Lawful shape pace e xs → length (retired (core xs)) ≤ shape.spares
   retired_few [] l = omega arith
   retired_few (x ∷ xs) l = by x.happens l.0 (retired_few xs l.1) (retires_step xs x x.happens l.0)
     where
@@ -197,14 +198,14 @@ module _ {n m : ℕ} (shape : BankShape) (pace : Pacing) (e : ℕ) where
       by (Core (Iterate did.Exhausted)) may few is = few
       by (Core (Cut tearing)) may few is = few
 
-  retires_sum : (mid zs : List (Timed n m)) → Lawful shape pace e (mid ++ zs) → length (retired (core (mid ++ zs))) ≡ tally retires_by mid + length (retired (core zs))
+  retires_sum : (mid zs : List (TimedEvent n m)) → Lawful shape pace e (mid ++ zs) → length (retired (core (mid ++ zs))) ≡ tally retires_by mid + length (retired (core zs))
   retires_sum [] zs l = omega arith
   retires_sum (y ∷ mid) zs l =
       let before : length (retired (core (mid ++ zs))) ≡ tally retires_by mid + length (retired (core zs)) = retires_sum mid zs l.1 in
       let step : length (retired (core (y ∷ mid ++ zs))) ≡ retires_by y.happens + length (retired (core (mid ++ zs))) = retires_step (mid ++ zs) y y.happens l.0 in
       omega (arith, before, step)
 
-  pub retires_few : (mid zs : List (Timed n m)) → Lawful shape pace e (mid ++ zs) → tally retires_by mid ≤ shape.spares
+  pub retires_few : (mid zs : List (TimedEvent n m)) → Lawful shape pace e (mid ++ zs) → tally retires_by mid ≤ shape.spares
   retires_few mid zs l =
       let sum : length (retired (core (mid ++ zs))) ≡ tally retires_by mid + length (retired (core zs)) = retires_sum mid zs l in
       let few : length (retired (core (mid ++ zs))) ≤ shape.spares = retired_few (mid ++ zs) l in

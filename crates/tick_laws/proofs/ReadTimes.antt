@@ -6,24 +6,28 @@ use Rattle.std.proofs.lemmas.Bool.{le-leb, lt-ltb, eq-eqb, or_from}
 use Rattle.std.proofs.lemmas.List.Folds.{list_any-append, list_all-append}
 use Rattle.result_rows.specs.declared.Outcome.{Outcome}
 use Rattle.result_rows.specs.declared.Outcome.TheVariants as out
-use Rattle.row_laws.specs.declared.Row.{Row}
-use Rattle.row_laws.specs.Rows.{is_cut}
-use Rattle.row_laws.specs.Rules.{Rules}
-use Rattle.row_laws.specs.Queueing.{waiting}
-use Rattle.row_laws.specs.Ticking.{delay, bound, last_store, came_since, no_cut_below, first_cut_at, read_in_time}
-use Rattle.bank_shape.specs.Pausing.{Pausing, Pause, Plain, Cancel, is_cancelling, most_cancels}
+use Rattle.row_rules.specs.declared.Row.{Row}
+use Rattle.row_rules.specs.Rows.{is_cut}
+use Rattle.row_rules.specs.declared.Rules.{Rules}
+use Rattle.row_rules.specs.Queueing.{waiting}
+use Rattle.row_rules.specs.Ticking.{delay, bound, last_store, came_since, no_cut_below, first_cut_at, read_in_time}
+use Rattle.bank_shape.specs.declared.pace.Policy.{Policy}
+use Rattle.bank_shape.specs.declared.pace.Policy.TheVariants.{Pause, Plain, Cancel}
+use Rattle.bank_shape.specs.Pausing.{is_cancelling, most_cancels}
 use Rattle.bank_shape.specs.declared.BankShape.{BankShape}
-use Rattle.bank_model.specs.declared.answer.WriteAnswer.TheVariants as wrote
-use Rattle.bank_model.specs.declared.answer.ReadAnswer.TheVariants as came
-use Rattle.bank_model.specs.declared.answer.Step.TheVariants as did
-use Rattle.bank_model.specs.declared.clock.Doing.{Doing}
-use Rattle.bank_model.specs.declared.clock.Doing.TheVariants.{Serving, Beginning, Iterating}
-use Rattle.bank_model.specs.declared.clock.Action.{Action}
+use Rattle.bank_shape.specs.declared.answer.WriteAnswer.TheVariants as wrote
+use Rattle.bank_shape.specs.declared.answer.ReadAnswer.TheVariants as came
+use Rattle.bank_shape.specs.declared.answer.Step.TheVariants as did
+use Rattle.bank_shape.specs.declared.clock.Doing.{Doing}
+use Rattle.bank_shape.specs.declared.clock.Doing.TheVariants.{Serving, Beginning, Iterating}
+use Rattle.bank_shape.specs.declared.clock.Action.{Action}
 use Rattle.bank_model.specs.Events.{Write, Read, Serve, Begin, Iterate, Cut, newest}
 use Rattle.bank_model.specs.History.{Awaited, awaited, queue, waits}
 use Rattle.masked_bytes.specs.Entries.{layer_of}
-use Rattle.bank_model.specs.Timing.{Pacing, Happens, Core, Regs, KeepBegin, KeepIterate, KeepCut, Timed, is_writing, is_empty, core, core_of, last_tick}
-use Rattle.bank_model.specs.Running.{busy_after, made_after, drops_begin, gives_way, left_by, running_at, cancels_after}
+use Rattle.bank_shape.specs.declared.pace.Pace.{Pace}
+use Rattle.bank_model.specs.Timing.{Happens, Core, Regs, KeepBegin, KeepIterate, KeepCut, TimedEvent, is_writing, is_empty, core, core_of, last_tick}
+use Rattle.bank_shape.specs.Pausing.{gives_way}
+use Rattle.bank_model.specs.Running.{busy_after, made_after, drops_begin, left_by, running_at, cancels_after}
 use Rattle.bank_model.specs.Changes.{change_after}
 use Rattle.bank_model.specs.Lawful.{Lawful, MayCome, would_cancel}
 use Rattle.bank_laws.specs.Laws.{rules_of}
@@ -79,7 +83,7 @@ module _ {n : ℕ} where
   in_time rules a most before after (out.Cut at) same h = refl
 
   -- a line write holds up a read that comes no longer than is said
-  delay-most : (rules : Rules) (p : Pausing) (a : ℕ) (before after : List (Row n)) (busy : Bool) (r : Option Action)
+  delay-most : (rules : Rules) (p : Policy) (a : ℕ) (before after : List (Row n)) (busy : Bool) (r : Option Action)
       → (is_cancelling p ≡ true → nat_lt (came_since (last_store a (before ++ after)) before) 4 ≡ true → owes rules.read rules.iter (rules.steps * rules.iter) true busy r ≡ 0)
       → owes rules.read rules.iter (rules.steps * rules.iter) (gives_way p) busy r ≤ delay rules p a before after
   delay-most rules Pause a before after busy r few = owes-most rules.read rules.iter (rules.steps * rules.iter) true busy r
@@ -107,7 +111,7 @@ would_find true true false d h = absurd (cc)
 would_find true false c d h = absurd (cc)
 would_find false b c d h = absurd (cc)
 
-uncancelled : {n m : ℕ} (shape : BankShape) (pace : Pacing) (e : ℕ) (zs : List (Timed n m)) (s : Timed n m) (h : Happens n) (row : ℕ) → MayCome shape pace e zs s h → has_wait (waits shape (core zs)) row ≡ true → s.cancels ≡ false
+uncancelled : {n m : ℕ} (shape : BankShape) (pace : Pace) (e : ℕ) (zs : List (TimedEvent n m)) (s : TimedEvent n m) (h : Happens n) (row : ℕ) → MayCome shape pace e zs s h → has_wait (waits shape (core zs)) row ≡ true → s.cancels ≡ false
 uncancelled shape pace e zs s (Core (Write at line bytes given answer)) row may there = may.on_time.1
 uncancelled shape pace e zs s (Core (Read at line answer)) row may there = may.on_time.1
 uncancelled shape pace e zs s (Core (Serve answer)) row may there = may.on_time.1
@@ -130,10 +134,10 @@ uncancelled shape pace e zs s (Core (Cut tearing)) row may there = by s.cancels 
         absurd (cc (ap not none, some))
     by false would = refl
 
-module _ {n m : ℕ} (shape : BankShape) (pace : Pacing) (e : ℕ) (all : List (Timed n m)) where
+module _ {n m : ℕ} (shape : BankShape) (pace : Pace) (e : ℕ) (all : List (TimedEvent n m)) where
   -- a read that waits is in time, and no cut came
-  turns : (a most row : ℕ) (owed : List ℕ) (zs : List (Timed n m)) → 1 ≤ pace.read → 1 ≤ pace.iter → Awaits (waits shape (core zs)) row owed → a ≤ last_tick zs → Turn shape pace e a most row zs
-      → (mid : List (Timed n m)) → Lawful shape pace e (mid ++ zs) → outcome_of shape (mid ++ zs) row ≡ out.Unset
+  turns : (a most row : ℕ) (owed : List ℕ) (zs : List (TimedEvent n m)) → 1 ≤ pace.read → 1 ≤ pace.iter → Awaits (waits shape (core zs)) row owed → a ≤ last_tick zs → Turn shape pace e a most row zs
+      → (mid : List (TimedEvent n m)) → Lawful shape pace e (mid ++ zs) → outcome_of shape (mid ++ zs) row ≡ out.Unset
       → Turn shape pace e a most row (mid ++ zs) × (a ≤ last_tick (mid ++ zs)) × (list_any is_cut (rows_after shape all mid) ≡ false)
   turns a most row owed zs r i waits_on up t [] l un = (t, up, refl)
   turns a most row owed zs r i waits_on up t (y ∷ mid) l un =
@@ -158,7 +162,7 @@ module _ {n m : ℕ} (shape : BankShape) (pace : Pacing) (e : ℕ) (all : List (
       uncut (Core (Iterate answer)) cancels still = refl
       uncut (Core (Cut tearing)) cancels still = absurd (cc)
 
-  module _ (a most row : ℕ) (zs : List (Timed n m)) (s : Timed n m) (r : 1 ≤ pace.read) (i : 1 ≤ pace.iter) (l : Lawful shape pace e (s ∷ zs)) (mids lates : List (Row n)) where
+  module _ (a most row : ℕ) (zs : List (TimedEvent n m)) (s : TimedEvent n m) (r : 1 ≤ pace.read) (i : 1 ≤ pace.iter) (l : Lawful shape pace e (s ∷ zs)) (mids lates : List (Row n)) where
     -- where the event of a read's outcome comes it comes in time
     at_serve : (ws : List Awaited) (at first : ℕ) → IsFirst ws at → (at == row) ≡ true → NotEarly a row ws (Some (record { doing = Serving; first = first })) → a ≤ first
     at_serve [] at first head own low = absurd head
@@ -230,7 +234,7 @@ module _ {n m : ℕ} (shape : BankShape) (pace : Pacing) (e : ℕ) (all : List (
         lost false is = absurd (cc)
 
   -- so a read that begins to wait is in time in the end
-  in_end : (a most row : ℕ) (owed : List ℕ) (later zs : List (Timed n m)) → 1 ≤ pace.read → 1 ≤ pace.iter → Lawful shape pace e (later ++ zs)
+  in_end : (a most row : ℕ) (owed : List ℕ) (later zs : List (TimedEvent n m)) → 1 ≤ pace.read → 1 ≤ pace.iter → Lawful shape pace e (later ++ zs)
       → Awaits (waits shape (core zs)) row owed → a ≤ last_tick zs → Turn shape pace e a most row zs → outcome_of shape (later ++ zs) row ≢ out.Unset
       → InTime pace.read a most (rows_after shape all later) (outcome_of shape (later ++ zs) row)
   in_end a most row owed later zs r i l waits_on up t set = by (setting shape pace e later zs row (outcome_of shape (later ++ zs) row) l unset set refl)
@@ -244,7 +248,7 @@ module _ {n m : ℕ} (shape : BankShape) (pace : Pacing) (e : ℕ) (all : List (
       by : SetAt shape later zs row (outcome_of shape (later ++ zs) row) → InTime pace.read a most (rows_after shape all later) (outcome_of shape (later ++ zs) row)
       by at =
           let whole : Lawful shape pace e (at.late ++ at.event ∷ (at.mid ++ zs)) =
-          subst (λ (xs : List (Timed n m)). Lawful shape pace e xs) (ap (λ (xs : List (Timed n m)). xs ++ zs) at.split ∙ append_assoc at.late (at.event ∷ at.mid) zs) l in
+          subst (λ (xs : List (TimedEvent n m)). Lawful shape pace e xs) (ap (λ (xs : List (TimedEvent n m)). xs ++ zs) at.split ∙ append_assoc at.late (at.event ∷ at.mid) zs) l in
           let here : Lawful shape pace e (at.event ∷ (at.mid ++ zs)) = lawful_before shape pace e at.late (at.event ∷ (at.mid ++ zs)) whole in
           let past = turns a most row owed zs r i waits_on up t at.mid here.1 at.unset in
           let there : has_wait (waits shape (core (at.mid ++ zs))) row ≡ true = unset_waits shape pace e at.mid zs row owed here.1 waits_on at.unset in
@@ -258,17 +262,17 @@ module _ {n m : ℕ} (shape : BankShape) (pace : Pacing) (e : ℕ) (all : List (
   sums : (s o t x hold k p : ℕ) → s ≤ x → o ≤ hold → t ≡ k → s + o + t ≤ x + hold + k + p
   sums s o t x hold k p top most is = omega arith
 
-  pub read_at : 1 ≤ pace.read → 1 ≤ pace.iter → Lawful shape pace e all → waits shape (core all) ≡ [] → (later : List (Timed n m)) (x : Timed n m) (ys : List (Timed n m)) → all ≡ later ++ x ∷ ys
+  pub read_at : 1 ≤ pace.read → 1 ≤ pace.iter → Lawful shape pace e all → waits shape (core all) ≡ [] → (later : List (TimedEvent n m)) (x : TimedEvent n m) (ys : List (TimedEvent n m)) → all ≡ later ++ x ∷ ys
       → Passes (reads_in_time (rules_of e shape pace)) (rows_from shape all ys) (row_with shape all x.happens x.tick x.cancels) (rows_after shape all later)
   read_at r i l idle later x ys same =
       by x.happens x.cancels (may_at shape pace e all later x ys l same) (onwards_at shape pace e all later x ys l same) (λ arrives. waits_length shape pace e all later x ys r i l idle same arrives)
       (since-up shape pace e (x ∷ ys) r i here) (idle_runs shape pace e all r i l idle later x ys same)
       (λ most row owed waits_on t set.
-      subst (λ (xs : List (Timed n m)). InTime pace.read x.tick most (rows_after shape all later) (outcome_of shape xs row)) (sym same)
-      (in_end x.tick most row owed later (x ∷ ys) r i whole waits_on (omega arith) t (subst (λ (xs : List (Timed n m)). outcome_of shape xs row ≢ out.Unset) same set)))
+      subst (λ (xs : List (TimedEvent n m)). InTime pace.read x.tick most (rows_after shape all later) (outcome_of shape xs row)) (sym same)
+      (in_end x.tick most row owed later (x ∷ ys) r i whole waits_on (omega arith) t (subst (λ (xs : List (TimedEvent n m)). outcome_of shape xs row ≢ out.Unset) same set)))
     where
       whole : Lawful shape pace e (later ++ x ∷ ys)
-      whole = subst (λ (xs : List (Timed n m)). Lawful shape pace e xs) same l
+      whole = subst (λ (xs : List (TimedEvent n m)). Lawful shape pace e xs) same l
 
       here : Lawful shape pace e (x ∷ ys)
       here = lawful_before shape pace e later (x ∷ ys) whole
@@ -327,23 +331,23 @@ module _ {n m : ℕ} (shape : BankShape) (pace : Pacing) (e : ℕ) (all : List (
       by (Core (Cut tearing)) true may on count top free go = tt
       by (Core (Cut tearing)) false may on count top free go = refl
 
-module _ {n m : ℕ} (shape : BankShape) (pace : Pacing) (e : ℕ) (all : List (Timed n m)) where
+module _ {n m : ℕ} (shape : BankShape) (pace : Pace) (e : ℕ) (all : List (TimedEvent n m)) where
   sum_few : (s o t x k p : ℕ) → s ≤ x → o ≡ 0 → t ≡ k → s + o + t ≤ x + k + p
   sum_few s o t x k p top none is = omega arith
 
   -- a read that waits, and finds the present line write cancelled less often than it may be, ends by the reads before it and its own
-  few_read_at : 1 ≤ pace.read → 1 ≤ pace.iter → Lawful shape pace e all → waits shape (core all) ≡ [] → (later : List (Timed n m)) (x : Timed n m) (ys : List (Timed n m)) → all ≡ later ++ x ∷ ys
+  few_read_at : 1 ≤ pace.read → 1 ≤ pace.iter → Lawful shape pace e all → waits shape (core all) ≡ [] → (later : List (TimedEvent n m)) (x : TimedEvent n m) (ys : List (TimedEvent n m)) → all ≡ later ++ x ∷ ys
       → (row line : ℕ) → x.happens ≡ Core (Read row line came.Waiting) → is_cancelling pace.policy ≡ true → (pending_cancel ys ≡ 0 → cancels_after ys < 4)
       → InTime pace.read x.tick (x.tick + (length (waits shape (core ys)) + 1) * pace.read) (rows_after shape all later) (outcome_of shape all row)
   few_read_at r i l idle later x ys same row line is cancelling few =
       by x.happens is (may_at shape pace e all later x ys l same) (onwards_at shape pace e all later x ys l same)
       (since-up shape pace e (x ∷ ys) r i here)
       (λ most row owed waits_on t set.
-      subst (λ (xs : List (Timed n m)). InTime pace.read x.tick most (rows_after shape all later) (outcome_of shape xs row)) (sym same)
-      (in_end shape pace e all x.tick most row owed later (x ∷ ys) r i whole waits_on (omega arith) t (subst (λ (xs : List (Timed n m)). outcome_of shape xs row ≢ out.Unset) same set)))
+      subst (λ (xs : List (TimedEvent n m)). InTime pace.read x.tick most (rows_after shape all later) (outcome_of shape xs row)) (sym same)
+      (in_end shape pace e all x.tick most row owed later (x ∷ ys) r i whole waits_on (omega arith) t (subst (λ (xs : List (TimedEvent n m)). outcome_of shape xs row ≢ out.Unset) same set)))
     where
       whole : Lawful shape pace e (later ++ x ∷ ys)
-      whole = subst (λ (xs : List (Timed n m)). Lawful shape pace e xs) same l
+      whole = subst (λ (xs : List (TimedEvent n m)). Lawful shape pace e xs) same l
 
       here : Lawful shape pace e (x ∷ ys)
       here = lawful_before shape pace e later (x ∷ ys) whole
@@ -361,7 +365,7 @@ module _ {n m : ℕ} (shape : BankShape) (pace : Pacing) (e : ℕ) (all : List (
       ways : gives_way pace.policy ≡ true
       ways = by_policy pace.policy cancelling
         where
-          by_policy : (p : Pausing) → is_cancelling p ≡ true → gives_way p ≡ true
+          by_policy : (p : Policy) → is_cancelling p ≡ true → gives_way p ≡ true
           by_policy Pause is = absurd (cc)
           by_policy Plain is = absurd (cc)
           by_policy Cancel is = refl
@@ -428,11 +432,11 @@ ends-by read a most after (out.Forwarded at bytes) h = refl
 ends-by read a most after (out.Busy at) h = refl
 ends-by read a most after (out.Cut at) h = refl
 
-behind-is : {n m : ℕ} (shape : BankShape) (all later : List (Timed n m)) → rows_behind shape all later ≡ rows_after shape all later
+behind-is : {n m : ℕ} (shape : BankShape) (all later : List (TimedEvent n m)) → rows_behind shape all later ≡ rows_after shape all later
 behind-is shape all [] = refl
 behind-is shape all (x ∷ later) = ap (λ rows. rows ++ row_with shape all x.happens x.tick x.cancels) (behind-is shape all later)
 
-found-few : {n m : ℕ} (ys : List (Timed n m)) → count_found ys < 4 → pending_cancel ys ≡ 0 → cancels_after ys < 4
+found-few : {n m : ℕ} (ys : List (TimedEvent n m)) → count_found ys < 4 → pending_cancel ys ≡ 0 → cancels_after ys < 4
 found-few [] few none = few
 found-few (y ∷ ys) few none = by y.cancels few none
   where

@@ -6,7 +6,8 @@ use Rattle.result_rows.specs.declared.Outcome.TheVariants as out
 use Rattle.masked_bytes.specs.Entries.{has_row}
 use Rattle.bank_shape.specs.declared.BankShape.{BankShape}
 use Rattle.bank_model.specs.History.{waits, queue}
-use Rattle.bank_model.specs.Timing.{Pacing, Timed, core}
+use Rattle.bank_shape.specs.declared.pace.Pace.{Pace}
+use Rattle.bank_model.specs.Timing.{TimedEvent, core}
 use Rattle.bank_model.specs.Lawful.{Lawful}
 use Rattle.bank_laws.specs.Outcomes.{on_row, outcome_with, outcome_of}
 use Rattle.bank_laws.specs.Standing.{has_wait}
@@ -41,16 +42,16 @@ module _ {n : ℕ} where
 
 module _ {n m : ℕ} (shape : BankShape) where
   -- the event s sets the outcome o of a row, behind the events `mid` over zs and before the events `late`
-  pub record SetAt (later zs : List (Timed n m)) (row : ℕ) (o : Outcome n) : Type 0 where
-    pub late : List (Timed n m)
-    pub event : Timed n m
-    pub mid : List (Timed n m)
+  pub record SetAt (later zs : List (TimedEvent n m)) (row : ℕ) (o : Outcome n) : Type 0 where
+    pub late : List (TimedEvent n m)
+    pub event : TimedEvent n m
+    pub mid : List (TimedEvent n m)
     pub split : later ≡ late ++ event ∷ mid
     pub unset : outcome_of shape (mid ++ zs) row ≡ out.Unset
     pub sets : outcome_with shape (mid ++ zs) event.happens event.tick row ≡ Some o
 
-module _ {n m : ℕ} (shape : BankShape) (pace : Pacing) (e : ℕ) where
-  pub setting : (later zs : List (Timed n m)) (row : ℕ) (o : Outcome n) → Lawful shape pace e (later ++ zs) → outcome_of shape zs row ≡ out.Unset → o ≢ out.Unset
+module _ {n m : ℕ} (shape : BankShape) (pace : Pace) (e : ℕ) where
+  pub setting : (later zs : List (TimedEvent n m)) (row : ℕ) (o : Outcome n) → Lawful shape pace e (later ++ zs) → outcome_of shape zs row ≡ out.Unset → o ≢ out.Unset
       → outcome_of shape (later ++ zs) row ≡ o → SetAt shape later zs row o
   setting [] zs row o l un set is = absurd (set (sym is ∙ un))
   setting (y ∷ later) zs row o l un set is = by (open_or_set (outcome_of shape (later ++ zs) row)) (λ k. setting later zs row o l.1 un set k)
@@ -68,10 +69,10 @@ module _ {n m : ℕ} (shape : BankShape) (pace : Pacing) (e : ℕ) where
       }
       by (inr k) go =
           let at = go (sym (step_stays shape pace e (later ++ zs) y y.happens row l.1 (opens shape pace e (later ++ zs) l.1) l.0 k) ∙ is) in
-          record { late = y ∷ at.late; event = at.event; mid = at.mid; split = ap (λ (xs : List (Timed n m)). y ∷ xs) at.split; unset = at.unset; sets = at.sets }
+          record { late = y ∷ at.late; event = at.event; mid = at.mid; split = ap (λ (xs : List (TimedEvent n m)). y ∷ xs) at.split; unset = at.unset; sets = at.sets }
 
   -- what has no outcome had none before
-  pub unset_before : (y : Timed n m) (zs : List (Timed n m)) (row : ℕ) → Lawful shape pace e (y ∷ zs) → outcome_of shape (y ∷ zs) row ≡ out.Unset → outcome_of shape zs row ≡ out.Unset
+  pub unset_before : (y : TimedEvent n m) (zs : List (TimedEvent n m)) (row : ℕ) → Lawful shape pace e (y ∷ zs) → outcome_of shape (y ∷ zs) row ≡ out.Unset → outcome_of shape zs row ≡ out.Unset
   unset_before y zs row l un = by (open_or_set (outcome_of shape zs row))
     where
       by : (outcome_of shape zs row ≡ out.Unset) ⊎ (outcome_of shape zs row ≢ out.Unset) → outcome_of shape zs row ≡ out.Unset
@@ -79,7 +80,7 @@ module _ {n m : ℕ} (shape : BankShape) (pace : Pacing) (e : ℕ) where
       by (inr k) = absurd (k (sym (step_stays shape pace e zs y y.happens row l.1 (opens shape pace e zs l.1) l.0 k) ∙ un))
 
   -- a read that has no outcome waits
-  pub unset_waits : (mid zs : List (Timed n m)) (row : ℕ) (owed : List ℕ) → Lawful shape pace e (mid ++ zs) → Awaits (waits shape (core zs)) row owed → outcome_of shape (mid ++ zs) row ≡ out.Unset
+  pub unset_waits : (mid zs : List (TimedEvent n m)) (row : ℕ) (owed : List ℕ) → Lawful shape pace e (mid ++ zs) → Awaits (waits shape (core zs)) row owed → outcome_of shape (mid ++ zs) row ≡ out.Unset
       → has_wait (waits shape (core (mid ++ zs))) row ≡ true
   unset_waits mid zs row owed l a un = by (read_fate shape pace e mid zs row owed l (inl a))
     where
@@ -88,7 +89,7 @@ module _ {n m : ℕ} (shape : BankShape) (pace : Pacing) (e : ℕ) where
       by (inr k) = absurd (subst (λ (o : Outcome n). IsSettled owed o) un k)
 
   -- a write that was accepted and has no outcome stands in the queue
-  pub unset_stands : (mid zs : List (Timed n m)) (row : ℕ) → Lawful shape pace e (mid ++ zs) → has_row (queue shape (core zs)) row ≡ true → outcome_of shape (mid ++ zs) row ≡ out.Unset
+  pub unset_stands : (mid zs : List (TimedEvent n m)) (row : ℕ) → Lawful shape pace e (mid ++ zs) → has_row (queue shape (core zs)) row ≡ true → outcome_of shape (mid ++ zs) row ≡ out.Unset
       → has_row (queue shape (core (mid ++ zs))) row ≡ true
   unset_stands mid zs row l there un = by (write_fate shape pace e mid zs row l (inl there))
     where

@@ -4,9 +4,9 @@ use Rattle.std.specs.Prelude.{unwrap_or, nat_le}
 use Rattle.std.proofs.lemmas.Bool.{le-leb, ne_eqb, eq-eqb, or_left, or_right}
 use Rattle.result_rows.specs.declared.Outcome.{Outcome}
 use Rattle.result_rows.specs.declared.Outcome.TheVariants as out
-use Rattle.row_laws.specs.Ticking.{apart}
+use Rattle.row_rules.specs.Ticking.{apart}
 use Rattle.bank_shape.specs.declared.BankShape.{BankShape}
-use Rattle.bank_model.specs.declared.answer.ReadAnswer.TheVariants as came
+use Rattle.bank_shape.specs.declared.answer.ReadAnswer.TheVariants as came
 use Rattle.bank_model.specs.Events.{Event, Write, Read, Serve, Begin, Iterate, Cut, RowsBelow}
 use Rattle.bank_model.specs.History.{Awaited, waits}
 use Rattle.bank_laws.specs.Outcomes.{on_row, ended}

@@ -6,20 +6,21 @@ use Rattle.std.proofs.Math.Nat.{mul-le-mul_left}
 use Rattle.result_rows.specs.declared.Outcome.{Outcome}
 use Rattle.result_rows.specs.declared.Outcome.TheVariants as out
 use Rattle.masked_bytes.specs.Entries.{has_row}
-use Rattle.row_laws.specs.declared.Row.{Row}
-use Rattle.row_laws.specs.Answers.{stored_after, stored_by, read_after, read_by}
-use Rattle.row_laws.specs.Rules.{Rules}
-use Rattle.row_laws.specs.Ticking.{tries, writings, longest, stores_in, reads_in, cuts_to}
+use Rattle.row_rules.specs.declared.Row.{Row}
+use Rattle.row_rules.specs.Answers.{stored_after, stored_by, read_after, read_by}
+use Rattle.row_rules.specs.declared.Rules.{Rules}
+use Rattle.row_rules.specs.Ticking.{tries, writings, longest, stores_in, reads_in, cuts_to}
 use Rattle.bank_shape.specs.declared.BankShape.{BankShape}
 use Rattle.bank_shape.specs.Shape.{controls_of}
-use Rattle.bank_model.specs.declared.answer.WriteAnswer.TheVariants as wrote
-use Rattle.bank_model.specs.declared.answer.ReadAnswer.TheVariants as came
-use Rattle.bank_model.specs.declared.answer.Step.TheVariants as did
+use Rattle.bank_shape.specs.declared.answer.WriteAnswer.TheVariants as wrote
+use Rattle.bank_shape.specs.declared.answer.ReadAnswer.TheVariants as came
+use Rattle.bank_shape.specs.declared.answer.Step.TheVariants as did
 use Rattle.bank_model.specs.Events.{Write, Read, Serve, Begin, Iterate, Cut}
 use Rattle.bank_model.specs.History.{queue, waits, due_after, has_exhausted}
 use Rattle.bank_model.specs.After.{work_after}
 use Rattle.bank_model.specs.Answers.{IsDone}
-use Rattle.bank_model.specs.Timing.{Pacing, Happens, Core, Regs, Timed, core, core_of, last_tick}
+use Rattle.bank_shape.specs.declared.pace.Pace.{Pace}
+use Rattle.bank_model.specs.Timing.{Happens, Core, Regs, TimedEvent, core, core_of, last_tick}
 use Rattle.bank_model.specs.Running.{cancels_with, cancels_after}
 use Rattle.bank_model.specs.Changes.{change_after, halted_after, halted_by}
 use Rattle.bank_model.specs.Lawful.{Lawful, MayCome}
@@ -49,7 +50,7 @@ use Rattle.tick_laws.proofs.Delays.{gain, Delay, delay_at, step, store_tick}
 use Rattle.tick_laws.proofs.Counts.{Sets, tallied_all, writes-counted, reads-counted, rows-counted, cuts-counted, count-append, among-later}
 
 -- the ticks that may have passed to an arrival at a and over some events
-abbrev allowed : {n m : ℕ} → ℕ → ℕ → ℕ → List (Timed n m) → ℕ
+abbrev allowed : {n m : ℕ} → ℕ → ℕ → ℕ → List (TimedEvent n m) → ℕ
 allowed read work a [] = a
 allowed read work a (y ∷ mid) = gain read work y.happens y.cancels + allowed read work a mid
 
@@ -64,7 +65,7 @@ spread a r b s m t c k v ss mm tt cc kk vv =
     let f : r * (2 * (v + vv) + (c + cc)) ≡ r * (2 * v + c) + r * (2 * vv + cc) = ap (λ k. r * k) (omega arith) ∙ times-add r (2 * v + c) (2 * vv + cc) in
     omega (arith, d, f)
 
-allowed-is : {n m : ℕ} (read work a : ℕ) (mid : List (Timed n m))
+allowed-is : {n m : ℕ} (read work a : ℕ) (mid : List (TimedEvent n m))
     → allowed read work a mid
     ≡ ((read + work) * (tally stores_by mid + tally moves_by mid + tally others_by mid + tally_cuts cuts_by mid + tally_cuts cancelled_by mid) + read * (2 * tally serves_by mid + tally_cuts cuts_by mid)) + a
 allowed-is read work a [] = omega arith
@@ -106,10 +107,10 @@ module _ {n : ℕ} where
   ended-within a u tick (out.Lost at) = refl
   ended-within a u tick (out.Cut at) = refl
 
-module _ {n m : ℕ} (shape : BankShape) (pace : Pacing) (e : ℕ) where
+module _ {n m : ℕ} (shape : BankShape) (pace : Pace) (e : ℕ) where
   -- while a write stands the ticks are in time
-  delays : (a row : ℕ) (zs : List (Timed n m)) → 1 ≤ pace.read → 1 ≤ pace.iter → has_row (queue shape (core zs)) row ≡ true → Delay shape pace e a zs
-      → (mid : List (Timed n m)) → Lawful shape pace e (mid ++ zs) → outcome_of shape (mid ++ zs) row ≡ out.Unset → has_exhausted (core (mid ++ zs)) ≡ false → halted_after (mid ++ zs) ≡ false
+  delays : (a row : ℕ) (zs : List (TimedEvent n m)) → 1 ≤ pace.read → 1 ≤ pace.iter → has_row (queue shape (core zs)) row ≡ true → Delay shape pace e a zs
+      → (mid : List (TimedEvent n m)) → Lawful shape pace e (mid ++ zs) → outcome_of shape (mid ++ zs) row ≡ out.Unset → has_exhausted (core (mid ++ zs)) ≡ false → halted_after (mid ++ zs) ≡ false
       → Delay shape pace e (allowed pace.read (work_time pace e) a mid) (mid ++ zs)
   delays a row zs r i there d [] l un fine runs = d
   delays a row zs r i there d (y ∷ mid) l un fine runs =
@@ -121,7 +122,7 @@ module _ {n m : ℕ} (shape : BankShape) (pace : Pacing) (e : ℕ) where
       (delays a row zs r i there d mid l.1 back before still))
 
   -- what the event is by which a row is stored
-  pub record IsStore (zs : List (Timed n m)) (y : Timed n m) (h : Happens n) (u : ℕ) : Type 0 where
+  pub record IsStore (zs : List (TimedEvent n m)) (y : TimedEvent n m) (h : Happens n) (u : ℕ) : Type 0 where
     pub at : u ≡ y.tick
     fine : has_exhausted (core zs) ≡ false
     written : change_after shape zs ≡ None
@@ -133,7 +134,7 @@ module _ {n m : ℕ} (shape : BankShape) (pace : Pacing) (e : ℕ) where
     after : has_exhausted (core_of h (core zs)) ≡ false
     resets : (cancels : Bool) (count : ℕ) → cancels_with h cancels count ≡ 0
 
-  module _ (zs : List (Timed n m)) (y : Timed n m) (row u p : ℕ) where
+  module _ (zs : List (TimedEvent n m)) (y : TimedEvent n m) (row u p : ℕ) where
     not_set : (at : ℕ) (t : Outcome n) → ((u p : ℕ) → t ≡ out.Stored u p → ⊥) → on_row at row t ≡ Some (out.Stored u p) → ⊥
     not_set at t other is = other u p (row_set at row t (out.Stored u p) is).1
 
@@ -194,26 +195,26 @@ module _ {n m : ℕ} (shape : BankShape) (pace : Pacing) (e : ℕ) where
         by true is = absurd (cc)
         by false is = absurd (cc)
 
-module _ {n m : ℕ} (shape : BankShape) (pace : Pacing) (e : ℕ) (all : List (Timed n m)) where
-  module _ (a u : ℕ) (zs : List (Timed n m)) (r : 1 ≤ pace.read) (i : 1 ≤ pace.iter) (up : a ≤ last_tick zs) where
-    written : (late back : List (Timed n m)) (y : Timed n m) → all ≡ late ++ y ∷ (back ++ zs) → (c : ℕ) → among (writes_in (back ++ zs)) c ≡ true → among (writes_in all) c ≡ true
+module _ {n m : ℕ} (shape : BankShape) (pace : Pace) (e : ℕ) (all : List (TimedEvent n m)) where
+  module _ (a u : ℕ) (zs : List (TimedEvent n m)) (r : 1 ≤ pace.read) (i : 1 ≤ pace.iter) (up : a ≤ last_tick zs) where
+    written : (late back : List (TimedEvent n m)) (y : TimedEvent n m) → all ≡ late ++ y ∷ (back ++ zs) → (c : ℕ) → among (writes_in (back ++ zs)) c ≡ true → among (writes_in all) c ≡ true
     written late back y same c there =
-        subst (λ (xs : List (Timed n m)). among (writes_in xs) c ≡ true) (append_assoc late (y ∷ []) (back ++ zs) ∙ sym same)
+        subst (λ (xs : List (TimedEvent n m)). among (writes_in xs) c ≡ true) (append_assoc late (y ∷ []) (back ++ zs) ∙ sym same)
         (among-later {n = n} {m = m} write_rows writes_in (λ x xs. refl) (late ++ y ∷ []) (back ++ zs) c there)
 
-    asked : (late back : List (Timed n m)) (y : Timed n m) → all ≡ late ++ y ∷ (back ++ zs) → (c : ℕ) → among (waiting.reads_in (back ++ zs)) c ≡ true → among (waiting.reads_in all) c ≡ true
+    asked : (late back : List (TimedEvent n m)) (y : TimedEvent n m) → all ≡ late ++ y ∷ (back ++ zs) → (c : ℕ) → among (waiting.reads_in (back ++ zs)) c ≡ true → among (waiting.reads_in all) c ≡ true
     asked late back y same c there =
-        subst (λ (xs : List (Timed n m)). among (waiting.reads_in xs) c ≡ true) (append_assoc late (y ∷ []) (back ++ zs) ∙ sym same)
+        subst (λ (xs : List (TimedEvent n m)). among (waiting.reads_in xs) c ≡ true) (append_assoc late (y ∷ []) (back ++ zs) ∙ sym same)
         (among-later {n = n} {m = m} waiting.read_rows waiting.reads_in (λ x xs. refl) (late ++ y ∷ []) (back ++ zs) c there)
 
-    above : (back : List (Timed n m)) (y : Timed n m) → Lawful shape pace e (y ∷ back ++ zs) → ends_action y.happens ≡ true → a < y.tick
+    above : (back : List (TimedEvent n m)) (y : TimedEvent n m) → Lawful shape pace e (y ∷ back ++ zs) → ends_action y.happens ≡ true → a < y.tick
     above back y l ends =
         let before : last_tick zs ≤ last_tick (back ++ zs) = last-later shape pace e back zs r i l.1 in
         let lt : last_tick (back ++ zs) < y.tick = last-below shape pace e (back ++ zs) y r i l ends in
         omega (arith, up, before, lt)
 
     -- each store stores a row, and each serve reads one
-    stores_set : (late back : List (Timed n m)) (y : Timed n m) → all ≡ late ++ y ∷ (back ++ zs) → Lawful shape pace e (y ∷ back ++ zs) → y.tick ≤ u
+    stores_set : (late back : List (TimedEvent n m)) (y : TimedEvent n m) → all ≡ late ++ y ∷ (back ++ zs) → Lawful shape pace e (y ∷ back ++ zs) → y.tick ≤ u
         → Sets shape pace e all stores_by (writes_in all) (stored_within a u) y (back ++ zs)
     stores_set late back y same l le = by y.happens l.0 (above back y l)
       where
@@ -251,7 +252,7 @@ module _ {n m : ℕ} (shape : BankShape) (pace : Pacing) (e : ℕ) (all : List (
         by (Core (Iterate did.Exhausted)) may lt = inl refl
         by (Core (Cut tearing)) may lt = inl refl
 
-    serves_set : (late back : List (Timed n m)) (y : Timed n m) → all ≡ late ++ y ∷ (back ++ zs) → Lawful shape pace e (y ∷ back ++ zs) → y.tick ≤ u
+    serves_set : (late back : List (TimedEvent n m)) (y : TimedEvent n m) → all ≡ late ++ y ∷ (back ++ zs) → Lawful shape pace e (y ∷ back ++ zs) → y.tick ≤ u
         → Sets shape pace e all serves_by (waiting.reads_in all) (read_within a u) y (back ++ zs)
     serves_set late back y same l le = by y.happens l.0 (above back y l)
       where
@@ -279,10 +280,10 @@ module _ {n m : ℕ} (shape : BankShape) (pace : Pacing) (e : ℕ) (all : List (
         by (Core (Cut tearing)) may lt = inl refl
 
   -- the rows of the table, around those of an event
-  abbrev pub Table : (later : List (Timed n m)) (x : Timed n m) (ys : List (Timed n m)) → Happens n → List (Row n)
+  abbrev pub Table : (later : List (TimedEvent n m)) (x : TimedEvent n m) (ys : List (TimedEvent n m)) → Happens n → List (Row n)
   Table later x ys h = rows_from shape all ys ++ (row_with shape all h x.tick x.cancels ++ rows_after shape all later)
 
-  table-counted : (t : Row n → Bool) (later : List (Timed n m)) (x : Timed n m) (ys : List (Timed n m)) → all ≡ later ++ x ∷ ys
+  table-counted : (t : Row n → Bool) (later : List (TimedEvent n m)) (x : TimedEvent n m) (ys : List (TimedEvent n m)) → all ≡ later ++ x ∷ ys
       → count_by t (Table later x ys x.happens) ≡ count_by t (rows_from shape all all)
   table-counted t later x ys same =
       let whole : count_by t (rows_from shape all (later ++ x ∷ ys)) ≡ count_by t (rows_after shape all later) + count_by t (row_with shape all x.happens x.tick x.cancels ++ rows_from shape all ys) =
@@ -293,7 +294,7 @@ module _ {n m : ℕ} (shape : BankShape) (pace : Pacing) (e : ℕ) (all : List (
       count-append t (rows_from shape all ys) _ in
       let back : count_by t (row_with shape all x.happens x.tick x.cancels ++ rows_after shape all later) ≡ count_by t (row_with shape all x.happens x.tick x.cancels) + count_by t (rows_after shape all later) =
       count-append t (row_with shape all x.happens x.tick x.cancels) (rows_after shape all later) in
-      let is : count_by t (rows_from shape all (later ++ x ∷ ys)) ≡ count_by t (rows_from shape all all) = ap (λ (xs : List (Timed n m)). count_by t (rows_from shape all xs)) (sym same) in
+      let is : count_by t (rows_from shape all (later ++ x ∷ ys)) ≡ count_by t (rows_from shape all all) = ap (λ (xs : List (TimedEvent n m)). count_by t (rows_from shape all xs)) (sym same) in
       omega (arith, whole, own, front, back, is)
 
   -- a write that stands is stored in time, if it is
@@ -301,23 +302,23 @@ module _ {n m : ℕ} (shape : BankShape) (pace : Pacing) (e : ℕ) (all : List (
     pub late : a < u
     pub soon : u ≤ a + longest rules (stores_in a u table) (reads_in a u table) (cuts_to u after)
 
-  pub in_end : (later : List (Timed n m)) (x : Timed n m) (ys : List (Timed n m)) (row u p : ℕ) → 1 ≤ pace.read → 1 ≤ pace.iter → 1 ≤ shape.psi → Lawful shape pace e all
+  pub in_end : (later : List (TimedEvent n m)) (x : TimedEvent n m) (ys : List (TimedEvent n m)) (row u p : ℕ) → 1 ≤ pace.read → 1 ≤ pace.iter → 1 ≤ shape.psi → Lawful shape pace e all
       → all ≡ later ++ x ∷ ys → has_row (queue shape (core (x ∷ ys))) row ≡ true → outcome_of shape all row ≡ out.Stored u p
       → IsInTime (rules_of e shape pace) x.tick u (Table later x ys x.happens) (rows_after shape all later)
   in_end later x ys row u p r i some l same there is =
       by (setting shape pace e later (x ∷ ys) row (out.Stored u p) total ((opens shape pace e (x ∷ ys) before).queued row there) (λ k. absurd (cc))
-      (ap (λ (xs : List (Timed n m)). outcome_of shape xs row) (sym same) ∙ is))
+      (ap (λ (xs : List (TimedEvent n m)). outcome_of shape xs row) (sym same) ∙ is))
     where
       total : Lawful shape pace e (later ++ x ∷ ys)
-      total = subst (λ (xs : List (Timed n m)). Lawful shape pace e xs) same l
+      total = subst (λ (xs : List (TimedEvent n m)). Lawful shape pace e xs) same l
 
       before : Lawful shape pace e (x ∷ ys)
       before = lawful_before shape pace e later (x ∷ ys) total
 
       by : SetAt shape later (x ∷ ys) row (out.Stored u p) → IsInTime (rules_of e shape pace) x.tick u (Table later x ys x.happens) (rows_after shape all later)
       by at =
-          let split : all ≡ at.late ++ at.event ∷ (at.mid ++ x ∷ ys) = same ∙ ap (λ (xs : List (Timed n m)). xs ++ x ∷ ys) at.split ∙ append_assoc at.late (at.event ∷ at.mid) (x ∷ ys) in
-          let whole : Lawful shape pace e (at.late ++ at.event ∷ (at.mid ++ x ∷ ys)) = subst (λ (xs : List (Timed n m)). Lawful shape pace e xs) split l in
+          let split : all ≡ at.late ++ at.event ∷ (at.mid ++ x ∷ ys) = same ∙ ap (λ (xs : List (TimedEvent n m)). xs ++ x ∷ ys) at.split ∙ append_assoc at.late (at.event ∷ at.mid) (x ∷ ys) in
+          let whole : Lawful shape pace e (at.late ++ at.event ∷ (at.mid ++ x ∷ ys)) = subst (λ (xs : List (TimedEvent n m)). Lawful shape pace e xs) split l in
           let here : Lawful shape pace e (at.event ∷ (at.mid ++ x ∷ ys)) = lawful_before shape pace e at.late (at.event ∷ (at.mid ++ x ∷ ys)) whole in
           let event = store_event shape pace e (at.mid ++ x ∷ ys) at.event row u p at.event.happens here.0 at.sets in
           let now : u ≡ at.event.tick = event.at in
@@ -349,7 +350,7 @@ module _ {n m : ℕ} (shape : BankShape) (pace : Pacing) (e : ℕ) (all : List (
           let retires : tally retires_by (at.event ∷ at.mid) ≤ shape.spares = retires_few shape pace e (at.event ∷ at.mid) (x ∷ ys) here in
           let cuts : tally_cuts cuts_by (at.event ∷ at.mid) ≤ cuts_to u (rows_after shape all (at.event ∷ at.mid)) = cuts-counted shape all pace e u (at.event ∷ at.mid) (x ∷ ys) r i here (omega (arith, now)) in
           let more : cuts_to u (rows_after shape all later) ≡ cuts_to u (rows_after shape all (at.event ∷ at.mid)) + cuts_to u (rows_after shape all at.late) =
-          ap (λ (xs : List (Timed n m)). cuts_to u (rows_after shape all xs)) at.split ∙ ap (cuts_to u) (rows_after-append shape all at.late (at.event ∷ at.mid))
+          ap (λ (xs : List (TimedEvent n m)). cuts_to u (rows_after shape all xs)) at.split ∙ ap (cuts_to u) (rows_after-append shape all at.late (at.event ∷ at.mid))
           ∙ count-append _ (rows_after shape all (at.event ∷ at.mid)) (rows_after shape all at.late) in
           let tried = tried_few shape pace e (at.event ∷ at.mid) (x ∷ ys) here event.after (event.halts (halted_after (at.mid ++ x ∷ ys)) ∙ still) (event.resets at.event.cancels (cancels_after (at.mid ++ x ∷ ys))) in
           let no_other : others_by at.event.happens ≡ 0 = event.no_other in

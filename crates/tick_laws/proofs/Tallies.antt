@@ -1,9 +1,9 @@
 -- How many line writes ended, reads were served and cuts came, over some events.
 use Rattle.std.proofs.Common.{ℕ, ◌+◌, Bool, true, false, List, [], ◌∷◌}
-use Rattle.bank_model.specs.declared.answer.Keep.TheVariants as keep
-use Rattle.bank_model.specs.declared.answer.Step.TheVariants as did
+use Rattle.bank_shape.specs.declared.answer.Keep.TheVariants as keep
+use Rattle.bank_shape.specs.declared.answer.Step.TheVariants as did
 use Rattle.bank_model.specs.Events.{Serve, Begin, Iterate, Cut}
-use Rattle.bank_model.specs.Timing.{Happens, Core, Regs, KeepBegin, KeepIterate, KeepCut, Timed}
+use Rattle.bank_model.specs.Timing.{Happens, Core, Regs, KeepBegin, KeepIterate, KeepCut, TimedEvent}
 
 module _ {n : ℕ} where
   -- one for each store, move, retirement or serve
@@ -43,10 +43,10 @@ module _ {n : ℕ} where
   cancelled_by _ _ = 0
 
 -- the sum of that over some events
-abbrev pub tally : {n m : ℕ} → (Happens n → ℕ) → List (Timed n m) → ℕ
+abbrev pub tally : {n m : ℕ} → (Happens n → ℕ) → List (TimedEvent n m) → ℕ
 tally by [] = 0
 tally by (x ∷ xs) = by x.happens + tally by xs
 
-abbrev pub tally_cuts : {n m : ℕ} → (Happens n → Bool → ℕ) → List (Timed n m) → ℕ
+abbrev pub tally_cuts : {n m : ℕ} → (Happens n → Bool → ℕ) → List (TimedEvent n m) → ℕ
 tally_cuts by [] = 0
 tally_cuts by (x ∷ xs) = by x.happens x.cancels + tally_cuts by xs

@@ -4,20 +4,24 @@ use Rattle.std.specs.Prelude.{IfSome, is_some}
 use Rattle.std.proofs.Math.Nat.{mul-le-mul_right}
 use Rattle.bank_shape.specs.declared.BankShape.{BankShape}
 use Rattle.bank_shape.specs.Pausing.{is_cancelling}
-use Rattle.bank_model.specs.declared.answer.ReadAnswer.TheVariants as came
-use Rattle.bank_model.specs.declared.clock.Doing.{Doing}
-use Rattle.bank_model.specs.declared.clock.Doing.TheVariants.{Serving, Beginning, Iterating}
-use Rattle.bank_model.specs.declared.clock.Action.{Action}
+use Rattle.bank_shape.specs.declared.answer.ReadAnswer.TheVariants as came
+use Rattle.bank_shape.specs.declared.clock.Doing.{Doing}
+use Rattle.bank_shape.specs.declared.clock.Doing.TheVariants.{Serving, Beginning, Iterating}
+use Rattle.bank_shape.specs.declared.clock.Action.{Action}
 use Rattle.bank_model.specs.Events.{Write, Read, Serve, Begin, Iterate, Cut}
 use Rattle.bank_model.specs.History.{Awaited, waits, in_progress, iterated, goes_on}
 use Rattle.bank_model.specs.Sensing.{most_steps}
-use Rattle.bank_model.specs.Timing.{Pacing, Happens, Core, Regs, KeepBegin, KeepIterate, KeepCut, Timed, lasts, ends_with, ends, is_doing, is_writing, is_empty, core, core_of, last_tick}
-use Rattle.bank_model.specs.Running.{busy_by, made_by, busy_after, made_after, ready_after, drops_begin, gives_way, choice, chosen_by, started, left_by, running, running_at, chosen_after}
+use Rattle.bank_shape.specs.declared.pace.Pace.{Pace}
+use Rattle.bank_shape.specs.Acting.{lasts, ends_with}
+use Rattle.bank_model.specs.Timing.{Happens, Core, Regs, KeepBegin, KeepIterate, KeepCut, TimedEvent, ends, is_doing, is_writing, is_empty, core, core_of, last_tick}
+use Rattle.bank_shape.specs.Pausing.{gives_way}
+use Rattle.bank_shape.specs.Acting.{choice, chosen_by}
+use Rattle.bank_model.specs.Running.{busy_by, made_by, busy_after, made_after, ready_after, drops_begin, started, left_by, running, running_at, chosen_after}
 use Rattle.bank_model.specs.Changes.{change_after, change_by, keeping_after, keeping_by, rounds_after, rounds_by, changed_by, written_by, keeps_on}
-use Rattle.bank_model.specs.declared.answer.Keep.{Keep}
-use Rattle.bank_model.specs.declared.answer.Keep.TheVariants as keep
-use Rattle.bank_model.specs.declared.answer.Step.{Step}
-use Rattle.bank_model.specs.declared.answer.Step.TheVariants as did
+use Rattle.bank_shape.specs.declared.answer.Keep.{Keep}
+use Rattle.bank_shape.specs.declared.answer.Keep.TheVariants as keep
+use Rattle.bank_shape.specs.declared.answer.Step.{Step}
+use Rattle.bank_shape.specs.declared.answer.Step.TheVariants as did
 use Rattle.bank_laws.proofs.Changing.{busy-none, busy-some, made-none, made-some, changed-idle}
 use Rattle.bank_model.specs.Lawful.{Lawful, MayCome}
 use Rattle.bank_laws.specs.Standing.{has_wait, WaitsApart}
@@ -95,7 +99,7 @@ times_few : (k w x : ℕ) → k < w → k * x + x ≤ w * x
 times_few k w x lt = subst (λ n. n ≤ w * x) (times_more k x) (mul-le-mul_right {m = k + 1} {n = w} x (omega (arith, lt)))
 
 -- the time of all iterations of a line write
-abbrev pub work_time : Pacing → ℕ → ℕ
+abbrev pub work_time : Pace → ℕ → ℕ
 work_time pace e = most_steps e * pace.iter
 
 -- a new change isn't being written yet
@@ -103,20 +107,20 @@ brings : (change : Option ℕ) → busy_by change false false ≡ false
 brings None = refl
 brings (Some item) = refl
 
-module _ {n m : ℕ} (shape : BankShape) (pace : Pacing) (e : ℕ) where
-  abbrev pub Turn : ℕ → ℕ → ℕ → List (Timed n m) → Type 0
+module _ {n m : ℕ} (shape : BankShape) (pace : Pace) (e : ℕ) where
+  abbrev pub Turn : ℕ → ℕ → ℕ → List (TimedEvent n m) → Type 0
   Turn a bound row zs =
       HasTurn pace.read pace.iter (work_time pace e) (gives_way pace.policy) a bound row (since_of shape pace zs) (running shape pace zs) (busy_after shape zs) (made_after shape zs) (waits shape (core zs))
 
   -- the same at the tick of the next event, before that
-  abbrev pub TurnAt : ℕ → ℕ → ℕ → List (Timed n m) → ℕ → Option Action → Type 0
+  abbrev pub TurnAt : ℕ → ℕ → ℕ → List (TimedEvent n m) → ℕ → Option Action → Type 0
   TurnAt a bound row zs tick r =
       HasTurn pace.read pace.iter (work_time pace e) (gives_way pace.policy) a bound row (since r tick) r (busy_after shape zs) (made_after shape zs) (waits shape (core zs))
 
-  pub few_times : (zs : List (Timed n m)) → Lawful shape pace e zs → busy_after shape zs ≡ true → made_after shape zs * pace.iter + pace.iter ≤ (work_time pace e)
+  pub few_times : (zs : List (TimedEvent n m)) → Lawful shape pace e zs → busy_after shape zs ≡ true → made_after shape zs * pace.iter + pace.iter ≤ (work_time pace e)
   few_times zs l busy = times_few (made_after shape zs) (most_steps e) pace.iter (iterated-few shape pace e zs l busy)
 
-  pub turn_at : (a bound row : ℕ) (zs : List (Timed n m)) (tick : ℕ) → last_tick zs ≤ tick → a ≤ last_tick zs → has_wait (waits shape (core zs)) row ≡ true → Turn a bound row zs
+  pub turn_at : (a bound row : ℕ) (zs : List (TimedEvent n m)) (tick : ℕ) → last_tick zs ≤ tick → a ≤ last_tick zs → has_wait (waits shape (core zs)) row ≡ true → Turn a bound row zs
       → TurnAt a bound row zs tick (running_at shape pace zs tick)
   turn_at a bound row zs tick rises up there t =
       subst (λ d. TurnAt a bound row zs tick (started (running shape pace zs) d (last_tick zs) tick)) (sym chosen) (record {
@@ -136,7 +140,7 @@ module _ {n m : ℕ} (shape : BankShape) (pace : Pacing) (e : ℕ) where
           ap (λ b. chosen_by (gives_way pace.policy) b (choice (busy_after shape zs) (ready_after shape zs))) (some-reads (waits shape (core zs)) row there)
           ∙ chosen-reads (gives_way pace.policy) (busy_after shape zs) (ready_after shape zs)
 
-  module _ (a bound row : ℕ) (zs : List (Timed n m)) (y : Timed n m) (l : Lawful shape pace e (y ∷ zs)) where
+  module _ (a bound row : ℕ) (zs : List (TimedEvent n m)) (y : TimedEvent n m) (l : Lawful shape pace e (y ∷ zs)) where
     abbrev pub TurnBy : Happens n → Option Action → Type 0
     TurnBy h r =
         HasTurn pace.read pace.iter (work_time pace e) (gives_way pace.policy) a bound row (since r y.tick) r (busy_by (change_by shape (core zs) h (change_after shape zs)) (keeping_by h (keeping_after zs)) (in_progress (core_of h (core zs)))) (made_by (change_by shape (core zs) h (change_after shape zs)) (rounds_by h (rounds_after zs)) (iterated (core_of h (core zs)))) (waits shape (core_of h (core zs)))

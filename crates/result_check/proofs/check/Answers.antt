@@ -1,5 +1,5 @@
 use Rattle.std.proofs.Common.{◌∙◌, arith}
-use Rattle.row_verdict.specs.Verdicts.{rows_with, rules_by}
+use Rattle.row_verdict.specs.Verdicts.{rows_with}
 use Rattle.result_check.proofs.Checking.{table_of}
 use Rattle.result_check.proofs.Going.{goes_first}
 use Rattle.result_check.proofs.Sizes.{event_fits}
@@ -39,7 +39,7 @@ pass_rows-requires g c =
                       c.in_ok-found.ensures,
                       (
                         c.deref.ensures.value ∙ c.in_ok-coming.ensures,
-                        goes_first (rules_by c.args.rules.now) c.args.banks.now (rows_with c.args.events.now c.args.results.now) c.in_ok-found.found c.in_ok-kept.kept.banks.items c.in_ok-kept.kept.joined c.in_ok-kept.kept.lines.items
+                        goes_first c.args.rules.now c.args.banks.now (rows_with c.args.events.now c.args.results.now) c.in_ok-found.found c.in_ok-kept.kept.banks.items c.in_ok-kept.kept.joined c.in_ok-kept.kept.lines.items
                             table c.in_ok-found.ensures k.number k.facts k.lines k.fresh k.joined,
                       ),
                     ),

@@ -1,7 +1,7 @@
 use Rattle.std.proofs.Common.{◌≡◌, ◌-◌, suc, ◌∙◌, drop, reverse, take, Some, length, refl, sym, ap, arith}
 use Rattle.std.specs.Prelude.{slice_get}
 use Rattle.std.proofs.lemmas.Option.{slice_get_read}
-use Rattle.row_verdict.specs.Verdicts.{rows_with, rules_by}
+use Rattle.row_verdict.specs.Verdicts.{rows_with}
 use Rattle.result_check.specs.Coming.{coming_of}
 use Rattle.result_check.specs.Finding.{row_of}
 use Rattle.result_check.specs.Tables.{IsRowOf}
@@ -20,7 +20,7 @@ pub cuts_behind-behind-requires : goal.cuts_behind-behind-requires
 cuts_behind-behind-requires g c =
     let events = c.args.events.now in
     let banks = c.args.banks.now in
-    let rules = rules_by c.args.rules.now in
+    let rules = c.args.rules.now in
     let found = c.args.found.now in
     let i = c.loop-i.i in
     let event = c.index-events-i.result in
@@ -48,7 +48,7 @@ pub take-requires : goal.take-requires
 take-requires g c =
     let events = c.args.events.now in
     let banks = c.args.banks.now in
-    let rules = rules_by c.args.rules.now in
+    let rules = c.args.rules.now in
     let found = c.args.found.now in
     let i = c.loop-i.i in
     let event = c.index-events-i.result in
@@ -98,7 +98,7 @@ pub returns-in-Some : goal.returns-in-Some
 returns-in-Some g c =
     let events = c.args.events.now in
     let banks = c.args.banks.now in
-    let rules = rules_by c.args.rules.now in
+    let rules = c.args.rules.now in
     let found = c.args.found.now in
     let i = c.loop-i.i in
     let event = c.index-events-i.result in
@@ -120,7 +120,7 @@ pub loop-i-preserved : goal.loop-i-preserved
 loop-i-preserved g c =
     let events = c.args.events.now in
     let banks = c.args.banks.now in
-    let rules = rules_by c.args.rules.now in
+    let rules = c.args.rules.now in
     let found = c.args.found.now in
     let i = c.loop-i.i in
     let event = c.index-events-i.result in
@@ -144,4 +144,4 @@ returns g c =
     let rows = rows_with c.args.events.now c.args.results.now in
     let long = rows_length c.args.events.now c.args.results.now c.requires.rows in
     let k = c.loop-i.kept in
-    record { exact = goes_yes (rules_by c.args.rules.now) c.args.banks.now rows c.loop-i.i c.args.found.now c.loop-i.cuts k.banks.items k.joined k.lines.items (omega (arith, long, c.loop-i-test.false)) c.loop-i.invariant }
+    record { exact = goes_yes c.args.rules.now c.args.banks.now rows c.loop-i.i c.args.found.now c.loop-i.cuts k.banks.items k.joined k.lines.items (omega (arith, long, c.loop-i-test.false)) c.loop-i.invariant }

@@ -1,5 +1,5 @@
 use Rattle.std.proofs.Common.{◌≡◌, ◌+◌, ◌≤◌, false, List}
-use Rattle.bank_model.specs.Timing.{Timed}
+use Rattle.bank_model.specs.Timing.{TimedEvent}
 use Rattle.clock_laws.specs.Leads.{Leads}
 use Rattle.bank_timing.specs.Extending.{AreOpen}
 use Rattle.bank_rows.proofs.rows.plays.Given as goal
@@ -8,6 +8,6 @@ use Rattle.bank_rows.proofs.rows.plays.Given as goal
 abbrev pub invariant-loop-tick : goal.invariant-loop-tick
 invariant-loop-tick g l =
     (l.timed.drained ≡ false)
-    × ((xs : List (Timed 64 8)) × Leads xs l.timed (g.A.CellArray.state l.array))
+    × ((xs : List (TimedEvent 64 8)) × Leads xs l.timed (g.A.CellArray.state l.array))
     × AreOpen l.timed.bank l.results
     × (l.timed.bank.rows_below ≤ l.row + 1)

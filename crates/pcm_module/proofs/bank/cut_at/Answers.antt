@@ -1,6 +1,6 @@
 use Rattle.std.proofs.Common.{[], ◌∷◌, ◌++◌, refl, sym, ◌∙◌, arith}
-use Rattle.row_laws.specs.declared.Asks.TheVariants.{Cuts}
-use Rattle.bank_model.specs.Timing.{Timed}
+use Rattle.row_rules.specs.declared.Asks.TheVariants.{Cuts}
+use Rattle.bank_model.specs.Timing.{TimedEvent}
 use Rattle.clock_laws.specs.Cutting.{cut}
 use Rattle.module_laws.specs.Asking.{Asked}
 use Rattle.bank_timing.proofs.Sizes.{timed_fits, row_fits}
@@ -38,7 +38,7 @@ returns-clause-step g c row xs leads =
     let between = g.A.CellArray.state c.advance.new.array in
     let after = g.A.CellArray.state c.power_cut.new.array in
     let next = c.power_cut.ensures.extends (run.0 ++ xs) run.1.leads in
-    let event : Timed g.row.B g.row.M = cut (run.0 ++ xs) c.advance.new.self after in
+    let event : TimedEvent g.row.B g.row.M = cut (run.0 ++ xs) c.advance.new.self after in
     let a : Asked g.row.B = record { row = row; tick = c.args.tick; asks = Cuts } in (
       event ∷ run.0,
       step_on xs run.0 c.args.timed.now c.advance.new.self c.power_cut.new.self before between after c.args.results.now c.advance.new.results c.power_cut.new.results leads run.2 run.1 (event ∷ []) a next

@@ -1,15 +1,14 @@
 use Rattle.std.proofs.Common.{ℕ, ◌<◌, ◌==◌, List, ◌∷◌, ◌++◌, sym, ap, subst, ◌∙◌, arith}
-use Rattle.std.proofs.lemmas.Bool.{ne_eqb}
-use Rattle.row_laws.specs.declared.Asks.TheVariants.{Reads}
+use Rattle.std.proofs.lemmas.Bool.{ne_eqb, or_from}
+use Rattle.row_rules.specs.declared.Asks.TheVariants.{Reads}
 use Rattle.bank_shape.specs.declared.BankShape.{BankShape}
 use Rattle.bank_model.specs.Events.{Read}
-use Rattle.bank_model.specs.Timing.{Timed}
+use Rattle.bank_model.specs.Timing.{TimedEvent}
 use Rattle.bank_invariant.specs.Serving.{read_from}
 use Rattle.power_recovery.specs.Slots.{bank_lines}
 use Rattle.clock_laws.specs.Arriving.{arrival}
 use Rattle.module_laws.specs.Asking.{Asked}
 use Rattle.bank_timing.proofs.Sizes.{timed_fits, row_fits}
-use Rattle.clock_laws.proofs.Deciding.{or_none}
 use Rattle.bank_timing.specs.Cancelling.{cancel_first}
 use Rattle.pcm_module.proofs.Arriving.{open_on, step_on, first_asked, first_off}
 use Rattle.pcm_module.proofs.bank.read_at.Goals as goal
@@ -56,8 +55,8 @@ returns-clause-step g c xs leads =
     let after = g.A.CellArray.state c.arrive_read.new.array in
     let clock = c.advance.new.self in
     let next = c.arrive_read.ensures.extends (run.0 ++ xs) run.1.leads in
-    let event : Timed g.row.B g.row.M = arrival clock.tick (Read c.args.row c.args.line (read_from clock.bank c.args.line)) in
-    let extra : List (Timed g.row.B g.row.M) = cancel_first (run.0 ++ xs) clock c.args.line in
+    let event : TimedEvent g.row.B g.row.M = arrival clock.tick (Read c.args.row c.args.line (read_from clock.bank c.args.line)) in
+    let extra : List (TimedEvent g.row.B g.row.M) = cancel_first (run.0 ++ xs) clock c.args.line in
     let a : Asked g.row.B = record { row = c.args.row; tick = c.args.tick; asks = Reads c.args.line } in (
       (event ∷ extra) ++ run.0,
       step_on xs run.0 c.args.timed.now clock c.arrive_read.new.self before between after c.args.results.now c.advance.new.results c.arrive_read.new.results leads run.2 run.1
@@ -66,5 +65,5 @@ returns-clause-step g c xs leads =
             ap (λ (t : ℕ). let b : Asked g.row.B = record { row = c.args.row; tick = t; asks = Reads c.args.line } in b) (sym c.advance.ensures.now),
             first_asked (run.0 ++ xs) clock c.args.line asked is,
           ))
-          (λ other off. or_none (c.args.row == other) _ (ne_eqb c.args.row other (λ e. off (sym e))) (first_off (run.0 ++ xs) clock c.args.line other)),
+          (λ other off. or_from (c.args.row == other) _ (ne_eqb c.args.row other (λ e. off (sym e))) (first_off (run.0 ++ xs) clock c.args.line other)),
     )

@@ -1,15 +1,14 @@
 use Rattle.std.proofs.Common.{ℕ, ◌<◌, ◌==◌, [], ◌∷◌, ◌++◌, refl, sym, ap, subst, ◌∙◌, arith}
-use Rattle.std.proofs.lemmas.Bool.{ne_eqb}
-use Rattle.row_laws.specs.declared.Asks.TheVariants.{Writes}
+use Rattle.std.proofs.lemmas.Bool.{ne_eqb, or_from}
+use Rattle.row_rules.specs.declared.Asks.TheVariants.{Writes}
 use Rattle.bank_shape.specs.declared.BankShape.{BankShape}
 use Rattle.bank_model.specs.Events.{Write}
-use Rattle.bank_model.specs.Timing.{Timed}
+use Rattle.bank_model.specs.Timing.{TimedEvent}
 use Rattle.bank_core.specs.Steps.{write_from}
 use Rattle.power_recovery.specs.Slots.{bank_lines}
 use Rattle.clock_laws.specs.Arriving.{arrival}
 use Rattle.module_laws.specs.Asking.{Asked}
 use Rattle.bank_timing.proofs.Sizes.{timed_fits, row_fits, bytes_fits}
-use Rattle.clock_laws.proofs.Deciding.{or_none}
 use Rattle.pcm_module.proofs.Arriving.{open_on, step_on}
 use Rattle.pcm_module.proofs.bank.write_at.Goals as goal
 
@@ -59,10 +58,10 @@ returns-clause-step g c xs leads =
     let before = g.A.CellArray.state c.args.array.now in
     let after = g.A.CellArray.state c.advance.new.array in
     let next = c.arrive_write.ensures.extends (run.0 ++ xs) after run.1.leads in
-    let event : Timed g.row.B g.row.M = arrival c.advance.new.self.tick (Write c.args.row c.args.line c.args.bytes c.args.given (write_from c.advance.new.self.bank c.args.line)) in
+    let event : TimedEvent g.row.B g.row.M = arrival c.advance.new.self.tick (Write c.args.row c.args.line c.args.bytes c.args.given (write_from c.advance.new.self.bank c.args.line)) in
     let a : Asked g.row.B = record { row = c.args.row; tick = c.args.tick; asks = Writes c.args.line c.args.bytes c.args.given } in (
       event ∷ run.0,
       step_on xs run.0 c.args.timed.now c.advance.new.self c.arrive_write.new.self before after after c.args.results.now c.advance.new.results c.arrive_write.new.results leads run.2 run.1 (event ∷ []) a next
           (λ asked is. (ap (λ (t : ℕ). let b : Asked g.row.B = record { row = c.args.row; tick = t; asks = Writes c.args.line c.args.bytes c.args.given } in b) (sym c.advance.ensures.now), is))
-          (λ other off. or_none (c.args.row == other) _ (ne_eqb c.args.row other (λ e. off (sym e))) refl),
+          (λ other off. or_from (c.args.row == other) _ (ne_eqb c.args.row other (λ e. off (sym e))) refl),
     )

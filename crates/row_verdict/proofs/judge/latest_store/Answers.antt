@@ -1,12 +1,11 @@
 use Rattle.std.proofs.Common.{◌≡◌, ◌+◌, ◌-◌, ap, ◌∙◌}
-use Rattle.row_laws.specs.Ticking.{longest}
+use Rattle.row_rules.specs.Ticking.{longest}
 use Rattle.row_judging.specs.Keys.{key, up_to}
-use Rattle.row_verdict.specs.Verdicts.{rules_by}
 use Rattle.row_verdict.proofs.judge.latest_store.Goals as goal
 
 pub returns : goal.returns
 returns c =
-    let rules = rules_by c.args.rules.now in
+    let rules = c.args.rules.now in
     let stores = c.args.stores.now in
     let reads = c.args.reads.now in
     let from = key c.args.bank c.args.arrived in

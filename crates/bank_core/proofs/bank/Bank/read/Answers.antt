@@ -1,7 +1,7 @@
 use Rattle.std.proofs.Common.{◌≡◌, true, false, refl, arith, length, ◌<◌}
 use Rattle.masked_bytes.specs.Masked.{gives_all}
 use Rattle.masked_bytes.specs.Entries.{layer_of}
-use Rattle.bank_model.specs.declared.answer.ReadAnswer.TheVariants as came
+use Rattle.bank_shape.specs.declared.answer.ReadAnswer.TheVariants as came
 use Rattle.bank_invariant.specs.State.{BankState}
 use Rattle.bank_core.specs.Running.{operation_of}
 use Rattle.bank_core.proofs.Answering.{read_law, read_tied, from_queue, to_wait, to_refuse, IsBank-push}

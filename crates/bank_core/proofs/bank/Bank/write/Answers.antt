@@ -1,6 +1,6 @@
 use Rattle.std.proofs.Common.{arith, ◌≡◌, true, false}
 use Rattle.masked_bytes.specs.declared.entry.Entry.{Entry}
-use Rattle.bank_model.specs.declared.answer.WriteAnswer.TheVariants as wrote
+use Rattle.bank_shape.specs.declared.answer.WriteAnswer.TheVariants as wrote
 use Rattle.bank_invariant.specs.State.{BankState}
 use Rattle.bank_core.specs.Running.{operation_of}
 use Rattle.bank_core.proofs.Writing.{write_law, write_worn, taken_law, taken_holds, taken_tied}

@@ -1,6 +1,6 @@
 use Rattle.std.proofs.Common.{◌≡◌, ◌+◌, ◌++◌, ◌<◌, ◌≤◌, length, Some, refl, sym, ap, subst}
 use Rattle.std.specs.Prelude.{slice_get}
-use Rattle.row_laws.specs.declared.Asks.TheVariants.{Cuts}
+use Rattle.row_rules.specs.declared.Asks.TheVariants.{Cuts}
 use Rattle.bank_timing.proofs.Sizes.{timed_fits, row_fits, outcome_fits}
 use Rattle.pcm_module.specs.State.{ModuleState}
 use Rattle.pcm_module.specs.Taking.{Takes}

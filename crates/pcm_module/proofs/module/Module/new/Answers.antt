@@ -1,6 +1,5 @@
 use Rattle.std.proofs.Common.{ℕ, ◌∙◌, sym, ap, subst}
 use Rattle.bank_shape.specs.declared.BankShape.{BankShape}
-use Rattle.pace.specs.Policies.{pacing_of}
 use Rattle.feistel_map.specs.Network.{network_of}
 use Rattle.bank_timing.proofs.Sizes.{timed_fits}
 use Rattle.pcm_module.proofs.Making.{AreMade, made_none, made_one, made_replays, made_module_is, end_is, next_is}
@@ -27,7 +26,7 @@ pub loop-bank-preserved : goal.loop-bank-preserved
 loop-bank-preserved g c =
     subst (λ (k : ℕ). AreMade g.row.B g.row.M g.row.E c.args.shape k c.push.new.self.items) (next_is c.loop-bank.bank)
     (made_one g.row.B g.row.M g.row.E c.args.shape c.loop-bank.bank c.loop-bank.banks.items c.push.new.self.items c.in_ok-new.field-0
-    c.bank_shape.result (pacing_of c.pace.result) c.loop-bank.invariant c.bank_shape.ensures.exact c.bank_shape.ensures.shape (ap pacing_of c.pace.ensures.exact)
+    c.bank_shape.result c.pace.result c.loop-bank.invariant c.bank_shape.ensures.exact c.bank_shape.ensures.shape (ap c.pace.ensures.exact)
     c.in_ok-new.ensures.first c.in_ok-new.ensures.leads c.in_ok-push.ensures.items)
 
 pub invariant_of-result : goal.invariant_of-result

@@ -3,7 +3,7 @@ use Rattle.std.specs.Prelude.{IfSome}
 use Rattle.row_verdict.specs.Fitting.{room_kept}
 use Rattle.row_verdict.specs.States.{Facts}
 use Rattle.row_verdict.specs.Passing.{joined_room}
-use Rattle.row_verdict.specs.Verdicts.{bank_in, rules_by}
+use Rattle.row_verdict.specs.Verdicts.{bank_in}
 use Rattle.result_check.specs.Keeping.{facts_in, Knows}
 use Rattle.result_check.proofs.Keeping.{knows_settled, knows_seen, bank_exists, facts_settled}
 use Rattle.result_check.proofs.kept.Kept.find_room.Goals as goal
@@ -13,12 +13,12 @@ returns-in-Some-clause-knows g c = λ from before le below k.
     let banks = c.args.banks.now in
     let line : c.in-Some.line < length banks = subst (λ o. IfSome o (λ l. l < length banks)) c.in-Some.is c.requires.line in
     let within = bank_exists banks c.in-Some.line (length c.args.self.now.banks.items) line c.requires.exist in
-    knows_settled (rules_by c.args.rules.now) banks from c.args.tick (bank_in banks c.in-Some.line) c.args.self.now.banks.items c.settle.new.self.banks.items c.args.self.now.joined before le below within c.settle.ensures.banks k
+    knows_settled c.args.rules.now banks from c.args.tick (bank_in banks c.in-Some.line) c.args.self.now.banks.items c.settle.new.self.banks.items c.args.self.now.joined before le below within c.settle.ensures.banks k
 
 pub returns-in-Some-clause-seen : goal.returns-in-Some-clause-seen
 returns-in-Some-clause-seen g c = λ from before le below k room.
     let banks = c.args.banks.now in
-    let rules = rules_by c.args.rules.now in
+    let rules = c.args.rules.now in
     let line : c.in-Some.line < length banks = subst (λ o. IfSome o (λ l. l < length banks)) c.in-Some.is c.requires.line in
     let within = bank_exists banks c.in-Some.line (length c.args.self.now.banks.items) line c.requires.exist in
     let is : joined_room rules banks c.args.tick (facts_in c.args.self.now.banks.items) (Some c.in-Some.line) ≡ c.holds_few.result =

@@ -1,9 +1,9 @@
 use Rattle.std.proofs.Common.{◌≡◌, ◌<◌, ◌∙◌, length, sym, ap, subst, arith}
 use Rattle.std.specs.Prelude.{IfOk, true, replicate}
-use Rattle.row_laws.specs.declared.Asks.{Asks}
-use Rattle.row_laws.specs.declared.Asks.TheVariants.{Reads, Writes}
-use Rattle.row_laws.specs.Rows.{asks_cut}
-use Rattle.row_verdict.specs.Verdicts.{asks_of, bank_in, rules_by}
+use Rattle.row_rules.specs.declared.Asks.{Asks}
+use Rattle.row_rules.specs.declared.Asks.TheVariants.{Reads, Writes}
+use Rattle.row_rules.specs.Rows.{asks_cut}
+use Rattle.row_verdict.specs.Verdicts.{asks_of, bank_in}
 use Rattle.result_check.specs.declared.ahead.Coming.{Coming}
 use Rattle.result_check.specs.Coming.{a_row, coming_at}
 use Rattle.result_check.specs.Finding.{IsBelow, row_of}
@@ -20,7 +20,7 @@ take_read-requires g c =
     let f = c.find_room-room.ensures in
     let below = m.reached in
     let banks = c.args.banks.now in
-    let rules = rules_by c.args.rules.now in
+    let rules = c.args.rules.now in
     let asked : asks_of e.op ≡ Reads c.in-Read.line = ap asks_of c.in-Read.is in
     let within : c.in-Read.line < length banks = subst (λ (a : Asks g.row.B). IsBelow (length banks) a) asked c.requires.line in
     let size = f.number in
@@ -76,14 +76,14 @@ returns-in-Read-clause-passes g c = λ before after m.
     let s = c.find_room-room.new.self in
     let new = c.take_read.new.self in
     let asked : asks_of e.op ≡ Reads c.in-Read.line = ap asks_of c.in-Read.is in
-    let next = next_of (rules_by c.args.rules.now) c.args.banks.now c.args.found.now before (row_of e o) after c.args.self.now.banks.items s.banks.items
+    let next = next_of c.args.rules.now c.args.banks.now c.args.found.now before (row_of e o) after c.args.self.now.banks.items s.banks.items
     c.args.self.now.joined s.joined c.args.self.now.lines.items s.lines.items c.args.cuts.now c.args.coming c.find_room-room.result m
     f.room f.number f.lines f.joined (f.knows m.from before m.passed_by (omega (arith, below)) m.knows) (f.seen m.from before m.passed_by (omega (arith, below)) m.knows) in
-    subst (λ (a : Asks g.row.B). IfOk c.take_read.result (λ broken. HasPassed (rules_by c.args.rules.now) c.args.banks.now before (a_row e.tick a o) after broken new.banks.items new.joined new.lines.items)) (sym asked)
+    subst (λ (a : Asks g.row.B). IfOk c.take_read.result (λ broken. HasPassed c.args.rules.now c.args.banks.now before (a_row e.tick a o) after broken new.banks.items new.joined new.lines.items)) (sym asked)
     (c.take_read.ensures.passes before after
     (ap (λ (x : Coming). x.soonest) m.brings ∙ ap (λ (a : Asks g.row.B). (coming_at c.args.banks.now a after).soonest) asked)
     (m.cuts_are (ap asks_cut asked))
-    (subst (λ (a : Asks g.row.B). IsNext (rules_by c.args.rules.now) c.args.banks.now c.args.found.now before (a_row e.tick a o) after s.banks.items s.joined s.lines.items c.find_room-room.result) asked next))
+    (subst (λ (a : Asks g.row.B). IsNext c.args.rules.now c.args.banks.now c.args.found.now before (a_row e.tick a o) after s.banks.items s.joined s.lines.items c.find_room-room.result) asked next))
 
 pub returns-in-Write-clause-passes : goal.returns-in-Write-clause-passes
 returns-in-Write-clause-passes g c = λ before after m.
@@ -94,15 +94,15 @@ returns-in-Write-clause-passes g c = λ before after m.
     let s = c.find_room-room.new.self in
     let new = c.take_write.new.self in
     let asked : asks_of e.op ≡ Writes c.in-Write.line c.in-Write.bytes (replicate g.row.B true) = ap asks_of c.in-Write.is in
-    let next = next_of (rules_by c.args.rules.now) c.args.banks.now c.args.found.now before (row_of e o) after c.args.self.now.banks.items s.banks.items
+    let next = next_of c.args.rules.now c.args.banks.now c.args.found.now before (row_of e o) after c.args.self.now.banks.items s.banks.items
     c.args.self.now.joined s.joined c.args.self.now.lines.items s.lines.items c.args.cuts.now c.args.coming c.find_room-room.result m
     f.room f.number f.lines f.joined (f.knows m.from before m.passed_by (omega (arith, below)) m.knows) (f.seen m.from before m.passed_by (omega (arith, below)) m.knows) in
-    subst (λ (a : Asks g.row.B). IfOk c.take_write.result (λ broken. HasPassed (rules_by c.args.rules.now) c.args.banks.now before (a_row e.tick a o) after broken new.banks.items new.joined new.lines.items)) (sym asked)
+    subst (λ (a : Asks g.row.B). IfOk c.take_write.result (λ broken. HasPassed c.args.rules.now c.args.banks.now before (a_row e.tick a o) after broken new.banks.items new.joined new.lines.items)) (sym asked)
     (c.take_write.ensures.passes before after
     (ap (λ (x : Coming). x.next) m.brings ∙ ap (λ (a : Asks g.row.B). (coming_at c.args.banks.now a after).next) asked)
     (ap (λ (x : Coming). x.worn) m.brings ∙ ap (λ (a : Asks g.row.B). (coming_at c.args.banks.now a after).worn) asked)
     (m.cuts_are (ap asks_cut asked))
-    (subst (λ (a : Asks g.row.B). IsNext (rules_by c.args.rules.now) c.args.banks.now c.args.found.now before (a_row e.tick a o) after s.banks.items s.joined s.lines.items c.find_room-room.result) asked next))
+    (subst (λ (a : Asks g.row.B). IsNext c.args.rules.now c.args.banks.now c.args.found.now before (a_row e.tick a o) after s.banks.items s.joined s.lines.items c.find_room-room.result) asked next))
 
 pub returns-in-Mask-clause-passes : goal.returns-in-Mask-clause-passes
 returns-in-Mask-clause-passes g c = λ before after m.
@@ -113,15 +113,15 @@ returns-in-Mask-clause-passes g c = λ before after m.
     let s = c.find_room-room.new.self in
     let new = c.take_write-in-Mask.new.self in
     let asked : asks_of e.op ≡ Writes c.in-Mask.line c.in-Mask.bytes c.in-Mask.given = ap asks_of c.in-Mask.is in
-    let next = next_of (rules_by c.args.rules.now) c.args.banks.now c.args.found.now before (row_of e o) after c.args.self.now.banks.items s.banks.items
+    let next = next_of c.args.rules.now c.args.banks.now c.args.found.now before (row_of e o) after c.args.self.now.banks.items s.banks.items
     c.args.self.now.joined s.joined c.args.self.now.lines.items s.lines.items c.args.cuts.now c.args.coming c.find_room-room.result m
     f.room f.number f.lines f.joined (f.knows m.from before m.passed_by (omega (arith, below)) m.knows) (f.seen m.from before m.passed_by (omega (arith, below)) m.knows) in
-    subst (λ (a : Asks g.row.B). IfOk c.take_write-in-Mask.result (λ broken. HasPassed (rules_by c.args.rules.now) c.args.banks.now before (a_row e.tick a o) after broken new.banks.items new.joined new.lines.items)) (sym asked)
+    subst (λ (a : Asks g.row.B). IfOk c.take_write-in-Mask.result (λ broken. HasPassed c.args.rules.now c.args.banks.now before (a_row e.tick a o) after broken new.banks.items new.joined new.lines.items)) (sym asked)
     (c.take_write-in-Mask.ensures.passes before after
     (ap (λ (x : Coming). x.next) m.brings ∙ ap (λ (a : Asks g.row.B). (coming_at c.args.banks.now a after).next) asked)
     (ap (λ (x : Coming). x.worn) m.brings ∙ ap (λ (a : Asks g.row.B). (coming_at c.args.banks.now a after).worn) asked)
     (m.cuts_are (ap asks_cut asked))
-    (subst (λ (a : Asks g.row.B). IsNext (rules_by c.args.rules.now) c.args.banks.now c.args.found.now before (a_row e.tick a o) after s.banks.items s.joined s.lines.items c.find_room-room.result) asked next))
+    (subst (λ (a : Asks g.row.B). IsNext c.args.rules.now c.args.banks.now c.args.found.now before (a_row e.tick a o) after s.banks.items s.joined s.lines.items c.find_room-room.result) asked next))
 
 pub returns-in-Cut-clause-passes : goal.returns-in-Cut-clause-passes
 returns-in-Cut-clause-passes g c = λ before after m.
@@ -132,9 +132,9 @@ returns-in-Cut-clause-passes g c = λ before after m.
     let s = c.find_room-room.new.self in
     let new = c.take_cut.new.self in
     let asked = ap asks_of c.in-Cut.is in
-    let next = next_of (rules_by c.args.rules.now) c.args.banks.now c.args.found.now before (row_of e o) after c.args.self.now.banks.items s.banks.items
+    let next = next_of c.args.rules.now c.args.banks.now c.args.found.now before (row_of e o) after c.args.self.now.banks.items s.banks.items
     c.args.self.now.joined s.joined c.args.self.now.lines.items s.lines.items c.args.cuts.now c.args.coming c.find_room-room.result m
     f.room f.number f.lines f.joined (f.knows m.from before m.passed_by (omega (arith, below)) m.knows) (f.seen m.from before m.passed_by (omega (arith, below)) m.knows) in
-    subst (λ (a : Asks g.row.B). HasPassed (rules_by c.args.rules.now) c.args.banks.now before (a_row e.tick a o) after c.take_cut.result new.banks.items new.joined new.lines.items) (sym asked)
-    (c.take_cut.ensures.passes (rules_by c.args.rules.now) c.args.banks.now c.args.found.now before after
-    (subst (λ (a : Asks g.row.B). IsNext (rules_by c.args.rules.now) c.args.banks.now c.args.found.now before (a_row e.tick a o) after s.banks.items s.joined s.lines.items c.find_room-room.result) asked next))
+    subst (λ (a : Asks g.row.B). HasPassed c.args.rules.now c.args.banks.now before (a_row e.tick a o) after c.take_cut.result new.banks.items new.joined new.lines.items) (sym asked)
+    (c.take_cut.ensures.passes c.args.rules.now c.args.banks.now c.args.found.now before after
+    (subst (λ (a : Asks g.row.B). IsNext c.args.rules.now c.args.banks.now c.args.found.now before (a_row e.tick a o) after s.banks.items s.joined s.lines.items c.find_room-room.result) asked next))

@@ -3,7 +3,6 @@ use Rattle.std.specs.Prelude.{slice_get}
 use Rattle.std.proofs.Math.ListN.{length-set}
 use Rattle.row_verdict.specs.Banks.{facts_of}
 use Rattle.row_verdict.specs.declared.lines.Line.{Line}
-use Rattle.row_verdict.specs.Verdicts.{rules_by}
 use Rattle.result_check.proofs.Keeping.{bank_exists, facts_got}
 use Rattle.result_check.proofs.Lists.{get_is}
 use Rattle.result_check.proofs.Taking.{read_taken}
@@ -22,7 +21,7 @@ returns-in-Some-clause-passes g c = λ before after soon cuts h.
     let same = c.settle.ensures.lines in
     let long : length s.lines.items ≡ length old.lines.items = ap length same in
     let there = ap (λ (xs : List (Line g.row.B)). slice_get xs c.args.line) (sym same) ∙ get_is s.lines.items c.args.line c.index-2.result.now (omega (arith, long, lines, c.requires.line)) c.index-2.ensures in
-    read_taken (rules_by c.args.rules.now) banks c.args.found.now before c.args.tick c.args.line c.args.outcome.now after
+    read_taken c.args.rules.now banks c.args.found.now before c.args.tick c.args.line c.args.outcome.now after
     old.banks.items s.banks.items s.banks.items old.joined s.joined old.lines.items s.lines.items c.args.room _ c.args.coming.soonest c.args.cuts.now
     c.deref.result.now c.deref-3.result.now c.bank_of-number.result _ (facts_of c.bank.result.now) c.index-2.result.now
     h c.requires.line there (omega (arith, c.requires.arrived)) c.requires.within.some_read (omega (arith, c.requires.within.few_read))
@@ -43,7 +42,7 @@ returns-in_ok-pass_read-in-None-clause-passes g c = λ before after soon cuts h.
     let long : length s.lines.items ≡ length old.lines.items = ap length same in
     let there = ap (λ (xs : List (Line g.row.B)). slice_get xs c.args.line) (sym same) ∙ get_is s.lines.items c.args.line c.index-2.result.now (omega (arith, long, lines, c.requires.line)) c.index-2.ensures in
     let p = c.in_ok-pass_read-in-None.ensures in
-    read_taken (rules_by c.args.rules.now) banks c.args.found.now before c.args.tick c.args.line c.args.outcome.now after
+    read_taken c.args.rules.now banks c.args.found.now before c.args.tick c.args.line c.args.outcome.now after
     old.banks.items s.banks.items c.pass_read.new.self.banks.items old.joined c.pass_read.new.self.joined old.lines.items c.pass_read.new.self.lines.items c.args.room _ c.args.coming.soonest c.args.cuts.now
     c.deref.result.now c.deref-3.result.now c.bank_of-number.result _ (facts_of c.bank.result.now) c.index-2.result.now
     h c.requires.line there (omega (arith, c.requires.arrived)) c.requires.within.some_read (omega (arith, c.requires.within.few_read))

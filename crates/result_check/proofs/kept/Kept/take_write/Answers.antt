@@ -2,7 +2,6 @@ use Rattle.std.proofs.Common.{◌≡◌, ◌<◌, ◌∙◌, List, length, sym, 
 use Rattle.std.proofs.Math.ListN.{length-set}
 use Rattle.row_verdict.specs.Banks.{facts_of}
 use Rattle.row_verdict.specs.declared.lines.Line.{Line}
-use Rattle.row_verdict.specs.Verdicts.{rules_by}
 use Rattle.result_check.specs.Keeping.{KnowsLines}
 use Rattle.result_check.proofs.Keeping.{bank_exists, facts_got}
 use Rattle.result_check.proofs.Lines.{lines_pass}
@@ -20,7 +19,7 @@ returns-in-Some-clause-passes g c = λ before after next worn cuts h.
     let lines = c.requires.lines in
     let at : c.bank_of-number.result < length s.banks.items = omega (arith, size, exists, c.bank_of-number.ensures) in
     let got = facts_got s.banks.items c.bank_of-number.result c.index.result.now (get_is s.banks.items c.bank_of-number.result c.index.result.now at c.index.ensures) in
-    write_taken (rules_by c.args.rules.now) banks c.args.found.now before c.args.tick c.args.line c.args.bytes.now c.args.given.now c.args.outcome.now after
+    write_taken c.args.rules.now banks c.args.found.now before c.args.tick c.args.line c.args.bytes.now c.args.given.now c.args.outcome.now after
     old.banks.items s.banks.items s.banks.items old.joined s.joined old.lines.items s.lines.items c.args.room _ _ c.args.coming.next c.args.coming.worn c.args.cuts.now
     c.deref.result.now c.deref-2.result.now c.bank_of-number.result _ (facts_of c.bank.result.now)
     h c.requires.line (omega (arith, lines, c.requires.line)) (omega (arith, c.requires.arrived)) c.requires.within.some_read (omega (arith, c.requires.within.few_read))
@@ -42,7 +41,7 @@ returns-in_ok-pass_write-in-None-clause-passes g c = λ before after next worn c
     let within : c.args.line < length s.lines.items = omega (arith, long, lines, c.requires.line) in
     let there = get_is s.lines.items c.args.line c.index-2.result.now within c.index-2.ensures in
     let p = c.in_ok-pass_write-in-None.ensures in
-    write_taken (rules_by c.args.rules.now) banks c.args.found.now before c.args.tick c.args.line c.args.bytes.now c.args.given.now c.args.outcome.now after
+    write_taken c.args.rules.now banks c.args.found.now before c.args.tick c.args.line c.args.bytes.now c.args.given.now c.args.outcome.now after
     old.banks.items s.banks.items c.pass_write.new.self.banks.items old.joined c.pass_write.new.self.joined old.lines.items c.pass_write.new.self.lines.items c.args.room _ _ c.args.coming.next c.args.coming.worn c.args.cuts.now
     c.deref.result.now c.deref-2.result.now c.bank_of-number.result _ (facts_of c.bank.result.now)
     h c.requires.line (omega (arith, lines, c.requires.line)) (omega (arith, c.requires.arrived)) c.requires.within.some_read (omega (arith, c.requires.within.few_read))

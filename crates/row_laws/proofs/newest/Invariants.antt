@@ -1,7 +1,0 @@
-use Rattle.std.proofs.Common.{◌≡◌, take}
-use Rattle.std.specs.Prelude.{reverse}
-use Rattle.row_laws.specs.Rows as rows
-use Rattle.row_laws.proofs.newest.Given as goal
-
-abbrev pub invariant-loop-row : goal.invariant-loop-row
-invariant-loop-row g l = l.bytes ≡ rows.newest (reverse (take l.row-index l.before)) l.line
