@@ -142,7 +142,7 @@ module _ {n m e : ℕ} (raw : RawShape) (seed bank : ℕ) (pace : Pace) (xs : Li
       → is_worn_at e array (kept.shape.base + line) ≡ true
   retired line lt none = holds.tied.sound.worn line lt (λ slot some same. none slot some (ends.table slot some ∙ ap (λ k. kept.shape.base + k) same))
 
-  pub saves-end : SavesEnd raw seed bank (is_worn_at e array) (table_of kept.shape xs) end (saved_bank kept)
+  pub saves-end : SavesEnd (head_of raw seed) (bank_shape (module_of raw) bank) (is_worn_at e array) (table_of kept.shape xs) end (saved_bank kept)
   saves-end = record {
     registers = registers-saved raw seed bank kept holds.kept shape end ends;
     counters = counters;

@@ -275,7 +275,7 @@ module _ {n m e : ℕ} (pace : Pace) (all : List (TimedEvent n m)) (bank : BankS
   saves-queue = record {
     begun = is_head_begun shape (core all);
     entries = ap (λ es. map saved_entry es) holds.entries ∙ queue-by_rows shape all pace e l;
-    before = λ is. none-saved (begun-when.0 is);
+    none_due = λ is. none-saved (begun-when.0 is);
     again = first-again shape all pace e l (queue shape (core all)) (queued_writes table) (is_head_begun shape (core all)) (queue-alike shape all pace e l)
         (begun-again shape (most_steps e) (core all) (may_all shape pace e all l));
     marked = λ mark none. begun-when.1 (mark-exhausted mark) (saved-none none);

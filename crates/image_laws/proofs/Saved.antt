@@ -145,11 +145,11 @@ module _ (laws : ImageLaws) {n m : ℕ} (e : ℕ) (raw : RawShape) (seed : ℕ) 
     abbrev part : SavedBank n
     part = get_or saved.parts bank (no_bank n)
 
-    saved-end : SavesEnd raw seed bank (is_worn_at e array) (table_in raw seed bank rows) (ends bank) part
+    saved-end : SavesEnd (head_of raw seed) (bank_shape (module_of raw) bank) (is_worn_at e array) (table_in raw seed bank rows) (ends bank) part
     saved-end =
         rw (part-at bank exists)
-        (subst (λ (worn : ℕ → Bool). SavesEnd raw seed bank worn (table_in raw seed bank rows) (ends bank) (saved_bank (kept bank))) worn-same
-        (subst (λ (rs : List (Row n)). SavesEnd raw seed bank (is_worn_at e left.before) rs (ends bank) (saved_bank (kept bank))) (sym rows-of)
+        (subst (λ (worn : ℕ → Bool). SavesEnd (head_of raw seed) (bank_shape (module_of raw) bank) worn (table_in raw seed bank rows) (ends bank) (saved_bank (kept bank))) worn-same
+        (subst (λ (rs : List (Row n)). SavesEnd (head_of raw seed) (bank_shape (module_of raw) bank) (is_worn_at e left.before) rs (ends bank) (saved_bank (kept bank))) (sym rows-of)
         (saves-end raw seed bank clock.pace xs clock.bank left.before (ends bank) same is.some_psi leads.lawful leads.holds (of_ends bank exists) moved)))
 
     saved-queue : SavesQueue raw.psi (table_in raw seed bank rows) part

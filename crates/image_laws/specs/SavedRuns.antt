@@ -26,7 +26,8 @@ use Rattle.end_laws.specs.EndLaws.{IsEndOf}
 use Rattle.end_laws.specs.Roles.{used_spares}
 use Rattle.run_laws.specs.Runs.{RunsRight, table_in}
 use Rattle.run_laws.specs.Finishing.{IsFinished}
-use Rattle.pcm_image.specs.Saved.{Saved, SavedBank, IsSaved, IsSavedRow}
+use Rattle.pcm_image.specs.declared.RegionImage.{RegionImage}
+use Rattle.pcm_image.specs.Saved.{Saved, SavedBank, Head, IsSaved, IsSavedRow}
 use Rattle.pcm_image.specs.Standing.{rotation_of, table_of, no_bank, no_region, stands_for}
 use Rattle.image_laws.specs.Saving.{head_of, saved_of}
 use Rattle.image_laws.specs.Queued.{entries_by, first_again, queued_writes}
@@ -55,20 +56,20 @@ pub record IsLeft {n m : ℕ} (e : ℕ) (raw : RawShape) (seed : ℕ) (rows : Li
   pub saved : s ≡ saved_of raw seed (λ bank. (banks bank).bank.kept) before
   pub since : SensedSince before array
 
+-- the saved registers of a region
+abbrev pub region_in : {n : ℕ} → SavedBank n → ℕ → RegionImage
+region_in b region = slice_index_or b.regions region no_region
+
 -- a saved bank's registers stand for the moves of its regions, and their counters have the stores since; its remap list gives its table,
--- and has as many spares as that uses. Each of its lines and used spares that no slot has any more is worn
-pub record SavesEnd {n : ℕ} (raw : RawShape) (seed bank : ℕ) (worn : ℕ → Bool) (rows : List (Row n)) (end : BankEnd) (b : SavedBank n) : Type 0 where
-  pub registers : (region : ℕ) → region < raw.regions
-      → StandsFor (rotation_of (head_of raw seed) (slice_index_or b.regions region no_region)) (end.moves region)
-  pub counters : (region : ℕ) → region < raw.regions
-      → (slice_index_or b.regions region no_region).counter + raw.psi * end.moves region
-      ≡ region_stores is_stored (bank_shape (module_of raw) bank) region rows
-  pub slots : (slot : ℕ) → slot < slots_of (bank_shape (module_of raw) bank)
-      → (bank_shape (module_of raw) bank).base + line_by (table_of (head_of raw seed) b) slot ≡ end.table slot
-  pub used : length b.replaced ≡ used_spares (bank_shape (module_of raw) bank) end.table
-  pub retired : (line : ℕ) → line < slots_of (bank_shape (module_of raw) bank) + length b.replaced
-      → ((slot : ℕ) → slot < slots_of (bank_shape (module_of raw) bank) → end.table slot ≢ (bank_shape (module_of raw) bank).base + line)
-      → IsTrue (worn ((bank_shape (module_of raw) bank).base + line))
+-- and has as many spares as that uses. Each of its slots' lines and used spares that no slot has any more is worn
+pub record SavesEnd {n : ℕ} (head : Head) (shape : BankShape) (worn : ℕ → Bool) (rows : List (Row n)) (end : BankEnd) (b : SavedBank n) : Type 0 where
+  pub registers : (region : ℕ) → region < shape.regions → StandsFor (rotation_of head (region_in b region)) (end.moves region)
+  pub counters : (region : ℕ) → region < shape.regions
+      → (region_in b region).counter + shape.psi * end.moves region ≡ region_stores is_stored shape region rows
+  pub slots : (slot : ℕ) → slot < slots_of shape → shape.base + line_by (table_of head b) slot ≡ end.table slot
+  pub used : length b.replaced ≡ used_spares shape end.table
+  pub retired : (line : ℕ) → line < slots_of shape + length b.replaced → ((slot : ℕ) → slot < slots_of shape → end.table slot ≢ shape.base + line)
+      → IsTrue (worn (shape.base + line))
 
 -- whether a gap move is due: the counter of a region stands at psi
 abbrev pub is_due : {n : ℕ} → ℕ → SavedBank n → Bool
@@ -79,7 +80,7 @@ is_due psi b = list_any (λ region. region.counter == psi) b.regions
 pub record SavesQueue {n : ℕ} (psi : ℕ) (rows : List (Row n)) (b : SavedBank n) : Type 0 where
   pub begun : Bool
   pub entries : b.entries ≡ entries_by begun (queued_writes rows)
-  pub before : IsTrue begun → IsFalse (is_due psi b)
+  pub none_due : IsTrue begun → IsFalse (is_due psi b)
   pub again : IsTrue (first_again (queued_writes rows)) → IsTrue begun
   pub marked : b.mark ≡ 1 → IsFalse (is_due psi b) → IsTrue begun
 
@@ -112,7 +113,7 @@ pub record SavesRun {n m : ℕ} (e : ℕ) (raw : RawShape) (seed : ℕ) (rows : 
   pub right : AreRows array → IsSaved s
   pub cells : (line : ℕ) → line < array.lines → slice_index_or s.cells line (zero_row n m) ≡ (array.line line).held
   pub banks : (bank : ℕ) → bank < raw.banks
-      → SavesEnd raw seed bank (is_worn_at e array) (table_in raw seed bank rows) (ends bank) (slice_index_or s.parts bank (no_bank n))
+      → SavesEnd s.head (bank_shape (module_of raw) bank) (is_worn_at e array) (table_in raw seed bank rows) (ends bank) (slice_index_or s.parts bank (no_bank n))
   pub queues : (bank : ℕ) → bank < raw.banks → SavesQueue raw.psi (table_in raw seed bank rows) (slice_index_or s.parts bank (no_bank n))
   pub marks : (bank : ℕ) → bank < raw.banks
       → SavesMark (bank_shape (module_of raw) bank) (is_worn_at e array) (table_in raw seed bank rows) (slice_index_or s.parts bank (no_bank n))

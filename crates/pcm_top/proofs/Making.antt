@@ -57,17 +57,17 @@ module _ {n m e : ℕ} (job : RunJob) (array : ArrayState n m) (events : List (E
         subst Seeded seeded (subst Shaped shape is)
 
     pub run-written : (out : SinkChange) (done : Done) → done ≡ done_by outcomes → (job.print ≡ Image → AreRows array) → HaveRoles pcm.shape pcm.seed left.0
-        → ((ends : ℕ → BankEnd) → AreEndsOf pcm ends → HaveRoles pcm.shape pcm.seed ends
+        → ((ends : ℕ → BankEnd) → AreEndsOf pcm ends → RunsRight e pcm.shape pcm.seed (rows_of events outcomes) array ends → HaveRoles pcm.shape pcm.seed ends
         → (whole : List ℕ) × IsRunText pcm.shape pcm.seed e events outcomes ends array job.print whole × Gets out whole)
         → RunIsWritten n m e job s array out done
     run-written out done is rows roles writes =
-        let text = writes left.0 left.1 roles in
+        let text = writes left.0 left.1 left.2 roles in
         record { run = made; text = text.0; is_text = text-of-job text.0 text.1; written = text.2; ending = is; rows = rows }
 
     pub run-part : (out : SinkChange) → HaveRoles pcm.shape pcm.seed left.0
-        → ((ends : ℕ → BankEnd) → AreEndsOf pcm ends → HaveRoles pcm.shape pcm.seed ends
+        → ((ends : ℕ → BankEnd) → AreEndsOf pcm ends → RunsRight e pcm.shape pcm.seed (rows_of events outcomes) array ends → HaveRoles pcm.shape pcm.seed ends
         → (whole : List ℕ) × IsRunText pcm.shape pcm.seed e events outcomes ends array job.print whole × GetsPart out whole)
         → RunIsWrittenInPart n m e job s array out
     run-part out roles writes =
-        let text = writes left.0 left.1 roles in
+        let text = writes left.0 left.1 left.2 roles in
         record { run = made; text = text.0; is_text = text-of-job text.0 text.1; written = text.2 }

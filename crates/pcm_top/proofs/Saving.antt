@@ -66,14 +66,15 @@ module _ {n m e : ℕ} (pcm : ModuleState n m e) (before array : ArrayState n m)
 pub image-text : {n m e : ℕ} → SavedLaw → (pcm : ModuleState n m e) (seed : ℕ) (before array : ArrayState n m) (events : List (Event n)) (outcomes : List (Outcome n)) (print : Print) (P : List ℕ → Type 0)
     → print ≡ Image → seed ≡ pcm.seed → seed < 2 ^ 64 → IsShape pcm.shape → IsPlayed pcm events outcomes before → SensedSince before array
     → P (image_bytes (saved_of pcm.shape seed (kept_in pcm) before))
-    → (ends : ℕ → BankEnd) → AreEndsOf pcm ends → HaveRoles pcm.shape pcm.seed ends → (whole : List ℕ) × IsRunText pcm.shape pcm.seed e events outcomes ends array print whole × P whole
+    → (ends : ℕ → BankEnd) → AreEndsOf pcm ends → RunsRight e pcm.shape pcm.seed (rows_of events outcomes) array ends → HaveRoles pcm.shape pcm.seed ends
+    → (whole : List ℕ) × IsRunText pcm.shape pcm.seed e events outcomes ends array print whole × P whole
 unfolding left-of
-image-text {n} {m} {e} law pcm seed before array events outcomes print P is same low shape played since writes ends are roles =
+image-text {n} {m} {e} law pcm seed before array events outcomes print P is same low shape played since writes ends are right roles =
     let s = saved_of pcm.shape pcm.seed (kept_in pcm) before in
     let left = left-of pcm before array events outcomes played since in
     let Low : ℕ → Type 0 = λ k. k < 2 ^ 64 in
     let Of : Print → Type 0 = λ p. IsRunText pcm.shape pcm.seed e events outcomes ends array p (image_bytes s) in
     let Writes : ℕ → Type 0 = λ k. P (image_bytes (saved_of pcm.shape k (kept_in pcm) before)) in
-    let saves = law n m e pcm.shape pcm.seed (rows_of events outcomes) array ends s left shape (subst Low same low)
+    let saves = law n m e pcm.shape pcm.seed (rows_of events outcomes) array ends s left shape (subst Low same low) right
     (λ bank lt. there (λ clock. IsEndOf clock.bank.kept (ends bank)) (slice_get pcm.banks bank) (first_bank pcm.shape bank) (are bank lt)) in
     (image_bytes s, subst Of (sym is) (record { saved = s; left = left; saves = saves; is = refl }), subst Writes same writes)

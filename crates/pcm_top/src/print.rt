@@ -8,8 +8,10 @@ ghost use Rattle.pcm_module.specs.State.{AreEndsOf};
 ghost use Rattle.ecp_line.specs.Layout.{IsLayout};
 ghost use Rattle.module_shape.specs.Limits.{IsShape};
 ghost use Rattle.image_laws.specs.SavedRuns.{AreRows, SensedSince};
+ghost use Rattle.run_laws.specs.Runs.{RunsRight};
 ghost use Rattle.pcm_top.specs.Played.{IsPlayed};
 ghost use Rattle.pcm_top.specs.Writing.{Gets, GetsPart, SinkFails, sink_change};
+ghost use Rattle.pcm_top.specs.Rows.{rows_of};
 ghost use Rattle.pcm_top.specs.RunText.{HaveRoles, IsRunText};
 
 use crate::wear::print_wear;
@@ -45,12 +47,16 @@ pub fn print_run<const B: usize, const M: usize, const E: usize, A: CellArray<B,
     requires size { (A.state array.old).lines
         ≡ pcm.now.shape.banks * array_lines_of (module_of pcm.now.shape) }
     ensures ok { OnOk result ((ends : ℕ → BankEnd)
-        → AreEndsOf pcm.now ends → HaveRoles pcm.now.shape pcm.now.seed ends
+        → AreEndsOf pcm.now ends
+        → RunsRight E pcm.now.shape pcm.now.seed (rows_of events.now results.now) (A.state array.new) ends
+        → HaveRoles pcm.now.shape pcm.now.seed ends
         → (whole : List ℕ)
         × IsRunText pcm.now.shape pcm.now.seed E events.now results.now ends (A.state array.new) print whole
         × Gets (sink_change K.written K.faults out.old out.new) whole) }
     ensures part { OnErr result ((ends : ℕ → BankEnd)
-        → AreEndsOf pcm.now ends → HaveRoles pcm.now.shape pcm.now.seed ends
+        → AreEndsOf pcm.now ends
+        → RunsRight E pcm.now.shape pcm.now.seed (rows_of events.now results.now) (A.state array.new) ends
+        → HaveRoles pcm.now.shape pcm.now.seed ends
         → (whole : List ℕ)
         × IsRunText pcm.now.shape pcm.now.seed E events.now results.now ends (A.state array.new) print whole
         × GetsPart (sink_change K.written K.faults out.old out.new) whole) }

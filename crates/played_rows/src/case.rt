@@ -28,6 +28,8 @@ pub struct Case {
     pub one_byte: bool,
     /// The array lines that are shown behind the run.
     pub shown: Vec<u32>,
+    /// Where the output is an image, of how many bytes its first pieces are; behind them come rows of cells.
+    pub pieces: Vec<u32>,
     /// How many rows of the output are shown, the last ones, where not all are.
     pub last: Option<usize>,
     /// The greatest tick of a cut; there is a run for each from 0.
@@ -55,6 +57,7 @@ impl Case {
             err_fails: Vec::new(alloc),
             one_byte: false,
             shown: Vec::new(alloc),
+            pieces: Vec::new(alloc),
             last: None,
             cuts: None,
             beginnings: false,
@@ -104,6 +107,7 @@ impl Case {
             "err-fails" => take_numbers(&mut self.err_fails, rest)?,
             "one-byte" => self.one_byte = true,
             "show" => take_numbers(&mut self.shown, rest)?,
+            "image" => take_numbers(&mut self.pieces, rest)?,
             "last" => self.last = Some(rest.parse::<usize>()?),
             "cuts" => self.cuts = Some(rest.parse::<u32>()?),
             "beginnings" => self.beginnings = true,

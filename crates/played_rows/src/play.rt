@@ -15,6 +15,8 @@ use std::str;
 #[derive(Drop)]
 struct Answer {
     status: u8,
+    // The bytes that were written, and how they are shown.
+    bytes: Vec<u8>,
     out: String,
     err: String,
     // How many lines each array has in the end, and what the shown lines hold, a text line for each.
@@ -33,8 +35,22 @@ pub fn played(alloc: Global, case: &Case) -> Result<String, AllocError> {
     } else {
         let answer = answer_of(alloc, case, case.trace.as_bytes())?;
         push_answer(&mut text, case, &answer)?;
+        if !case.pieces.is_empty() {
+            push_stood_for(&mut text, case, answer.bytes.as_slice())?;
+        }
     }
     Ok(text)
+}
+
+// What `show` says of an image.
+fn push_stood_for(text: &mut String, case: &Case, image: &[u8]) -> Result<(), AllocError> {
+    let alloc = *text.allocator();
+    let mut show = Case::new(alloc);
+    show.words.push(String::from_str(alloc, "show")?)?;
+    show.line_bytes = case.line_bytes;
+    show.last = case.last;
+    let answer = answer_of(alloc, &show, image)?;
+    push_answer(text, &show, &answer)
 }
 
 fn answer_of(alloc: Global, case: &Case, trace: &[u8]) -> Result<Answer, AllocError> {
@@ -70,7 +86,7 @@ fn answer_over<A: CellArray<64, 8>, V: CellArray<128, 16>>(
     let mut ends = Ends::new(alloc, case, trace)?;
     let status = run(alloc, case, array, wide, &mut ends);
     let arrays = arrays_of(alloc, case, array, wide)?;
-    ends.answer(alloc, status, arrays)
+    ends.answer(alloc, case, status, arrays)
 }
 
 fn run<A: CellArray<64, 8>, V: CellArray<128, 16>>(
@@ -107,11 +123,23 @@ impl Ends {
         Ok(Ends { source, out, err })
     }
 
-    fn answer(self, alloc: Global, status: u8, arrays: String) -> Result<Answer, AllocError> {
-        let out = text_in(alloc, &self.out)?;
+    fn answer(
+        self,
+        alloc: Global,
+        case: &Case,
+        status: u8,
+        arrays: String,
+    ) -> Result<Answer, AllocError> {
+        let bytes = Vec::from_slice(alloc, self.out.written())?;
+        let out = if case.pieces.is_empty() {
+            text_in(alloc, &self.out)?
+        } else {
+            image_in(alloc, case, bytes.as_slice())?
+        };
         let err = text_in(alloc, &self.err)?;
         Ok(Answer {
             status,
+            bytes,
             out,
             err,
             arrays,
@@ -128,6 +156,25 @@ fn source(alloc: Global, case: &Case, trace: &[u8]) -> Result<MemSource, AllocEr
 fn text_in(alloc: Global, sink: &CaseSink) -> Result<String, AllocError> {
     let text = str::from_utf8(sink.written()).unwrap_or("no text\n");
     String::from_str(alloc, text)
+}
+
+// The digits of an image: those of each of its first pieces, and then of each row of cells, its bits and its check bytes.
+fn image_in(alloc: Global, case: &Case, bytes: &[u8]) -> Result<String, AllocError> {
+    let mut text = format!(in alloc; "bytes {}\n", bytes.len())?;
+    let mut left = bytes;
+    for count in case.pieces.iter() {
+        let (piece, behind) = left.split_at(left.len().min(*count as usize));
+        writeln!(text, "{}", digits(alloc, piece)?.as_str())?;
+        left = behind;
+    }
+    let row_bytes = if case.line_bytes == 128 { 144 } else { 72 };
+    for row in left.chunks(row_bytes) {
+        let (bits, check) = row.split_at(row.len().min(case.line_bytes));
+        let bits = digits(alloc, bits)?;
+        let check = digits(alloc, check)?;
+        writeln!(text, "{},{}", bits.as_str(), check.as_str())?;
+    }
+    Ok(text)
 }
 
 // How many lines each array has, and what the shown lines hold, a text line for each.

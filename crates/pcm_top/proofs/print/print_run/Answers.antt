@@ -7,12 +7,14 @@ use Rattle.pcm_top.proofs.print.print_run.Goals as goal
 pub returns-in-Wear-clause-ok : goal.returns-in-Wear-clause-ok
 returns-in-Wear-clause-ok g c =
     on_ok c.print_wear.result _ _ c.print_wear.ensures.ok
-    (wear-text g.row.E c.args.pcm.now (g.A.CellArray.state c.args.array.now) c.args.events.now c.args.results.now c.args.print _ c.in-Wear.is)
+    (λ report ends are right roles.
+    wear-text g.row.E c.args.pcm.now (g.A.CellArray.state c.args.array.now) c.args.events.now c.args.results.now c.args.print _ c.in-Wear.is report ends are roles)
 
 pub returns-in-Wear-clause-part : goal.returns-in-Wear-clause-part
 returns-in-Wear-clause-part g c =
     on_err c.print_wear.result _ _ c.print_wear.ensures.part
-    (wear-text g.row.E c.args.pcm.now (g.A.CellArray.state c.args.array.now) c.args.events.now c.args.results.now c.args.print _ c.in-Wear.is)
+    (λ report ends are right roles.
+    wear-text g.row.E c.args.pcm.now (g.A.CellArray.state c.args.array.now) c.args.events.now c.args.results.now c.args.print _ c.in-Wear.is report ends are roles)
 
 pub returns-in-Results-clause-sensed : goal.returns-in-Results-clause-sensed
 returns-in-Results-clause-sensed g c = sensed-none (g.A.CellArray.state c.args.array.now)
