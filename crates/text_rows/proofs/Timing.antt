@@ -10,7 +10,7 @@ use Rattle.std.proofs.lemmas.Bool.{ltb-true}
 use Rattle.result_rows.specs.declared.Outcome.{Outcome}
 use Rattle.result_rows.specs.Outcomes.{tick_of}
 use Rattle.result_check.specs.Checkable.{IsTimed, IsCheckable}
-use Rattle.text_rows.specs.TimedEvent.{is_below, is_timed}
+use Rattle.text_rows.specs.Timely.{is_below, is_timed}
 
 pub timed_by : {n : ℕ} (o : Outcome n) → is_timed o ≡ true → IsTimed o
 timed_by {n} o h = by (tick_of o) refl h

@@ -1,1 +1,1 @@
-pub mod TimedEvent
+pub mod Timely

@@ -119,9 +119,3 @@ fn pulses_of_all_lines_are_summed(rt: HostRuntime) -> Result<(), Fail> {
     assert_eq!(rt; sum_pulses(&wide), 1);
     Ok(())
 }
-
-#[test]
-fn counts_and_rows_agree() {
-    each_row_is_counted_once();
-    short_rows_are_counted();
-}

@@ -1,6 +1,6 @@
 // The verdict on a write and a read of it.
 ghost use Rattle.std.specs.Prelude.{◌≡◌, true};
-ghost use Rattle.text_rows.specs.TimedEvent.{is_timed};
+ghost use Rattle.text_rows.specs.Timely.{is_timed};
 
 use bank_shape::Policy;
 use result_check::{Rule, Rules, Verdict, check};
