@@ -26,7 +26,7 @@ pub loop-bank-preserved : goal.loop-bank-preserved
 loop-bank-preserved g c =
     subst (λ (k : ℕ). AreMade g.row.B g.row.M g.row.E c.args.shape k c.push.new.self.items) (next_is c.loop-bank.bank)
     (made_one g.row.B g.row.M g.row.E c.args.shape c.loop-bank.bank c.loop-bank.banks.items c.push.new.self.items c.in_ok-new.field-0
-    c.bank_shape.result c.pace.result c.loop-bank.invariant c.bank_shape.ensures.exact c.bank_shape.ensures.shape (ap c.pace.ensures.exact)
+    c.bank_shape.result c.pace.result c.loop-bank.invariant c.bank_shape.ensures.exact c.bank_shape.ensures.shape c.pace.ensures.exact
     c.in_ok-new.ensures.first c.in_ok-new.ensures.leads c.in_ok-push.ensures.items)
 
 pub invariant_of-result : goal.invariant_of-result
