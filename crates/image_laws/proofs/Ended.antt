@@ -32,7 +32,7 @@ use Rattle.end_laws.specs.EndLaws.{IsEndOf}
 use Rattle.end_laws.specs.Roles.{used_spares}
 use Rattle.end_laws.proofs.Used.{used-same}
 use Rattle.pcm_image.specs.Standing.{no_region}
-use Rattle.image_laws.specs.Saving.{saved_bank, saved_region}
+use Rattle.image_laws.specs.Saving.{head_of, saved_bank, saved_region}
 use Rattle.image_laws.specs.SavedRuns.{SavesEnd}
 use Rattle.image_laws.proofs.Keeping.{registers-saved, slots-saved}
 
