@@ -66,8 +66,8 @@ module _ {A V S K F : Type 0} (call : Call A V S K F) (off : KeepsOff call) wher
     not_write own = λ e. own (told.write e)
 
     -- the fault is answered
-    answered : (as : Fault) → fault ≡ as → fault ≢ Write → Answers call as
-    answered as is other =
+    answered : (known : Fault) → fault ≡ known → fault ≢ Write → Answers call known
+    answered known is other =
         elim (cases_eq call.status 5) [
           | inl five ↦ inr (five, told.broken five other)
           | inr own ↦ inl ((told.told own).0 ∙ ap status_of is)
