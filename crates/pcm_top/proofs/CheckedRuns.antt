@@ -4,6 +4,7 @@ use Rattle.std.specs.Prelude.{◌⊎◌, codes, reverse, slice_get, slice_index,
 use Rattle.std.specs.Io.KnownBytes.{Appends}
 use Rattle.std.specs.List.{join_with_byte}
 use Rattle.std.proofs.lemmas.List.{append_cancel_left, get_or_at, length_push, reverse-append}
+use Rattle.pcm_io.specs.Giving.{AppendsPrefix}
 use Rattle.pcm_cells.specs.Device.{ArrayState}
 use Rattle.trace_reader.specs.Trace.{most_rows, trace_of}
 use Rattle.trace_reader.specs.declared.event.Event.{Event}
@@ -40,18 +41,14 @@ use Rattle.command_line.specs.declared.job.Print.{Print}
 use Rattle.command_line.specs.declared.job.Print.TheVariants.{Results}
 use Rattle.command_line.specs.declared.job.RunJob.{RunJob}
 use Rattle.pcm_top.specs.CheckedRuns.{CheckedLaw, IsTraceOf, SaysOk, check_with}
-use Rattle.pcm_top.specs.Checking.{IsCheckFault, done_on, pointers_in, room_line}
+use Rattle.pcm_top.specs.Checking.{IsCheckFault, TellsVerdict, TellsVerdictInPart, done_on, pointers_in, room_line}
 use Rattle.pcm_top.specs.Inputs.{ComeFrom}
-use Rattle.pcm_top.specs.Jobs.{bytes_in, checks_in}
+use Rattle.pcm_top.specs.Jobs.{bytes_in}
 use Rattle.pcm_top.specs.Reading.{SourceChange, trace_room}
 use Rattle.pcm_top.specs.Rows.{rows_of}
 use Rattle.pcm_top.specs.RunText.{IsRunText}
-use Rattle.pcm_top.specs.Running.{RunIsWritten}
-use Rattle.pcm_top.specs.Writing.{Gets, GetsPart, SinkChange}
-use Rattle.pcm_top.specs.Doing.{Deed, DoesJob, WritesVerdict, WritesVerdictInPart, array_for}
-use Rattle.pcm_top.specs.Causes.{text_fault}
-use Rattle.pcm_top.specs.FaultLines.{status_of}
-use Rattle.pcm_top.specs.Statuses.{IsCheckStatus, status_done}
+use Rattle.pcm_top.specs.Running.{RunIsWritten, WritesRun, status_done}
+use Rattle.pcm_top.specs.Statuses.{IsCheckStatus, status_without}
 use Rattle.pcm_top.specs.declared.fault.Fault.{Fault}
 use Rattle.pcm_top.specs.declared.fault.Fault.TheVariants as fault
 use Rattle.pcm_top.specs.declared.run.Done.{Done}
@@ -197,19 +194,17 @@ says-ok job bytes ok = record { done = did; part = did_part; cause = caused; sta
     verdict-is : (s : SourceChange) (verdict : Verdict) (found : List ℕ) → found ≡ bytes → HasVerdict (bytes_in job.line) (pointers_in job.line) job.shape job.seed found verdict → verdict ≡ Yes
     verdict-is s verdict found same has = ok.judged.only verdict (subst (λ (text : List ℕ). HasVerdict (bytes_in job.line) (pointers_in job.line) job.shape job.seed text verdict) same has)
 
-    did : (deed : Deed) (done : Done) → deed.source.left_before ≡ Some bytes → WritesVerdict deed (check_with job) done
-        → Gets deed.out (codes "ok\n") × (done ≡ Whole)
-    did deed done told tells =
-        let read = reads-told room_line deed.source bytes tells.reads.bytes told tells.reads.whole in
-        let yes = verdict-is deed.source tells.verdict tells.reads.bytes read tells.reads.has in
-        (subst (λ (verdict : Verdict). Gets deed.out (verdict_text verdict)) yes tells.written, tells.ending ∙ ap done_on yes)
+    did : (s : SourceChange) (array : ArrayState 64 8) (wide : ArrayState 128 16) (before now : Option (List ℕ)) (done : Done)
+        → s.left_before ≡ Some bytes → TellsVerdict (bytes_in job.line) (pointers_in job.line) (check_with job) s before now done → Appends before now (codes "ok\n") × (done ≡ Whole)
+    did s array wide before now done told tells =
+        let yes = verdict-is s tells.verdict tells.reads.bytes (reads-told room_line s bytes tells.reads.bytes told tells.reads.whole) tells.reads.has in
+        (subst (λ (verdict : Verdict). Appends before now (verdict_text verdict)) yes tells.written, tells.ending ∙ ap done_on yes)
 
-    did_part : (deed : Deed) → deed.source.left_before ≡ Some bytes → WritesVerdictInPart deed (check_with job)
-        → GetsPart deed.out (codes "ok\n")
-    did_part deed told tells =
-        let read = reads-told room_line deed.source bytes tells.reads.bytes told tells.reads.whole in
-        let yes = verdict-is deed.source tells.verdict tells.reads.bytes read tells.reads.has in
-        subst (λ (verdict : Verdict). GetsPart deed.out (verdict_text verdict)) yes tells.written
+    did_part : (s : SourceChange) (array : ArrayState 64 8) (wide : ArrayState 128 16) (before now : Option (List ℕ))
+        → s.left_before ≡ Some bytes → TellsVerdictInPart (bytes_in job.line) (pointers_in job.line) (check_with job) s before now → AppendsPrefix before now (codes "ok\n")
+    did_part s array wide before now told tells =
+        let yes = verdict-is s tells.verdict tells.reads.bytes (reads-told room_line s bytes tells.reads.bytes told tells.reads.whole) tells.reads.has in
+        subst (λ (verdict : Verdict). AppendsPrefix before now (verdict_text verdict)) yes tells.written
 
     -- no fault of the text
     none : (found : List ℕ) (one : TextFault) → found ≡ bytes → IsTextFault (bytes_in job.line) job.shape found one → one ≡ text.NoMemory
@@ -233,21 +228,13 @@ says-ok job bytes ok = record { done = did; part = did_part; cause = caused; sta
     status_is status (inr within) =
         elim (within.1) [
           | inl has ↦ inl (has.2 ∙ ap (λ (verdict : Verdict). status_done (done_on verdict)) (ok.judged.only has.0 has.1))
-          | inr has ↦ inr (has.2 ∙ ap (λ (one : TextFault). status_of (text_fault one)) (ok.judged.faultless has.0 has.1))
+          | inr has ↦ inr (has.2 ∙ ap status_without (ok.judged.faultless has.0 has.1))
         ]
 
--- what was added to what was written
-added-is : (told results text : List ℕ) (before now : Option (List ℕ)) → before ≡ Some told → now ≡ Some (told ++ results) → Appends before now text
-    → told ++ results ≡ told ++ text
-added-is told results text (Some xs) (Some ys) before now appends = cc (before, now, appends)
-added-is told results text None now before is appends = cc before
-added-is told results text (Some xs) None before now appends = cc now
-
 module _ (texts : GeneratedTextLaw) (sizes : GeneratedSizeLaw) (judges : JudgedRunsLaw) (short : ShortLaw) (job : RunJob) (run : IsRun job) (prints : job.print ≡ Results)
-    (s : SourceChange) (out : SinkChange) (trace told results : List ℕ) (is : IsTraceOf job job.input s trace)
-    (before : out.written_before ≡ Some told) (now : out.written_now ≡ Some (told ++ results)) where
+    (s : SourceChange) (trace told results : List ℕ) (is : IsTraceOf job job.input s trace) where
   -- what a run over lines of n bytes wrote
-  ok-text : (n m e : ℕ) (array : ArrayState n m) (done : Done) (made : RunIsWritten n m e job s array out done) → 1 ≤ n → e ≤ 8
+  ok-text : (n m e : ℕ) (array : ArrayState n m) (done : Done) (made : RunIsWritten n m e job s array (Some told) (Some (told ++ results)) done) → 1 ≤ n → e ≤ 8
       → IsTrace n job made.run.events trace
       → ((rows : ℕ) → rows ≤ most_rows → trace_room n + (36 + rows * (64 + 2 * n)) ≤ trace_room room_line) → IsOkText n e job (trace ++ results)
   ok-text n m e array done made some few whole room =
@@ -262,8 +249,7 @@ module _ (texts : GeneratedTextLaw) (sizes : GeneratedSizeLaw) (judges : JudgedR
       } in
       let Of : Print → Type 0 = λ p. IsRunText job.shape job.seed e events outcomes made.run.ends array p made.text in
       let printed : made.text ≡ results_text events outcomes = subst Of prints made.is_text in
-      let added : told ++ results ≡ told ++ made.text = added-is told results made.text out.written_before out.written_now before now made.written in
-      let same : results ≡ results_text events outcomes = append_cancel_left told results made.text added ∙ printed in
+      let same : results ≡ results_text events outcomes = append_cancel_left told results made.text made.written ∙ printed in
       let few_rows = (trace_of-lawful n (total_of job.shape) trace events (some-lines job run.shape) whole.reads).1 in
       let size = short n m e job.shape job.seed trace events outcomes array made.run.ends one in
       record {
@@ -271,15 +257,13 @@ module _ (texts : GeneratedTextLaw) (sizes : GeneratedSizeLaw) (judges : JudgedR
         fits = omega (arith, length-append trace results, ap length same, size, whole.short, room (length events) few_rows);
       }
 
-  ok-written : (size : LineSize) → size ≡ job.line → (array : ArrayState (bytes_in size) (checks_in size)) (done : Done)
-      → RunIsWritten (bytes_in size) (checks_in size) (pointers_in size) job s array out done
+  ok-written : (size : LineSize) → size ≡ job.line → (array : ArrayState 64 8) (wide : ArrayState 128 16) (done : Done) → WritesRun s array wide (Some told) (Some (told ++ results)) job done size
       → IsOkText (bytes_in size) (pointers_in size) job (trace ++ results)
-  ok-written Bytes64 of array done made =
+  ok-written Bytes64 of array wide done made =
       ok-text 64 8 6 array done made (omega arith) (omega arith) (is-trace texts sizes job run Bytes64 of job.input run.input s made.run.events trace made.run.come is) (λ rows few. omega (arith, few))
-  ok-written Bytes128 of array done made =
-      ok-text 128 16 8 array done made (omega arith) (omega arith) (is-trace texts sizes job run Bytes128 of job.input run.input s made.run.events trace made.run.come is) (λ rows few. omega (arith, few))
+  ok-written Bytes128 of array wide done made =
+      ok-text 128 16 8 wide done made (omega arith) (omega arith) (is-trace texts sizes job run Bytes128 of job.input run.input s made.run.events trace made.run.come is) (λ rows few. omega (arith, few))
 
 pub checked-law : GeneratedTextLaw → GeneratedSizeLaw → JudgedRunsLaw → ShortLaw → CheckedLaw
-checked-law texts sizes judges short job deed trace told results done run prints is before now does =
-    says-ok job (trace ++ results)
-    (ok-written texts sizes judges short job run prints deed.source deed.out trace told results is before now job.line refl (array_for deed job.line) done does)
+checked-law texts sizes judges short job s array wide trace told results done run prints is does =
+    says-ok job (trace ++ results) (ok-written texts sizes judges short job run prints s trace told results is job.line refl array wide done does)

@@ -1,8 +1,12 @@
 -- How words and bytes decide the status of a call.
-use Rattle.std.proofs.Common.{◌≡◌, ◌≢◌, ℕ, ◌<◌, ◌≤◌, ◌⊎◌, inl, inr, List, [], ◌++◌, length, true, false, Option, Some, None, refl, sym, ap, ◌∙◌, subst, arith}
-use Rattle.std.specs.Prelude.{Result, Ok, Err}
+use Rattle.std.proofs.Common.{◌≡◌, ◌≢◌, ℕ, ◌+◌, ◌-◌, ◌^◌, ◌<◌, ◌≤◌, ◌⊎◌, inl, inr, List, [], ◌++◌, length, true, false, Option, Some, None, refl, sym, ap, ◌∙◌, subst, arith}
+use Rattle.std.specs.Prelude.{Result, Ok, Err, IfOk, IfErr}
 use Rattle.std.specs.Io.KnownBytes.{Consumes, IsAtEnd}
+use Rattle.std.proofs.lemmas.Bool.{cases_eq}
 use Rattle.std.proofs.lemmas.List.{append-nil, length-append}
+use Rattle.pcm_io.specs.Faults.{Rose}
+use Rattle.pcm_io.proofs.ByteLemmas.{Takes-nothing}
+use Rattle.pcm_cells.specs.Device.{ArrayState}
 use Rattle.trace_reader.specs.Trace.{trace_of}
 use Rattle.trace_reader.specs.declared.event.Event.{Event}
 use Rattle.trace_reader.specs.declared.fault.ParseFault.{ParseFault}
@@ -14,18 +18,19 @@ use Rattle.command_line.specs.declared.job.Job.TheVariants.{Run, Gen, Map, Moves
 use Rattle.command_line.specs.declared.job.RunJob.{RunJob}
 use Rattle.command_line.specs.declared.job.Input.{Input}
 use Rattle.command_line.specs.declared.job.Input.TheVariants.{Source, Drawn}
+use Rattle.command_line.specs.declared.job.LineSize.{LineSize}
+use Rattle.command_line.specs.declared.job.LineSize.TheVariants.{Bytes64, Bytes128}
 use Rattle.command_line.specs.declared.job.Refusal.{Refusal}
 use Rattle.pcm_top.specs.Jobs.{bytes_in}
-use Rattle.pcm_top.specs.Reading.{IsReadFault, ReadsWhole, SourceChange, SourceFails, TakesNothing, TakesOver, TakesSome, trace_room}
+use Rattle.pcm_top.specs.Reading.{IsReadFault, ReadsWhole, SourceChange, TakesNothing, TakesSome, trace_room}
 use Rattle.pcm_top.specs.Inputs.{ComeFrom, IsFaultOf, is_source}
 use Rattle.command_line.specs.declared.job.CheckJob.{CheckJob}
 use Rattle.text_check.specs.declared.fault.TextFault.TheVariants as text
 use Rattle.pcm_top.specs.Checking.{IsCheckFault, TellsVerdict, pointers_in, room_line}
 use Rattle.pcm_top.specs.FaultLines.{status_of}
-use Rattle.pcm_top.specs.Running.{Runs}
-use Rattle.pcm_top.specs.Doing.{Deed, Does, DoesJob, HasCause, reads_source}
+use Rattle.pcm_top.specs.Running.{Does, HasCause, IsRefused, Runs, Tells, WritesRun, reads_source, status_done}
 use Rattle.pcm_top.specs.Showing.{IsShowFault, shown_of}
-use Rattle.pcm_top.specs.Statuses.{IsImageStatus, IsInputStatus, IsRunStatus, IsShowStatus, IsSourceStatus, IsStatusFor, IsTraceStatus, IsCheckStatus, IsTextStatus, status_done}
+use Rattle.pcm_top.specs.Statuses.{IsImageStatus, IsInputStatus, IsRunStatus, IsShowStatus, IsSourceStatus, IsStatusFor, IsTraceStatus, IsCheckStatus, IsTextStatus}
 use Rattle.pcm_top.specs.declared.run.Done.{Done}
 use Rattle.pcm_top.specs.declared.run.Done.TheVariants.{Whole, Short}
 use Rattle.pcm_top.specs.declared.fault.Fault.{Fault}
@@ -68,7 +73,7 @@ by-image bytes found status shown same within is has =
     let With : List ℕ → Type 0 = λ bs. IsShowStatus bs status in
     subst With same (inr (within, subst Of (sym is) has))
 
-fault-status : (n lines : ℕ) (fault : Fault) (s : SourceChange) (bytes : List ℕ) → s.left_before ≡ Some bytes → ¬ SourceFails s → IsReadFault n lines fault s
+fault-status : (n lines : ℕ) (fault : Fault) (s : SourceChange) (bytes : List ℕ) → s.left_before ≡ Some bytes → ¬ Rose s.faults_before s.faults_now → IsReadFault n lines fault s
     → IsSourceStatus n lines bytes (status_of fault) ⊎ (status_of fault ≡ 7)
 fault-status n lines Usage s bytes is calm cause = absurd cause
 fault-status n lines Write s bytes is calm cause = absurd cause
@@ -86,7 +91,7 @@ fault-status n lines TooLong s bytes is calm (inr many) =
     inl (by-trace n lines bytes many.0 6 (Err parsing.TooMany) (reads-told n s bytes many.0 is many.1) many.1.within many.2 refl)
 
 -- why nothing is shown
-show-fault-status : (fault : Fault) (s : SourceChange) (bytes : List ℕ) → s.left_before ≡ Some bytes → ¬ SourceFails s → IsShowFault fault s
+show-fault-status : (fault : Fault) (s : SourceChange) (bytes : List ℕ) → s.left_before ≡ Some bytes → ¬ Rose s.faults_before s.faults_now → IsShowFault fault s
     → IsShowStatus bytes (status_of fault) ⊎ (status_of fault ≡ 7)
 show-fault-status Usage s bytes is calm cause = absurd cause
 show-fault-status Write s bytes is calm cause = absurd cause
@@ -102,7 +107,7 @@ show-fault-status TooLong s bytes is calm more =
     inl (inl (omega arith, refl))
 
 -- why a run has no events, by where they come from
-input-fault-status : (job : RunJob) (input : Input) (fault : Fault) (s : SourceChange) (bytes : List ℕ) → (is_source input ≡ true → s.left_before ≡ Some bytes) → ¬ SourceFails s
+input-fault-status : (job : RunJob) (input : Input) (fault : Fault) (s : SourceChange) (bytes : List ℕ) → (is_source input ≡ true → s.left_before ≡ Some bytes) → ¬ Rose s.faults_before s.faults_now
     → IsFaultOf (bytes_in job.line) job input fault s → IsInputStatus job bytes (status_of fault) input ⊎ (status_of fault ≡ 7)
 input-fault-status job Source fault s bytes told calm cause = fault-status (bytes_in job.line) (total_of job.shape) fault s bytes (told refl) calm cause
 input-fault-status job (Drawn mix) fault s bytes told calm cause = inr (ap status_of cause)
@@ -113,7 +118,7 @@ by-text n e job bytes found status same within has =
     let With : List ℕ → Type 0 = λ bs. IsCheckStatus n e job bs status in
     subst With same (inr (within, has))
 
-check-fault-status : (n e : ℕ) (job : CheckJob) (fault : Fault) (s : SourceChange) (bytes : List ℕ) → s.left_before ≡ Some bytes → ¬ SourceFails s → IsCheckFault n job fault s
+check-fault-status : (n e : ℕ) (job : CheckJob) (fault : Fault) (s : SourceChange) (bytes : List ℕ) → s.left_before ≡ Some bytes → ¬ Rose s.faults_before s.faults_now → IsCheckFault n job fault s
     → IsCheckStatus n e job bytes (status_of fault) ⊎ (status_of fault ≡ 7)
 check-fault-status n e job Usage s bytes is calm cause = absurd cause
 check-fault-status n e job Write s bytes is calm cause = absurd cause
@@ -138,61 +143,63 @@ told-verdict-status n e job s before now bytes done is tells =
     by-text n e job bytes reads.bytes (status_done done) (reads-told room_line s bytes reads.bytes is reads.whole) reads.whole.within
     (inl (tells.verdict, reads.has, ap status_done tells.ending))
 
--- the status of a fault that has its cause
-cause-status : (asked : Result Job Refusal) (s : SourceChange) (bytes : List ℕ) (fault : Fault) → (reads_source asked ≡ true → s.left_before ≡ Some bytes) → ¬ SourceFails s → HasCause asked s fault
+tells-status : (asked : Result Job Refusal) (s : SourceChange) (bytes : List ℕ) (fault : Fault) → (reads_source asked ≡ true → s.left_before ≡ Some bytes) → ¬ Rose s.faults_before s.faults_now → HasCause fault asked s
     → IsStatusFor asked bytes (status_of fault) ⊎ (status_of fault ≡ 7)
-cause-status (Err e) s bytes fault told calm (inl usage) = inl (ap status_of usage)
-cause-status (Err e) s bytes fault told calm (inr memory) = inr (ap status_of memory)
-cause-status (Ok (Run job)) s bytes fault told calm cause = input-fault-status job job.input fault s bytes told calm cause
-cause-status (Ok (Gen job)) s bytes fault told calm cause = inr (ap status_of cause)
-cause-status (Ok (Map job)) s bytes fault told calm cause = inr (ap status_of cause)
-cause-status (Ok (Moves job)) s bytes fault told calm cause = inr (ap status_of cause)
-cause-status (Ok Show) s bytes fault told calm cause = show-fault-status fault s bytes (told refl) calm cause
-cause-status (Ok (Check job)) s bytes fault told calm cause = check-fault-status (bytes_in job.line) (pointers_in job.line) job fault s bytes (told refl) calm cause
+tells-status (Err e) s bytes fault told calm (inl usage) = inl (ap status_of usage)
+tells-status (Err e) s bytes fault told calm (inr memory) = inr (ap status_of memory)
+tells-status (Ok (Run job)) s bytes fault told calm cause = input-fault-status job job.input fault s bytes told calm cause
+tells-status (Ok (Gen job)) s bytes fault told calm cause = inr (ap status_of cause)
+tells-status (Ok (Map job)) s bytes fault told calm cause = inr (ap status_of cause)
+tells-status (Ok (Moves job)) s bytes fault told calm cause = inr (ap status_of cause)
+tells-status (Ok Show) s bytes fault told calm cause = show-fault-status fault s bytes (told refl) calm cause
+tells-status (Ok (Check job)) s bytes fault told calm cause = check-fault-status (bytes_in job.line) (pointers_in job.line) job fault s bytes (told refl) calm cause
 
 run-status : (done : Done) → IsRunStatus (status_done done)
 run-status Whole = inl refl
 run-status Short = inr refl
 
 -- where the events of a run come from decides that it is made
-come-status : (job : RunJob) (input : Input) (s : SourceChange) (events : List (Event (bytes_in job.line))) (bytes : List ℕ) (done : Done)
-    → (is_source input ≡ true → s.left_before ≡ Some bytes) → ComeFrom (bytes_in job.line) job input s events → IsInputStatus job bytes (status_done done) input
-come-status job Source s events bytes done told come =
-    by-trace (bytes_in job.line) (total_of job.shape) bytes come.bytes (status_done done) (Ok events)
-    (reads-told (bytes_in job.line) s bytes come.bytes (told refl) come.whole) come.whole.within come.trace (run-status done)
-come-status job (Drawn mix) s events bytes done told come = run-status done
+come-status : (n : ℕ) (job : RunJob) (input : Input) (s : SourceChange) (events : List (Event n)) (bytes : List ℕ) (done : Done) → n ≡ bytes_in job.line → (is_source input ≡ true → s.left_before ≡ Some bytes)
+    → ComeFrom n job input s events → IsInputStatus job bytes (status_done done) input
+come-status n job Source s events bytes done size told come =
+    let With : ℕ → Type 0 = λ b. IsSourceStatus b (total_of job.shape) bytes (status_done done) in
+    subst With size
+    (by-trace n (total_of job.shape) bytes come.bytes (status_done done) (Ok events) (reads-told n s bytes come.bytes (told refl) come.whole) come.whole.within come.trace (run-status done))
+come-status n job (Drawn mix) s events bytes done size told come = run-status done
 
-module _ (deed : Deed) where
-  -- the status of a job that was done
-  does-status : (asked : Result Job Refusal) (bytes : List ℕ) (done : Done)
-      → (reads_source asked ≡ true → deed.source.left_before ≡ Some bytes) → DoesJob deed asked done → IsStatusFor asked bytes (status_done done)
-  does-status (Err e) bytes done told does = absurd does
-  does-status (Ok (Run job)) bytes done told does =
-      come-status job job.input deed.source does.run.events bytes done told does.run.come
-  does-status (Ok (Gen job)) bytes done told does = ap status_done does.1
-  does-status (Ok (Map job)) bytes done told does = ap status_done does.1
-  does-status (Ok (Moves job)) bytes done told does = ap status_done does.1
-  does-status (Ok Show) bytes done told does =
-      let Has : ℕ → Type 0 = λ n. IsShowStatus bytes n in
-      let read = does.0.1 in
-      subst Has (sym (ap status_done does.1))
-      (by-image bytes read.bytes 0 (Ok does.0.0) (reads-told 64 deed.source bytes read.bytes (told refl) read.whole) read.whole.within read.shown refl)
-  does-status (Ok (Check job)) bytes done told does =
-      told-verdict-status (bytes_in job.line) (pointers_in job.line) job deed.source deed.out.written_before deed.out.written_now bytes done (told refl) does
+written-status : (job : RunJob) (size : LineSize) (s : SourceChange) (array : ArrayState 64 8) (wide : ArrayState 128 16) (before now : Option (List ℕ)) (bytes : List ℕ) (done : Done)
+    → size ≡ job.line → (is_source job.input ≡ true → s.left_before ≡ Some bytes) → WritesRun s array wide before now job done size → IsInputStatus job bytes (status_done done) job.input
+written-status job Bytes64 s array wide before now bytes done of told run = come-status 64 job job.input s run.run.events bytes done (ap bytes_in of) told run.run.come
+written-status job Bytes128 s array wide before now bytes done of told run = come-status 128 job job.input s run.run.events bytes done (ap bytes_in of) told run.run.come
 
-  pub done-decided : (bytes : List ℕ) (done : Done) (status : ℕ)
-      → status ≡ status_done done → (reads_source deed.asked ≡ true → deed.source.left_before ≡ Some bytes) → Does deed done
-      → IsStatusFor deed.asked bytes status ⊎ (status ≡ 7)
-  done-decided bytes done status is told does =
-      let For : ℕ → Type 0 = λ n. IsStatusFor deed.asked bytes n in
-      inl (subst For (sym is) (does-status deed.asked bytes done told does))
+-- the status of a job that was done
+does-status : (asked : Result Job Refusal) (s : SourceChange) (array : ArrayState 64 8) (wide : ArrayState 128 16) (before now : Option (List ℕ)) (bytes : List ℕ) (done : Done)
+    → (reads_source asked ≡ true → s.left_before ≡ Some bytes) → Does s array wide before now asked done → IsStatusFor asked bytes (status_done done)
+does-status (Err e) s array wide before now bytes done told does = absurd does
+does-status (Ok (Run job)) s array wide before now bytes done told does = written-status job job.line s array wide before now bytes done refl told does
+does-status (Ok (Gen job)) s array wide before now bytes done told does = ap status_done does.1
+does-status (Ok (Map job)) s array wide before now bytes done told does = ap status_done does.1
+does-status (Ok (Moves job)) s array wide before now bytes done told does = ap status_done does.1
+does-status (Ok Show) s array wide before now bytes done told does =
+    let Has : ℕ → Type 0 = λ n. IsShowStatus bytes n in
+    let read = does.0.1 in
+    subst Has (sym (ap status_done does.1))
+    (by-image bytes read.bytes 0 (Ok does.0.0) (reads-told 64 s bytes read.bytes (told refl) read.whole) read.whole.within read.shown refl)
+does-status (Ok (Check job)) s array wide before now bytes done told does = told-verdict-status (bytes_in job.line) (pointers_in job.line) job s before now bytes done (told refl) does
 
-pub told-decided : (asked : Result Job Refusal) (s : SourceChange) (bytes : List ℕ) (fault : Fault) (status : ℕ)
-    → (reads_source asked ≡ true → s.left_before ≡ Some bytes) → ¬ SourceFails s → status ≡ status_of fault → HasCause asked s fault
+pub done-decided : (asked : Result Job Refusal) (s : SourceChange) (array : ArrayState 64 8) (wide : ArrayState 128 16) (before now : Option (List ℕ)) (bytes : List ℕ) (done : Done) (status : ℕ)
+    → status ≡ status_done done → (reads_source asked ≡ true → s.left_before ≡ Some bytes) → Does s array wide before now asked done
     → IsStatusFor asked bytes status ⊎ (status ≡ 7)
-told-decided asked s bytes fault status told calm answered cause =
+done-decided asked s array wide before now bytes done status is told does =
+    let For : ℕ → Type 0 = λ n. IsStatusFor asked bytes n in
+    inl (subst For (sym is) (does-status asked s array wide before now bytes done told does))
+
+pub told-decided : (asked : Result Job Refusal) (s : SourceChange) (before now : Option (List ℕ)) (bytes : List ℕ) (status : ℕ)
+    → (reads_source asked ≡ true → s.left_before ≡ Some bytes) → ¬ Rose s.faults_before s.faults_now → Tells asked s before now status
+    → IsStatusFor asked bytes status ⊎ (status ≡ 7)
+told-decided asked s before now bytes status told calm tells =
     let For : ℕ → Type 0 = λ n. IsStatusFor asked bytes n ⊎ (n ≡ 7) in
-    subst For (sym answered) (cause-status asked s bytes fault told calm cause)
+    subst For (sym tells.answered) (tells-status asked s bytes tells.fault told calm tells.cause)
 
 -- a fault is of writing, or not
 pub is_write : (fault : Fault) → (fault ≡ Write) ⊎ (fault ≢ Write)
@@ -204,3 +211,93 @@ is_write (Results row) = inr (λ e. cc e)
 is_write Read = inr (λ e. cc e)
 is_write TooLong = inr (λ e. cc e)
 is_write NoMemory = inr (λ e. cc e)
+
+-- a source before and after nothing
+abbrev pub untouched : Option (List ℕ) → ℕ → ℕ → SourceChange
+untouched left taken faults = record { left_before = left; left_now = left; taken_before = taken; taken_now = taken; faults_before = faults; faults_now = faults }
+
+some-nothing : (n : ℕ) (left : Option (List ℕ)) (taken faults : ℕ) → TakesSome n (untouched left taken faults)
+some-nothing n left taken faults = ([], Takes-nothing left taken, omega arith)
+
+pub drawn-nothing : (left : Option (List ℕ)) (taken faults : ℕ) → TakesNothing (untouched left taken faults)
+drawn-nothing left taken faults = record { left = refl; taken = refl; faults = refl }
+
+input-memory : (n : ℕ) (job : RunJob) (input : Input) (left : Option (List ℕ)) (taken faults : ℕ) → IsFaultOf n job input NoMemory (untouched left taken faults)
+input-memory n job Source left taken faults = (refl, some-nothing n left taken faults)
+input-memory n job (Drawn mix) left taken faults = refl
+
+memory-cause : (asked : Result Job Refusal) (left : Option (List ℕ)) (taken faults : ℕ) → HasCause NoMemory asked (untouched left taken faults)
+memory-cause (Err e) left taken faults = inr refl
+memory-cause (Ok (Run job)) left taken faults = input-memory (bytes_in job.line) job job.input left taken faults
+memory-cause (Ok (Gen job)) left taken faults = refl
+memory-cause (Ok (Map job)) left taken faults = refl
+memory-cause (Ok (Moves job)) left taken faults = refl
+memory-cause (Ok Show) left taken faults = (refl, some-nothing 64 left taken faults)
+memory-cause (Ok (Check job)) left taken faults = (refl, some-nothing room_line left taken faults)
+
+pub refused-cause : (asked : Result Job Refusal) (fault : Fault) (left : Option (List ℕ)) (taken faults : ℕ) → IsRefused asked fault → HasCause fault asked (untouched left taken faults)
+refused-cause asked fault left taken faults (inl memory) = rw memory (memory-cause asked left taken faults)
+refused-cause asked fault left taken faults (inr usage) = rw usage.1 (inl usage.0)
+
+-- neither is a fault of writing
+pub refused-before : (asked : Result Job Refusal) (fault : Fault) → IsRefused asked fault → fault ≢ Write
+refused-before asked fault (inl memory) = λ e. cc (sym memory ∙ e)
+refused-before asked fault (inr usage) = λ e. cc (sym usage.0 ∙ e)
+
+-- the count of taken bytes rises by no more than was taken
+within-count : (n : ℕ) (s : SourceChange) → TakesSome n s → s.taken_before + trace_room n < 2 ^ 64 - 1 → s.taken_before + trace_room n < s.taken_now → ⊥
+within-count n s some low over =
+    let counted = some.1.counted in
+    let within = some.2 in
+    omega arith
+
+too-much : (n lines : ℕ) (fault : Fault) (s : SourceChange) → IsReadFault n lines fault s → s.taken_before + trace_room n < 2 ^ 64 - 1 → s.taken_before + trace_room n < s.taken_now → fault ≡ TooLong
+too-much n lines Usage s cause low over = absurd cause
+too-much n lines Write s cause low over = absurd cause
+too-much n lines (Image f) s cause low over = absurd cause
+too-much n lines (Results row) s cause low over = absurd cause
+too-much n lines Read s cause low over = absurd (within-count n s cause.1 low over)
+too-much n lines NoMemory s cause low over = absurd (within-count n s cause.1 low over)
+too-much n lines (Trace f) s cause low over = absurd (within-count n s (cause.0, cause.1.takes, cause.1.within) low over)
+too-much n lines TooLong s cause low over = refl
+
+-- memory may run out behind the events
+pub memory-after : (n : ℕ) (job : RunJob) (input : Input) (s : SourceChange) (events : List (Event n)) → ComeFrom n job input s events → s.faults_now ≡ s.faults_before
+    → IsFaultOf n job input NoMemory s
+memory-after n job Source s events come calm = (calm, (come.bytes, come.whole.takes, come.whole.within))
+memory-after n job (Drawn mix) s events come calm = refl
+
+-- a source that was read to its end within its room, and one of which nothing was taken
+come-within : (n : ℕ) (job : RunJob) (input : Input) (s : SourceChange) (events : List (Event n)) → ComeFrom n job input s events → s.taken_before + trace_room n < 2 ^ 64 - 1 → s.taken_before + trace_room n < s.taken_now → ⊥
+come-within n job Source s events come low over = within-count n s (come.bytes, come.whole.takes, come.whole.within) low over
+come-within n job (Drawn mix) s events come low over =
+    let same = come.0.taken in
+    omega arith
+
+input-too-much : (n : ℕ) (job : RunJob) (input : Input) (fault : Fault) (s : SourceChange) → (is_source input ≡ false → s.taken_now ≡ s.taken_before) → IsFaultOf n job input fault s
+    → s.taken_before + trace_room n < 2 ^ 64 - 1 → s.taken_before + trace_room n < s.taken_now → fault ≡ TooLong
+input-too-much n job Source fault s still cause low over = too-much n (total_of job.shape) fault s cause low over
+input-too-much n job (Drawn mix) fault s still cause low over =
+    let same = still refl in
+    absurd (omega arith)
+
+-- a run over too many bytes ends with that fault
+pub run-too_long : {T : Type 0} (n m e : ℕ) (job : RunJob) (s : SourceChange) (array : ArrayState n m) (result : Result T Fault) → IfOk result (λ done. Runs n m e job s array) → (result ≡ Err Write → Runs n m e job s array)
+    → IfErr result (λ fault. fault ≢ Write → IsFaultOf n job job.input fault s) → (is_source job.input ≡ false → s.taken_now ≡ s.taken_before)
+    → s.taken_before + trace_room n < 2 ^ 64 - 1 → s.taken_before + trace_room n < s.taken_now → result ≡ Err TooLong
+run-too_long n m e job s array (Ok x) run write cause still low over = absurd (come-within n job job.input s run.events run.come low over)
+run-too_long n m e job s array (Err fault) run write cause still low over =
+    elim (is_write fault) [
+      | inl is ↦
+          let made = write (ap Err is) in
+          absurd (come-within n job job.input s made.events made.come low over)
+      | inr other ↦ ap Err (input-too-much n job job.input fault s still (cause other) low over)
+    ]
+
+-- a fault over too many bytes is told as that, or can't be told
+pub too_long-told : (fault : Fault) (status : ℕ) (broken : Type 0) → fault ≡ TooLong → (status ≢ 5 → status ≡ status_of fault) → (status ≡ 5 → broken) → (status ≡ 6) ⊎ ((status ≡ 5) × broken)
+too_long-told fault status broken is told untold =
+    elim (cases_eq status 5) [
+      | inl five ↦ inr (five, untold five)
+      | inr other ↦ inl (told other ∙ ap status_of is)
+    ]

@@ -1,6 +1,5 @@
 -- That a run of drawn events is a run of their text.
-use Rattle.std.proofs.Common.{◌≡◌, ℕ, ◌*◌, ◌≤◌, List, length, refl, sym, subst, arith, rules}
-use Rattle.std.specs.Prelude.{Result}
+use Rattle.std.proofs.Common.{◌≡◌, ℕ, ◌*◌, ◌≤◌, List, length, Option, refl, sym, subst, arith, rules}
 use Rattle.std.specs.Io.KnownBytes.{IsAtEnd}
 use Rattle.pcm_cells.specs.Device.{ArrayState}
 use Rattle.trace_reader.specs.declared.event.Event.{Event}
@@ -10,21 +9,16 @@ use Rattle.trace_gen.specs.Laws.{GeneratedSizeLaw, GeneratedTextLaw}
 use Rattle.trace_gen.specs.declared.mix.Mix.{Mix}
 use Rattle.module_shape.specs.Limits.{IsShape, total_of}
 use Rattle.command_line.specs.Jobs.{IsInput, IsRun}
-use Rattle.command_line.specs.declared.job.Job.{Job}
-use Rattle.command_line.specs.declared.job.Refusal.{Refusal}
 use Rattle.command_line.specs.declared.job.RunJob.{RunJob}
 use Rattle.command_line.specs.declared.job.Input.{Input}
 use Rattle.command_line.specs.declared.job.Input.TheVariants.{Drawn}
 use Rattle.command_line.specs.declared.job.LineSize.{LineSize}
 use Rattle.command_line.specs.declared.job.LineSize.TheVariants.{Bytes64, Bytes128}
-use Rattle.pcm_top.specs.Jobs.{bytes_in, checks_in}
+use Rattle.pcm_top.specs.Jobs.{bytes_in}
 use Rattle.pcm_top.specs.Reading.{ReadsTrace, SourceChange, TakesBytes, trace_room}
 use Rattle.pcm_top.specs.Inputs.{ComeFrom}
-use Rattle.pcm_top.specs.Writing.{SinkChange}
-use Rattle.pcm_top.specs.Checking.{pointers_in}
-use Rattle.pcm_top.specs.Running.{RunIsWritten, RunIsWrittenInPart, Runs}
-use Rattle.pcm_top.specs.Doing.{Deed, DoesJob, DoesJobInPart, WritesRun, WritesRunInPart, array_for}
-use Rattle.pcm_top.specs.Laws.{DrawnLaw, read_as, run_of_source}
+use Rattle.pcm_top.specs.Running.{RunIsWritten, RunIsWrittenInPart, Runs, WritesRun, WritesRunInPart}
+use Rattle.pcm_top.specs.Laws.{DrawnLaw, run_of_source}
 use Rattle.pcm_top.specs.declared.run.Done.{Done}
 
 -- the mix of a run that draws its events is in range
@@ -57,12 +51,14 @@ module _ (texts : GeneratedTextLaw) (sizes : GeneratedSizeLaw) (job : RunJob) (m
         trace = rw is (texts n job.seed (total_of job.shape) mix (some-lines job run.shape) run.shape.few_in_all mixed);
       }
 
-  short : (size : LineSize) → length (text_of (bytes_in size)) ≤ trace_room (bytes_in size)
-  short Bytes64 =
+  short-64 : length (text_of 64) ≤ trace_room 64
+  short-64 =
       let size = sizes 64 job.seed (total_of job.shape) mix (some-lines job run.shape) run.shape.few_in_all mixed in
       let few = mixed.few_rows in
       omega arith
-  short Bytes128 =
+
+  short-128 : length (text_of 128) ≤ trace_room 128
+  short-128 =
       let size = sizes 128 job.seed (total_of job.shape) mix (some-lines job run.shape) run.shape.few_in_all mixed in
       let few = mixed.few_rows in
       omega arith
@@ -80,10 +76,10 @@ module _ (texts : GeneratedTextLaw) (sizes : GeneratedSizeLaw) (job : RunJob) (m
     wear = made.wear;
   }
 
-  same-written : (n m e : ℕ) (drawn : SourceChange) (array : ArrayState n m) (out : SinkChange) (done : Done) → TakesBytes read (text_of n) → length (text_of n) ≤ trace_room n
-      → RunIsWritten n m e job drawn array out done → RunIsWritten n m e (run_of_source job) read array out done
+  same-written : (n m e : ℕ) (drawn : SourceChange) (array : ArrayState n m) (before now : Option (List ℕ)) (done : Done) → TakesBytes read (text_of n) → length (text_of n) ≤ trace_room n
+      → RunIsWritten n m e job drawn array before now done → RunIsWritten n m e (run_of_source job) read array before now done
   unfolding same-run
-  same-written n m e drawn array out done takes fits is = record {
+  same-written n m e drawn array before now done takes fits is = record {
     run = same-run n m e drawn array takes fits is.run;
     text = is.text;
     is_text = is.is_text;
@@ -92,31 +88,36 @@ module _ (texts : GeneratedTextLaw) (sizes : GeneratedSizeLaw) (job : RunJob) (m
     rows = is.rows;
   }
 
-  same-part : (n m e : ℕ) (drawn : SourceChange) (array : ArrayState n m) (out : SinkChange) → TakesBytes read (text_of n) → length (text_of n) ≤ trace_room n
-      → RunIsWrittenInPart n m e job drawn array out → RunIsWrittenInPart n m e (run_of_source job) read array out
+  same-part : (n m e : ℕ) (drawn : SourceChange) (array : ArrayState n m) (before now : Option (List ℕ)) → TakesBytes read (text_of n) → length (text_of n) ≤ trace_room n
+      → RunIsWrittenInPart n m e job drawn array before now → RunIsWrittenInPart n m e (run_of_source job) read array before now
   unfolding same-run
-  same-part n m e drawn array out takes fits is = record {
+  same-part n m e drawn array before now takes fits is = record {
     run = same-run n m e drawn array takes fits is.run;
     text = is.text;
     is_text = is.is_text;
     written = is.written;
   }
 
-  -- a deed for which the run was drawn, as one for which it was read
-  pub whole-run : (deed : Deed) (done : Done) → TakesBytes read (text_of (bytes_in job.line))
-      → WritesRun deed job done → WritesRun (read_as deed job read) (run_of_source job) done
-  whole-run deed done takes is =
-      same-written (bytes_in job.line) (checks_in job.line) (pointers_in job.line) deed.source (array_for deed job.line) deed.out done takes (short job.line) is
+  -- at either size of lines
+  takes-of : (size : LineSize) → size ≡ job.line → TakesBytes read (text_of (bytes_in job.line)) → TakesBytes read (text_of (bytes_in size))
+  takes-of size of takes =
+      let Of : LineSize → Type 0 = λ l. TakesBytes read (text_of (bytes_in l)) in
+      subst Of (sym of) takes
 
-  pub part-run : (deed : Deed) → TakesBytes read (text_of (bytes_in job.line))
-      → WritesRunInPart deed job → WritesRunInPart (read_as deed job read) (run_of_source job)
-  part-run deed takes is =
-      same-part (bytes_in job.line) (checks_in job.line) (pointers_in job.line) deed.source (array_for deed job.line) deed.out takes (short job.line) is
+  pub whole-run : (size : LineSize) (drawn : SourceChange) (array : ArrayState 64 8) (wide : ArrayState 128 16) (before now : Option (List ℕ)) (done : Done)
+      → size ≡ job.line → TakesBytes read (text_of (bytes_in job.line))
+      → WritesRun drawn array wide before now job done size → WritesRun read array wide before now (run_of_source job) done size
+  whole-run Bytes64 drawn array wide before now done of takes is = same-written 64 8 6 drawn array before now done (takes-of Bytes64 of takes) short-64 is
+  whole-run Bytes128 drawn array wide before now done of takes is = same-written 128 16 8 drawn wide before now done (takes-of Bytes128 of takes) short-128 is
+
+  pub part-run : (size : LineSize) (drawn : SourceChange) (array : ArrayState 64 8) (wide : ArrayState 128 16) (before now : Option (List ℕ))
+      → size ≡ job.line → TakesBytes read (text_of (bytes_in job.line))
+      → WritesRunInPart drawn array wide before now job size → WritesRunInPart read array wide before now (run_of_source job) size
+  part-run Bytes64 drawn array wide before now of takes is = same-part 64 8 6 drawn array before now (takes-of Bytes64 of takes) short-64 is
+  part-run Bytes128 drawn array wide before now of takes is = same-part 128 16 8 drawn wide before now (takes-of Bytes128 of takes) short-128 is
 
 pub drawn-law : GeneratedTextLaw → GeneratedSizeLaw → DrawnLaw
-drawn-law texts sizes deed job mix read asks run draws takes ended = (
-  (λ done is.
-      let For : Result Job Refusal → Type 0 = λ asked. DoesJob deed asked done in
-      whole-run texts sizes job mix run draws read ended deed done takes (subst For asks is)),
-  (λ is. part-run texts sizes job mix run draws read ended deed takes (subst (λ asked. DoesJobInPart deed asked) asks is)),
+drawn-law texts sizes job mix drawn read array wide before now run draws takes ended = (
+  (λ done is. whole-run texts sizes job mix run draws read ended job.line drawn array wide before now done refl takes is),
+  (λ is. part-run texts sizes job mix run draws read ended job.line drawn array wide before now refl takes is),
 )

@@ -4,8 +4,6 @@ pub mod Shapes
 pub mod Drawing
 pub mod Telling
 pub mod Deciding
-pub mod Ending
-mod Promising
 mod Replaying
 mod Printable
 mod Wearing

@@ -1,14 +1,12 @@
 -- How texts are written, piece after piece.
 use Rattle.std.proofs.Common.{◌≡◌, ℕ, suc, ◌+◌, ◌<◌, ◌≤◌, List, [], ◌∷◌, ◌++◌, length, get_or, take, drop, Bor, Option, Some, None, refl, sym, ap, ◌∙◌, arith, append_assoc}
-use Rattle.std.specs.Prelude.{Result, Ok, Err, IsErrAnd, OnOk, OnErr}
+use Rattle.std.specs.Prelude.{Result, Ok, Err, OnOk, OnErr}
 use Rattle.std.specs.Io.KnownBytes.{Appends}
 use Rattle.std.proofs.Math.Seq.{drop-cons}
 use Rattle.std.proofs.lemmas.List.{append-nil, drop_all, length-append, take-append-le}
-use Rattle.pcm_io.specs.Faults.{Rose}
 use Rattle.pcm_io.specs.Giving.{AppendsPrefix}
 use Rattle.pcm_io.proofs.ByteLemmas.{Appends-Appends}
 use Rattle.pcm_top.specs.FaultLines.{joined}
-use Rattle.pcm_top.specs.Writing.{Gets, GetsPart, SinkChange, SinkFails, Writes}
 
 -- nothing was appended
 pub Appends-nothing : (a : Option (List ℕ)) → Appends a a []
@@ -30,38 +28,6 @@ AppendsPrefix-after a b c gone piece rest whole is sent part =
     first_bytes (b ∷ gone) piece rest n within =
         let e : suc (length gone) + n ≡ suc (length gone + n) = omega arith in
         rw e (ap (λ (xs : List ℕ). b ∷ xs) (first_bytes gone piece rest n within))
-
--- a call that wrote all, or first bytes behind which it failed
-pub writes-all : {T E : Type 0} (r : Result T E) (sink : SinkChange) (bytes : List ℕ)
-    → OnOk r (Gets sink bytes) → OnErr r (GetsPart sink bytes) → OnErr r (SinkFails sink) → sink.faults_before ≤ sink.faults_now → Writes bytes sink r
-writes-all r sink bytes ok part fault grows = record { ok = ok; part = part; fault = fault; never_falls = grows }
-
--- a count that rose later rose in all
-rose-later : (a b c : ℕ) → a ≤ b → Rose b c → Rose a c
-rose-later a b c low rose = omega (arith, low, rose)
-
--- a call that failed in its midst: first bytes are written, and the failure was that of a part, before which no count fell
-pub writes-broken : {T E : Type 0} {Q : E → Type 0} (r : Result T E) → IsErrAnd r Q → (sink : SinkChange) (bytes : List ℕ) {middle : ℕ}
-    → GetsPart sink bytes → sink.faults_before ≤ middle → Rose middle sink.faults_now → middle ≤ sink.faults_now → Writes bytes sink r
-writes-broken (Ok x) is sink bytes part low rose grows = absurd is
-writes-broken (Err e) is sink bytes {middle} part low rose grows = record {
-  ok = tt;
-  part = part;
-  fault = rose-later sink.faults_before middle sink.faults_now low rose;
-  never_falls = omega (arith, low, grows);
-}
-
--- a call whose last part wrote what was left, or failed
-pub writes-rest : {T E : Type 0} (r : Result T E) (sink : SinkChange) (bytes : List ℕ) {middle : ℕ} {All Part : Type 0}
-    → OnOk r All → OnErr r Part → OnErr r (Rose middle sink.faults_now) → middle ≤ sink.faults_now
-    → sink.faults_before ≤ middle → (All → Gets sink bytes) → (Part → GetsPart sink bytes) → Writes bytes sink r
-writes-rest (Ok x) sink bytes {middle} ok part fault grows low all first = record { ok = all ok; part = tt; fault = tt; never_falls = omega (arith, low, grows) }
-writes-rest (Err e) sink bytes {middle} ok part fault grows low all first = record {
-  ok = tt;
-  part = first part;
-  fault = rose-later sink.faults_before middle sink.faults_now low fault;
-  never_falls = omega (arith, low, grows);
-}
 
 -- a fact that follows from one of the same answer
 pub on_ok : {T E : Type 0} (r : Result T E) (P Q : Type 0) → OnOk r P → (P → Q) → OnOk r Q

@@ -77,4 +77,4 @@ image-text {n} {m} {e} law pcm seed before array events outcomes print P is same
     let Writes : ℕ → Type 0 = λ k. P (image_bytes (saved_of pcm.shape k (kept_in pcm) before)) in
     let saves = law n m e pcm.shape pcm.seed (rows_of events outcomes) array ends s left shape (subst Low same low) right
     (λ bank lt. there (λ clock. IsEndOf clock.bank.kept (ends bank)) (slice_get pcm.banks bank) (first_bank pcm.shape bank) (are bank lt)) in
-    (image_bytes s, subst Of (sym is) (record { saved = s; left = left; saves = saves; is = refl }), subst Writes same writes)
+    (image_bytes s, subst Of (sym is) ((s, left, saves, refl)), subst Writes same writes)

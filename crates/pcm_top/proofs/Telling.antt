@@ -1,14 +1,18 @@
 -- The line of a fault, as it is written.
-use Rattle.std.proofs.Common.{◌≡◌, List, ℕ, refl}
-use Rattle.std.specs.Prelude.{codes, Result}
+use Rattle.std.proofs.Common.{◌≡◌, ℕ, List, Option, refl}
+use Rattle.std.specs.Prelude.{codes, Result, OnOk, OnErr}
+use Rattle.std.specs.Io.KnownBytes.{Appends}
+use Rattle.pcm_io.specs.Giving.{AppendsPrefix}
 use Rattle.pcm_top.specs.FaultLines.{fault_line, usage_text}
-use Rattle.pcm_top.specs.Writing.{SinkChange, Writes}
 use Rattle.pcm_top.specs.declared.fault.Fault.{Fault}
 use Rattle.pcm_top.specs.declared.fault.Fault.TheVariants.{Usage, Read, Write, TooLong, NoMemory}
 
 -- what was written under another name
-pub writes-same : {T E : Type 0} (r : Result T E) (sink : SinkChange) (xs ys : List ℕ) → xs ≡ ys → Writes xs sink r → Writes ys sink r
-writes-same r sink xs ys e h = rw (← e) h
+pub told : {T E : Type 0} (r : Result T E) (a b : Option (List ℕ)) (xs ys : List ℕ) → xs ≡ ys → OnOk r (Appends a b xs) → OnOk r (Appends a b ys)
+told r a b xs ys e h = rw (← e) h
+
+pub told_part : {T E : Type 0} (r : Result T E) (a b : Option (List ℕ)) (xs ys : List ℕ) → xs ≡ ys → OnErr r (AppendsPrefix a b xs) → OnErr r (AppendsPrefix a b ys)
+told_part r a b xs ys e h = rw (← e) h
 
 pub usage_line : (f : Fault) → f ≡ Usage → usage_text ≡ fault_line f
 unfolding fault_line

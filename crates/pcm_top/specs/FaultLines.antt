@@ -6,8 +6,7 @@ use Rattle.trace_reader.specs.declared.fault.Kind.TheVariants as kind
 use Rattle.pcm_image.specs.declared.ImageKind.{ImageKind}
 use Rattle.pcm_image.specs.declared.ImageKind.TheVariants as image
 use Rattle.pcm_top.specs.declared.fault.Fault.{Fault}
-use Rattle.pcm_top.specs.declared.fault.Fault.TheVariants.{Usage, Trace, Results, Image}
-use Rattle.pcm_top.specs.declared.fault.Fault.TheVariants.{Read, Write, TooLong, NoMemory}
+use Rattle.pcm_top.specs.declared.fault.Fault.TheVariants.{Usage, Trace, Image, Read, Write, TooLong, NoMemory, Results}
 
 -- the word for what is wrong with a row of a trace
 abbrev pub kind_word : Kind → List ℕ
@@ -36,11 +35,9 @@ usage_text = codes "usage: pcm run|gen|map|moves|show|check [options]\n"
 -- the line that is written for a fault
 unfoldable pub fault_line : Fault → List ℕ
 fault_line Usage = usage_text
-fault_line (Trace f) =
-    codes "trace row " ++ (decimal f.row ++ (codes ": " ++ (kind_word f.kind ++ codes "\n")))
+fault_line (Trace f) = codes "trace row " ++ (decimal f.row ++ (codes ": " ++ (kind_word f.kind ++ codes "\n")))
 fault_line (Results row) = codes "results row " ++ (decimal row ++ codes "\n")
-fault_line (Image f) =
-    codes "image byte " ++ (decimal f.at ++ (codes ": " ++ (image_word f.kind ++ codes "\n")))
+fault_line (Image f) = codes "image byte " ++ (decimal f.at ++ (codes ": " ++ (image_word f.kind ++ codes "\n")))
 fault_line Read = codes "read fault\n"
 fault_line Write = codes "write fault\n"
 fault_line TooLong = codes "trace too long\n"

@@ -26,11 +26,6 @@ abbrev pub bytes_in : LineSize → ℕ
 bytes_in Bytes64 = 64
 bytes_in Bytes128 = 128
 
--- the check bytes of a line of this size
-abbrev pub checks_in : LineSize → ℕ
-checks_in Bytes64 = 8
-checks_in Bytes128 = 16
-
 -- the text that `gen` writes: the trace that its seed draws for the lines of its module
 abbrev pub gen_text : GenJob → List ℕ
 gen_text job = trace_text (generated (bytes_in job.line) job.seed (total_of job.shape) job.mix)

@@ -24,63 +24,47 @@ use Rattle.pcm_top.specs.Jobs.{gen_text}
 use Rattle.pcm_top.specs.Reading.{SourceChange, TakesBytes}
 use Rattle.pcm_top.specs.Rows.{rows_of}
 use Rattle.pcm_top.specs.RunText.{HaveRoles}
-use Rattle.pcm_top.specs.Running.{Runs, done_by}
-use Rattle.pcm_top.specs.Doing.{Deed, Does, DoesInPart}
+use Rattle.pcm_top.specs.Running.{Does, DoesPart, Runs, done_by}
 use Rattle.pcm_top.specs.declared.run.Done.{Done}
 use Rattle.pcm_top.specs.declared.run.Done.TheVariants.{Whole}
 
-module _ {n : ℕ} (raw : RawShape) (seed : ℕ) (events : List (Event n)) (outcomes : List (Outcome n)) where
-  -- each row of a right run can be printed, and each array line has a role
-  pub record CanBePrinted (ends : ℕ → BankEnd) : Type 0 where
-    pub rows : ArePrintable events outcomes
-    pub roles : HaveRoles raw seed ends
+-- each row of a right run can be printed, and each array line has a role
+pub record CanBePrinted {n : ℕ} (raw : RawShape) (seed : ℕ) (events : List (Event n)) (outcomes : List (Outcome n)) (ends : ℕ → BankEnd) : Type 0 where
+  pub rows : ArePrintable events outcomes
+  pub roles : HaveRoles raw seed ends
 
 abbrev pub PrintableLaw : Type 0
 PrintableLaw =
-    (n m e : ℕ) (raw : RawShape) (seed : ℕ) (events : List (Event n)) (outcomes : List (Outcome n))
-    (array : ArrayState n m) (ends : ℕ → BankEnd)
+    (n m e : ℕ) (raw : RawShape) (seed : ℕ) (events : List (Event n)) (outcomes : List (Outcome n)) (array : ArrayState n m) (ends : ℕ → BankEnd)
     → IsShape raw → AreEventsFor (total_of raw) 0 events → length outcomes ≡ length events
     → RunsRight e raw seed (rows_of events outcomes) array ends → CanBePrinted raw seed events outcomes ends
 
-module _ {n m : ℕ} (e : ℕ) (raw : RawShape) (seed : ℕ) (array : ArrayState n m) where
-  -- what a run leaves of whichever trace: without a power cut no read is lost; a write that finds room in a
-  -- bank that isn't worn out and has no worn control line is accepted and leaves the queue; and where no
-  -- power cut comes and each row finds what it needs, the run is done wholly
-  pub record IsComplete (rows : List (Row n)) (done : Done) : Type 0 where
-    pub none_lost : NoCuts rows → All (λ r. IsFalse (is_lost r.outcome)) rows
-    pub room_taken : (later before : List (Row n)) (r : Row n) (line : ℕ) (bytes : List ℕ) (given : List Bool)
-        → rows ≡ later ++ r ∷ before → r.asks ≡ Writes line bytes given
-        → HasRoom e raw seed array before r.tick line
-        → IsTrue (accepts r.outcome) × IsFalse (is_queued r.outcome)
-    pub whole : NoCuts rows
-        → ((later before : List (Row n)) (r : Row n) → rows ≡ later ++ r ∷ before
-        → FindsPlace e raw seed array before r.tick r.asks)
-        → done ≡ Whole
+-- what a run leaves of whichever trace: without a power cut no read is lost; a write that finds room in a bank that isn't worn out and
+-- has no worn control line is accepted and leaves the queue; and where no power cut comes and each row finds what it needs, the run is done wholly
+pub record IsComplete {n m : ℕ} (e : ℕ) (raw : RawShape) (seed : ℕ) (array : ArrayState n m) (rows : List (Row n)) (done : Done) : Type 0 where
+  pub none_lost : NoCuts rows → All (λ r. IsFalse (is_lost r.outcome)) rows
+  pub room_taken : (later before : List (Row n)) (r : Row n) (line : ℕ) (bytes : List ℕ) (given : List Bool)
+      → rows ≡ later ++ r ∷ before → r.asks ≡ Writes line bytes given → HasRoom e raw seed array before r.tick line
+      → IsTrue (accepts r.outcome) × IsFalse (is_queued r.outcome)
+  pub whole : NoCuts rows → ((later before : List (Row n)) (r : Row n) → rows ≡ later ++ r ∷ before → FindsPlace e raw seed array before r.tick r.asks) → done ≡ Whole
 
 abbrev pub CompletenessLaw : Type 0
 CompletenessLaw =
     (n m e : ℕ) (job : RunJob) (s : SourceChange) (array : ArrayState n m) (run : Runs n m e job s array)
-    → IsRun job
-    → IsComplete e job.shape job.seed array (rows_of run.events run.outcomes) (done_by run.outcomes)
+    → IsRun job → IsComplete e job.shape job.seed array (rows_of run.events run.outcomes) (done_by run.outcomes)
 
 -- the job of `gen` with the options of a run that draws its events
 abbrev pub gen_with : RunJob → Mix → GenJob
 gen_with job mix = record { line = job.line; shape = job.shape; seed = job.seed; mix = mix }
 
--- a run as of a trace that is read from the source
+-- the same run of a trace that is read
 abbrev pub run_of_source : RunJob → RunJob
-run_of_source job = record job { input = Source }
+run_of_source job = record { line = job.line; shape = job.shape; seed = job.seed; wear = job.wear; print = job.print; input = Source }
 
--- a deed as of a run whose trace is read from this source
-abbrev pub read_as : Deed → RunJob → SourceChange → Deed
-read_as deed job read = record deed { asked = Ok (Run (run_of_source job)); source = read }
-
--- what a run of drawn events does is what a run does over a source that holds the text of `gen` with the same
--- options, whatever else becomes of both
+-- what a run of drawn events does is what a run does over a source that holds the text of `gen` with the same options
 abbrev pub DrawnLaw : Type 0
 DrawnLaw =
-    (deed : Deed) (job : RunJob) (mix : Mix) (read : SourceChange)
-    → deed.asked ≡ Ok (Run job) → IsRun job → job.input ≡ Drawn mix
-    → TakesBytes read (gen_text (gen_with job mix)) → IsAtEnd read.left_now
-    → ((done : Done) → Does deed done → Does (read_as deed job read) done)
-    × (DoesInPart deed → DoesInPart (read_as deed job read))
+    (job : RunJob) (mix : Mix) (drawn read : SourceChange) (array : ArrayState 64 8) (wide : ArrayState 128 16) (before now : Option (List ℕ))
+    → IsRun job → job.input ≡ Drawn mix → TakesBytes read (gen_text (gen_with job mix)) → IsAtEnd read.left_now
+    → ((done : Done) → Does drawn array wide before now (Ok (Run job)) done → Does read array wide before now (Ok (Run (run_of_source job))) done)
+    × (DoesPart drawn array wide before now (Ok (Run job)) → DoesPart read array wide before now (Ok (Run (run_of_source job))))

@@ -1,7 +1,5 @@
 pub mod Jobs
 pub mod FaultLines
-pub mod Causes
-pub mod Writing
 pub mod Reading
 pub mod Inputs
 pub mod Checking
@@ -11,9 +9,7 @@ pub mod Played
 pub mod RunText
 pub mod Showing
 pub mod Running
-pub mod Doing
 pub mod Statuses
-pub mod Promises
 pub mod Laws
 pub mod Lasting
 pub mod ShownRuns

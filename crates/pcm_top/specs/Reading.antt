@@ -1,5 +1,5 @@
 -- What a run read of its source.
-use Rattle.std.specs.Prelude.{◌≡◌, ℕ, ◌+◌, ◌-◌, ◌*◌, ◌^◌, ◌<◌, ◌≤◌, ◌⊎◌, List, length, Option, Ok, Err}
+use Rattle.std.specs.Prelude.{◌≡◌, ℕ, ◌*◌, ◌<◌, ◌≤◌, ◌⊎◌, List, length, Option, Ok, Err}
 use Rattle.std.specs.Io.KnownBytes.{IsAtEnd}
 use Rattle.pcm_io.specs.Faults.{Rose}
 use Rattle.pcm_io.specs.Taking.{Takes}
@@ -7,8 +7,7 @@ use Rattle.trace_reader.specs.Trace.{trace_of}
 use Rattle.trace_reader.specs.declared.event.Event.{Event}
 use Rattle.trace_reader.specs.declared.fault.ParseFault.TheVariants as parsing
 use Rattle.pcm_top.specs.declared.fault.Fault.{Fault}
-use Rattle.pcm_top.specs.declared.fault.Fault.TheVariants.{Usage, Trace, Results, Image}
-use Rattle.pcm_top.specs.declared.fault.Fault.TheVariants.{Read, Write, TooLong, NoMemory}
+use Rattle.pcm_top.specs.declared.fault.Fault.TheVariants.{Usage, Trace, Image, Read, Write, TooLong, NoMemory, Results}
 
 -- a source before and after a call: what is left, how much was taken, and how often it failed
 pub record SourceChange : Type 0 where
@@ -29,33 +28,23 @@ source_change left taken faults old new = record {
   faults_now = faults new;
 }
 
--- a trace over lines of n bytes has at most so many bytes: 67,108,864 for lines of 64 bytes, 134,217,728 for
--- lines of 128
+-- a trace over lines of n bytes has at most so many bytes: 67,108,864 for lines of 64 bytes, 134,217,728 for lines of 128
 abbrev pub trace_room : ℕ → ℕ
 trace_room n = n * 1048576
 
--- a source gave these bytes
+-- these bytes were taken
 abbrev pub TakesBytes : SourceChange → List ℕ → Type 0
 TakesBytes s bytes = Takes s.left_before s.left_now s.taken_before s.taken_now bytes
 
--- a source gave nothing, and no call of it failed
+-- nothing was taken, and no call failed
 pub record TakesNothing (s : SourceChange) : Type 0 where
   pub left : s.left_now ≡ s.left_before
   pub taken : s.taken_now ≡ s.taken_before
   pub faults : s.faults_now ≡ s.faults_before
 
--- a call of the source failed
-abbrev pub SourceFails : SourceChange → Type 0
-SourceFails s = Rose s.faults_before s.faults_now
-
 -- no call of the source failed
 abbrev pub NeverFails : SourceChange → Type 0
 NeverFails s = s.faults_now ≡ s.faults_before
-
--- a source gave more bytes than so many, by its count of taken bytes, which isn't near its end
-pub record TakesOver (room : ℕ) (s : SourceChange) : Type 0 where
-  pub counts : s.taken_before + room < 2 ^ 64 - 1
-  pub over : s.taken_before + room < s.taken_now
 
 -- a trace over lines of n bytes
 module _ (n : ℕ) where
@@ -73,17 +62,14 @@ module _ (n : ℕ) where
   abbrev pub TakesMore : SourceChange → Type 0
   TakesMore s = (bytes : List ℕ) × TakesBytes s bytes × (trace_room n < length bytes)
 
--- a trace for so many lines of n bytes
+-- one for so many lines
 module _ (n lines : ℕ) where
-  -- why a trace gave no events: the source was read to its end and the bytes have this fault, or too many
-  -- rows; or it failed; or it gave too many bytes; or memory ran out, and no call failed
+  -- why a trace gave no events: the source was read to its end and the bytes have this fault, or too many rows;
+  -- or it failed; or it gave too many bytes; or memory ran out, and no call failed
   abbrev pub IsReadFault : Fault → SourceChange → Type 0
-  IsReadFault (Trace f) s =
-      (bytes : List ℕ) × ReadsWhole n s bytes × (trace_of n lines bytes ≡ Err (parsing.Trace f))
-  IsReadFault Read s = SourceFails s × TakesSome n s
-  IsReadFault TooLong s =
-      (NeverFails s × TakesMore n s)
-      ⊎ ((bytes : List ℕ) × ReadsWhole n s bytes × (trace_of n lines bytes ≡ Err parsing.TooMany))
+  IsReadFault (Trace f) s = (bytes : List ℕ) × ReadsWhole n s bytes × (trace_of n lines bytes ≡ Err (parsing.Trace f))
+  IsReadFault Read s = Rose s.faults_before s.faults_now × TakesSome n s
+  IsReadFault TooLong s = (NeverFails s × TakesMore n s) ⊎ ((bytes : List ℕ) × ReadsWhole n s bytes × (trace_of n lines bytes ≡ Err parsing.TooMany))
   IsReadFault NoMemory s = NeverFails s × TakesSome n s
   IsReadFault (Image f) s = ⊥
   IsReadFault Usage s = ⊥

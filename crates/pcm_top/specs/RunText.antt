@@ -30,44 +30,26 @@ bank_with raw line = line / array_lines_of (module_of raw)
 module _ (raw : RawShape) (seed : ℕ) where
   -- by these ends each array line has one role
   abbrev pub HaveRoles : (ℕ → BankEnd) → Type 0
-  HaveRoles ends =
-      (bank at : ℕ) → bank < raw.banks
-      → HasOneRole (bank_shape (module_of raw) bank) (line_named raw seed bank) (ends bank) at
+  HaveRoles ends = (bank at : ℕ) → bank < raw.banks → HasOneRole (bank_shape (module_of raw) bank) (line_named raw seed bank) (ends bank) at
 
-  -- by the end of its bank an array line has this role
-  abbrev pub HasRole : (ℕ → BankEnd) → ℕ → Role → Type 0
-  HasRole ends line role =
-      let bank = bank_with raw line in
-      IsRole (bank_shape (module_of raw) bank) (line_named raw seed bank) (ends bank) line role
-
-module _ {n m : ℕ} (raw : RawShape) (seed : ℕ) (ends : ℕ → BankEnd) (array : ArrayState n m) where
-  -- what the wear report says of an array line: its bank, its pulses, and the role that the end of its bank
-  -- gives it
-  pub record IsWearRow (line : ℕ) (row : ℕ × ℕ × Role) : Type 0 where
+module _ {n m : ℕ} (raw : RawShape) (seed : ℕ) where
+  -- what the wear report says of an array line: its bank, its pulses, and the role that the end of its bank gives it
+  pub record IsWearRow (ends : ℕ → BankEnd) (array : ArrayState n m) (line : ℕ) (row : ℕ × ℕ × Role) : Type 0 where
     pub bank : row.0 ≡ bank_with raw line
     pub pulses : row.1 ≡ (array.line line).pulses
-    pub role : HasRole raw seed ends line row.2
+    pub role : IsRole (bank_shape (module_of raw) (bank_with raw line)) (line_named raw seed (bank_with raw line)) (ends (bank_with raw line)) line row.2
 
-  -- the wear report has one row for each array line
-  pub record IsWearReport (rows : List (ℕ × ℕ × Role)) : Type 0 where
+  -- it has one row for each
+  pub record IsWearReport (ends : ℕ → BankEnd) (array : ArrayState n m) (rows : List (ℕ × ℕ × Role)) : Type 0 where
     pub one_each : length rows ≡ array.lines
-    pub each : (line : ℕ) → line < array.lines → IsSomeAnd (slice_get rows line) (IsWearRow line)
+    pub each : (line : ℕ) → line < array.lines → IsSomeAnd (slice_get rows line) (IsWearRow ends array line)
 
--- over lines with e error-correcting pointers
-module _ {n m : ℕ} (raw : RawShape) (seed e : ℕ) (events : List (Event n)) (outcomes : List (Outcome n)) where
-  -- what a run's image says of its rows, and of an array that was left with these ends of the banks
-  pub record IsImageText (ends : ℕ → BankEnd) (array : ArrayState n m) (text : List ℕ) : Type 0 where
-    pub saved : Saved n m
-    pub left : IsLeft e raw seed (rows_of events outcomes) array saved
-    pub saves : SavesRun e raw seed (rows_of events outcomes) array ends saved
-    pub is : text ≡ image_bytes saved
-
-  -- what is written of a run with these events and outcomes, which left these ends of the banks and this
-  -- array: the results, the summary, the wear report, or the image
-  abbrev pub IsRunText : (ℕ → BankEnd) → ArrayState n m → Print → List ℕ → Type 0
-  IsRunText ends array Results text = text ≡ results_text events outcomes
-  IsRunText ends array Summary text =
+  -- what is written of these events and their outcomes, of these ends, and of the array, whose lines have e error-correcting pointers:
+  -- the results, the summary, the wear report, or the image of what the run left
+  abbrev pub IsRunText : ℕ → List (Event n) → List (Outcome n) → (ℕ → BankEnd) → ArrayState n m → Print → List ℕ → Type 0
+  IsRunText e events outcomes ends array Results text = text ≡ results_text events outcomes
+  IsRunText e events outcomes ends array Summary text =
       text ≡ summary_text (length events) (counts_of outcomes) (spares_used raw ends) (pulses_in_all array)
-  IsRunText ends array Wear text =
-      (rows : List (ℕ × ℕ × Role)) × IsWearReport raw seed ends array rows × (text ≡ wear_text rows)
-  IsRunText ends array Image text = IsImageText ends array text
+  IsRunText e events outcomes ends array Wear text = (rows : List (ℕ × ℕ × Role)) × IsWearReport ends array rows × (text ≡ wear_text rows)
+  IsRunText e events outcomes ends array Image text =
+      (s : Saved n m) × IsLeft e raw seed (rows_of events outcomes) array s × SavesRun e raw seed (rows_of events outcomes) array ends s × (text ≡ image_bytes s)

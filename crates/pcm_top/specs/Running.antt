@@ -1,32 +1,50 @@
--- A run of a trace, and that its text was written.
-use Rattle.std.specs.Prelude.{◌≡◌, ℕ, if◌then◌else◌, List, length, Some}
+-- What a job does, and why a call does none of it.
+use Rattle.std.specs.Prelude.{◌≡◌, ◌⊎◌, ℕ, Bool, true, false, if◌then◌else◌, List, length, Option, Some, Result, Ok, Err}
+use Rattle.std.specs.Io.KnownBytes.{Appends}
+use Rattle.pcm_io.specs.Faults.{Rose}
+use Rattle.pcm_io.specs.Giving.{AppendsPrefix}
 use Rattle.pcm_cells.specs.Device.{ArrayState}
 use Rattle.trace_reader.specs.declared.event.Event.{Event}
 use Rattle.result_rows.specs.declared.Outcome.{Outcome}
 use Rattle.run_text.specs.Shortfall.{any_short}
+use Rattle.rotation_reports.specs.MapText.{map_text}
+use Rattle.rotation_reports.specs.MovesText.{moves_text}
 use Rattle.end_laws.specs.Ends.{BankEnd}
 use Rattle.run_laws.specs.Runs.{RunsRight}
 use Rattle.image_laws.specs.SavedRuns.{AreRows}
+use Rattle.command_line.specs.declared.job.Job.{Job}
+use Rattle.command_line.specs.declared.job.Job.TheVariants.{Run, Gen, Map, Moves, Show, Check}
 use Rattle.command_line.specs.declared.job.RunJob.{RunJob}
 use Rattle.command_line.specs.declared.job.Print.TheVariants.{Image}
-use Rattle.pcm_top.specs.Reading.{SourceChange}
-use Rattle.pcm_top.specs.Writing.{Gets, GetsPart, SinkChange}
-use Rattle.pcm_top.specs.Inputs.{ComeFrom}
+use Rattle.command_line.specs.declared.job.LineSize.{LineSize}
+use Rattle.command_line.specs.declared.job.LineSize.TheVariants.{Bytes64, Bytes128}
+use Rattle.command_line.specs.declared.job.Refusal.{Refusal}
+use Rattle.command_line.specs.declared.job.Refusal.TheVariants as refusal
+use Rattle.pcm_top.specs.Jobs.{bytes_in, gen_text, map_options}
+use Rattle.pcm_top.specs.Reading.{SourceChange, trace_room}
+use Rattle.pcm_top.specs.Inputs.{ComeFrom, IsFaultOf, is_source}
+use Rattle.pcm_top.specs.Checking.{IsCheckFault, TellsVerdict, TellsVerdictInPart, pointers_in, room_line}
 use Rattle.pcm_top.specs.Rows.{rows_of}
 use Rattle.pcm_top.specs.RunText.{IsRunText}
+use Rattle.pcm_top.specs.Showing.{IsShowFault, ShowsImage, ShowsImageInPart}
+use Rattle.pcm_top.specs.FaultLines.{fault_line, status_of}
 use Rattle.pcm_top.specs.declared.run.Done.{Done}
 use Rattle.pcm_top.specs.declared.run.Done.TheVariants.{Whole, Short}
+use Rattle.pcm_top.specs.declared.fault.Fault.{Fault}
+use Rattle.pcm_top.specs.declared.fault.Fault.TheVariants.{Usage, NoMemory}
 
--- how a run was done, by the outcomes of its rows: in short where some row is refused, lost or left in a
--- queue
+-- how a run was done, by the outcomes of its rows, and the status for that
 abbrev pub done_by : {n : ℕ} → List (Outcome n) → Done
 done_by outcomes = if any_short outcomes then Short else Whole
 
--- over lines of n bytes with m check bytes and e error-correcting pointers
+abbrev pub status_done : Done → ℕ
+status_done Whole = 0
+status_done Short = 1
+
+-- lines of n bytes with m check bytes and e error-correcting pointers
 module _ (n m e : ℕ) (job : RunJob) (s : SourceChange) (array : ArrayState n m) where
-  -- a run: its events came from its input, each row has an outcome, and what a completed run leaves is right;
-  -- a completed read has its line's newest bytes, and each line's newest bytes are in the array or in a
-  -- queue. The array was powered up with the job's wear
+  -- a run: its events came from its input, each row has an outcome, and what a completed run leaves is right; a completed read
+  -- has its line's newest bytes, and each line's newest bytes are in the array or in a queue. The array was powered up with the job's wear
   pub record Runs : Type 0 where
     pub events : List (Event n)
     pub come : ComeFrom n job job.input s events
@@ -36,23 +54,123 @@ module _ (n m e : ℕ) (job : RunJob) (s : SourceChange) (array : ArrayState n m
     pub right : RunsRight e job.shape job.seed (rows_of events outcomes) array ends
     pub wear : array.wear ≡ Some job.wear
 
-  -- what a run writes
+  -- this is its text
   abbrev pub IsTextOf : Runs → List ℕ → Type 0
   IsTextOf run text = IsRunText job.shape job.seed e run.events run.outcomes run.ends array job.print text
 
-  -- a run was made, and exactly its text was written; where that is an image, each row of the array has the
-  -- bytes of a line
-  pub record RunIsWritten (out : SinkChange) (done : Done) : Type 0 where
+  -- it was made, and exactly its text was written; where that is an image, each row of the array has the bytes of a line
+  pub record RunIsWritten (before now : Option (List ℕ)) (done : Done) : Type 0 where
     pub run : Runs
     pub text : List ℕ
     pub is_text : IsTextOf run text
-    pub written : Gets out text
+    pub written : Appends before now text
     pub ending : done ≡ done_by run.outcomes
     pub rows : job.print ≡ Image → AreRows array
 
-  -- a run was made, and first bytes of its text were written
-  pub record RunIsWrittenInPart (out : SinkChange) : Type 0 where
+  -- it was made, and first bytes of its text were written
+  pub record RunIsWrittenInPart (before now : Option (List ℕ)) : Type 0 where
     pub run : Runs
     pub text : List ℕ
     pub is_text : IsTextOf run text
-    pub written : GetsPart out text
+    pub written : AppendsPrefix before now text
+
+-- whether the words ask for what is read: a trace that is run, an image that is shown, or a trace and its results; and for a run over
+-- lines of this size
+abbrev pub reads_source : Result Job Refusal → Bool
+reads_source (Err e) = false
+reads_source (Ok (Run job)) = is_source job.input
+reads_source (Ok (Gen job)) = false
+reads_source (Ok (Map job)) = false
+reads_source (Ok (Moves job)) = false
+reads_source (Ok Show) = true
+reads_source (Ok (Check job)) = true
+
+abbrev pub is_size : LineSize → LineSize → Bool
+is_size Bytes64 Bytes64 = true
+is_size Bytes64 Bytes128 = false
+is_size Bytes128 Bytes64 = false
+is_size Bytes128 Bytes128 = true
+
+-- whether they ask for a run over lines of this size
+abbrev pub runs_on : LineSize → Result Job Refusal → Bool
+runs_on size (Err e) = false
+runs_on size (Ok (Run job)) = is_size size job.line
+runs_on size (Ok (Gen job)) = false
+runs_on size (Ok (Map job)) = false
+runs_on size (Ok (Moves job)) = false
+runs_on size (Ok Show) = false
+runs_on size (Ok (Check job)) = false
+
+-- how many bytes may be read for it; an image of whichever size may have as many as a trace over lines of 64 bytes
+abbrev pub room_of : Result Job Refusal → ℕ
+room_of (Err e) = 0
+room_of (Ok (Run job)) = trace_room (bytes_in job.line)
+room_of (Ok (Gen job)) = 0
+room_of (Ok (Map job)) = 0
+room_of (Ok (Moves job)) = 0
+room_of (Ok Show) = trace_room 64
+room_of (Ok (Check job)) = trace_room room_line
+
+-- the arrays of lines of 64 and of 128 bytes
+module _ (s : SourceChange) (array : ArrayState 64 8) (wide : ArrayState 128 16) (before now : Option (List ℕ)) where
+  -- a run is made on the array of its lines, and its text is written
+  abbrev pub WritesRun : RunJob → Done → LineSize → Type 0
+  WritesRun job done Bytes64 = RunIsWritten 64 8 6 job s array before now done
+  WritesRun job done Bytes128 = RunIsWritten 128 16 8 job s wide before now done
+
+  -- what a job does: a run is made and its text is written; a generated trace or a report is written; an image is read and shown;
+  -- results are checked
+  abbrev pub Does : Result Job Refusal → Done → Type 0
+  Does (Err e) done = ⊥
+  Does (Ok (Run job)) done = WritesRun job done job.line
+  Does (Ok (Gen job)) done = Appends before now (gen_text job) × (done ≡ Whole)
+  Does (Ok (Map job)) done = Appends before now (map_text (map_options job)) × (done ≡ Whole)
+  Does (Ok (Moves job)) done = Appends before now (moves_text job.lines job.from) × (done ≡ Whole)
+  Does (Ok Show) done = ShowsImage s before now × (done ≡ Whole)
+  Does (Ok (Check job)) done = TellsVerdict (bytes_in job.line) (pointers_in job.line) job s before now done
+
+  -- the same, where only first bytes could be written
+  abbrev pub WritesRunInPart : RunJob → LineSize → Type 0
+  WritesRunInPart job Bytes64 = RunIsWrittenInPart 64 8 6 job s array before now
+  WritesRunInPart job Bytes128 = RunIsWrittenInPart 128 16 8 job s wide before now
+
+  abbrev pub DoesPart : Result Job Refusal → Type 0
+  DoesPart (Err e) = ⊥
+  DoesPart (Ok (Run job)) = WritesRunInPart job job.line
+  DoesPart (Ok (Gen job)) = AppendsPrefix before now (gen_text job)
+  DoesPart (Ok (Map job)) = AppendsPrefix before now (map_text (map_options job))
+  DoesPart (Ok (Moves job)) = AppendsPrefix before now (moves_text job.lines job.from)
+  DoesPart (Ok Show) = ShowsImageInPart s before now
+  DoesPart (Ok (Check job)) = TellsVerdictInPart (bytes_in job.line) (pointers_in job.line) job s before now
+
+-- why words give no job: they ask for none, or memory ran out
+abbrev pub IsRefused : Result Job Refusal → Fault → Type 0
+IsRefused asked fault = (fault ≡ NoMemory) ⊎ ((fault ≡ Usage) × (asked ≡ Err refusal.Usage))
+
+-- why a call doesn't do its work: the words ask for no job, a run has no events, there is no image to show, results can't be checked,
+-- or there is no memory
+abbrev pub HasCause : Fault → Result Job Refusal → SourceChange → Type 0
+HasCause fault (Err e) s = (fault ≡ Usage) ⊎ (fault ≡ NoMemory)
+HasCause fault (Ok (Run job)) s = IsFaultOf (bytes_in job.line) job job.input fault s
+HasCause fault (Ok (Gen job)) s = fault ≡ NoMemory
+HasCause fault (Ok (Map job)) s = fault ≡ NoMemory
+HasCause fault (Ok (Moves job)) s = fault ≡ NoMemory
+HasCause fault (Ok Show) s = IsShowFault fault s
+HasCause fault (Ok (Check job)) s = IsCheckFault (bytes_in job.line) job fault s
+
+-- a call that doesn't do its work says why, by its status and by a line
+pub record Tells (job : Result Job Refusal) (s : SourceChange) (before now : Option (List ℕ)) (status : ℕ) : Type 0 where
+  pub fault : Fault
+  pub cause : HasCause fault job s
+  pub answered : status ≡ status_of fault
+  pub line : Appends before now (fault_line fault)
+
+-- it has a reason to say so, and only first bytes of the line could be written
+pub record TellsPart (job : Result Job Refusal) (s : SourceChange) (before now : Option (List ℕ)) : Type 0 where
+  pub fault : Fault
+  pub cause : HasCause fault job s
+  pub part : AppendsPrefix before now (fault_line fault)
+
+-- a line was tried: all of it was written, or first bytes of it and then a fault came
+abbrev pub IsTried : Option (List ℕ) → Option (List ℕ) → ℕ → ℕ → List ℕ → Type 0
+IsTried before now faults faults_now line = Appends before now line ⊎ (AppendsPrefix before now line × Rose faults faults_now)

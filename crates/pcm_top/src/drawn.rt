@@ -1,14 +1,14 @@
 // The command `gen`.
-ghost use Rattle.std.specs.Prelude.{◌≡◌, ◌≤◌};
+ghost use Rattle.std.specs.Prelude.{◌≡◌, ◌≢◌, ◌≤◌, Err, IfErr, OnOk, OnErr};
+ghost use Rattle.std.specs.Io.KnownBytes.{Appends};
+ghost use Rattle.pcm_io.specs.Faults.{Rose};
+ghost use Rattle.pcm_io.specs.Giving.{AppendsPrefix};
 ghost use Rattle.pcm_io.specs.Reserved.{reserved};
 ghost use Rattle.trace_gen.specs.EventText.{trace_text};
 ghost use Rattle.trace_gen.specs.Generated.{IsMix, generated};
 ghost use Rattle.pcm_top.specs.Jobs.{gen_text};
-ghost use Rattle.pcm_top.specs.Writing.{Writes, sink_change};
-ghost use Rattle.pcm_top.specs.Doing.{EndsReport, IfStopped};
 
 use crate::fault::Fault;
-use crate::run::Done;
 use command_line::{GenJob, LineSize};
 use pcm_io::{Sink, Text, WriteFault, write_all};
 use run_text::{TEXT_ROOM, make_room};
@@ -28,8 +28,10 @@ fn print_drawn<const B: usize, K: Sink>(
     requires some_lines { 1 ≤ lines }
     requires few_lines { lines ≤ 65536 }
     requires mix { IsMix mix }
-    ensures { Writes (trace_text (generated B seed lines mix))
-        (sink_change K.written K.faults out.old out.new) result }
+    ensures ok { OnOk result (Appends (K.written out.old) (K.written out.new) (trace_text (generated B seed lines mix))) }
+    ensures prefix { OnErr result (AppendsPrefix (K.written out.old) (K.written out.new) (trace_text (generated B seed lines mix))) }
+    ensures fault { OnErr result (Rose (K.faults out.old) (K.faults out.new)) }
+    ensures never_falls { K.faults out.old ≤ K.faults out.new }
 {
     let mut generator = Generator::<B>::new(seed, lines, mix);
     text.push(header());
@@ -41,11 +43,14 @@ fn print_drawn<const B: usize, K: Sink>(
     write_all(out, rest)
 }
 
-// Writes the trace of a job, over lines of the job's size.
+// The same for the lines of a job.
 fn print_job<K: Sink>(job: &GenJob, text: &mut Text, out: &mut K) -> Result<(), WriteFault>
     requires room { text.old ≡ reserved TEXT_ROOM }
     requires mix { IsMix job.now.mix }
-    ensures { Writes (gen_text job.now) (sink_change K.written K.faults out.old out.new) result }
+    ensures ok { OnOk result (Appends (K.written out.old) (K.written out.new) (gen_text job.now)) }
+    ensures prefix { OnErr result (AppendsPrefix (K.written out.old) (K.written out.new) (gen_text job.now)) }
+    ensures fault { OnErr result (Rose (K.faults out.old) (K.faults out.new)) }
+    ensures never_falls { K.faults out.old ≤ K.faults out.new }
 {
     let lines = job.shape.total();
     match job.line {
@@ -55,12 +60,22 @@ fn print_job<K: Sink>(job: &GenJob, text: &mut Text, out: &mut K) -> Result<(), 
 }
 
 /// Writes a generated trace.
-pub fn write_drawn<K: Sink>(alloc: Global, job: GenJob, out: &mut K) -> Result<Done, Fault>
+pub fn write_drawn<K: Sink>(alloc: Global, job: GenJob, out: &mut K) -> Result<(), Fault>
     requires { IsMix job.mix }
-    ensures ends { EndsReport (gen_text job) (sink_change K.written K.faults out.old out.new) result }
-    ensures out { IfStopped result (λ _. out.new ≡ out.old) }
+    ensures done { OnOk result (Appends (K.written out.old) (K.written out.new) (gen_text job)) }
+
+    // Only a fault of writing comes after the first byte was written.
+    ensures write { result ≡ Err Fault.Write → AppendsPrefix (K.written out.old) (K.written out.new) (gen_text job)
+        × Rose (K.faults out.old) (K.faults out.new) }
+    ensures memory { IfErr result (λ fault. fault ≢ Fault.Write → (fault ≡ Fault.NoMemory) × (out.new ≡ out.old)) }
+    ensures never_falls { K.faults out.old ≤ K.faults out.new }
 {
-    let mut text = Text::new(alloc, TEXT_ROOM)?;
-    print_job(&job, &mut text, out)?;
-    Ok(Done::Whole)
+    let mut text = match Text::new(alloc, TEXT_ROOM) {
+        Ok(text) => text,
+        Err(_) => return Err(Fault::NoMemory),
+    };
+    match print_job(&job, &mut text, out) {
+        Ok(()) => Ok(()),
+        Err(_) => Err(Fault::Write),
+    }
 }

@@ -1,7 +1,9 @@
 // Why a call ends without its work done, and what it says then.
-ghost use Rattle.std.specs.Prelude.{◌≡◌};
+ghost use Rattle.std.specs.Prelude.{◌≡◌, ◌≤◌, OnOk, OnErr, length, decimal};
+ghost use Rattle.std.specs.Io.KnownBytes.{Appends};
+ghost use Rattle.pcm_io.specs.Faults.{Rose};
+ghost use Rattle.pcm_io.specs.Giving.{AppendsPrefix};
 ghost use Rattle.pcm_top.specs.FaultLines.{kind_word, image_word, fault_line, status_of, joined};
-ghost use Rattle.pcm_top.specs.Writing.{Writes, sink_change};
 
 use itoa::Buffer;
 use pcm_image::{ImageFault, ImageKind};
@@ -29,24 +31,21 @@ pub enum Fault {
     NoMemory,
 }
 
-impl Fault {
-    /// The status of the program for a fault.
-    pub fn status(self) -> u8
-        ensures { result ≡ status_of self }
-    {
-        match self {
-            Fault::Usage => 2,
-            Fault::Trace(_) | Fault::Results(_) => 3,
-            Fault::Image(_) => 3,
-            Fault::Read => 4,
-            Fault::Write => 5,
-            Fault::TooLong => 6,
-            Fault::NoMemory => 7,
-        }
+/// The status of the program for a fault.
+pub fn status(fault: Fault) -> u8
+    ensures { result ≡ status_of fault }
+{
+    match fault {
+        Fault::Usage => 2,
+        Fault::Trace(_) | Fault::Results(_) => 3,
+        Fault::Image(_) => 3,
+        Fault::Read => 4,
+        Fault::Write => 5,
+        Fault::TooLong => 6,
+        Fault::NoMemory => 7,
     }
 }
 
-// The word for what is wrong with a row of a trace.
 fn word(kind: Kind) -> &'static [u8]
     ensures { result.now ≡ kind_word kind }
 {
@@ -61,7 +60,6 @@ fn word(kind: Kind) -> &'static [u8]
     }
 }
 
-// The word for how a field of an image fails.
 fn image_word_of(kind: ImageKind) -> &'static [u8]
     ensures { result.now ≡ image_word kind }
 {
@@ -78,7 +76,10 @@ fn image_word_of(kind: ImageKind) -> &'static [u8]
 
 // Writes texts one after the other.
 fn write_parts<F: Sink>(parts: &[&[u8]], err: &mut F) -> Result<(), WriteFault>
-    ensures { Writes (joined parts.now) (sink_change F.written F.faults err.old err.new) result }
+    ensures ok { OnOk result (Appends (F.written err.old) (F.written err.new) (joined parts.now)) }
+    ensures prefix { OnErr result (AppendsPrefix (F.written err.old) (F.written err.new) (joined parts.now)) }
+    ensures fault { OnErr result (Rose (F.faults err.old) (F.faults err.new)) }
+    ensures never_falls { F.faults err.old ≤ F.faults err.new }
 {
     for part in parts {
         write_all(err, part)?;
@@ -86,10 +87,11 @@ fn write_parts<F: Sink>(parts: &[&[u8]], err: &mut F) -> Result<(), WriteFault>
     Ok(())
 }
 
-// Writes the line of a fault of a trace.
 fn tell_trace<F: Sink>(fault: TraceFault, err: &mut F) -> Result<(), WriteFault>
-    ensures { Writes (fault_line (Fault.Trace fault))
-        (sink_change F.written F.faults err.old err.new) result }
+    ensures ok { OnOk result (Appends (F.written err.old) (F.written err.new) (fault_line (Fault.Trace fault))) }
+    ensures prefix { OnErr result (AppendsPrefix (F.written err.old) (F.written err.new) (fault_line (Fault.Trace fault))) }
+    ensures fault { OnErr result (Rose (F.faults err.old) (F.faults err.new)) }
+    ensures never_falls { F.faults err.old ≤ F.faults err.new }
 {
     let mut digits = Buffer::new();
     let row = digits.format(fault.row).as_bytes();
@@ -103,10 +105,11 @@ fn tell_trace<F: Sink>(fault: TraceFault, err: &mut F) -> Result<(), WriteFault>
     write_parts(&parts, err)
 }
 
-// Writes the line of a fault of an image.
 fn tell_image<F: Sink>(fault: ImageFault, err: &mut F) -> Result<(), WriteFault>
-    ensures { Writes (fault_line (Fault.Image fault))
-        (sink_change F.written F.faults err.old err.new) result }
+    ensures ok { OnOk result (Appends (F.written err.old) (F.written err.new) (fault_line (Fault.Image fault))) }
+    ensures prefix { OnErr result (AppendsPrefix (F.written err.old) (F.written err.new) (fault_line (Fault.Image fault))) }
+    ensures fault { OnErr result (Rose (F.faults err.old) (F.faults err.new)) }
+    ensures never_falls { F.faults err.old ≤ F.faults err.new }
 {
     let mut digits = Buffer::new();
     let at = digits.format(fault.at).as_bytes();
@@ -120,10 +123,11 @@ fn tell_image<F: Sink>(fault: ImageFault, err: &mut F) -> Result<(), WriteFault>
     write_parts(&parts, err)
 }
 
-// Writes the line of a row of results that is none.
 fn tell_results<F: Sink>(row: u32, err: &mut F) -> Result<(), WriteFault>
-    ensures { Writes (fault_line (Fault.Results row))
-        (sink_change F.written F.faults err.old err.new) result }
+    ensures ok { OnOk result (Appends (F.written err.old) (F.written err.new) (fault_line (Fault.Results row))) }
+    ensures prefix { OnErr result (AppendsPrefix (F.written err.old) (F.written err.new) (fault_line (Fault.Results row))) }
+    ensures fault { OnErr result (Rose (F.faults err.old) (F.faults err.new)) }
+    ensures never_falls { F.faults err.old ≤ F.faults err.new }
 {
     let mut digits = Buffer::new();
     let number = digits.format(row).as_bytes();
@@ -133,7 +137,10 @@ fn tell_results<F: Sink>(row: u32, err: &mut F) -> Result<(), WriteFault>
 
 /// Writes the line of a fault.
 pub fn tell<F: Sink>(fault: Fault, err: &mut F) -> Result<(), WriteFault>
-    ensures { Writes (fault_line fault) (sink_change F.written F.faults err.old err.new) result }
+    ensures ok { OnOk result (Appends (F.written err.old) (F.written err.new) (fault_line fault)) }
+    ensures prefix { OnErr result (AppendsPrefix (F.written err.old) (F.written err.new) (fault_line fault)) }
+    ensures fault { OnErr result (Rose (F.faults err.old) (F.faults err.new)) }
+    ensures never_falls { F.faults err.old ≤ F.faults err.new }
 {
     match fault {
         Fault::Usage => write_all(err, b"usage: pcm run|gen|map|moves|show|check [options]\n"),

@@ -9,13 +9,12 @@ ghost use Rattle.pcm_top.specs.Inputs.{ComeFrom, IsFaultOf, is_source};
 
 use crate::fault::Fault;
 use command_line::{Input, RunJob};
-use pcm_io::{Source, read_all};
+use pcm_io::{ReadAllFault, Source, read_all};
 use std::alloc::Global;
 use trace_gen::{Mix, generate};
-use trace_reader::{Event, MOST_ROWS, parse};
+use trace_reader::{Event, MOST_ROWS, ParseFault, parse};
 
-/// Bytes that a trace may have, for each byte of a line: 67,108,864 over lines of 64 bytes, 134,217,728 over
-/// lines of 128.
+/// Bytes that a trace may have, for each byte of a line: 67,108,864 over lines of 64 bytes, 134,217,728 over lines of 128.
 pub const TRACE_ROOM: usize = 1_048_576;
 
 // Reads the source to its end as a trace for so many lines of `B` bytes.
@@ -26,17 +25,25 @@ fn read_trace<const B: usize, S: Source>(
 ) -> Result<Vec<Event<B>>, Fault>
     requires small { B ≤ 128 }
     requires lines { 1 ≤ lines }
-    ensures trace { IfOk result (λ events. ReadsTrace B lines
-        (source_change S.left S.taken S.faults source.old source.new) events.items) }
+    ensures trace { IfOk result (λ events. ReadsTrace B lines (source_change S.left S.taken S.faults source.old source.new) events.items) }
     ensures events { IfOk result (λ events. AreEventsFor lines 0 events.items) }
     ensures rows { IfOk result (λ events. vec_len events ≤ MOST_ROWS) }
     ensures unfailing { OnOk result (S.faults source.new ≡ S.faults source.old) }
-    ensures fault { IfErr result (λ fault. IsReadFault B lines fault
-        (source_change S.left S.taken S.faults source.old source.new)) }
+    ensures fault { IfErr result (λ fault. IsReadFault B lines fault (source_change S.left S.taken S.faults source.old source.new)) }
     ensures never_falls { S.faults source.old ≤ S.faults source.new }
 {
-    let bytes = read_all(alloc, source, B * TRACE_ROOM)?;
-    Ok(parse(alloc, bytes.as_slice(), lines)?)
+    let bytes = match read_all(alloc, source, B * TRACE_ROOM) {
+        Ok(bytes) => bytes,
+        Err(ReadAllFault::Read) => return Err(Fault::Read),
+        Err(ReadAllFault::TooLong) => return Err(Fault::TooLong),
+        Err(ReadAllFault::NoMemory) => return Err(Fault::NoMemory),
+    };
+    match parse(alloc, bytes.as_slice(), lines) {
+        Ok(events) => Ok(events),
+        Err(ParseFault::Trace(fault)) => Err(Fault::Trace(fault)),
+        Err(ParseFault::TooMany) => Err(Fault::TooLong),
+        Err(ParseFault::NoMemory) => Err(Fault::NoMemory),
+    }
 }
 
 // Draws the trace of a seed for so many lines of `B` bytes.
@@ -55,7 +62,10 @@ fn draw_trace<const B: usize>(
     ensures rows { IfOk result (λ events. vec_len events ≤ MOST_ROWS) }
     ensures fault { IfErr result (λ fault. fault ≡ Fault.NoMemory) }
 {
-    Ok(generate(alloc, seed, lines, mix)?)
+    match generate(alloc, seed, lines, mix) {
+        Ok(events) => Ok(events),
+        Err(_) => Err(Fault::NoMemory),
+    }
 }
 
 /// The events of a run, from where its job takes them.
@@ -66,13 +76,11 @@ pub fn events_of<const B: usize, S: Source>(
 ) -> Result<Vec<Event<B>>, Fault>
     requires small { B ≤ 128 }
     requires job { IsRun job.now }
-    ensures come { IfOk result (λ events. ComeFrom B job.now job.now.input
-        (source_change S.left S.taken S.faults source.old source.new) events.items) }
+    ensures come { IfOk result (λ events. ComeFrom B job.now job.now.input (source_change S.left S.taken S.faults source.old source.new) events.items) }
     ensures events { IfOk result (λ events. AreEventsFor (total_of job.now.shape) 0 events.items) }
     ensures rows { IfOk result (λ events. vec_len events ≤ MOST_ROWS) }
     ensures unfailing { OnOk result (S.faults source.new ≡ S.faults source.old) }
-    ensures fault { IfErr result (λ fault. IsFaultOf B job.now job.now.input fault
-        (source_change S.left S.taken S.faults source.old source.new)) }
+    ensures fault { IfErr result (λ fault. IsFaultOf B job.now job.now.input fault (source_change S.left S.taken S.faults source.old source.new)) }
     ensures untouched { is_source job.now.input ≡ false → source.new ≡ source.old }
     ensures never_falls { S.faults source.old ≤ S.faults source.new }
 {

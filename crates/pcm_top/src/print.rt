@@ -1,5 +1,8 @@
 // What a run writes.
 ghost use Rattle.std.specs.Prelude.{◌≡◌, ◌*◌, ◌≤◌, ℕ, List, length, OnOk, OnErr};
+ghost use Rattle.std.specs.Io.KnownBytes.{Appends};
+ghost use Rattle.pcm_io.specs.Faults.{Rose};
+ghost use Rattle.pcm_io.specs.Giving.{AppendsPrefix};
 ghost use Rattle.pcm_io.specs.Reserved.{reserved};
 ghost use Rattle.module_shape.specs.Addresses.{array_lines_of, module_of};
 ghost use Rattle.end_laws.specs.Ends.{BankEnd};
@@ -10,7 +13,6 @@ ghost use Rattle.module_shape.specs.Limits.{IsShape};
 ghost use Rattle.image_laws.specs.SavedRuns.{AreRows, SensedSince};
 ghost use Rattle.run_laws.specs.Runs.{RunsRight};
 ghost use Rattle.pcm_top.specs.Played.{IsPlayed};
-ghost use Rattle.pcm_top.specs.Writing.{Gets, GetsPart, SinkFails, sink_change};
 ghost use Rattle.pcm_top.specs.Rows.{rows_of};
 ghost use Rattle.pcm_top.specs.RunText.{HaveRoles, IsRunText};
 
@@ -25,8 +27,8 @@ use result_rows::Results;
 use run_text::{TEXT_ROOM, print_counts, print_results, sum_pulses};
 use trace_reader::{Event, MOST_ROWS};
 
-/// Writes what is asked for of a run that was made: its results, its summary, its wear report or its image.
-/// For an image each line of the array is sensed once more; otherwise nothing happens to the array.
+/// Writes what is asked for of a run that was made: its results, its summary, its wear report or its image. For an image each
+/// line of the array is sensed once more; otherwise nothing happens to the array.
 pub fn print_run<const B: usize, const M: usize, const E: usize, A: CellArray<B, M>, K: Sink>(
     print: Print,
     pcm: &Module<B, M, E>,
@@ -44,25 +46,18 @@ pub fn print_run<const B: usize, const M: usize, const E: usize, A: CellArray<B,
     requires seed { seed ≡ pcm.now.seed }
     requires shape { IsShape pcm.now.shape }
     requires played { IsPlayed pcm.now events.now results.now (A.state array.old) }
-    requires size { (A.state array.old).lines
-        ≡ pcm.now.shape.banks * array_lines_of (module_of pcm.now.shape) }
-    ensures ok { OnOk result ((ends : ℕ → BankEnd)
-        → AreEndsOf pcm.now ends
-        → RunsRight E pcm.now.shape pcm.now.seed (rows_of events.now results.now) (A.state array.new) ends
-        → HaveRoles pcm.now.shape pcm.now.seed ends
-        → (whole : List ℕ)
-        × IsRunText pcm.now.shape pcm.now.seed E events.now results.now ends (A.state array.new) print whole
-        × Gets (sink_change K.written K.faults out.old out.new) whole) }
-    ensures part { OnErr result ((ends : ℕ → BankEnd)
-        → AreEndsOf pcm.now ends
-        → RunsRight E pcm.now.shape pcm.now.seed (rows_of events.now results.now) (A.state array.new) ends
-        → HaveRoles pcm.now.shape pcm.now.seed ends
-        → (whole : List ℕ)
-        × IsRunText pcm.now.shape pcm.now.seed E events.now results.now ends (A.state array.new) print whole
-        × GetsPart (sink_change K.written K.faults out.old out.new) whole) }
+    requires size { (A.state array.old).lines ≡ pcm.now.shape.banks * array_lines_of (module_of pcm.now.shape) }
+    ensures ok { OnOk result ((ends : ℕ → BankEnd) → AreEndsOf pcm.now ends
+        → RunsRight E pcm.now.shape pcm.now.seed (rows_of events.now results.now) (A.state array.new) ends → HaveRoles pcm.now.shape pcm.now.seed ends
+        → (whole : List ℕ) × IsRunText pcm.now.shape pcm.now.seed E events.now results.now ends (A.state array.new) print whole
+        × Appends (K.written out.old) (K.written out.new) whole) }
+    ensures prefix { OnErr result ((ends : ℕ → BankEnd) → AreEndsOf pcm.now ends
+        → RunsRight E pcm.now.shape pcm.now.seed (rows_of events.now results.now) (A.state array.new) ends → HaveRoles pcm.now.shape pcm.now.seed ends
+        → (whole : List ℕ) × IsRunText pcm.now.shape pcm.now.seed E events.now results.now ends (A.state array.new) print whole
+        × AppendsPrefix (K.written out.old) (K.written out.new) whole) }
     ensures sensed { SensedSince (A.state array.old) (A.state array.new) }
     ensures rows { OnOk result (print ≡ Print.Image → AreRows (A.state array.new)) }
-    ensures fault { OnErr result (SinkFails (sink_change K.written K.faults out.old out.new)) }
+    ensures fault { OnErr result (Rose (K.faults out.old) (K.faults out.new)) }
     ensures never_falls { K.faults out.old ≤ K.faults out.new }
 {
     images_are_of_their_runs();

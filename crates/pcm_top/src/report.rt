@@ -1,15 +1,15 @@
 // The reports on rotation: `map` and `moves`.
-ghost use Rattle.std.specs.Prelude.{◌≡◌, ◌≤◌};
+ghost use Rattle.std.specs.Prelude.{◌≡◌, ◌≢◌, ◌≤◌, Err, IfErr, OnOk, OnErr};
+ghost use Rattle.std.specs.Io.KnownBytes.{Appends};
+ghost use Rattle.pcm_io.specs.Faults.{Rose};
+ghost use Rattle.pcm_io.specs.Giving.{AppendsPrefix};
 ghost use Rattle.pcm_io.specs.Reserved.{reserved};
 ghost use Rattle.rotation_reports.specs.MapText.{IsMapOptions, map_text};
 ghost use Rattle.rotation_reports.specs.MovesText.{moves_text};
 ghost use Rattle.command_line.specs.Jobs.{IsMoves};
 ghost use Rattle.pcm_top.specs.Jobs.{map_options};
-ghost use Rattle.pcm_top.specs.Writing.{Writes, sink_change};
-ghost use Rattle.pcm_top.specs.Doing.{EndsReport, IfStopped};
 
 use crate::fault::Fault;
-use crate::run::Done;
 use command_line::{MapJob, MovesJob};
 use pcm_io::{Sink, Text, WriteFault, write_all};
 use rotation_reports::{Map, MapOptions, print_map_header, print_move_row, print_moves_header};
@@ -37,7 +37,10 @@ fn options_of(job: &MapJob) -> MapOptions
 fn print_map<K: Sink>(options: MapOptions, text: &mut Text, out: &mut K) -> Result<(), WriteFault>
     requires room { text.old ≡ reserved TEXT_ROOM }
     requires in_range { IsMapOptions options }
-    ensures { Writes (map_text options) (sink_change K.written K.faults out.old out.new) result }
+    ensures ok { OnOk result (Appends (K.written out.old) (K.written out.new) (map_text options)) }
+    ensures prefix { OnErr result (AppendsPrefix (K.written out.old) (K.written out.new) (map_text options)) }
+    ensures fault { OnErr result (Rose (K.faults out.old) (K.faults out.new)) }
+    ensures never_falls { K.faults out.old ≤ K.faults out.new }
 {
     let map = Map::new(options);
     print_map_header(text);
@@ -59,7 +62,10 @@ fn print_moves<K: Sink>(
     requires room { text.old ≡ reserved TEXT_ROOM }
     requires lines { (4 ≤ lines) × (lines ≤ 256) }
     requires first { first ≤ 16781312 }
-    ensures { Writes (moves_text lines first) (sink_change K.written K.faults out.old out.new) result }
+    ensures ok { OnOk result (Appends (K.written out.old) (K.written out.new) (moves_text lines first)) }
+    ensures prefix { OnErr result (AppendsPrefix (K.written out.old) (K.written out.new) (moves_text lines first)) }
+    ensures fault { OnErr result (Rose (K.faults out.old) (K.faults out.new)) }
+    ensures never_falls { K.faults out.old ≤ K.faults out.new }
 {
     print_moves_header(text);
     for row in 0..lines * (lines + 1) {
@@ -71,24 +77,42 @@ fn print_moves<K: Sink>(
 }
 
 /// Writes the report `map`.
-pub fn report_map<K: Sink>(alloc: Global, job: MapJob, out: &mut K) -> Result<Done, Fault>
-    ensures ends { EndsReport (map_text (map_options job))
-        (sink_change K.written K.faults out.old out.new) result }
-    ensures out { IfStopped result (λ _. out.new ≡ out.old) }
+pub fn report_map<K: Sink>(alloc: Global, job: MapJob, out: &mut K) -> Result<(), Fault>
+    ensures done { OnOk result (Appends (K.written out.old) (K.written out.new) (map_text (map_options job))) }
+
+    // Only a fault of writing comes after the first byte was written.
+    ensures write { result ≡ Err Fault.Write → AppendsPrefix (K.written out.old) (K.written out.new) (map_text (map_options job))
+        × Rose (K.faults out.old) (K.faults out.new) }
+    ensures memory { IfErr result (λ fault. fault ≢ Fault.Write → (fault ≡ Fault.NoMemory) × (out.new ≡ out.old)) }
+    ensures never_falls { K.faults out.old ≤ K.faults out.new }
 {
-    let mut text = Text::new(alloc, TEXT_ROOM)?;
-    print_map(options_of(&job), &mut text, out)?;
-    Ok(Done::Whole)
+    let mut text = match Text::new(alloc, TEXT_ROOM) {
+        Ok(text) => text,
+        Err(_) => return Err(Fault::NoMemory),
+    };
+    match print_map(options_of(&job), &mut text, out) {
+        Ok(()) => Ok(()),
+        Err(_) => Err(Fault::Write),
+    }
 }
 
 /// Writes the report `moves`.
-pub fn report_moves<K: Sink>(alloc: Global, job: MovesJob, out: &mut K) -> Result<Done, Fault>
+pub fn report_moves<K: Sink>(alloc: Global, job: MovesJob, out: &mut K) -> Result<(), Fault>
     requires { IsMoves job }
-    ensures ends { EndsReport (moves_text job.lines job.from)
-        (sink_change K.written K.faults out.old out.new) result }
-    ensures out { IfStopped result (λ _. out.new ≡ out.old) }
+    ensures done { OnOk result (Appends (K.written out.old) (K.written out.new) (moves_text job.lines job.from)) }
+
+    // Only a fault of writing comes after the first byte was written.
+    ensures write { result ≡ Err Fault.Write → AppendsPrefix (K.written out.old) (K.written out.new) (moves_text job.lines job.from)
+        × Rose (K.faults out.old) (K.faults out.new) }
+    ensures memory { IfErr result (λ fault. fault ≢ Fault.Write → (fault ≡ Fault.NoMemory) × (out.new ≡ out.old)) }
+    ensures never_falls { K.faults out.old ≤ K.faults out.new }
 {
-    let mut text = Text::new(alloc, TEXT_ROOM)?;
-    print_moves(job.lines, job.from, &mut text, out)?;
-    Ok(Done::Whole)
+    let mut text = match Text::new(alloc, TEXT_ROOM) {
+        Ok(text) => text,
+        Err(_) => return Err(Fault::NoMemory),
+    };
+    match print_moves(job.lines, job.from, &mut text, out) {
+        Ok(()) => Ok(()),
+        Err(_) => Err(Fault::Write),
+    }
 }

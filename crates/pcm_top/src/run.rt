@@ -1,13 +1,11 @@
 // The command `run`.
-ghost use Rattle.std.specs.Prelude.{◌≡◌, ◌≢◌, ◌≤◌, false, Err};
+ghost use Rattle.std.specs.Prelude.{◌≡◌, ◌≢◌, ◌+◌, ◌-◌, ◌^◌, ◌<◌, ◌≤◌, false, Err, IfOk, IfErr};
+ghost use Rattle.pcm_io.specs.Faults.{Rose};
 ghost use Rattle.ecp_line.specs.Layout.{IsLayout};
 ghost use Rattle.command_line.specs.Jobs.{IsRun};
-ghost use Rattle.pcm_top.specs.Reading.{TakesOver, source_change, trace_room};
-ghost use Rattle.pcm_top.specs.Writing.{sink_change};
-ghost use Rattle.pcm_top.specs.Inputs.{is_source};
-ghost use Rattle.pcm_top.specs.Running.{done_by};
-ghost use Rattle.pcm_top.specs.Doing.{EndsRun, IfStopped};
-ghost use Rattle.pcm_top.specs.Statuses.{status_done};
+ghost use Rattle.pcm_top.specs.Reading.{source_change, trace_room};
+ghost use Rattle.pcm_top.specs.Inputs.{IsFaultOf, is_source};
+ghost use Rattle.pcm_top.specs.Running.{RunIsWritten, RunIsWrittenInPart, done_by};
 
 use crate::fault::Fault;
 use crate::input::events_of;
@@ -26,24 +24,10 @@ use std::alloc::Global;
 /// How a job was done.
 #[derive(Clone, Copy, Debug, PartialEq, Eq)]
 pub enum Done {
-    /// Wholly: no row of a run fell short of what it asked for, and each row of results that were checked
-    /// keeps each rule.
+    /// Wholly: no row of a run fell short of what it asked for, and each row of results that were checked keeps each rule.
     Whole,
-    /// A run was made in which some row was refused, lost or left in a queue, or a row of results breaks a
-    /// rule.
+    /// A run was made in which some row was refused, lost or left in a queue, or a row of results breaks a rule.
     Short,
-}
-
-impl Done {
-    /// The status of the program for work that was done.
-    pub fn status(self) -> u8
-        ensures { result ≡ status_done self }
-    {
-        match self {
-            Done::Whole => 0,
-            Done::Short => 1,
-        }
-    }
 }
 
 // How a run was done, by its rows.
@@ -58,8 +42,8 @@ fn ending<const B: usize>(results: &Results<B>) -> Done
     }
 }
 
-/// Replays the events of a job on the array, and writes what the job asks to see of it. A line has room for
-/// what a control line keeps.
+/// Replays the events of a job on the array, and writes what the job asks to see of it. A line has room for what a control
+/// line keeps.
 pub fn run<const B: usize, const M: usize, const E: usize, A: CellArray<B, M>, S: Source, K: Sink>(
     alloc: Global,
     job: &RunJob,
@@ -70,22 +54,31 @@ pub fn run<const B: usize, const M: usize, const E: usize, A: CellArray<B, M>, S
     requires layout { IsLayout B M E }
     requires wide { 16 ≤ B }
     requires job { IsRun job.now }
-    ensures ends { EndsRun B M E job.now (source_change S.left S.taken S.faults source.old source.new)
-        (A.state array.new) (sink_change K.written K.faults out.old out.new) result }
-    ensures out { IfStopped result (λ _. out.new ≡ out.old) }
-    ensures array { IfStopped result (λ fault. fault ≢ Fault.NoMemory → array.new ≡ array.old) }
-    ensures unread { is_source job.now.input ≡ false → source.new ≡ source.old }
-    ensures too_long { TakesOver (trace_room B) (source_change S.left S.taken S.faults source.old source.new)
-        → result ≡ Err Fault.TooLong }
+    ensures done { IfOk result (RunIsWritten B M E job.now (source_change S.left S.taken S.faults source.old source.new) (A.state array.new)
+        (K.written out.old) (K.written out.new)) }
+
+    // Only a fault of writing comes after the first byte was written.
+    ensures write { result ≡ Err Fault.Write →
+        RunIsWrittenInPart B M E job.now (source_change S.left S.taken S.faults source.old source.new) (A.state array.new) (K.written out.old) (K.written out.new)
+        × Rose (K.faults out.old) (K.faults out.new) }
+    ensures cause { IfErr result (λ fault. fault ≢ Fault.Write → IsFaultOf B job.now job.now.input fault (source_change S.left S.taken S.faults source.old source.new)) }
+    ensures out { IfErr result (λ fault. fault ≢ Fault.Write → out.new ≡ out.old) }
+    ensures array { IfErr result (λ fault. fault ≢ Fault.Write → fault ≢ Fault.NoMemory → array.new ≡ array.old) }
+    ensures drawn { is_source job.now.input ≡ false → source.new ≡ source.old }
+    ensures too_long { S.taken source.old + trace_room B < 2 ^ 64 - 1 → S.taken source.old + trace_room B < S.taken source.new → result ≡ Err Fault.TooLong }
+    ensures out_faults { K.faults out.old ≤ K.faults out.new }
     ensures source_faults { S.faults source.old ≤ S.faults source.new }
 {
     let events = events_of::<B, S>(alloc, job, source)?;
-    let taken = take_memory::<B, M, E, A>(alloc, job, array, events.len() as u32)?;
-    let (mut pcm, mut results, mut text) = taken;
+    let taken = take_memory::<B, M, E, A>(alloc, job, array, events.len() as u32);
+    let (mut pcm, mut results, mut text) = match taken {
+        Ok(taken) => taken,
+        Err(_) => return Err(Fault::NoMemory),
+    };
     right_runs_can_be_printed();
     sensed_runs_stay_right();
     replay(&mut pcm, array, events.as_slice(), &mut results);
-    print_run(
+    let written = print_run(
         job.print,
         &pcm,
         job.seed,
@@ -94,6 +87,9 @@ pub fn run<const B: usize, const M: usize, const E: usize, A: CellArray<B, M>, S
         &results,
         &mut text,
         out,
-    )?;
-    Ok(ending(&results))
+    );
+    match written {
+        Ok(()) => Ok(ending(&results)),
+        Err(_) => Err(Fault::Write),
+    }
 }

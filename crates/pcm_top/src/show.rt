@@ -1,21 +1,22 @@
 // The command `show`.
-ghost use Rattle.std.specs.Prelude.{◌≡◌, ◌+◌, ◌*◌, ◌<◌, ◌≤◌, ◌∷◌, [], decimal, Err, IfOk, IfErr, OnOk};
+ghost use Rattle.std.specs.Prelude.{◌≡◌, ◌≢◌, ◌+◌, ◌-◌, ◌*◌, ◌^◌, ◌<◌, ◌≤◌, ◌∷◌, [], ℕ, List, length, decimal, Ok, Err, IfOk, IfErr, OnOk, OnErr};
+ghost use Rattle.std.specs.Io.KnownBytes.{Appends};
 ghost use Rattle.hex.specs.Hex.{encode_lower};
+ghost use Rattle.pcm_io.specs.Faults.{Rose};
+ghost use Rattle.pcm_io.specs.Giving.{AppendsPrefix};
 ghost use Rattle.pcm_io.specs.Reserved.{appended, reserved, room_in};
 ghost use Rattle.ecp_line.specs.Layout.{IsLayout};
 ghost use Rattle.rotation_reports.specs.Rows.{row_of};
 ghost use Rattle.pcm_image.specs.Saved.{IsSaved, IsSize};
-ghost use Rattle.pcm_top.specs.Reading.{ReadsWhole, TakesOver, source_change, trace_room};
-ghost use Rattle.pcm_top.specs.Writing.{Writes, sink_change};
-ghost use Rattle.pcm_top.specs.Showing.{IsShowFault, shown_as, shown_of, shown_text};
-ghost use Rattle.pcm_top.specs.Doing.{EndsShow, EndsShown, IfStopped};
+ghost use Rattle.pcm_image.specs.Reading.{image_of};
+ghost use Rattle.pcm_top.specs.Reading.{ReadsWhole, source_change, trace_room};
+ghost use Rattle.pcm_top.specs.Showing.{IsImageFault, IsShowFault, ShowsImage, ShowsImageInPart, shown_as, shown_of, shown_text};
 
 use crate::fault::Fault;
 use crate::input::TRACE_ROOM;
-use crate::run::Done;
-use pcm_image::{Image, read_image, size_of_line};
-use pcm_io::{Sink, Source, Text, WriteFault, read_all, write_all};
-use run_text::{ROW_ROOM, TEXT_ROOM, make_room};
+use pcm_image::{Image, ReadImage, read_image, size_of_line};
+use pcm_io::{ReadAllFault, Sink, Source, Text, WriteFault, read_all, write_all};
+use run_text::{TEXT_ROOM, make_room};
 use std::alloc::Global;
 
 // Appends the row of a line.
@@ -23,7 +24,7 @@ use std::alloc::Global;
 fn print_row<const B: usize>(line: u32, bytes: &[u8; B], text: &mut Text)
     requires size { B ≤ 128 }
     requires line { line < 65536 }
-    requires room { ROW_ROOM ≤ room_in text.old }
+    requires room { 320 ≤ room_in text.old }
     ensures { text.new ≡ appended text.old (row_of (decimal line ∷ encode_lower bytes.now ∷ [])) }
 {
     text.push_number(line as u64);
@@ -42,7 +43,10 @@ fn print_lines<const B: usize, const M: usize, const E: usize, K: Sink>(
     requires layout { IsLayout B M E }
     requires size { B ≤ 128 }
     requires saved { IsSaved image.now }
-    ensures { Writes (shown_text E image.now) (sink_change K.written K.faults out.old out.new) result }
+    ensures ok { OnOk result (Appends (K.written out.old) (K.written out.new) (shown_text E image.now)) }
+    ensures prefix { OnErr result (AppendsPrefix (K.written out.old) (K.written out.new) (shown_text E image.now)) }
+    ensures fault { OnErr result (Rose (K.faults out.old) (K.faults out.new)) }
+    ensures never_falls { K.faults out.old ≤ K.faults out.new }
 {
     text.push(b"line,data\n");
     for line in 0..image.total() {
@@ -53,57 +57,96 @@ fn print_lines<const B: usize, const M: usize, const E: usize, K: Sink>(
     write_all(out, rest)
 }
 
+// The module that the bytes spell.
+fn read_saved<const B: usize, const M: usize>(
+    alloc: Global,
+    bytes: &[u8],
+) -> Result<Image<B, M>, Fault>
+    requires { IsSize B M }
+    ensures saved { IfOk result (λ image. IsSaved image) }
+    ensures exact { IfOk result (λ image. image_of B M bytes.now ≡ Ok image) }
+    ensures fault { IfErr result (λ fault. fault ≢ Fault.Write) }
+    ensures cause { (e : ℕ) → IfErr result (λ fault. IsImageFault fault (shown_as B M e bytes.now)) }
+{
+    match read_image(alloc, bytes) {
+        Ok(image) => Ok(image),
+        Err(ReadImage::Bad(fault)) => Err(Fault::Image(fault)),
+        Err(ReadImage::NoMemory) => Err(Fault::NoMemory),
+    }
+}
+
 // Shows the module that the bytes spell over lines of `B` bytes.
 fn show_lines<const B: usize, const M: usize, const E: usize, K: Sink>(
     alloc: Global,
     bytes: &[u8],
     out: &mut K,
-) -> Result<Done, Fault>
+) -> Result<(), Fault>
     requires layout { IsLayout B M E }
     requires size { IsSize B M }
-    ensures ends { EndsShown (shown_as B M E bytes.now)
-        (sink_change K.written K.faults out.old out.new) result }
-    ensures out { IfStopped result (λ _. out.new ≡ out.old) }
+    ensures done { OnOk result ((shown : List ℕ) × (shown_as B M E bytes.now ≡ Ok shown)
+        × Appends (K.written out.old) (K.written out.new) shown) }
+    ensures write { result ≡ Err Fault.Write → ((shown : List ℕ) × (shown_as B M E bytes.now ≡ Ok shown)
+        × AppendsPrefix (K.written out.old) (K.written out.new) shown) × Rose (K.faults out.old) (K.faults out.new) }
+    ensures cause { IfErr result (λ fault. fault ≢ Fault.Write → IsImageFault fault (shown_as B M E bytes.now)) }
+    ensures out { IfErr result (λ fault. fault ≢ Fault.Write → out.new ≡ out.old) }
+    ensures never_falls { K.faults out.old ≤ K.faults out.new }
 {
-    let image: Image<B, M> = read_image(alloc, bytes)?;
-    let mut text = Text::new(alloc, TEXT_ROOM)?;
-    print_lines::<B, M, E, K>(&image, &mut text, out)?;
-    Ok(Done::Whole)
+    let image = read_saved::<B, M>(alloc, bytes)?;
+    let mut text = match Text::new(alloc, TEXT_ROOM) {
+        Ok(text) => text,
+        Err(_) => return Err(Fault::NoMemory),
+    };
+    match print_lines::<B, M, E, K>(&image, &mut text, out) {
+        Ok(()) => Ok(()),
+        Err(_) => Err(Fault::Write),
+    }
 }
 
 // Shows the module that the bytes spell, whatever the size of its lines.
 #[tactic(auto, unfolding(crate::specs::Showing::shown_of))]
-fn show_bytes<K: Sink>(alloc: Global, bytes: &[u8], out: &mut K) -> Result<Done, Fault>
-    ensures ends { EndsShown (shown_of bytes.now) (sink_change K.written K.faults out.old out.new) result }
-    ensures out { IfStopped result (λ _. out.new ≡ out.old) }
+fn show_bytes<K: Sink>(alloc: Global, bytes: &[u8], out: &mut K) -> Result<(), Fault>
+    ensures done { OnOk result ((shown : List ℕ) × (shown_of bytes.now ≡ Ok shown) × Appends (K.written out.old) (K.written out.new) shown) }
+    ensures write { result ≡ Err Fault.Write → ((shown : List ℕ) × (shown_of bytes.now ≡ Ok shown)
+        × AppendsPrefix (K.written out.old) (K.written out.new) shown) × Rose (K.faults out.old) (K.faults out.new) }
+    ensures cause { IfErr result (λ fault. fault ≢ Fault.Write → IsImageFault fault (shown_of bytes.now)) }
+    ensures out { IfErr result (λ fault. fault ≢ Fault.Write → out.new ≡ out.old) }
+    ensures never_falls { K.faults out.old ≤ K.faults out.new }
 {
-    match size_of_line(bytes)? {
-        64 => show_lines::<64, 8, 6, K>(alloc, bytes, out),
-        _ => show_lines::<128, 16, 8, K>(alloc, bytes, out),
+    match size_of_line(bytes) {
+        Ok(64) => show_lines::<64, 8, 6, K>(alloc, bytes, out),
+        Ok(_) => show_lines::<128, 16, 8, K>(alloc, bytes, out),
+        Err(fault) => Err(Fault::Image(fault)),
     }
 }
 
 // The bytes of the source, read to its end.
 fn read_whole<S: Source>(alloc: Global, source: &mut S) -> Result<Vec<u8>, Fault>
-    ensures whole { IfOk result (λ bytes. ReadsWhole 64
-        (source_change S.left S.taken S.faults source.old source.new) bytes.items) }
+    ensures whole { IfOk result (λ bytes. ReadsWhole 64 (source_change S.left S.taken S.faults source.old source.new) bytes.items) }
     ensures unfailing { OnOk result (S.faults source.new ≡ S.faults source.old) }
-    ensures cause { IfErr result (λ fault. IsShowFault fault
-        (source_change S.left S.taken S.faults source.old source.new)) }
-    ensures too_long { TakesOver (trace_room 64) (source_change S.left S.taken S.faults source.old source.new)
-        → result ≡ Err Fault.TooLong }
+    ensures cause { IfErr result (λ fault. IsShowFault fault (source_change S.left S.taken S.faults source.old source.new)) }
+    ensures too_long { S.taken source.old + trace_room 64 < 2 ^ 64 - 1 → S.taken source.old + trace_room 64 < S.taken source.new → result ≡ Err Fault.TooLong }
     ensures never_falls { S.faults source.old ≤ S.faults source.new }
 {
-    Ok(read_all(alloc, source, 64 * TRACE_ROOM)?)
+    match read_all(alloc, source, 64 * TRACE_ROOM) {
+        Ok(bytes) => Ok(bytes),
+        Err(ReadAllFault::Read) => Err(Fault::Read),
+        Err(ReadAllFault::TooLong) => Err(Fault::TooLong),
+        Err(ReadAllFault::NoMemory) => Err(Fault::NoMemory),
+    }
 }
 
 /// Reads an image from the source, and writes the newest bytes of every line of the module that it saves.
-pub fn show<S: Source, K: Sink>(alloc: Global, source: &mut S, out: &mut K) -> Result<Done, Fault>
-    ensures ends { EndsShow (source_change S.left S.taken S.faults source.old source.new)
-        (sink_change K.written K.faults out.old out.new) result }
-    ensures out { IfStopped result (λ _. out.new ≡ out.old) }
-    ensures too_long { TakesOver (trace_room 64) (source_change S.left S.taken S.faults source.old source.new)
-        → result ≡ Err Fault.TooLong }
+pub fn show<S: Source, K: Sink>(alloc: Global, source: &mut S, out: &mut K) -> Result<(), Fault>
+    ensures done { OnOk result (ShowsImage (source_change S.left S.taken S.faults source.old source.new) (K.written out.old) (K.written out.new)) }
+
+    // Only a fault of writing comes after the first byte was written.
+    ensures write { result ≡ Err Fault.Write →
+        ShowsImageInPart (source_change S.left S.taken S.faults source.old source.new) (K.written out.old) (K.written out.new)
+        × Rose (K.faults out.old) (K.faults out.new) }
+    ensures cause { IfErr result (λ fault. fault ≢ Fault.Write → IsShowFault fault (source_change S.left S.taken S.faults source.old source.new)) }
+    ensures out { IfErr result (λ fault. fault ≢ Fault.Write → out.new ≡ out.old) }
+    ensures too_long { S.taken source.old + trace_room 64 < 2 ^ 64 - 1 → S.taken source.old + trace_room 64 < S.taken source.new → result ≡ Err Fault.TooLong }
+    ensures out_faults { K.faults out.old ≤ K.faults out.new }
     ensures source_faults { S.faults source.old ≤ S.faults source.new }
 {
     let bytes = read_whole(alloc, source)?;

@@ -1,12 +1,14 @@
 // The wear report of a run.
 ghost use Rattle.std.specs.Prelude.{◌≡◌, ◌*◌, ◌≤◌, ℕ, List, OnOk, OnErr};
+ghost use Rattle.std.specs.Io.KnownBytes.{Appends};
+ghost use Rattle.pcm_io.specs.Faults.{Rose};
+ghost use Rattle.pcm_io.specs.Giving.{AppendsPrefix};
 ghost use Rattle.pcm_io.specs.Reserved.{reserved};
 ghost use Rattle.wear_report.specs.declared.Role.{Role};
 ghost use Rattle.wear_report.specs.WearText.{wear_text};
 ghost use Rattle.module_shape.specs.Addresses.{array_lines_of, module_of};
 ghost use Rattle.end_laws.specs.Ends.{BankEnd};
 ghost use Rattle.pcm_module.specs.State.{AreEndsOf};
-ghost use Rattle.pcm_top.specs.Writing.{Gets, GetsPart, SinkFails, sink_change};
 ghost use Rattle.pcm_top.specs.RunText.{HaveRoles, IsWearReport};
 
 use pcm_cells::CellArray;
@@ -22,17 +24,14 @@ pub fn print_wear<const B: usize, const M: usize, const E: usize, A: CellArray<B
     out: &mut K,
 ) -> Result<(), WriteFault>
     requires room { text.old ≡ reserved TEXT_ROOM }
-    requires size { (A.state array.now).lines
-        ≡ pcm.now.shape.banks * array_lines_of (module_of pcm.now.shape) }
-    ensures ok { OnOk result ((ends : ℕ → BankEnd)
-        → AreEndsOf pcm.now ends → HaveRoles pcm.now.shape pcm.now.seed ends
+    requires size { (A.state array.now).lines ≡ pcm.now.shape.banks * array_lines_of (module_of pcm.now.shape) }
+    ensures ok { OnOk result ((ends : ℕ → BankEnd) → AreEndsOf pcm.now ends → HaveRoles pcm.now.shape pcm.now.seed ends
         → (rows : List (ℕ × ℕ × Role)) × IsWearReport pcm.now.shape pcm.now.seed ends (A.state array.now) rows
-        × Gets (sink_change K.written K.faults out.old out.new) (wear_text rows)) }
-    ensures part { OnErr result ((ends : ℕ → BankEnd)
-        → AreEndsOf pcm.now ends → HaveRoles pcm.now.shape pcm.now.seed ends
+        × Appends (K.written out.old) (K.written out.new) (wear_text rows)) }
+    ensures prefix { OnErr result ((ends : ℕ → BankEnd) → AreEndsOf pcm.now ends → HaveRoles pcm.now.shape pcm.now.seed ends
         → (rows : List (ℕ × ℕ × Role)) × IsWearReport pcm.now.shape pcm.now.seed ends (A.state array.now) rows
-        × GetsPart (sink_change K.written K.faults out.old out.new) (wear_text rows)) }
-    ensures fault { OnErr result (SinkFails (sink_change K.written K.faults out.old out.new)) }
+        × AppendsPrefix (K.written out.old) (K.written out.new) (wear_text rows)) }
+    ensures fault { OnErr result (Rose (K.faults out.old) (K.faults out.new)) }
     ensures never_falls { K.faults out.old ≤ K.faults out.new }
 {
     let shape = pcm.shape();

@@ -1,11 +1,17 @@
 use Rattle.std.proofs.Common.{◌≡◌, ◌++◌, [], refl}
 use Rattle.pcm_top.specs.FaultLines.{fault_line}
 use Rattle.pcm_top.specs.declared.fault.Fault.TheVariants.{Image}
-use Rattle.pcm_top.proofs.Telling.{writes-same}
+use Rattle.pcm_top.proofs.Telling.{told, told_part}
 use Rattle.pcm_top.proofs.fault.tell_image.Goals as goal
 
-pub returns : goal.returns
+pub returns-clause-ok : goal.returns-clause-ok
 unfolding fault_line
-returns g c =
+returns-clause-ok g c =
     let line : c.as_slice.result.now ++ (c.as_bytes-at.result.now ++ (c.as_slice-2.result.now ++ (c.image_word_of.result.now ++ (c.as_slice-3.result.now ++ [])))) ≡ fault_line (Image c.args.fault) = rw (c.as_slice.ensures, c.as_bytes-at.ensures.value, c.format.ensures.text, c.as_slice-2.ensures, c.image_word_of.ensures, c.as_slice-3.ensures) refl in
-    writes-same c.write_parts.result _ _ _ line c.write_parts.ensures
+    told c.write_parts.result _ _ _ _ line c.write_parts.ensures.ok
+
+pub returns-clause-prefix : goal.returns-clause-prefix
+unfolding fault_line
+returns-clause-prefix g c =
+    let line : c.as_slice.result.now ++ (c.as_bytes-at.result.now ++ (c.as_slice-2.result.now ++ (c.image_word_of.result.now ++ (c.as_slice-3.result.now ++ [])))) ≡ fault_line (Image c.args.fault) = rw (c.as_slice.ensures, c.as_bytes-at.ensures.value, c.format.ensures.text, c.as_slice-2.ensures, c.image_word_of.ensures, c.as_slice-3.ensures) refl in
+    told_part c.write_parts.result _ _ _ _ line c.write_parts.ensures.prefix

@@ -1,13 +1,11 @@
 use Rattle.std.proofs.Common.{arith}
-use Rattle.pcm_top.proofs.Printing.{on_err_any, writes-broken, written-more, written-part}
+use Rattle.pcm_top.proofs.Printing.{on_err_any, written-more, written-part}
 use Rattle.pcm_top.proofs.fault.write_parts.Goals as goal
 
-pub returns-in_err-write_all : goal.returns-in_err-write_all
-returns-in_err-write_all g c =
-    let e = c.in_err-write_all.ensures in
-    writes-broken c.from_residual.result c.from_residual.ensures _ _
-    (written-part c.args.parts.now c.loop-part.part-index _ _ _ _ c.loop-part-test.true c.loop-part.invariant.0 e.prefix)
-    c.loop-part.invariant.1 e.fault e.never_falls
+pub returns-in_err-write_all-clause-prefix : goal.returns-in_err-write_all-clause-prefix
+returns-in_err-write_all-clause-prefix g c =
+    on_err_any c.from_residual.result _
+    (written-part c.args.parts.now c.loop-part.part-index _ _ _ _ c.loop-part-test.true c.loop-part.invariant.0 c.in_err-write_all.ensures.prefix)
 
 pub loop-part-preserved : goal.loop-part-preserved
 loop-part-preserved g c = (

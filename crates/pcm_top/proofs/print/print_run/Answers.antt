@@ -10,9 +10,9 @@ returns-in-Wear-clause-ok g c =
     (λ report ends are right roles.
     wear-text g.row.E c.args.pcm.now (g.A.CellArray.state c.args.array.now) c.args.events.now c.args.results.now c.args.print _ c.in-Wear.is report ends are roles)
 
-pub returns-in-Wear-clause-part : goal.returns-in-Wear-clause-part
-returns-in-Wear-clause-part g c =
-    on_err c.print_wear.result _ _ c.print_wear.ensures.part
+pub returns-in-Wear-clause-prefix : goal.returns-in-Wear-clause-prefix
+returns-in-Wear-clause-prefix g c =
+    on_err c.print_wear.result _ _ c.print_wear.ensures.prefix
     (λ report ends are right roles.
     wear-text g.row.E c.args.pcm.now (g.A.CellArray.state c.args.array.now) c.args.events.now c.args.results.now c.args.print _ c.in-Wear.is report ends are roles)
 
@@ -31,8 +31,8 @@ returns-in-Image-clause-ok g c =
     (image-text c.images_are_of_their_runs.ensures c.args.pcm.now c.args.seed (g.A.CellArray.state c.args.array.now) (g.A.CellArray.state c.print_image.new.array) c.args.events.now c.args.results.now c.args.print _ c.in-Image.is
     c.requires.seed (omega arith) c.requires.shape c.requires.played c.print_image.ensures.sensed)
 
-pub returns-in-Image-clause-part : goal.returns-in-Image-clause-part
-returns-in-Image-clause-part g c =
+pub returns-in-Image-clause-prefix : goal.returns-in-Image-clause-prefix
+returns-in-Image-clause-prefix g c =
     on_err c.print_image.result _ _ c.print_image.ensures.prefix
     (image-text c.images_are_of_their_runs.ensures c.args.pcm.now c.args.seed (g.A.CellArray.state c.args.array.now) (g.A.CellArray.state c.print_image.new.array) c.args.events.now c.args.results.now c.args.print _ c.in-Image.is
     c.requires.seed (omega arith) c.requires.shape c.requires.played c.print_image.ensures.sensed)

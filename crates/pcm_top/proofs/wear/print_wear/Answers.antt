@@ -12,8 +12,8 @@ loop-line-init g c = (
   omega arith,
 )
 
-pub returns-in_err-print_wear_row-clause-part : goal.returns-in_err-print_wear_row-clause-part
-returns-in_err-print_wear_row-clause-part g c =
+pub returns-in_err-print_wear_row-clause-prefix : goal.returns-in_err-print_wear_row-clause-prefix
+returns-in_err-print_wear_row-clause-prefix g c =
     let had = c.loop-line.invariant.0 in
     let size = c.lines-line-end.ensures in
     let before = g.K.Sink.written c.args.out.now in
@@ -41,8 +41,8 @@ returns-clause-ok g c =
     (λ writes. reported-whole c.args.pcm.now (g.A.CellArray.state c.args.array.now) c.loop-line.line c.loop-line.text (g.K.Sink.written c.args.out.now) (g.K.Sink.written c.loop-line.out)
     (g.K.Sink.written c.print_rest.new.out) (omega arith) c.loop-line.invariant.0 writes)
 
-pub returns-clause-part : goal.returns-clause-part
-returns-clause-part g c =
+pub returns-clause-prefix : goal.returns-clause-prefix
+returns-clause-prefix g c =
     let size = c.lines-line-end.ensures in
     on_err c.print_rest.result _ _ c.print_rest.ensures.part
     (λ writes. reported-last c.args.pcm.now (g.A.CellArray.state c.args.array.now) c.loop-line.line c.loop-line.text (g.K.Sink.written c.args.out.now) (g.K.Sink.written c.loop-line.out)
