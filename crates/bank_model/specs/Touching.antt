@@ -1,7 +1,11 @@
 -- What one event does to an array, besides what the cells that it pulses then hold.
-use Rattle.std.specs.Prelude.{◌≡◌, ℕ, ◌≤◌, ◌++◌, Bool, true, false, if◌then◌else◌, IsTrue, IsFalse, List, map, Option, Some}
+use Rattle.std.specs.Prelude.{◌≡◌, ℕ, ◌+◌, ◌<◌, ◌≤◌, ◌⊎◌, ◌++◌, Bool, true, false, if◌then◌else◌, IsTrue, IsFalse, List, map, Option, Some}
 use Rattle.pcm_cells.specs.declared.array.Sense.{Sense}
 use Rattle.pcm_cells.specs.Device.{CellBounds, LineState, ArrayState, counted, sense_of}
+use Rattle.bank_shape.specs.declared.BankShape.{BankShape}
+use Rattle.bank_shape.specs.Shape.{slots_of}
+use Rattle.bank_model.specs.Events.{Event, Cut}
+use Rattle.bank_model.specs.History.{iterated}
 use Rattle.bank_model.specs.Sensing.{is_at}
 
 -- what senses of these lines, in this order, show at a tick
@@ -13,6 +17,28 @@ shown tick sensed array = map (λ line. sense_of line tick (array.line line)) se
 pub record Sticks {n m : ℕ} (bounds : CellBounds) (old new : LineState n m) : Type 0 where
   pub stays : (c : ℕ) → IsTrue (old.stuck c) → IsTrue (new.stuck c)
   pub late : (c : ℕ) → IsFalse (old.stuck c) → IsTrue (new.stuck c) → bounds.endures ≤ new.pulses
+
+-- what a pulse or a tear makes of a line of which no cell is stuck, where each cell that it is of has missed so often at least since it
+-- changed: one that is live then was spared or missed, or it is of those and changed; and one that sticks is of those, in the last of the
+-- changes that cells endure
+pub record Strikes {n m : ℕ} (bounds : CellBounds) (missed : ℕ) (tearing : Bool) (old new : LineState n m) : Type 0 where
+  pub live : (c : ℕ) → IsFalse (new.stuck c)
+      → ((new.spent c ≤ old.spent c) × (new.misses c ≤ old.misses c + 1))
+      ⊎ ((missed ≤ old.misses c) × (new.spent c ≤ old.spent c + 1) × (IsFalse tearing → new.misses c ≡ 0))
+  pub stuck : (c : ℕ) → IsTrue (new.stuck c) → (missed ≤ old.misses c) × (bounds.endures ≤ old.spent c + 1)
+
+-- whether an event may break a pulse off
+abbrev pub breaks_off : {n : ℕ} → Event n → Bool
+breaks_off (Cut tearing) = true
+breaks_off _ = false
+
+-- the line of a slot or a spare that an event pulses or tears, if no cell of it is stuck, is struck in cells that have each missed in every
+-- iteration of the line write in progress
+abbrev pub AreStruck : {n m : ℕ} → BankShape → List (Event n) → Event n → Option ℕ → ArrayState n m → ArrayState n m → Type 0
+AreStruck shape h event pulsed old new =
+    (line : ℕ) → line < slots_of shape + shape.spares → IsTrue (is_at pulsed (shape.base + line))
+    → ((c : ℕ) → IsFalse ((old.line (shape.base + line)).stuck c))
+    → Strikes old.bounds (iterated h) (breaks_off event) (old.line (shape.base + line)) (new.line (shape.base + line))
 
 -- an event pulses or tears one line or none, and then senses these lines, in this order: every other line, the wear and the bounds of
 -- cells stay as they were, a pulse and a tear are counted, cells stick no earlier than they endure, and a log that is told has gained

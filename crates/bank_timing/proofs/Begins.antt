@@ -112,6 +112,7 @@ module _ {n m e : ℕ} (clock : ClockState n m e) (action : Action) (next : next
               shape = begun-steps.shape;
               taken = begun-steps.lost ∙ leads.taken;
               touches = subst (λ (work : Work). Touches (ends clock.pace action) (lines_sensed clock.bank.kept work) None false old new) (sym begins.work) touches;
+              struck = λ line below is live. cc;
             } in
             begin_ends_law n m e answer action begins.op.work xs clock bank (put_if (item_by clock.bank.kept answer) bank.kept clock.regs) old new leads (sym begins.work) end leaves
 

@@ -2,7 +2,7 @@
 use Rattle.std.proofs.Common.{◌≡◌, ℕ, ◌+◌, ◌<◌, ◌≤◌, ◌&&◌, ◌==◌, not, nat_lt, Bool, true, false, List, [], ◌∷◌, length, map, Option, Some, None, is_some, refl, sym, ap, subst, ◌∙◌, arith, ltb-true}
 use Rattle.masked_bytes.proofs.Truth.{and_first, and_second}
 use Rattle.std.proofs.lemmas.Bool.{false≢true, ne_eqb, lt-ltb}
-use Rattle.std.specs.Prelude.{unwrap_or, IsTrue, if◌then◌else◌}
+use Rattle.std.specs.Prelude.{unwrap_or, IsTrue, IfSome, if◌then◌else◌}
 use Rattle.pcm_cells.specs.Device.{ArrayState}
 use Rattle.masked_bytes.specs.Masked.{gives_all}
 use Rattle.masked_bytes.specs.Entries.{layer_of, has_row}
@@ -16,7 +16,7 @@ use Rattle.bank_model.specs.History.{Awaited, waits}
 use Rattle.bank_shape.specs.declared.clock.Action.{Action}
 use Rattle.bank_model.specs.Timing.{TimedEvent, core, is_doing, is_writing}
 use Rattle.bank_laws.specs.Outcomes.{outcome_with}
-use Rattle.bank_model.specs.Touching.{Touches}
+use Rattle.bank_model.specs.Touching.{Touches, AreStruck}
 use Rattle.reg_lines.specs.declared.Change.{Change}
 use Rattle.reg_lines.specs.Regs.{AreHeld}
 use Rattle.reg_lines.specs.Keeping.{broken_off, torn_line as regs_torn}
@@ -29,7 +29,7 @@ use Rattle.bank_invariant.specs.Holds.{Holds, waiting_of}
 use Rattle.bank_invariant.specs.Steps.{cut_off}
 use Rattle.bank_invariant.specs.Serving.{read_from, waits_too}
 use Rattle.bank_invariant.proofs.Quiet.{RowsBelow-more}
-use Rattle.bank_core.specs.Cutting.{torn_line}
+use Rattle.bank_core.specs.Cutting.{torn_line, IsTorn}
 use Rattle.bank_core.specs.Steps.{after_read as bank_after_read}
 use Rattle.clock_laws.specs.State.{ClockState}
 use Rattle.clock_laws.specs.Leads.{Leads}
@@ -44,7 +44,7 @@ use Rattle.clock_laws.proofs.Extending.{arrival_added_law, both_added_law}
 use Rattle.clock_laws.proofs.Fitting.{needs_law}
 use Rattle.bank_timing.specs.Extending.{Extends, AreOpen, IsOpen, outcome_in}
 use Rattle.bank_timing.specs.Cancelling.{cancel_by, cancelled_by, cancel_first}
-use Rattle.bank_timing.proofs.Losses.{iterating-fits, work-leaves, same_torn}
+use Rattle.bank_timing.proofs.Losses.{iterating-fits, work-leaves, work-struck, same_torn}
 use Rattle.bank_timing.proofs.ReadArrivals.{read-keeps, waits-unset}
 
 module _ {n m e : ℕ} (clock : ClockState n m e) (line : ℕ) (would : IsTrue (cancels_for clock line)) where
@@ -86,14 +86,18 @@ module _ {n m e : ℕ} (clock : ClockState n m e) (line : ℕ) (would : IsTrue (
       -- a cancel of the bank's line write
       pub cancels-work : clock.regs.change ≡ None → Touches clock.tick [] (torn_line tearing clock.bank.running) tearing old new
           → ((h : List (Event n)) → Holds h clock.bank old → Holds (Cut tearing ∷ h) (cut_off clock.bank) new)
+          → (IsTrue tearing → IfSome clock.bank.running (λ op. IsTorn op old new))
           → (xs : List (TimedEvent n m)) → Leads xs clock old → ReachesBy clock.bank.kept.shape xs (cancel_by clock.regs.change xs clock) (after_cancel clock (cut_off clock.bank) clock.regs) old new
-      cancels-work none touches holds xs leads =
+      cancels-work none touches holds torn xs leads =
           subst (λ (change : Option Change). ReachesBy clock.bank.kept.shape xs (cancel_by change xs clock) (after_cancel clock (cut_off clock.bank) clock.regs) old new) (sym none)
           (cancel_ends_law n m e line tearing xs clock (cut_off clock.bank) old new leads would none tears (holds (core xs) leads.holds) refl refl
           (ap (λ (ws : List (Waiting n)). map (λ w. w.row) ws) none-waits)
           (stays_law n m e clock.bank.kept clock.regs old new leads.control (work-leaves xs clock old new clock.tick tearing leads touches)).same
           (subst (λ (change : Option Change). Touches clock.tick [] (line_torn tearing clock.regs change clock.bank.running) tearing old new) (sym none)
-          (subst (λ (pulsed : Option ℕ). Touches clock.tick [] pulsed tearing old new) (same_torn tearing clock.regs clock.bank.running) touches)))
+          (subst (λ (pulsed : Option ℕ). Touches clock.tick [] pulsed tearing old new) (same_torn tearing clock.regs clock.bank.running) touches))
+          (subst (λ (change : Option Change). AreStruck clock.bank.kept.shape (core xs) (Cut tearing) (line_torn tearing clock.regs change clock.bank.running) old new) (sym none)
+          (subst (λ (pulsed : Option ℕ). AreStruck clock.bank.kept.shape (core xs) (Cut tearing) pulsed old new) (same_torn tearing clock.regs clock.bank.running)
+          (work-struck (core xs) clock.bank old new tearing leads.holds torn))))
 
       -- one of the change's
       pub cancels-change : (change : Change) → clock.regs.change ≡ Some change → Touches clock.tick [] (regs_torn tearing clock.regs) tearing old new → AreHeld (broken_off clock.regs) new

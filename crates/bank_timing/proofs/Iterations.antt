@@ -1,6 +1,6 @@
 -- An iteration of the line write in progress ends.
 use Rattle.std.proofs.Common.{◌≡◌, ℕ, ◌+◌, ◌<◌, ◌≤◌, Bool, true, false, List, [], ◌∷◌, Option, Some, None, is_some, refl, sym, ap, subst, ◌∙◌}
-use Rattle.std.proofs.lemmas.Bool.{false≢true}
+use Rattle.std.proofs.lemmas.Bool.{false≢true, eqb-true}
 use Rattle.std.specs.Prelude.{IfSome, IsTrue}
 use Rattle.pcm_cells.specs.Device.{ArrayState}
 use Rattle.result_rows.specs.declared.Outcome.{Outcome}
@@ -14,10 +14,13 @@ use Rattle.bank_shape.specs.declared.clock.Doing.TheVariants.{Iterating}
 use Rattle.bank_shape.specs.declared.clock.Action.{Action}
 use Rattle.bank_model.specs.Events.{Event, Iterate}
 use Rattle.bank_model.specs.Timing.{TimedEvent, core, ends}
-use Rattle.bank_model.specs.Touching.{Touches}
+use Rattle.bank_model.specs.History.{iterated}
+use Rattle.bank_model.specs.Touching.{Touches, Strikes, AreStruck}
+use Rattle.line_writer.specs.Orderly.{IsLive}
 use Rattle.bank_invariant.specs.State.{BankState, Operation}
 use Rattle.bank_invariant.specs.Tied.{decoded, IsOf}
 use Rattle.bank_invariant.specs.Holds.{Holds}
+use Rattle.bank_invariant.proofs.Fine.{strikes-round}
 use Rattle.bank_invariant.proofs.Tearing.{running_of}
 use Rattle.bank_core.specs.Stepping.{IsIteration, step_from}
 use Rattle.clock_laws.specs.State.{ClockState, next_action}
@@ -96,10 +99,17 @@ module _ {n m e : ℕ} (clock : ClockState n m e) (action : Action) (next : next
               (iterate-leaves clock.bank new (ends clock.pace action) results op.target op.writer iterates.now led.1.holds.kept going (apart_law n m e led.0 clock old led.1) unset iterates.step.fewer clock.regs alone idle
               op.work iterates.now.writer.progress some-work iterates.step.work iterates.step.bytes reads))
 
+          struck : (h : List (Event n)) → Holds h clock.bank old → AreStruck clock.bank.kept.shape h (Iterate answer) (Some op.target) old new
+          struck h was line below is live =
+              let at : op.target ≡ clock.bank.kept.shape.base + line = eqb-true op.target (clock.bank.kept.shape.base + line) is in
+              subst (λ (at : ℕ). Strikes old.bounds (iterated h) false (old.line at) (new.line at)) at
+              (strikes-round (ends clock.pace action) iterates.step.round.0 h clock.bank old new op was running iterates.step.round.1
+              (subst (λ (at : ℕ). IsLive (old.line at)) (sym at) live))
+
           goes : (xs : List (TimedEvent n m)) → Leads xs clock old → GoesOn xs clock bank put-regs (Iterate answer) action old new
           goes xs leads =
               let end : IsCompletion xs clock bank put-regs (Iterate answer) action (op.target ∷ []) (Some op.target) old new =
-              record { next = next; doing = doing; later = later; alone = alone; put = refl; control = steps-by.puts.control old new leads.control alone (record { lines = touches.lines; controls = λ item below. controls_stay_law n m e (ends clock.pace action) item (op.target ∷ []) false op xs clock old new leads running (subst (λ (count : ℕ). item < count) leads.control.own.items below) touches }); holds = holds (core xs) leads.holds; shape = steps-by.shape; taken = steps-by.lost ∙ leads.taken; touches = touches } in
+              record { next = next; doing = doing; later = later; alone = alone; put = refl; control = steps-by.puts.control old new leads.control alone (record { lines = touches.lines; controls = λ item below. controls_stay_law n m e (ends clock.pace action) item (op.target ∷ []) false op xs clock old new leads running (subst (λ (count : ℕ). item < count) leads.control.own.items below) touches }); holds = holds (core xs) leads.holds; shape = steps-by.shape; taken = steps-by.lost ∙ leads.taken; touches = touches; struck = struck (core xs) leads.holds } in
               iterate_ends_law n m e answer action op xs clock bank put-regs old new leads running end leaves
 
     pub iterated-steps : IfSome clock.bank.running (λ op. IsIteration (ends clock.pace action) op clock.bank bank answer old new) → Steps clock.bank clock.regs bank answer (ends clock.pace action) results

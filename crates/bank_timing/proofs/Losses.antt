@@ -1,9 +1,9 @@
 -- A power cut: what becomes of the clock, the array and the results.
 use Rattle.std.proofs.Common.{◌≡◌, ℕ, ◌+◌, ◌<◌, ◌==◌, ◌||◌, ◌&&◌, not, Bool, true, false, List, [], ◌∷◌, length, map, drop, Option, Some, None, is_some, refl, sym, ap, subst, ◌∙◌, arith, eq-eqb}
 use Rattle.masked_bytes.proofs.Truth.{neither_first, neither_second, and_first, and_second}
-use Rattle.std.proofs.lemmas.Bool.{false≢true, ne_eqb, or_right}
-use Rattle.std.specs.Prelude.{unwrap_or, IsTrue, if◌then◌else◌, slice_get}
-use Rattle.pcm_cells.specs.Device.{ArrayState}
+use Rattle.std.proofs.lemmas.Bool.{false≢true, eqb-true, ne_eqb, or_right}
+use Rattle.std.specs.Prelude.{unwrap_or, IsTrue, IfSome, if◌then◌else◌, slice_get}
+use Rattle.pcm_cells.specs.Device.{ArrayState, LineState}
 use Rattle.result_rows.specs.declared.Outcome.{Outcome}
 use Rattle.result_rows.specs.declared.Outcome.TheVariants as out
 use Rattle.result_rows.specs.Table.{HasRow, with_outcome}
@@ -11,14 +11,17 @@ use Rattle.bank_shape.specs.declared.clock.Doing.{Doing}
 use Rattle.bank_shape.specs.declared.clock.Doing.TheVariants.{Serving, Beginning, Iterating}
 use Rattle.bank_shape.specs.declared.clock.Action.{Action}
 use Rattle.bank_model.specs.Events.{Event, Cut}
-use Rattle.bank_model.specs.History.{waits}
+use Rattle.bank_model.specs.History.{iterated, waits}
 use Rattle.bank_model.specs.Timing.{TimedEvent, core, is_doing, same_doing}
-use Rattle.bank_model.specs.Touching.{Touches}
+use Rattle.bank_model.specs.Touching.{Touches, Strikes, AreStruck}
+use Rattle.line_writer.specs.Orderly.{IsLive}
+use Rattle.bank_shape.specs.declared.BankShape.{BankShape}
 use Rattle.bank_shape.specs.declared.waiting.Waiting.{Waiting}
 use Rattle.bank_invariant.specs.State.{BankState, Operation}
 use Rattle.bank_invariant.specs.Holds.{Holds}
 use Rattle.bank_invariant.specs.Steps.{cut_off}
-use Rattle.bank_core.specs.Cutting.{torn_line}
+use Rattle.bank_core.specs.Cutting.{torn_line, IsTorn}
+use Rattle.bank_invariant.proofs.Fine.{strikes-tear}
 use Rattle.bank_shape.specs.Shape.{controls_from}
 use Rattle.power_recovery.specs.Kept.{KeptState}
 use Rattle.bank_model.specs.Changes.{all_controls}
@@ -176,6 +179,20 @@ work-leaves {n} {m} {e} xs clock old new tick tearing leads touches = record { l
     by true (Some op) is touches item below =
         controls_stay_law n m e tick item [] true op xs clock old new leads is (subst (λ (count : ℕ). item < count) leads.control.own.items below) touches
 
+-- it tears cells that have missed in each of its iterations
+pub work-struck : {n m e : ℕ} (h : List (Event n)) (bank : BankState n m e) (old new : ArrayState n m) (tearing : Bool) → Holds h bank old
+    → (IsTrue tearing → IfSome bank.running (λ op. IsTorn op old new)) → AreStruck bank.kept.shape h (Cut tearing) (torn_line tearing bank.running) old new
+work-struck {n} {m} {e} h bank old new tearing holds torn = by tearing bank.running refl torn
+  where
+    by : (tearing : Bool) (r : Option (Operation n m e)) → bank.running ≡ r → (IsTrue tearing → IfSome r (λ op. IsTorn op old new))
+        → AreStruck bank.kept.shape h (Cut tearing) (torn_line tearing r) old new
+    by false r is torn = λ line below hit live. cc
+    by true None is torn = λ line below hit live. cc
+    by true (Some op) is torn = λ line below hit live.
+        let at : op.target ≡ bank.kept.shape.base + line = eqb-true op.target (bank.kept.shape.base + line) hit in
+        subst (λ (at : ℕ). Strikes old.bounds (iterated h) true (old.line at) (new.line at)) at
+        (strikes-tear h bank old new op holds is (torn refl).tear (subst (λ (at : ℕ). IsLive (old.line at)) (sym at) live))
+
 -- and what a change's pulses or tears is no slot and no spare
 pub change-leaves : {n m e : ℕ} (kept : KeptState n) (regs : RegsState n m e) (old : ArrayState n m) (tearing : Bool) (line : ℕ) → Control kept regs old → line < controls_from kept.shape
     → is_at (regs_torn tearing regs) line ≡ false
@@ -243,7 +260,8 @@ module _ {n m e : ℕ} {clock : ClockState n m e} {old : ArrayState n m} {result
       broken-control = broken_law n m e clock.tick change clock.bank.kept clock.regs between later cut-control second held
 
       module _ {new : ArrayState n m} (third : Touches clock.tick (all_controls clock.bank.kept.shape) None false later new)
-          (holds : (h : List (Event n)) → Holds h clock.bank old → Holds (Cut work ∷ h) after between) where
+          (holds : (h : List (Event n)) → Holds h clock.bank old → Holds (Cut work ∷ h) after between)
+          (torn : IsTrue work → IfSome clock.bank.running (λ op. IsTorn op old between)) where
         read-control : Control clock.bank.kept (broken_off clock.regs) new
         read-control =
             (stays_law n m e clock.bank.kept (broken_off clock.regs) later new broken-control
@@ -273,6 +291,37 @@ module _ {n m e : ℕ} {clock : ClockState n m e} {old : ArrayState n m} {result
             (subst (λ (pulsed : Option ℕ). Touches clock.tick [] pulsed work old between) (same_torn work clock.regs clock.bank.running) first))
             (subst (λ (b : Bool). Touches clock.tick [] (regs_torn b clock.regs) b between later) change_is second) third
 
+        -- a line of the bank that is torn is the bank's own
+        struck : (h : List (Event n)) → Holds h clock.bank old
+            → AreStruck clock.bank.kept.shape h (Cut (tears_bank (item_of clock.regs.change) clock.action)) (line_torn iterating clock.regs clock.regs.change clock.bank.running) old new
+        struck h was = by clock.regs.change refl
+          where
+            shape : BankShape
+            shape = clock.bank.kept.shape
+
+            and-true : (b : Bool) → (b && true) ≡ b
+            and-true true = refl
+            and-true false = refl
+
+            apart_from : (b : Bool) (change : Change) (line : ℕ) → line < controls_from shape
+                → is_at (line_torn b clock.regs (Some change) clock.bank.running) line ≡ false
+            apart_from false change line below = refl
+            apart_from true change line below =
+                let base = cut-control.own.base in
+                ne_eqb (clock.regs.base + change.item) line (λ same. omega (arith, same, base, below))
+
+            by : (change : Option Change) → clock.regs.change ≡ change
+                → AreStruck shape h (Cut (tears_bank (item_of change) clock.action)) (line_torn iterating clock.regs change clock.bank.running) old new
+            by None is line below hit live =
+                let at : ℕ = shape.base + line in
+                let same : work ≡ iterating = work_is ∙ ap (λ (change : Option Change). iterating && not (is_some change)) is ∙ and-true iterating in
+                let own : is_at (torn_line work clock.bank.running) at ≡ true =
+                ap (λ (pulsed : Option ℕ). is_at pulsed at) (same_torn work clock.regs clock.bank.running ∙ ap (λ (b : Bool). line_torn b clock.regs None clock.bank.running) same) ∙ hit in
+                subst (λ (l : LineState n m). Strikes old.bounds (iterated h) true (old.line at) l)
+                (sym (third.others at refl ∙ second.others at (change-leaves clock.bank.kept clock.regs between change at cut-control (omega (arith, below)))))
+                (work-struck h clock.bank old between work was torn line below own live)
+            by (Some one) is line below hit live = absurd (false≢true (sym (apart_from iterating one (shape.base + line) (omega (arith, below))) ∙ hit))
+
         -- each history that led to the clock goes on with the cut
         pub cut-extends : (xs : List (TimedEvent n m)) → Leads xs clock old
             → Extends xs (cut xs clock new ∷ []) clock (after_cut clock after) old new results recorded
@@ -291,7 +340,7 @@ module _ {n m e : ℕ} {clock : ClockState n m e} {old : ArrayState n m} {result
             ends : CutEnds clock.bank.kept.shape xs (cut xs clock new) (after_cut clock after) old new
             ends =
                 cut_ends_law n m e iterating xs clock after old new leads c.fit refl
-                (subst (λ (b : Bool). Holds (Cut b ∷ core xs) after new) (work_is ∙ tears-same clock.regs.change) (holds-then (core xs) leads.holds)) refl refl refl read-control touched
+                (subst (λ (b : Bool). Holds (Cut b ∷ core xs) after new) (work_is ∙ tears-same clock.regs.change) (holds-then (core xs) leads.holds)) refl refl refl read-control touched (struck (core xs) leads.holds)
 
         -- each row that neither stood in the queue nor waited keeps its outcome
         pub cut-others : LeavesOthers clock.bank results recorded

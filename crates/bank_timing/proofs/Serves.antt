@@ -97,7 +97,7 @@ module _ {n m e : ℕ} (clock : ClockState n m e) (action : Action) (old new : A
           → Extends xs (completed_event xs clock action (Serve answer_of) new ∷ []) clock (after_action clock (served clock.bank) clock.regs action (Serve answer_of)) old new results (with_outcome results w.row outcome_served)
       extended xs leads =
           let end : IsCompletion xs clock (served clock.bank) clock.regs (Serve answer_of) action (answer_of.place ∷ []) None old new =
-          record { next = next; doing = doing; later = later; alone = tt; holds = holds (core xs) leads.holds; shape = refl; taken = leads.taken; touches = touches; put = refl; control = (stays_law n m e clock.bank.kept clock.regs old new leads.control (record { lines = touches.lines; controls = λ item below. touches.others (clock.regs.base + item) refl })).same } in
+          record { next = next; doing = doing; later = later; alone = tt; holds = holds (core xs) leads.holds; shape = refl; taken = leads.taken; touches = touches; struck = λ line below is live. cc; put = refl; control = (stays_law n m e clock.bank.kept clock.regs old new leads.control (record { lines = touches.lines; controls = λ item below. touches.others (clock.regs.base + item) refl })).same } in
           end-extends xs clock (served clock.bank) clock.regs action (Serve answer_of) old new results (with_outcome results w.row outcome_served)
           (serve_ends_law n m e answer_of action w ws xs clock (served clock.bank) clock.regs old new leads waiting end refl refl) refl (rows-set results w.row outcome_served)
           (λ row there. in-set results w.row outcome_served row has there)

@@ -1,6 +1,7 @@
 -- How the lines of a bank age over one event.
-use Rattle.std.proofs.Common.{◌≡◌, inl, inr, ℕ, ◌+◌, ◌*◌, ◌-◌, ◌^◌, ◌<◌, ◌≤◌, ◌==◌, ◌&&◌, ◌||◌, not, Bool, true, false, List, [], ◌∷◌, Option, Some, None, is_some, min, refl, sym, ap, ◌∙◌, subst, arith, cond}
-use Rattle.std.proofs.lemmas.Bool.{cases_lt, eqb-true}
+use Rattle.std.proofs.Common.{◌≡◌, ◌⊎◌, inl, inr, ℕ, ◌+◌, ◌*◌, ◌-◌, ◌^◌, ◌<◌, ◌≤◌, ◌==◌, ◌&&◌, ◌||◌, not, Bool, true, false, List, [], ◌∷◌, Option, Some, None, is_some, min, refl, sym, ap, ◌∙◌, subst, arith, cond}
+use Rattle.std.specs.Prelude.{IsFalse}
+use Rattle.std.proofs.lemmas.Bool.{cases_lt}
 use Rattle.pcm_cells.specs.Device.{CellBounds, LineState, ArrayState, IsBlank, counted}
 use Rattle.bank_shape.specs.declared.BankShape.{BankShape}
 use Rattle.bank_shape.specs.Shape.{slots_of, lines_in, controls_from}
@@ -9,33 +10,34 @@ use Rattle.bank_model.specs.Events.{Event, Write, Read, Serve, Begin, Iterate, C
 use Rattle.bank_model.specs.History.{goes_on, in_progress, iterated}
 use Rattle.bank_model.specs.After.{target_after}
 use Rattle.bank_model.specs.Answers.{MayAll}
-use Rattle.bank_model.specs.Aging.{Ages, Endures, AreAged, most_aged}
+use Rattle.bank_model.specs.Aging.{Ages, Endures, MissesUnspent, AreAged, most_aged}
 use Rattle.bank_model.specs.Changes.{change_after}
 use Rattle.bank_model.specs.Lawful.{MayCome}
 use Rattle.bank_model.specs.Running.{running_at}
 use Rattle.bank_model.specs.Sensing.{is_at, most_steps, pulsed_by, torn_control}
 use Rattle.bank_shape.specs.declared.pace.Pace.{Pace}
 use Rattle.bank_model.specs.Timing.{TimedEvent, Happens, Core, Regs, core, core_of}
-use Rattle.bank_model.specs.Touching.{Sticks, Touches}
+use Rattle.bank_model.specs.Touching.{Sticks, Strikes, AreStruck, Touches, breaks_off}
 use Rattle.bank_model.specs.Works.{works_on, held_on}
 use Rattle.bank_laws.proofs.Counted.{counted-cases, pulses-few}
 use Rattle.bank_laws.proofs.Targets.{WorkAfter, spares_work, working, target-same}
 use Rattle.bank_laws.proofs.Works.{counted-few, tearing-going, kept-elsewhere, torn-elsewhere, idle-held, busy-held, held-same, going-held}
 use Rattle.place_laws.proofs.Pulsing.{begins-idle}
-use Rattle.bank_invariant.specs.State.{BankState, Operation, target_of}
-use Rattle.bank_invariant.specs.Holds.{Holds}
-use Rattle.bank_invariant.proofs.Agreeing.{agree_law}
-use Rattle.bank_invariant.proofs.Fine.{fine_write_law}
-use Rattle.bank_invariant.proofs.Tearing.{running_of}
 use Rattle.clock_laws.proofs.Ranges.{ArePulses}
+
+-- an event of the bank strikes its line so; one of a change strikes a control line
+abbrev pub IsStruckBy : {n m : ℕ} → BankShape → List (Event n) → Happens n → Option ℕ → ArrayState n m → ArrayState n m → Type 0
+IsStruckBy shape h (Core event) pulsed old new = AreStruck shape h event pulsed old new
+IsStruckBy shape h (Regs event) pulsed old new = Unit {0}
 
 -- One line
 
-module _ {n m : ℕ} (bounds : CellBounds) (old new : LineState n m) where
-  -- more line writes make a line no younger
-  pub ages-later : (most next : ℕ) → most ≤ next → Ages bounds most old → Ages bounds next old
-  ages-later most next few ages = record { live = λ none. omega (arith, ages.live none, few); stuck = λ c is. omega (arith, ages.stuck c is, few) }
+-- a line has aged by so many line writes that ended on it, while that in progress has had so many iterations
+record IsAged {n m : ℕ} (bounds : CellBounds) (works held : ℕ) (line : LineState n m) : Type 0 where
+  age : Ages bounds (works + min held 1) line
+  missed : MissesUnspent held works line
 
+module _ {n m : ℕ} (bounds : CellBounds) (old new : LineState n m) where
   -- a cell that a pulse or a tear leaves live was live
   was-live : Sticks bounds old new → ((c : ℕ) → new.stuck c ≡ false) → (c : ℕ) → old.stuck c ≡ false
   was-live sticks none c = by (old.stuck c) refl
@@ -44,26 +46,56 @@ module _ {n m : ℕ} (bounds : CellBounds) (old new : LineState n m) where
       by true is = absurd (cc (sticks.stays c is, none c))
       by false is = is
 
-  -- a pulse or a tear, for which there is room where no cell was stuck
-  pub ages-pulsed : (most next : ℕ) → Sticks bounds old new → new.pulses ≤ old.pulses + 1 → most ≤ next
-      → (((c : ℕ) → old.stuck c ≡ false) → most + 1 ≤ next) → Ages bounds most old → Ages bounds next new
-  ages-pulsed most next sticks one few room ages = record {
-    live = λ none. let were = was-live sticks none in omega (arith, ages.live were, one, room were);
-    stuck = λ c is. elim (cases_lt next bounds.endures) [
-      | inl less ↦
-          let were : (c : ℕ) → old.stuck c ≡ false = were-live less in
-          let late : bounds.endures ≤ new.pulses = sticks.late c (were c) is in
-          absurd (omega (arith, late, less, ages.live were, one, room were))
-      | inr most ↦ most
-    ];
-  }
-    where
-      were-live : next < bounds.endures → (c : ℕ) → old.stuck c ≡ false
-      were-live less c = by (old.stuck c) refl
-        where
-          by : (b : Bool) → old.stuck c ≡ b → old.stuck c ≡ false
-          by true is = let early : bounds.endures ≤ most = ages.stuck c is in absurd (omega (arith, early, less, few))
-          by false is = is
+  module _ (works held : ℕ) (tearing : Bool) (sticks : Sticks bounds old new) (strikes : ((c : ℕ) → old.stuck c ≡ false) → Strikes bounds held tearing old new)
+      (aged : IsAged bounds works held old) where
+    -- a line write on the line that is pulsed or torn has spent one change of a cell at most
+    struck-once : Ages bounds (works + 1) new
+    struck-once = record {
+      live = λ none c. spent (was-live sticks none) c (none c);
+      stuck = λ c is. elim (cases_lt (works + 1) bounds.endures) [
+        | inl less ↦
+            let were : (c : ℕ) → old.stuck c ≡ false = were-live less in
+            let hit = (strikes were).stuck c is in
+            absurd (omega (arith, hit.1, aged.missed were c hit.0, less))
+        | inr most ↦ most
+      ];
+    }
+      where
+        by : (were : (c : ℕ) → old.stuck c ≡ false) (c : ℕ)
+            → ((new.spent c ≤ old.spent c) × (new.misses c ≤ old.misses c + 1)) ⊎ ((held ≤ old.misses c) × (new.spent c ≤ old.spent c + 1) × (IsFalse tearing → new.misses c ≡ 0))
+            → new.spent c ≤ works + 1
+        by were c (inl kept) = omega (arith, kept.0, aged.age.live were c)
+        by were c (inr changed) = omega (arith, changed.1, aged.missed were c changed.0)
+
+        spent : ((c : ℕ) → old.stuck c ≡ false) → (c : ℕ) → new.stuck c ≡ false → new.spent c ≤ works + 1
+        spent were c live = by were c ((strikes were).live c live)
+
+        were-live : works + 1 < bounds.endures → (c : ℕ) → old.stuck c ≡ false
+        were-live less c = so (old.stuck c) refl
+          where
+            so : (b : Bool) → old.stuck c ≡ b → old.stuck c ≡ false
+            so true is = let early : bounds.endures ≤ works + min held 1 = aged.age.stuck c is in absurd (omega (arith, early, less))
+            so false is = is
+
+    -- it has ended
+    struck-ended : IsAged bounds (works + 1) 0 new
+    struck-ended = record {
+      age = record { live = λ none c. omega (arith, struck-once.live none c); stuck = λ c is. omega (arith, struck-once.stuck c is) };
+      missed = λ none c often. struck-once.live none c;
+    }
+
+    -- or it goes on
+    struck-going : IsFalse tearing → IsAged bounds works (held + 1) new
+    struck-going whole = record {
+      age = record { live = λ none c. omega (arith, struck-once.live none c); stuck = λ c is. omega (arith, struck-once.stuck c is) };
+      missed = λ none c often. let were = was-live sticks none in by were c often ((strikes were).live c (none c));
+    }
+      where
+        by : (were : (c : ℕ) → old.stuck c ≡ false) (c : ℕ) → held + 1 ≤ new.misses c
+            → ((new.spent c ≤ old.spent c) × (new.misses c ≤ old.misses c + 1)) ⊎ ((held ≤ old.misses c) × (new.spent c ≤ old.spent c + 1) × (IsFalse tearing → new.misses c ≡ 0))
+            → new.spent c ≤ works
+        by were c often (inl kept) = omega (arith, kept.0, aged.missed were c (omega (arith, often, kept.1)))
+        by were c often (inr changed) = absurd (omega (arith, often, changed.2 whole))
 
   -- and it endures as before
   pub endures-pulsed : Sticks bounds old new → old.pulses ≤ new.pulses → Endures bounds old → Endures bounds new
@@ -73,101 +105,112 @@ module _ {n m : ℕ} (bounds : CellBounds) (old new : LineState n m) where
       by true was = let early : bounds.endures ≤ old.pulses = endures c was in omega (arith, early, more)
       by false was = sticks.late c was is
 
--- the most pulses, by plain numbers
-abbrev pub aged : ℕ → ℕ → ℕ → ℕ
-aged w works held = w * works + min held w
+-- a line that stays
+module _ {n m : ℕ} (bounds : CellBounds) (works held : ℕ) (line : LineState n m) (aged : IsAged bounds works held line) where
+  -- with the line write as it was
+  aged-as : (next now : ℕ) → next ≡ works → now ≡ held → IsAged bounds next now line
+  aged-as next now same alike =
+      subst (λ (k : ℕ). IsAged bounds k now line) (sym same) (subst (λ (k : ℕ). IsAged bounds works k line) (sym alike) aged)
 
-next-work : (w works : ℕ) → w * (1 + works) ≡ w * works + w
-next-work w works = omega arith
-
-same-work : (w works : ℕ) → w * (0 + works) ≡ w * works
-same-work w works = omega arith
-
--- a line write that ends makes it no less
-ended-aged : (w works held : ℕ) (b : Bool) → aged w works held ≤ aged w (cond b 1 0 + works) held
-ended-aged w works held true = omega (arith, next-work w works)
-ended-aged w works held false = omega (arith, same-work w works)
+  -- or after one has ended
+  aged-ended : (next : ℕ) → works + min held 1 ≤ next → IsAged bounds next 0 line
+  aged-ended next more = record {
+    age = record { live = λ none c. omega (arith, aged.age.live none c, more); stuck = λ c is. omega (arith, aged.age.stuck c is, more) };
+    missed = λ none c often. omega (arith, aged.age.live none c, more);
+  }
 
 -- One event
 
 module _ {n m : ℕ} (shape : BankShape) (pace : Pace) (e at : ℕ) (low : at < controls_from shape) (xs : List (TimedEvent n m)) (x : TimedEvent n m) (bounds : CellBounds) (old new : LineState n m)
     (past : MayAll shape (most_steps e) (core xs)) (same : is_at x.pulsed at ≡ false → new ≡ old)
-    (sticks : is_at x.pulsed at ≡ true → Sticks bounds old new) (one : is_at x.pulsed at ≡ true → new.pulses ≤ old.pulses + 1)
-    (fine : in_progress (core xs) ≡ true → (target_after shape (core xs) == at) ≡ true → ((c : ℕ) → old.stuck c ≡ false) → iterated (core xs) ≤ bounds.misses)
-    (ages : Ages bounds (most_aged bounds shape at (core xs)) old) where
-  abbrev w : ℕ
-  w = bounds.misses + 1
-
+    (sticks : is_at x.pulsed at ≡ true → Sticks bounds old new)
+    (aged : IsAged bounds (works_on shape at (core xs)) (held_on shape at (core xs)) old) where
   abbrev works : ℕ
   works = works_on shape at (core xs)
 
-  -- it doesn't pulse this line
-  left-alone : (o : Option ℕ) → x.pulsed ≡ o → is_at o at ≡ false → (next : ℕ) → most_aged bounds shape at (core xs) ≤ next → Ages bounds next new
-  left-alone o is off next few =
-      subst (λ (line : LineState n m). Ages bounds next line) (sym (same (ap (λ o. is_at o at) is ∙ off)))
-      (ages-later bounds old old (most_aged bounds shape at (core xs)) next few ages)
+  -- the line, as the event goes on
+  abbrev Next : Event n → Type 0
+  Next event = IsAged bounds (works_on shape at (event ∷ core xs)) (held_on shape at (event ∷ core xs)) new
 
-  -- it pulses or tears this line
-  struck : (o : Option ℕ) → x.pulsed ≡ o → is_at o at ≡ true → (next : ℕ) → most_aged bounds shape at (core xs) ≤ next
-      → (((c : ℕ) → old.stuck c ≡ false) → most_aged bounds shape at (core xs) + 1 ≤ next) → Ages bounds next new
-  struck o is on next few room =
-      let hit : is_at x.pulsed at ≡ true = ap (λ o. is_at o at) is ∙ on in
-      ages-pulsed bounds old new (most_aged bounds shape at (core xs)) next (sticks hit) (one hit) few room ages
+  -- if the event pulses it, the cells that it strikes have missed in every iteration
+  abbrev IsStruck : Happens n → Type 0
+  IsStruck (Core event) = is_at x.pulsed at ≡ true → ((c : ℕ) → old.stuck c ≡ false) → Strikes bounds (iterated (core xs)) (breaks_off event) old new
+  IsStruck (Regs event) = Unit {0}
+
+  -- it doesn't pulse this line
+  untouched : (o : Option ℕ) → x.pulsed ≡ o → is_at o at ≡ false → (next now : ℕ) → IsAged bounds next now old → IsAged bounds next now new
+  untouched o is off next now is_aged =
+      subst (λ (line : LineState n m). IsAged bounds next now line) (sym (same (ap (λ o. is_at o at) is ∙ off))) is_aged
 
   -- an event that goes past the line write in progress
   quiet : (event : Event n) → spares_work event ≡ true → x.pulsed ≡ None → in_progress (event ∷ core xs) ≡ in_progress (core xs) → iterated (event ∷ core xs) ≡ iterated (core xs)
-      → works_on shape at (event ∷ core xs) ≡ works → Ages bounds (most_aged bounds shape at (event ∷ core xs)) new
+      → works_on shape at (event ∷ core xs) ≡ works → Next event
   quiet event spares none busy count counts =
-      let held : held_on shape at (event ∷ core xs) ≡ held_on shape at (core xs) = held-same shape at (core xs) (most_steps e) event past spares busy count in
-      let all : most_aged bounds shape at (event ∷ core xs) ≡ most_aged bounds shape at (core xs) =
-      ap (λ k. aged w k (held_on shape at (event ∷ core xs))) counts ∙ ap (λ k. aged w works k) held in
-      left-alone None none refl (most_aged bounds shape at (event ∷ core xs)) (omega (arith, all))
+      untouched None none refl (works_on shape at (event ∷ core xs)) (held_on shape at (event ∷ core xs))
+      (aged-as bounds works (held_on shape at (core xs)) old aged (works_on shape at (event ∷ core xs)) (held_on shape at (event ∷ core xs)) counts
+      (held-same shape at (core xs) (most_steps e) event past spares busy count))
+
+  -- with none in progress on the line, one more or none has ended
+  idle-ended : (b : Bool) → held_on shape at (core xs) ≡ 0 → IsAged bounds (cond b 1 0 + works) 0 old
+  idle-ended true none = aged-ended bounds works (held_on shape at (core xs)) old aged (1 + works) (omega (arith, none))
+  idle-ended false none = aged-ended bounds works (held_on shape at (core xs)) old aged (0 + works) (omega (arith, none))
+
+  more-works : (tearing : Bool) → IsAged bounds (works + 1) 0 new → IsAged bounds (1 + works) 0 new
+  more-works tearing is = let turned : works + 1 ≡ 1 + works = omega arith in subst (λ (k : ℕ). IsAged bounds k 0 new) turned is
 
   -- an iteration of this line, or of another one
   stepped : (going here : Bool) (k : ℕ) (o : Option ℕ) → x.pulsed ≡ o → is_at o at ≡ here → held_on shape at (core xs) ≡ cond here k 0
-      → (here ≡ true → ((c : ℕ) → old.stuck c ≡ false) → k ≤ bounds.misses)
-      → Ages bounds (aged w (cond (not going && here) 1 0 + works) (cond (going && here) (k + 1) 0)) new
-  stepped true true k o is on held room =
-      struck o is on _ (omega (arith, held, same-work w works)) (λ none. omega (arith, held, room refl none, same-work w works))
-  stepped false true k o is on held room =
-      struck o is on _ (omega (arith, held, next-work w works)) (λ none. omega (arith, held, room refl none, next-work w works))
-  stepped true false k o is off held room = left-alone o is off _ (omega (arith, held, same-work w works))
-  stepped false false k o is off held room = left-alone o is off _ (omega (arith, held, same-work w works))
+      → (is_at x.pulsed at ≡ true → ((c : ℕ) → old.stuck c ≡ false) → Strikes bounds k false old new)
+      → IsAged bounds (cond (not going && here) 1 0 + works) (cond (going && here) (k + 1) 0) new
+  stepped true true k o is on held strikes =
+      let hit : is_at x.pulsed at ≡ true = ap (λ o. is_at o at) is ∙ on in
+      struck-going bounds old new works k false (sticks hit) (strikes hit) (subst (λ (k : ℕ). IsAged bounds works k old) held aged) refl
+  stepped false true k o is on held strikes =
+      let hit : is_at x.pulsed at ≡ true = ap (λ o. is_at o at) is ∙ on in
+      more-works false (struck-ended bounds old new works k false (sticks hit) (strikes hit) (subst (λ (k : ℕ). IsAged bounds works k old) held aged))
+  stepped true false k o is off held strikes = untouched o is off (0 + works) 0 (idle-ended false held)
+  stepped false false k o is off held strikes = untouched o is off (0 + works) 0 (idle-ended false held)
 
   -- a cut
   broken : (busy tearing here : Bool) (k : ℕ) (o : Option ℕ) → x.pulsed ≡ o → is_at o at ≡ (tearing && here) → held_on shape at (core xs) ≡ cond (busy && here) k 0
-      → (tearing ≡ true → busy ≡ true) → (busy ≡ true → here ≡ true → ((c : ℕ) → old.stuck c ≡ false) → k ≤ bounds.misses)
-      → Ages bounds (aged w (cond (busy && here) 1 0 + works) 0) new
-  broken true true true k o is on held tears room =
-      struck o is on _ (omega (arith, held, next-work w works)) (λ none. omega (arith, held, room refl refl none, next-work w works))
-  broken true false true k o is off held tears room = left-alone o is off _ (omega (arith, held, next-work w works))
-  broken true true false k o is off held tears room = left-alone o is off _ (omega (arith, held, same-work w works))
-  broken true false false k o is off held tears room = left-alone o is off _ (omega (arith, held, same-work w works))
-  broken false true here k o is off held tears room = absurd (cc (tears refl))
-  broken false false true k o is off held tears room = left-alone o is off _ (omega (arith, held, same-work w works))
-  broken false false false k o is off held tears room = left-alone o is off _ (omega (arith, held, same-work w works))
+      → (tearing ≡ true → busy ≡ true) → (is_at x.pulsed at ≡ true → ((c : ℕ) → old.stuck c ≡ false) → Strikes bounds k true old new)
+      → IsAged bounds (cond (busy && here) 1 0 + works) 0 new
+  broken true true true k o is on held tears strikes =
+      let hit : is_at x.pulsed at ≡ true = ap (λ o. is_at o at) is ∙ on in
+      more-works true (struck-ended bounds old new works k true (sticks hit) (strikes hit) (subst (λ (k : ℕ). IsAged bounds works k old) held aged))
+  broken true false true k o is off held tears strikes =
+      untouched o is off (1 + works) 0 (aged-ended bounds works (held_on shape at (core xs)) old aged (1 + works) (omega arith))
+  broken true true false k o is off held tears strikes = untouched o is off (0 + works) 0 (idle-ended false held)
+  broken true false false k o is off held tears strikes = untouched o is off (0 + works) 0 (idle-ended false held)
+  broken false true here k o is on held tears strikes = absurd (cc (tears refl))
+  broken false false true k o is off held tears strikes = untouched o is off (0 + works) 0 (idle-ended false held)
+  broken false false false k o is off held tears strikes = untouched o is off (0 + works) 0 (idle-ended false held)
 
-  pub ages-next : (h : Happens n) → MayCome shape pace e xs x h → Ages bounds (most_aged bounds shape at (core_of h (core xs))) new
-  ages-next (Core (Write row line bytes given answer)) may = quiet (Write row line bytes given answer) refl may.pulsed refl refl refl
-  ages-next (Core (Read row line answer)) may = quiet (Read row line answer) refl may.pulsed refl refl refl
-  ages-next (Core (Serve answer)) may = quiet (Serve answer) refl may.pulsed refl refl refl
-  ages-next (Core (Begin answer)) may =
-      let idle : held_on shape at (core xs) ≡ 0 = idle-held shape at (core xs) (begins-idle shape (core xs) may.may.0) in
-      let more : aged w works 0 ≤ aged w (cond (not (goes_on answer) && (target_after shape (core xs) == at)) 1 0 + works) 0 =
-      ended-aged w works 0 (not (goes_on answer) && (target_after shape (core xs) == at)) in
-      left-alone None may.pulsed refl (most_aged bounds shape at (Begin answer ∷ core xs)) (omega (arith, idle, more))
-  ages-next (Core (Iterate answer)) may =
+  pub ages-next : (h : Happens n) → MayCome shape pace e xs x h → IsStruck h
+      → IsAged bounds (works_on shape at (core_of h (core xs))) (held_on shape at (core_of h (core xs))) new
+  ages-next (Core (Write row line bytes given answer)) may strikes = quiet (Write row line bytes given answer) refl may.pulsed refl refl refl
+  ages-next (Core (Read row line answer)) may strikes = quiet (Read row line answer) refl may.pulsed refl refl refl
+  ages-next (Core (Serve answer)) may strikes = quiet (Serve answer) refl may.pulsed refl refl refl
+  ages-next (Core (Begin answer)) may strikes =
+      untouched None may.pulsed refl (works_on shape at (Begin answer ∷ core xs)) (held_on shape at (Begin answer ∷ core xs))
+      (subst (λ (k : ℕ). IsAged bounds (works_on shape at (Begin answer ∷ core xs)) k old) (sym (none_held (goes_on answer && (target_after shape (Begin answer ∷ core xs) == at))))
+      (idle-ended (not (goes_on answer) && (target_after shape (core xs) == at)) (idle-held shape at (core xs) (begins-idle shape (core xs) may.may.0))))
+    where
+      none_held : (b : Bool) → cond b 0 0 ≡ 0
+      none_held true = refl
+      none_held false = refl
+  ages-next (Core (Iterate answer)) may strikes =
       let busy : in_progress (core xs) ≡ true = may.may.0 in
       let work : WorkAfter shape (core xs) = working shape (most_steps e) (core xs) past busy in
       let held : cond (goes_on answer && (target_after shape (Iterate answer ∷ core xs) == at)) (iterated (core xs) + 1) 0
       ≡ cond (goes_on answer && (target_after shape (core xs) == at)) (iterated (core xs) + 1) 0 =
       going-held shape at (core xs) (Iterate answer) answer (iterated (core xs) + 1) (λ goes. (target-same shape (Iterate answer) (core xs) goes work).1) in
-      subst (λ k. Ages bounds (aged w (works_on shape at (Iterate answer ∷ core xs)) k) new) (sym held)
+      subst (λ k. IsAged bounds (works_on shape at (Iterate answer ∷ core xs)) k new) (sym held)
       (stepped (goes_on answer) (target_after shape (core xs) == at) (iterated (core xs)) (Some (target_after shape (core xs))) may.pulsed refl
-      (busy-held shape at (core xs) busy) (fine busy))
-  ages-next (Core (Cut tearing)) may =
+      (busy-held shape at (core xs) busy) strikes)
+  ages-next (Core (Cut tearing)) may strikes =
       broken (in_progress (core xs)) tearing (target_after shape (core xs) == at) (iterated (core xs)) (pulsed_by shape (core xs) control (Cut tearing)) may.pulsed (struck_by tearing)
-      refl (tearing-going tearing (in_progress (core xs)) may.may) fine
+      refl (tearing-going tearing (in_progress (core xs)) may.may) strikes
     where
       control : Option ℕ
       control = torn_control shape (change_after shape xs) (running_at shape pace xs x.tick)
@@ -175,7 +218,7 @@ module _ {n m : ℕ} (shape : BankShape) (pace : Pace) (e at : ℕ) (low : at < 
       struck_by : (b : Bool) → is_at (pulsed_by shape (core xs) control (Cut b)) at ≡ (b && (target_after shape (core xs) == at))
       struck_by true = refl
       struck_by false = torn-elsewhere shape at low (change_after shape xs) (running_at shape pace xs x.tick)
-  ages-next (Regs event) may = left-alone _ may.pulsed (kept-elsewhere shape at low (change_after shape xs) event) (most_aged bounds shape at (core xs)) (omega arith)
+  ages-next (Regs event) may strikes = untouched _ may.pulsed (kept-elsewhere shape at low (change_after shape xs) event) works (held_on shape at (core xs)) aged
 
 -- The lines of a bank
 
@@ -185,8 +228,7 @@ counted-more k few = elim (counted-cases k few) [ inl same ↦ omega (arith, sam
 
 module _ {n m : ℕ} (shape : BankShape) (pace : Pace) (e : ℕ) (xs : List (TimedEvent n m)) (x : TimedEvent n m) (sensed : List ℕ) (tearing : Bool) (old new : ArrayState n m)
     (past : MayAll shape (most_steps e) (core xs)) (are : ArePulses shape xs old) (touches : Touches x.tick sensed x.pulsed tearing old new)
-    (comes : MayCome shape pace e xs x x.happens)
-    (fine : in_progress (core xs) ≡ true → ((c : ℕ) → (old.line (target_after shape (core xs))).stuck c ≡ false) → iterated (core xs) ≤ old.bounds.misses)
+    (comes : MayCome shape pace e xs x x.happens) (strikes : IsStruckBy shape (core xs) x.happens x.pulsed old new)
     (was : AreAged shape (core xs) old) where
   endure-next : (line : ℕ) → line < lines_in shape → Endures old.bounds (new.line (shape.base + line))
   endure-next line below = by (is_at x.pulsed (shape.base + line)) refl
@@ -199,33 +241,34 @@ module _ {n m : ℕ} (shape : BankShape) (pace : Pace) (e : ℕ) (xs : List (Tim
           (was.endure line below)
       by false is = subst (λ (l : LineState n m). Endures old.bounds l) (sym (touches.others (shape.base + line) is)) (was.endure line below)
 
-  age-next : (line : ℕ) → line < slots_of shape + shape.spares → Ages old.bounds (most_aged old.bounds shape (shape.base + line) (core (x ∷ xs))) (new.line (shape.base + line))
-  age-next line below =
-      ages-next shape pace e (shape.base + line) (omega (arith, below)) xs x old.bounds (old.line (shape.base + line)) (new.line (shape.base + line)) past
-      (touches.others (shape.base + line)) (touches.sticks (shape.base + line))
-      (λ is. subst (λ k. k ≤ (old.line (shape.base + line)).pulses + 1) (sym (touches.pulses (shape.base + line) is)) (counted-few (old.line (shape.base + line)).pulses))
-      (λ busy here live. fine busy (subst (λ at. (c : ℕ) → (old.line at).stuck c ≡ false) (sym (eqb-true (target_after shape (core xs)) (shape.base + line) here)) live))
-      (was.age line below) x.happens comes
+  age-next : (line : ℕ) → line < slots_of shape + shape.spares
+      → IsAged old.bounds (works_on shape (shape.base + line) (core (x ∷ xs))) (held_on shape (shape.base + line) (core (x ∷ xs))) (new.line (shape.base + line))
+  age-next line below = by x.happens comes strikes
+    where
+      low : shape.base + line < controls_from shape
+      low = omega (arith, below)
+
+      by : (h : Happens n) → MayCome shape pace e xs x h → IsStruckBy shape (core xs) h x.pulsed old new
+          → IsAged old.bounds (works_on shape (shape.base + line) (core_of h (core xs))) (held_on shape (shape.base + line) (core_of h (core xs))) (new.line (shape.base + line))
+      by h may strikes =
+          ages-next shape pace e (shape.base + line) low xs x old.bounds (old.line (shape.base + line)) (new.line (shape.base + line)) past
+          (touches.others (shape.base + line)) (touches.sticks (shape.base + line))
+          (record { age = was.age line below; missed = was.missed line below }) h may (struck h strikes)
+        where
+          struck : (h : Happens n) → IsStruckBy shape (core xs) h x.pulsed old new
+              → IsStruck shape pace e (shape.base + line) low xs x old.bounds (old.line (shape.base + line)) (new.line (shape.base + line)) past
+              (touches.others (shape.base + line)) (touches.sticks (shape.base + line)) (record { age = was.age line below; missed = was.missed line below }) h
+          struck (Core event) strikes = strikes line below
+          struck (Regs event) strikes = tt
 
   pub aged-next : AreAged shape (core (x ∷ xs)) new
   aged-next = record {
     endure = λ line below. subst (λ (bounds : CellBounds). Endures bounds (new.line (shape.base + line))) (sym touches.bounds) (endure-next line below);
     age = λ line below.
-        subst (λ (bounds : CellBounds). Ages bounds (most_aged bounds shape (shape.base + line) (core (x ∷ xs))) (new.line (shape.base + line))) (sym touches.bounds)
-        (age-next line below);
+        subst (λ (bounds : CellBounds). Ages bounds (most_aged shape (shape.base + line) (core (x ∷ xs))) (new.line (shape.base + line))) (sym touches.bounds)
+        (age-next line below).age;
+    missed = λ line below. (age-next line below).missed;
   }
-
--- a line write in progress on a line with no cell stuck has had few iterations
-pub written-soon : {n m e : ℕ} (h : List (Event n)) (bank : BankState n m e) (array : ArrayState n m) → Holds h bank array → in_progress h ≡ true
-    → ((c : ℕ) → (array.line (target_after bank.kept.shape h)).stuck c ≡ false) → iterated h ≤ array.bounds.misses
-written-soon {n} {m} {e} h bank array holds busy live = by bank.running refl
-  where
-    by : (r : Option (Operation n m e)) → bank.running ≡ r → iterated h ≤ array.bounds.misses
-    by None is = let idle : in_progress h ≡ false = sym holds.running ∙ ap (λ (r : Option (Operation n m e)). is_some r) is in absurd (cc (idle, busy))
-    by (Some op) is =
-        let run = running_of h bank array op holds is in
-        let target : op.target ≡ target_after bank.kept.shape h = run.target ∙ ap (λ work. target_of bank.kept work) run.next ∙ (agree_law n m e h bank array holds).target in
-        fine_write_law n m e h bank array op holds is (subst (λ (at : ℕ). (c : ℕ) → (array.line at).stuck c ≡ false) (sym target) live)
 
 -- over another array in which each line of the bank is the same, and cells keep to the same bounds
 pub aged-same : {n m : ℕ} (shape : BankShape) (h : List (Event n)) (old new : ArrayState n m) → new.bounds ≡ old.bounds
@@ -235,8 +278,11 @@ aged-same {n} {m} shape h old new bounds same was = record {
       subst (λ (bounds : CellBounds). Endures bounds (new.line (shape.base + line))) (sym bounds)
       (subst (λ (l : LineState n m). Endures old.bounds l) (sym (same line below)) (was.endure line below));
   age = λ line below.
-      subst (λ (bounds : CellBounds). Ages bounds (most_aged bounds shape (shape.base + line) h) (new.line (shape.base + line))) (sym bounds)
-      (subst (λ (l : LineState n m). Ages old.bounds (most_aged old.bounds shape (shape.base + line) h) l) (sym (same line (omega (arith, below)))) (was.age line below));
+      subst (λ (bounds : CellBounds). Ages bounds (most_aged shape (shape.base + line) h) (new.line (shape.base + line))) (sym bounds)
+      (subst (λ (l : LineState n m). Ages old.bounds (most_aged shape (shape.base + line) h) l) (sym (same line (omega (arith, below)))) (was.age line below));
+  missed = λ line below.
+      subst (λ (l : LineState n m). MissesUnspent (held_on shape (shape.base + line) h) (works_on shape (shape.base + line) h) l)
+      (sym (same line (omega (arith, below)))) (was.missed line below);
 }
 
 -- lines that were never pulsed
@@ -245,5 +291,6 @@ aged-first shape array blank = record {
   endure = λ line below c is. absurd (cc (is, (blank line below).stuck c));
   age = λ line below.
       let fresh = blank line (omega (arith, below)) in
-      record { live = λ none. omega (arith, fresh.pulses); stuck = λ c is. absurd (cc (is, fresh.stuck c)) };
+      record { live = λ none c. omega (arith, fresh.spent c); stuck = λ c is. absurd (cc (is, fresh.stuck c)) };
+  missed = λ line below none c often. let fresh = blank line (omega (arith, below)) in omega (arith, fresh.spent c);
 }

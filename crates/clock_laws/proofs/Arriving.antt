@@ -260,6 +260,7 @@ write_law n m e row line place bytes given answer xs clock bank array leads belo
       pulses = refl;
       right = tt;
       touches = untouched clock.tick array;
+      struck = λ line below is live. cc;
     })
     (record {
       holds = holds;
@@ -290,6 +291,7 @@ read_law n m e row line answer xs clock bank array leads going answered below ke
       pulses = refl;
       right = tt;
       touches = untouched clock.tick array;
+      struck = λ line below is live. cc;
     })
     (record {
       holds = holds;

@@ -119,7 +119,7 @@ module _ {n m : ℕ} (shape : BankShape) (xs : List (TimedEvent n m)) where
   ends-arrived (Cut tearing) doing first tick senses pulsed arrivals is before = absurd is
 
 pub completion_law : CompletionLaw
-completion_law n m e event action xs clock bank regs old new leads next is later alone holds shape taken touches right copies told control =
+completion_law n m e event action xs clock bank regs old new leads next is later alone holds shape taken touches struck right copies told control =
     let tick : ℕ = ends clock.pace action in
     let sensed : List ℕ = sensed_by clock.bank.kept.shape (core xs) [] event in
     let pulsed : Option ℕ = pulsed_by clock.bank.kept.shape (core xs) None event in
@@ -133,6 +133,7 @@ completion_law n m e event action xs clock bank regs old new leads next is later
       pulses = ends-pulses clock.bank.kept.shape (core xs) _ event action.doing is;
       right = right;
       touches = touches;
+      struck = struck;
     })
     (record {
       holds = holds;

@@ -75,7 +75,7 @@ told-cut {n} shape xs x regs h is change keeping halted told = record {
 }
 
 pub power_cut_law : PowerCutLaw
-power_cut_law n m e xs clock bank old new leads fit holds shape stopped taken control touches =
+power_cut_law n m e xs clock bank old new leads fit holds shape stopped taken control touches struck =
     let kind : BankShape = clock.bank.kept.shape in
     let event : Event n = Cut (tears_now clock) in
     let x : TimedEvent n m = cut xs clock new in
@@ -100,6 +100,7 @@ power_cut_law n m e xs clock bank old new leads fit holds shape stopped taken co
           ∙ ap (λ action. pulsed_by kind (core xs) (torn_control kind (change_after kind xs) action) event) leads.told.runs;
       right = tt;
       touches = touches;
+      struck = struck;
     })
     (record {
       holds = holds;
@@ -117,7 +118,7 @@ power_cut_law n m e xs clock bank old new leads fit holds shape stopped taken co
 -- Cancels
 
 pub cancel_law : CancelLaw
-cancel_law n m e line xs clock bank old new leads would none holds shape stopped taken control touches =
+cancel_law n m e line xs clock bank old new leads would none holds shape stopped taken control touches struck =
     let kind : BankShape = clock.bank.kept.shape in
     let tearing : Bool = is_doing Iterating clock.action in
     let event : Event n = Cut tearing in
@@ -139,6 +140,7 @@ cancel_law n m e line xs clock bank old new leads would none holds shape stopped
       pulses = ap (λ torn. pulsed_by kind (core xs) torn event) (sym torn);
       right = tt;
       touches = touches;
+      struck = struck;
     })
     (record {
       holds = holds;
@@ -217,6 +219,7 @@ cancelled_read_law n m e row line y xs clock bank array r none at below keeps ho
       pulses = refl;
       right = tt;
       touches = untouched clock.tick array;
+      struck = λ line below is live. cc;
     })
     (record {
       holds = holds;

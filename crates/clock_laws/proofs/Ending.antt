@@ -25,7 +25,7 @@ use Rattle.bank_model.specs.After.{work_after, sources_of, stands_at_after, targ
 use Rattle.bank_model.specs.Answers.{IsDone, IsIterated, MayAll, MayHappen}
 use Rattle.bank_model.specs.Timing.{Core, TimedEvent, core, ends}
 use Rattle.bank_model.specs.Sensing.{is_at, most_steps, stand_of, sensed_by, pulsed_by, IsReadRight, IsLaid, copied, begun_with}
-use Rattle.bank_model.specs.Touching.{Touches, shown}
+use Rattle.bank_model.specs.Touching.{AreStruck, Touches, shown}
 use Rattle.bank_laws.specs.Pairs.{ArePaired}
 use Rattle.bank_laws.proofs.Pairs.{pair_law}
 use Rattle.reg_lines.specs.Regs.{RegsState}
@@ -119,12 +119,14 @@ module _ {n m e : ℕ} (xs : List (TimedEvent n m)) (clock : ClockState n m e) (
       let touches : Touches (ends clock.pace action) (sensed_by clock.bank.kept.shape (core xs) [] event) (pulsed_by clock.bank.kept.shape (core xs) None event) false old new =
       subst (λ (sensed : List ℕ). Touches (ends clock.pace action) sensed (pulsed_by clock.bank.kept.shape (core xs) None event) false old new) senses
       (subst (λ (pulsed : Option ℕ). Touches (ends clock.pace action) sensed pulsed false old new) pulses end.touches) in
+      let struck : AreStruck clock.bank.kept.shape (core xs) event (pulsed_by clock.bank.kept.shape (core xs) None event) old new =
+      subst (λ (pulsed : Option ℕ). AreStruck clock.bank.kept.shape (core xs) event pulsed old new) pulses end.struck in
       let told : AreTold clock.bank.kept.shape (x ∷ xs) regs =
       subst (λ (regs : RegsState n m e). AreTold clock.bank.kept.shape (x ∷ xs) regs) (sym end.put)
       (put_law n m e event action.doing x xs clock bank.kept old leads may-end end.doing end.alone refl) in
       record {
         leads =
-            completion_law n m e event action xs clock bank regs old new leads end.next end.doing end.later end.alone end.holds end.shape end.taken touches
+            completion_law n m e event action xs clock bank regs old new leads end.next end.doing end.later end.alone end.holds end.shape end.taken touches struck
             (subst (λ (sensed : List ℕ). IsReadRight e clock.bank.kept.shape xs event (shown (ends clock.pace action) sensed new)) senses right) copies told end.control;
         adds =
             one_added_law n m clock.bank.kept.shape x (sensed_by clock.bank.kept.shape (core xs) [] event) false old new refl

@@ -16,7 +16,7 @@ use Rattle.bank_model.specs.Running.{left_by, running_at, running, chosen_after,
 use Rattle.bank_model.specs.Lawful.{IsAsked, IsOnTime, IsKeptOnTime, IsUncancelled, MayKeep, MayCome, Lawful, FollowsCancel}
 use Rattle.bank_model.specs.Sensing.{most_steps, pulses_of, sensed_by, pulsed_by, read_again, torn_control, kept_sensed, kept_pulsed, IsReadRight}
 use Rattle.bank_model.specs.Told.{IsWhole, tick_of_row}
-use Rattle.bank_model.specs.Touching.{Touches, shown}
+use Rattle.bank_model.specs.Touching.{Touches, AreStruck, shown}
 use Rattle.reg_lines.specs.declared.Change.{Change}
 use Rattle.reg_lines.specs.Regs.{RegsState}
 use Rattle.register_laws.specs.Control.{Control}
@@ -25,7 +25,7 @@ use Rattle.bank_invariant.specs.State.{BankState}
 use Rattle.bank_invariant.specs.Holds.{Holds}
 use Rattle.clock_laws.specs.State.{ClockState}
 use Rattle.clock_laws.specs.Leads.{Leads, Reaches, CopiesWhatItSensed}
-use Rattle.clock_laws.proofs.Aging.{aged-next, written-soon}
+use Rattle.clock_laws.proofs.Aging.{IsStruckBy, aged-next}
 use Rattle.clock_laws.proofs.Ties.{started-same}
 use Rattle.clock_laws.proofs.Controls.{change-known}
 use Rattle.clock_laws.proofs.Ranges.{AreIn, ArePulses, controls-in, sensed-in, kept-sensed-in, change-in, pulses-at, pulses-next, shown-all, shown-lines}
@@ -87,6 +87,7 @@ module _ {n m e : ℕ} where
         (torn_control clock.bank.kept.shape (change_after clock.bank.kept.shape xs) (running_at clock.bank.kept.shape clock.pace xs tick)) event
     pub right : IsReadRight e clock.bank.kept.shape xs event (shown tick sensed new)
     pub touches : Touches tick sensed pulsed tearing old new
+    pub struck : AreStruck clock.bank.kept.shape (core xs) event pulsed old new
 
   -- of an event of the change that stands
   pub record StepsKept (xs : List (TimedEvent n m)) (clock : ClockState n m e) (event : Keeping) (first tick : ℕ) (flag tearing : Bool) (sensed : List ℕ) (pulsed : Option ℕ)
@@ -149,10 +150,10 @@ module _ {n m e : ℕ} where
 
     -- the lines of the bank age on
     pub still-aged : (x : TimedEvent n m) (sensed : List ℕ) (tearing : Bool) → MayCome clock.bank.kept.shape clock.pace e xs x x.happens
-        → Touches x.tick sensed x.pulsed tearing old new → AreAged clock.bank.kept.shape (core (x ∷ xs)) new
-    still-aged x sensed tearing comes touches =
-        aged-next clock.bank.kept.shape clock.pace e xs x sensed tearing old new reached.holds.past reached.pulses touches comes
-        (written-soon (core xs) clock.bank old reached.holds) reached.aged
+        → Touches x.tick sensed x.pulsed tearing old new → IsStruckBy clock.bank.kept.shape (core xs) x.happens x.pulsed old new
+        → AreAged clock.bank.kept.shape (core (x ∷ xs)) new
+    still-aged x sensed tearing comes touches struck =
+        aged-next clock.bank.kept.shape clock.pace e xs x sensed tearing old new reached.holds.past reached.pulses touches comes struck reached.aged
 
   module _ (xs : List (TimedEvent n m)) (clock : ClockState n m e) (bank : BankState n m e) (regs : RegsState n m e) (x : TimedEvent n m) (action : Option Action) (arrivals : List ℕ) (count : ℕ)
       (old new : ArrayState n m) (reached : Reaches xs clock old) (comes : MayCome clock.bank.kept.shape clock.pace e xs x x.happens) (pulses : ArePulses clock.bank.kept.shape (x ∷ xs) new)
@@ -242,7 +243,7 @@ module _ {n m e : ℕ} where
       (bank-comes xs clock old new reached bank event first tick flag tearing sensed pulsed s.holds s.shape b)
       (pulses-next clock.bank.kept.shape xs (stepped_as flag (Core event) first tick sensed pulsed new) sensed tearing old new reached.pulses b.touches)
       (still-aged xs clock old new reached (stepped_as flag (Core event) first tick sensed pulsed new) sensed tearing
-      (bank-comes xs clock old new reached bank event first tick flag tearing sensed pulsed s.holds s.shape b) b.touches) s
+      (bank-comes xs clock old new reached bank event first tick flag tearing sensed pulsed s.holds s.shape b) b.touches b.struck) s
 
   pub bank-leads : (xs : List (TimedEvent n m)) (clock : ClockState n m e) (bank : BankState n m e) (regs : RegsState n m e) (event : Event n) (first tick : ℕ) (action : Option Action)
       (arrivals : List ℕ) (count : ℕ) (tearing : Bool) (sensed : List ℕ) (pulsed : Option ℕ) (old new : ArrayState n m) → Reaches xs clock old
@@ -264,4 +265,4 @@ module _ {n m e : ℕ} where
       (kept-comes xs clock old new reached event first tick flag tearing sensed pulsed k)
       (pulses-next clock.bank.kept.shape xs (stepped_as flag (Regs event) first tick sensed pulsed new) sensed tearing old new reached.pulses k.touches)
       (still-aged xs clock old new reached (stepped_as flag (Regs event) first tick sensed pulsed new) sensed tearing
-      (kept-comes xs clock old new reached event first tick flag tearing sensed pulsed k) k.touches) s
+      (kept-comes xs clock old new reached event first tick flag tearing sensed pulsed k) k.touches tt) s

@@ -13,7 +13,7 @@ use Rattle.bank_model.specs.Changes.{line_of_change, all_controls}
 use Rattle.bank_model.specs.Timing.{KeepCut, TimedEvent, core, same_doing, is_doing}
 use Rattle.bank_model.specs.Running.{busy_by, tears_bank}
 use Rattle.bank_model.specs.Sensing.{most_steps, pulsed_by, torn_control, kept_pulsed}
-use Rattle.bank_model.specs.Touching.{Touches}
+use Rattle.bank_model.specs.Touching.{Touches, AreStruck}
 use Rattle.reg_lines.specs.declared.Change.{Change}
 use Rattle.reg_lines.specs.Regs.{RegsState}
 use Rattle.register_laws.specs.Telling.{item_of}
@@ -94,7 +94,7 @@ torn_some true regs None None some = absurd (by (some refl))
 torn_some false regs change r some = refl
 
 pub cut_ends_law : CutEndsLaw
-cut_ends_law n m e tearing xs clock bank old new leads fit tears holds shape stopped taken control touches =
+cut_ends_law n m e tearing xs clock bank old new leads fit tears holds shape stopped taken control touches struck =
     let event : Event n = Cut (tears_now clock) in
     let past : MayAll clock.bank.kept.shape (most_steps e) (event ∷ core xs) = subst (λ (shape : BankShape). MayAll shape (most_steps e) (event ∷ core xs)) shape holds.past in
     let pulsed : torn_line tearing clock.regs clock.regs.change clock.bank.running ≡ torn_now xs clock =
@@ -103,7 +103,8 @@ cut_ends_law n m e tearing xs clock bank old new leads fit tears holds shape sto
     subst (λ (pulsed : Option ℕ). Touches clock.tick (all_controls clock.bank.kept.shape) pulsed tearing old new) pulsed touches in
     record {
       leads = power_cut_law n m e xs clock bank old new leads fit holds shape stopped taken control
-          (subst (λ (tearing : Bool). Touches clock.tick (all_controls clock.bank.kept.shape) (torn_now xs clock) tearing old new) tears touched);
+          (subst (λ (tearing : Bool). Touches clock.tick (all_controls clock.bank.kept.shape) (torn_now xs clock) tearing old new) tears touched)
+          (subst (λ (pulsed : Option ℕ). AreStruck clock.bank.kept.shape (core xs) event pulsed old new) pulsed struck);
       adds =
           one_added_law n m clock.bank.kept.shape (cut xs clock new) (all_controls clock.bank.kept.shape) tearing old new refl
           (pulsed-in (core xs) clock.bank old leads.holds (torn_control clock.bank.kept.shape (item_of clock.regs.change) clock.action) event
@@ -112,7 +113,7 @@ cut_ends_law n m e tearing xs clock bank old new leads fit tears holds shape sto
     }
 
 pub cancel_ends_law : CancelEndsLaw
-cancel_ends_law n m e line tearing xs clock bank old new leads would none tears holds shape stopped taken control touches =
+cancel_ends_law n m e line tearing xs clock bank old new leads would none tears holds shape stopped taken control touches struck =
     let event : Event n = Cut tearing in
     let past : MayAll clock.bank.kept.shape (most_steps e) (event ∷ core xs) = subst (λ (shape : BankShape). MayAll shape (most_steps e) (event ∷ core xs)) shape holds.past in
     let own : Option ℕ = pulsed_by clock.bank.kept.shape (core xs) None event in
@@ -123,7 +124,9 @@ cancel_ends_law n m e line tearing xs clock bank old new leads would none tears 
     record {
       reaches =
           cancel_law n m e line xs clock bank old new leads would none (subst (λ (tearing : Bool). Holds (Cut tearing ∷ core xs) bank new) tears holds) shape stopped taken control
-          (subst (λ (b : Bool). Touches clock.tick [] (pulsed_by clock.bank.kept.shape (core xs) None (Cut b)) b old new) tears touched);
+          (subst (λ (b : Bool). Touches clock.tick [] (pulsed_by clock.bank.kept.shape (core xs) None (Cut b)) b old new) tears touched)
+          (subst (λ (b : Bool). AreStruck clock.bank.kept.shape (core xs) (Cut b) (pulsed_by clock.bank.kept.shape (core xs) None (Cut b)) old new) tears
+          (subst (λ (pulsed : Option ℕ). AreStruck clock.bank.kept.shape (core xs) event pulsed old new) pulsed struck));
       adds =
           one_added_law n m clock.bank.kept.shape (cancel xs clock) [] now old new refl
           (pulsed-in (core xs) clock.bank old leads.holds None (Cut now) tt)

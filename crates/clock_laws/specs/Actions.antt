@@ -18,7 +18,7 @@ use Rattle.bank_shape.specs.declared.clock.Action.{Action}
 use Rattle.bank_model.specs.Events.{Event, Serve, Begin, Iterate, Cut}
 use Rattle.bank_model.specs.Changes.{all_controls}
 use Rattle.bank_model.specs.Timing.{TimedEvent, KeepBegin, KeepIterate, core, ends, is_doing}
-use Rattle.bank_model.specs.Touching.{Touches}
+use Rattle.bank_model.specs.Touching.{Touches, AreStruck}
 use Rattle.bank_model.specs.Adding.{Adds}
 use Rattle.line_writer.specs.declared.writer.LineWriter.{LineWriter}
 use Rattle.line_writer.specs.Writing.{steps_left, most_steps}
@@ -47,7 +47,7 @@ pub record LeadsOn {n m e : ℕ} (shape : BankShape) (xs : List (TimedEvent n m)
 
 module _ {n m e : ℕ} where
   -- the action that runs from now on ends by an event, which leaves this bank, these control lines and this array: it pulsed this
-  -- line, and then sensed these. The change that it brings is put, and the control lines hold what the bank now keeps
+  -- line, in cells that had missed before, and then sensed these. The change that it brings is put, and the control lines hold what the bank now keeps
   pub record IsCompletion (xs : List (TimedEvent n m)) (clock : ClockState n m e) (bank : BankState n m e) (regs : RegsState n m e) (event : Event n) (action : Action)
       (sensed : List ℕ) (pulsed : Option ℕ) (old new : ArrayState n m) : Type 0 where
     pub next : next_action clock ≡ Some action
@@ -58,6 +58,7 @@ module _ {n m e : ℕ} where
     pub shape : bank.kept.shape ≡ clock.bank.kept.shape
     pub taken : bank.lost ≡ []
     pub touches : Touches (ends clock.pace action) sensed pulsed false old new
+    pub struck : AreStruck clock.bank.kept.shape (core xs) event pulsed old new
     pub put : regs ≡ put_if (item_with clock.bank.kept event) bank.kept clock.regs
     pub control : Control bank.kept regs new
 
@@ -192,6 +193,7 @@ CutEndsLaw =
     → Holds (Cut (tears_now clock) ∷ core xs) bank new → bank.kept.shape ≡ clock.bank.kept.shape → bank.running ≡ None → bank.lost ≡ []
     → Control bank.kept (broken_off clock.regs) new
     → Touches clock.tick (all_controls clock.bank.kept.shape) (torn_line tearing clock.regs clock.regs.change clock.bank.running) tearing old new
+    → AreStruck clock.bank.kept.shape (core xs) (Cut (tears_now clock)) (torn_line tearing clock.regs clock.regs.change clock.bank.running) old new
     → LeadsOn clock.bank.kept.shape xs (cut xs clock new) (after_cut clock bank) old new
 
 -- a history reaches this clock and this array by a cancel, which adds what it touched
@@ -207,6 +209,7 @@ CancelEndsLaw =
     → Holds (Cut tearing ∷ core xs) bank new → bank.kept.shape ≡ clock.bank.kept.shape → bank.running ≡ None → bank.lost ≡ []
     → Control bank.kept clock.regs new
     → Touches clock.tick [] (torn_line tearing clock.regs clock.regs.change clock.bank.running) tearing old new
+    → AreStruck clock.bank.kept.shape (core xs) (Cut tearing) (torn_line tearing clock.regs clock.regs.change clock.bank.running) old new
     → ReachesBy clock.bank.kept.shape xs (cancel xs clock) (after_cancel clock bank clock.regs) old new
 
 -- a cancel of the writing of the change that stands

@@ -13,7 +13,7 @@ use Rattle.bank_model.specs.Running.{cancels_by, cancels_with}
 use Rattle.bank_model.specs.Timing.{TimedEvent, Happens, Core, Regs, Keeping, KeepBegin, KeepIterate, KeepCut, core, ends}
 use Rattle.bank_model.specs.Lawful.{MayKeep}
 use Rattle.bank_model.specs.Sensing.{most_steps, sensed_by, pulsed_by, kept_sensed, kept_pulsed, IsReadRight}
-use Rattle.bank_model.specs.Touching.{Touches, shown}
+use Rattle.bank_model.specs.Touching.{Touches, AreStruck, shown}
 use Rattle.reg_lines.specs.declared.Change.{Change}
 use Rattle.reg_lines.specs.Regs.{RegsState}
 use Rattle.register_laws.specs.Control.{Control}
@@ -85,8 +85,8 @@ module _ {n m e : ℕ} where
   after_keep clock regs action event =
       record { bank = clock.bank; regs = regs; pace = clock.pace; tick = ends clock.pace action; action = None; arrivals = clock.arrivals; cancels = cancels_with {n = n} (Regs event) false clock.cancels; drained = clock.drained }
 
--- the action that runs from now on ends by its event, which extends the history; that it ends later, that what it sensed is read
--- right, that a gap move in progress writes what its begin sensed, and that the control lines are told by the history and hold what the
+-- the action that runs from now on ends by its event, which extends the history; that it ends later, that it strikes cells that missed
+-- before, that what it sensed is read right, that a gap move in progress writes what its begin sensed, and that the control lines are told by the history and hold what the
 -- bank keeps, are premises
 abbrev pub CompletionLaw : Type 0
 CompletionLaw =
@@ -96,6 +96,7 @@ CompletionLaw =
     → Holds (event ∷ core xs) bank new → bank.kept.shape ≡ clock.bank.kept.shape → bank.lost ≡ []
     → let tick = ends clock.pace action in
     Touches tick (sensed_by clock.bank.kept.shape (core xs) [] event) (pulsed_by clock.bank.kept.shape (core xs) None event) false old new
+    → AreStruck clock.bank.kept.shape (core xs) event (pulsed_by clock.bank.kept.shape (core xs) None event) old new
     → IsReadRight e clock.bank.kept.shape xs event (shown tick (sensed_by clock.bank.kept.shape (core xs) [] event) new)
     → IfSome bank.running (CopiesWhatItSensed (completed xs clock action event new ∷ xs))
     → AreTold clock.bank.kept.shape (completed xs clock action event new ∷ xs) regs → Control bank.kept regs new

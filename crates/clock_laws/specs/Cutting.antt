@@ -8,7 +8,7 @@ use Rattle.bank_model.specs.Changes.{all_controls}
 use Rattle.bank_model.specs.Running.{tears_bank}
 use Rattle.bank_model.specs.Timing.{TimedEvent, Core, Regs, KeepCut, core, is_doing}
 use Rattle.bank_model.specs.Sensing.{pulsed_by, torn_control, kept_pulsed}
-use Rattle.bank_model.specs.Touching.{Touches, shown}
+use Rattle.bank_model.specs.Touching.{Touches, AreStruck, shown}
 use Rattle.reg_lines.specs.Regs.{RegsState}
 use Rattle.reg_lines.specs.Keeping.{broken_off}
 use Rattle.register_laws.specs.Control.{Control}
@@ -48,6 +48,7 @@ PowerCutLaw =
     → Holds (Cut (tears_now clock) ∷ core xs) bank new → bank.kept.shape ≡ clock.bank.kept.shape → bank.running ≡ None → bank.lost ≡ []
     → Control bank.kept (broken_off clock.regs) new
     → Touches clock.tick (all_controls clock.bank.kept.shape) (torn_now xs clock) (is_doing Iterating clock.action) old new
+    → AreStruck clock.bank.kept.shape (core xs) (Cut (tears_now clock)) (torn_now xs clock) old new
     → Leads (cut xs clock new ∷ xs) (after_cut clock bank) new
 
 module _ {n m e : ℕ} where
@@ -74,6 +75,8 @@ CancelLaw =
     → Holds (Cut (is_doing Iterating clock.action) ∷ core xs) bank new → bank.kept.shape ≡ clock.bank.kept.shape → bank.running ≡ None → bank.lost ≡ []
     → Control bank.kept clock.regs new
     → Touches clock.tick [] (pulsed_by clock.bank.kept.shape (core xs) None (Cut (is_doing Iterating clock.action))) (is_doing Iterating clock.action) old new
+    → AreStruck clock.bank.kept.shape (core xs) (Cut (is_doing Iterating clock.action))
+    (pulsed_by clock.bank.kept.shape (core xs) None (Cut (is_doing Iterating clock.action))) old new
     → Reaches (cancel xs clock ∷ xs) (after_cancel clock bank clock.regs) new
 
 -- while a change stands it is one of the change's writing, and leaves the bank as it was

@@ -81,7 +81,7 @@ missed-torn : {B M : ℕ} (bounds : CellBounds) (mask : Cells B M) (old new : Li
     → ((n : ℕ) → old.stuck n ≡ false → old.misses n ≤ bounds.misses) → (n : ℕ) → new.stuck n ≡ false → new.misses n ≤ bounds.misses
 missed-torn bounds mask old new step own n live = by (cell mask n) refl
   where
-    torn : CellTorn bounds new n → new.misses n ≤ bounds.misses
+    torn : CellTorn bounds old new n → new.misses n ≤ bounds.misses
     torn (inl cell) = cell.1
     torn (inr stuck) = absurd (both_ways _ live stuck.0)
 

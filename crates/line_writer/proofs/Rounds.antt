@@ -23,9 +23,9 @@ use Rattle.line_writer.proofs.Keeping.{clearing-within, clearing-apart, clearing
 
 -- ---- pulses and tears
 
-live-torn : {B M : ℕ} (bounds : CellBounds) (want : Cells B M) (old new : LineState B M) (n : ℕ) → CellPulsed bounds want old new n → CellTorn bounds new n
-live-torn bounds want old new n (inl (alive, value, misses)) = inl (alive, omega arith)
-live-torn bounds want old new n (inr (inl (alive, value, misses, few))) = inl (alive, few)
+live-torn : {B M : ℕ} (bounds : CellBounds) (want : Cells B M) (old new : LineState B M) (n : ℕ) → CellPulsed bounds want old new n → CellTorn bounds old new n
+live-torn bounds want old new n (inl (alive, value, misses, spent)) = inl (alive, omega (arith, misses), spent)
+live-torn bounds want old new n (inr (inl (alive, value, misses, few, spent))) = inl (alive, few, omega (arith, spent))
 live-torn bounds want old new n (inr (inr stuck)) = inr stuck
 
 -- a pulse does nothing that a tear may not do

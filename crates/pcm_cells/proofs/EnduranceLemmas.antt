@@ -7,8 +7,7 @@ use Rattle.pcm_cells.specs.declared.row.Cells.{Cells}
 use Rattle.pcm_cells.specs.declared.seeded.SeededCell.{SeededCell}
 use Rattle.pcm_cells.specs.Rows.{cell}
 use Rattle.pcm_cells.specs.Device.{CellBounds, counted}
-use Rattle.pcm_cells.specs.Planes.{plane_state}
-use Rattle.pcm_cells.specs.Seeded.{LifeLine, SeededArray, IsDrawn, Wears, bounds_of, changed, lifeless, pulsed, seeded, seeded_cell, seeded_line, seeded_state}
+use Rattle.pcm_cells.specs.Seeded.{LifeLine, SeededArray, IsDrawn, Wears, bounds_of, changed, life_state, lifeless, pulsed, seeded, seeded_cell, seeded_line, seeded_state}
 use Rattle.pcm_cells.specs.Endurance.{EnduresAtLeast, IsBounded, AreBounded}
 use Rattle.pcm_cells.proofs.RowLemmas.{cell_past}
 use Rattle.pcm_cells.proofs.LineLemmas.{KeepsTo}
@@ -116,7 +115,7 @@ pub bounded_endures : {B M : ℕ} (bounds : CellBounds) (array : SeededArray B M
 unfolding AreBounded
 bounded_endures bounds array s line n exists within stuck = (s line n exists within).stuck stuck
 
-masked_within : {B M : ℕ} (mask : Cells B M) (n : ℕ) → length mask.bits ≡ B → length mask.meta ≡ M → cell mask n ≡ true → n < 8 * (B + M)
+pub masked_within : {B M : ℕ} (mask : Cells B M) (n : ℕ) → length mask.bits ≡ B → length mask.meta ≡ M → cell mask n ≡ true → n < 8 * (B + M)
 masked_within {B} {M} mask n bits meta masked =
     elim (cases_lt n (8 * (B + M))) as (λ _. n < 8 * (B + M)) [
       | inl low ↦ low
@@ -125,7 +124,7 @@ masked_within {B} {M} mask n bits meta masked =
 
 -- each cell in the mask of a pulse or tear keeps to them
 pub bounded_keeps : {B M : ℕ} (bounds : CellBounds) (array : SeededArray B M) (line : ℕ) (mask : Cells B M) → length mask.bits ≡ B → length mask.meta ≡ M
-    → line < length array.lines → AreBounded bounds array.lines → (n : ℕ) → cell mask n ≡ true → KeepsTo bounds (plane_state (seeded_line array line).line) n
+    → line < length array.lines → AreBounded bounds array.lines → (n : ℕ) → cell mask n ≡ true → KeepsTo bounds (life_state bounds (seeded_line array line)) n
 unfolding AreBounded
 bounded_keeps bounds array line mask bits meta exists s n masked =
     let own = s line n exists (masked_within mask n bits meta masked) in

@@ -11,18 +11,23 @@ use Rattle.pcm_cells.specs.Device.{DeviceStep, TornStep, counted}
 use Rattle.pcm_cells.specs.Cell.{line_state, cell_state}
 use Rattle.pcm_cells.specs.Follows.{Follows}
 use Rattle.pcm_cells.specs.Scripted.{scripted_bounds, act_at, acted, next_turn, ScriptedCell, ScriptedLine, scripted, scripted_cell}
-use Rattle.pcm_cells.proofs.LineLemmas.{IsPulsed, device_step, torn_step}
+use Rattle.pcm_cells.proofs.LineLemmas.{IsPulsed, IsTorn, device_step, torn_step}
 
 missed_pulsed : (few want : Bool) (old new : CellState) → old.stuck ≡ false
-    → new ≡ cond few (record old { misses = old.misses + 1 }) (record { value = want; stuck = false; misses = 0 }) → IsPulsed want old new
-missed_pulsed true want old new live is = inr (inl (ap (λ c. c.stuck) is ∙ live, ap (λ c. c.value) is, ap (λ c. c.misses) is))
-missed_pulsed false want old new live is = inl (ap (λ c. c.stuck) is, ap (λ c. c.value) is, ap (λ c. c.misses) is)
+    → new ≡ cond few (record old { misses = old.misses + 1 }) (record { value = want; stuck = false; misses = 0 }) → IsPulsed want 0 old new 0 0
+missed_pulsed true want old new live is = inr (inl (ap (λ c. c.stuck) is ∙ live, ap (λ c. c.value) is, ap (λ c. c.misses) is, omega arith))
+missed_pulsed false want old new live is = inl (ap (λ c. c.stuck) is, ap (λ c. c.value) is, ap (λ c. c.misses) is, omega arith)
 
 -- a live cell in a pulse
-acted_pulsed : (act : Option Act) (want : Bool) (old new : CellState) → old.stuck ≡ false → new ≡ acted false act want old → IsPulsed want old new
-acted_pulsed None want old new live is = inl (ap (λ c. c.stuck) is, ap (λ c. c.value) is, ap (λ c. c.misses) is)
+acted_pulsed : (act : Option Act) (want : Bool) (old new : CellState) → old.stuck ≡ false → new ≡ acted false act want old → IsPulsed want 0 old new 0 0
+acted_pulsed None want old new live is = inl (ap (λ c. c.stuck) is, ap (λ c. c.value) is, ap (λ c. c.misses) is, omega arith)
 acted_pulsed (Some Miss) want old new live is = missed_pulsed (nat_lt old.misses 7) want old new live is
-acted_pulsed (Some (Stick value)) want old new live is = inr (inr (ap (λ c. c.stuck) is))
+acted_pulsed (Some (Stick value)) want old new live is = inr (inr (ap (λ c. c.stuck) is, omega arith))
+
+-- a cell in a tear
+any_torn : (stuck : Bool) (new : CellState) → new.stuck ≡ stuck → IsTorn 0 new 0 0
+any_torn true new is = inr (is, omega arith)
+any_torn false new is = inl (is, omega arith)
 
 -- an unmasked cell stays
 unmasked_stays : {B M : ℕ} (mask want : Cells B M) (script : List Script) (line : ℕ) (tearing : Bool) (old new : ScriptedLine B M)
@@ -51,7 +56,7 @@ pub scripted_device_step : {B M : ℕ} (mask want : Cells B M) (script : List Sc
     → new.line.pulses ≡ counted old.line.pulses → DeviceStep scripted_bounds mask want (line_state old.line) (line_state new.line)
 scripted_device_step mask want script line old new follows few pulses =
     device_step scripted_bounds mask want (line_state old.line) (line_state new.line) (omega arith)
-    (unmasked_stays mask want script line false old new follows) (stuck_stays mask want script line false old new follows)
+    (unmasked_stays mask want script line false old new follows) (λ n h. refl) (stuck_stays mask want script line false old new follows)
     (λ n masked live.
     acted_pulsed (act_at script line n (next_turn (slice_index old.turns n))) (cell want n) (cell_state (line_state old.line) n) _ live
     (ap (λ c. c.state) (follows n ∙ ap (λ b. cond b (scripted script line false (cell want) n (scripted_cell old n)) (scripted_cell old n)) masked)
@@ -65,5 +70,6 @@ pub scripted_torn_step : {B M : ℕ} (mask want : Cells B M) (script : List Scri
     → new.line.pulses ≡ counted old.line.pulses → TornStep scripted_bounds mask (line_state old.line) (line_state new.line)
 scripted_torn_step mask want script line old new follows few pulses =
     torn_step scripted_bounds mask (line_state old.line) (line_state new.line) (omega arith)
-    (unmasked_stays mask want script line true old new follows) (stuck_stays mask want script line true old new follows)
+    (unmasked_stays mask want script line true old new follows) (λ n h. refl) (stuck_stays mask want script line true old new follows)
+    (λ n masked live. any_torn (cell new.line.stuck n) (cell_state (line_state new.line) n) refl)
     (λ n masked. record { misses = few n; endures = λ is. omega arith }) pulses

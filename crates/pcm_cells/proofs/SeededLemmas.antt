@@ -1,9 +1,9 @@
 -- A seeded array keeps what every array keeps.
-use Rattle.std.proofs.Common.{◌≡◌, ℕ, ◌+◌, ◌-◌, ◌%◌, ◌≤◌, ◌&&◌, ◌<◌, Bool, true, false, not, true≢false, cond, eqb, slice_index, refl, sym, subst, ◌∙◌, ap, inl, inr, arith, List, zero, suc, ◌*◌, ◌/◌, ◌≢◌, length, replicate, get_or, set, get_or-set_same, get_or-set_other}
-use Rattle.std.proofs.lemmas.Bool.{ltb-true, leb-true, lt-leb, cases_eq, cases_lt}
+use Rattle.std.proofs.Common.{◌≡◌, ℕ, ◌+◌, ◌-◌, ◌%◌, ◌≤◌, ◌&&◌, ◌<◌, Bool, true, false, not, true≢false, cond, eqb, slice_index, refl, sym, subst, ◌∙◌, ap, inl, inr, arith, List, zero, suc, ◌*◌, ◌/◌, ◌≢◌, length, replicate, get_or, set, get_or-set_same, get_or-set_other, Some}
+use Rattle.std.proofs.lemmas.Bool.{ltb-true, leb-true, lt-ltb, lt-leb, cases_eq, cases_lt}
 use Rattle.std.proofs.lemmas.List.{get_or_past}
 use Rattle.std.proofs.lemmas.List.FromFn.{get_or-map-range_with_len, length-map-range_with_len}
-use Rattle.std.specs.Prelude.{nat_lt, nat_le}
+use Rattle.std.specs.Prelude.{nat_lt, nat_le, bit_xor}
 use Rattle.pcm_cells.specs.declared.row.Cells.{Cells}
 use Rattle.pcm_cells.specs.declared.line.CellState.{CellState}
 use Rattle.pcm_cells.specs.declared.array.Wear.{Wear}
@@ -13,33 +13,51 @@ use Rattle.pcm_cells.specs.declared.counts.Counts.{Counts}
 use Rattle.pcm_cells.specs.Counts.{count}
 use Rattle.pcm_cells.specs.Rows.{cell}
 use Rattle.pcm_cells.specs.Device.{CellBounds, DeviceStep, TornStep, IsBlank, counted}
-use Rattle.pcm_cells.specs.Cell.{cell_state}
-use Rattle.pcm_cells.specs.Planes.{PlaneLine, plane_state, digit}
+use Rattle.pcm_cells.specs.Planes.{PlaneLine, plane_cell, digit}
 use Rattle.pcm_cells.specs.Follows.{Follows}
-use Rattle.pcm_cells.specs.Seeded.{LifeLine, left_of, IsDrawn, changed, pulsed, seeded, seeded_cell}
+use Rattle.pcm_cells.specs.Words.{xoshiro_of, word_at}
+use Rattle.pcm_cells.specs.Seeded.{LifeLine, left_of, life_state, bounds_of, endurance, IsDrawn, changed, pulsed, seeded, seeded_cell}
 use Rattle.pcm_cells.proofs.RowLemmas.{cell-zeros}
 use Rattle.pcm_cells.proofs.PlaneLemmas.{digit_few, digit-zeros}
-use Rattle.pcm_cells.proofs.LineLemmas.{IsPulsed, KeepsTo, device_step, torn_step}
+use Rattle.pcm_cells.proofs.LineLemmas.{IsPulsed, IsTorn, KeepsTo, device_step, torn_step}
 
 -- a change takes the wanted value or sticks
-changed_pulsed : (last want : Bool) (old : SeededCell) (new : CellState)
-    → new ≡ (cond last (record old { state = record { value = old.end; stuck = true; misses = 0 }; left = 0 }) (record old { state = record { value = want; stuck = false; misses = 0 }; left = old.left - 1 })).state
-    → IsPulsed want old.state new
-changed_pulsed true want old new is = inr (inr (ap (λ c. c.stuck) is))
-changed_pulsed false want old new is = inl (ap (λ c. c.stuck) is, ap (λ c. c.value) is, ap (λ c. c.misses) is)
+changed_pulsed : (endures : ℕ) (last want : Bool) (old new : SeededCell) → (last ≡ true → old.left ≤ 1)
+    → new ≡ cond last (record old { state = record { value = old.end; stuck = true; misses = 0 }; left = 0 }) (record old { state = record { value = want; stuck = false; misses = 0 }; left = old.left - 1 })
+    → IsPulsed want endures old.state new.state (endures - old.left) (endures - new.left)
+changed_pulsed endures true want old new few is = inr (inr (ap (λ (c : SeededCell). c.state.stuck) is, omega (arith, few refl)))
+changed_pulsed endures false want old new few is =
+    let left : new.left ≡ old.left - 1 = ap (λ (c : SeededCell). c.left) is in
+    inl (ap (λ (c : SeededCell). c.state.stuck) is, ap (λ (c : SeededCell). c.state.value) is, ap (λ (c : SeededCell). c.state.misses) is, omega (arith, left))
 
 -- a live cell misses or changes
-missed_pulsed : (few want : Bool) (old : SeededCell) (new : CellState) → old.state.stuck ≡ false
-    → new ≡ (cond few (record old { state = record old.state { misses = old.state.misses + 1 } }) (changed want old)).state
-    → IsPulsed want old.state new
-missed_pulsed true want old new live is = inr (inl (ap (λ c. c.stuck) is ∙ live, ap (λ c. c.value) is, ap (λ c. c.misses) is))
-missed_pulsed false want old new live is = changed_pulsed (nat_le old.left 1) want old new is
+missed_pulsed : (endures : ℕ) (few want : Bool) (old new : SeededCell) → old.state.stuck ≡ false
+    → new ≡ cond few (record old { state = record old.state { misses = old.state.misses + 1 } }) (changed want old)
+    → IsPulsed want endures old.state new.state (endures - old.left) (endures - new.left)
+missed_pulsed endures true want old new live is =
+    let left : new.left ≡ old.left = ap (λ (c : SeededCell). c.left) is in
+    inr (inl (ap (λ (c : SeededCell). c.state.stuck) is ∙ live, ap (λ (c : SeededCell). c.state.value) is, ap (λ (c : SeededCell). c.state.misses) is, omega (arith, left)))
+missed_pulsed endures false want old new live is = changed_pulsed endures (nat_le old.left 1) want old new (leb-true old.left 1) is
 
-live_pulsed : (stuck want : Bool) (old : SeededCell) (new : CellState) → old.state.stuck ≡ stuck → stuck ≡ false
-    → new ≡ (pulsed want old).state → IsPulsed want old.state new
-live_pulsed stuck want old new e live is =
-    missed_pulsed (nat_lt old.state.misses old.limit) want old new (e ∙ live)
-    (is ∙ ap (λ b. (cond b old (cond (nat_lt old.state.misses old.limit) (record old { state = record old.state { misses = old.state.misses + 1 } }) (changed want old))).state) (e ∙ live))
+live_pulsed : (endures : ℕ) (want : Bool) (old new : SeededCell) → old.state.stuck ≡ false → new ≡ pulsed want old
+    → IsPulsed want endures old.state new.state (endures - old.left) (endures - new.left)
+live_pulsed endures want old new live is =
+    missed_pulsed endures (nat_lt old.state.misses old.limit) want old new live
+    (is ∙ ap (λ b. cond b old (cond (nat_lt old.state.misses old.limit) (record old { state = record old.state { misses = old.state.misses + 1 } }) (changed want old))) live)
+
+torn_pulsed : (want : Bool) (endures : ℕ) (old new : CellState) (before after : ℕ) → IsPulsed want endures old new before after → IsTorn endures new before after
+torn_pulsed want endures old new before after (inl (live, value, misses, spent)) = inl (live, spent)
+torn_pulsed want endures old new before after (inr (inl (live, value, misses, spent))) = inl (live, omega (arith, spent))
+torn_pulsed want endures old new before after (inr (inr stuck)) = inr stuck
+
+-- a tear reaches a live cell or not
+live_torn : (endures : ℕ) (missed want : Bool) (old new : SeededCell) → old.state.stuck ≡ false → new ≡ cond missed old (pulsed want old)
+    → IsTorn endures new.state (endures - old.left) (endures - new.left)
+live_torn endures true want old new live is =
+    let left : new.left ≡ old.left = ap (λ (c : SeededCell). c.left) is in
+    inl (ap (λ (c : SeededCell). c.state.stuck) is ∙ live, omega (arith, left))
+live_torn endures false want old new live is =
+    torn_pulsed want endures old.state new.state (endures - old.left) (endures - new.left) (live_pulsed endures want old new live is)
 
 either_way : (b : Bool) (x y : SeededCell) → x.state ≡ y.state → (cond b x y).state ≡ y.state
 either_way true x y e = e
@@ -55,44 +73,84 @@ stuck_seeded tearing want number old h =
     ap (λ b. cond (tearing && eqb (number % 2) 1) old (cond b old (cond (nat_lt old.state.misses old.limit) (record old { state = record old.state { misses = old.state.misses + 1 } }) (changed (want number) old)))) h
     ∙ same_both (tearing && eqb (number % 2) 1) old
 
+-- a cell in a mask or in none follows its rule or stays
+masked_follows : {B M : ℕ} (mask want : Cells B M) (tearing : Bool) (old new : LifeLine B M)
+    → Follows (cell mask) (seeded tearing (cell want)) (seeded_cell old) (seeded_cell new)
+    → (n : ℕ) → cell mask n ≡ true → seeded_cell new n ≡ seeded tearing (cell want) n (seeded_cell old n)
+masked_follows mask want tearing old new follows n h =
+    follows n ∙ ap (λ b. cond b (seeded tearing (cell want) n (seeded_cell old n)) (seeded_cell old n)) h
+
 unmasked_stays : {B M : ℕ} (mask want : Cells B M) (tearing : Bool) (old new : LifeLine B M)
     → Follows (cell mask) (seeded tearing (cell want)) (seeded_cell old) (seeded_cell new)
-    → (n : ℕ) → cell mask n ≡ false → cell_state (plane_state new.line) n ≡ cell_state (plane_state old.line) n
+    → (n : ℕ) → cell mask n ≡ false → seeded_cell new n ≡ seeded_cell old n
 unmasked_stays mask want tearing old new follows n h =
-    ap (λ c. c.state) (follows n ∙ ap (λ b. cond b (seeded tearing (cell want) n (seeded_cell old n)) (seeded_cell old n)) h)
+    follows n ∙ ap (λ b. cond b (seeded tearing (cell want) n (seeded_cell old n)) (seeded_cell old n)) h
 
 stuck_stays : {B M : ℕ} (mask want : Cells B M) (tearing : Bool) (old new : LifeLine B M)
     → Follows (cell mask) (seeded tearing (cell want)) (seeded_cell old) (seeded_cell new)
-    → (n : ℕ) → (plane_state old.line).stuck n ≡ true → cell_state (plane_state new.line) n ≡ cell_state (plane_state old.line) n
+    → (n : ℕ) → cell old.line.stuck n ≡ true → plane_cell new.line n ≡ plane_cell old.line n
 stuck_stays mask want tearing old new follows n h =
     ap (λ c. c.state) (follows n)
     ∙ either_way (cell mask n) (seeded tearing (cell want) n (seeded_cell old n)) (seeded_cell old n)
     (ap (λ c. c.state) (stuck_seeded tearing (cell want) n (seeded_cell old n) h))
 
+-- what a cell of the row has spent
+spent_within : {B M : ℕ} (bounds : CellBounds) (row : LifeLine B M) (n : ℕ) → n < 8 * (B + M)
+    → (life_state bounds row).spent n ≡ bounds.endures - slice_index row.left n
+spent_within {B} {M} bounds row n within = ap (λ b. cond b (bounds.endures - slice_index row.left n) 0) (lt-ltb n (8 * (B + M)) within)
+
+-- a cell of which nothing changes has spent no more
+spent_kept : {B M : ℕ} (bounds : CellBounds) (old new : LifeLine B M) (n : ℕ) → seeded_cell new n ≡ seeded_cell old n
+    → (life_state bounds new).spent n ≡ (life_state bounds old).spent n
+spent_kept {B} {M} bounds old new n same = ap (λ (c : SeededCell). cond (nat_lt n (8 * (B + M))) (bounds.endures - c.left) 0) same
+
 pub seeded_device_step : {B M : ℕ} (bounds : CellBounds) (mask want : Cells B M) (old new : LifeLine B M) → bounds.misses ≤ 7
     → Follows (cell mask) (seeded false (cell want)) (seeded_cell old) (seeded_cell new)
-    → ((n : ℕ) → cell mask n ≡ true → KeepsTo bounds (plane_state new.line) n)
-    → new.line.pulses ≡ counted old.line.pulses → DeviceStep bounds mask want (plane_state old.line) (plane_state new.line)
-seeded_device_step bounds mask want old new few follows keeps pulses =
-    device_step bounds mask want (plane_state old.line) (plane_state new.line) few
-    (unmasked_stays mask want false old new follows) (stuck_stays mask want false old new follows)
+    → ((n : ℕ) → cell mask n ≡ true → n < 8 * (B + M))
+    → ((n : ℕ) → cell mask n ≡ true → KeepsTo bounds (life_state bounds new) n)
+    → new.line.pulses ≡ counted old.line.pulses → DeviceStep bounds mask want (life_state bounds old) (life_state bounds new)
+seeded_device_step bounds mask want old new few follows within keeps pulses =
+    device_step bounds mask want (life_state bounds old) (life_state bounds new) few
+    (λ n h. ap (λ c. c.state) (unmasked_stays mask want false old new follows n h))
+    (λ n h. spent_kept bounds old new n (unmasked_stays mask want false old new follows n h))
+    (stuck_stays mask want false old new follows)
     (λ n masked live.
-    live_pulsed false (cell want n) (seeded_cell old n) _ live refl
-    (ap (λ c. c.state) (follows n ∙ ap (λ b. cond b (seeded false (cell want) n (seeded_cell old n)) (seeded_cell old n)) masked)))
+    subst (λ k. IsPulsed (cell want n) bounds.endures (plane_cell old.line n) (plane_cell new.line n) k ((life_state bounds new).spent n)) (sym (spent_within bounds old n (within n masked)))
+    (subst (λ k. IsPulsed (cell want n) bounds.endures (plane_cell old.line n) (plane_cell new.line n) (bounds.endures - slice_index old.left n) k) (sym (spent_within bounds new n (within n masked)))
+    (live_pulsed bounds.endures (cell want n) (seeded_cell old n) (seeded_cell new n) live (masked_follows mask want false old new follows n masked))))
     keeps pulses
 
 pub seeded_torn_step : {B M : ℕ} (bounds : CellBounds) (mask want : Cells B M) (old new : LifeLine B M) → bounds.misses ≤ 7
     → Follows (cell mask) (seeded true (cell want)) (seeded_cell old) (seeded_cell new)
-    → ((n : ℕ) → cell mask n ≡ true → KeepsTo bounds (plane_state new.line) n)
-    → new.line.pulses ≡ counted old.line.pulses → TornStep bounds mask (plane_state old.line) (plane_state new.line)
-seeded_torn_step bounds mask want old new few follows keeps pulses =
-    torn_step bounds mask (plane_state old.line) (plane_state new.line) few
-    (unmasked_stays mask want true old new follows) (stuck_stays mask want true old new follows) keeps pulses
+    → ((n : ℕ) → cell mask n ≡ true → n < 8 * (B + M))
+    → ((n : ℕ) → cell mask n ≡ true → KeepsTo bounds (life_state bounds new) n)
+    → new.line.pulses ≡ counted old.line.pulses → TornStep bounds mask (life_state bounds old) (life_state bounds new)
+seeded_torn_step bounds mask want old new few follows within keeps pulses =
+    torn_step bounds mask (life_state bounds old) (life_state bounds new) few
+    (λ n h. ap (λ c. c.state) (unmasked_stays mask want true old new follows n h))
+    (λ n h. spent_kept bounds old new n (unmasked_stays mask want true old new follows n h))
+    (stuck_stays mask want true old new follows)
+    (λ n masked live.
+    subst (λ k. IsTorn bounds.endures (plane_cell new.line n) k ((life_state bounds new).spent n)) (sym (spent_within bounds old n (within n masked)))
+    (subst (λ k. IsTorn bounds.endures (plane_cell new.line n) (bounds.endures - slice_index old.left n) k) (sym (spent_within bounds new n (within n masked)))
+    (live_torn bounds.endures (eqb (n % 2) 1) (cell want n) (seeded_cell old n) (seeded_cell new n) live (masked_follows mask want true old new follows n masked))))
+    keeps pulses
 
-pub drawn_is_blank : {B M : ℕ} (wear : Wear) (number : ℕ) (row : LifeLine B M) → IsDrawn wear number row → IsBlank (plane_state row.line)
-drawn_is_blank {B} {M} wear number row drawn =
-    subst (λ (line : PlaneLine B M). IsBlank (plane_state line)) (sym drawn.line)
-    (record { held = cell-zeros B M; stuck = cell-zeros B M; misses = digit-zeros B M; pulses = refl })
+pub drawn_is_blank : {B M : ℕ} (wear : Wear) (number : ℕ) (row : LifeLine B M) → IsDrawn wear number row → IsBlank (life_state (bounds_of (Some wear)) row)
+drawn_is_blank {B} {M} wear number row drawn = record {
+  held = λ n. ap (λ (line : PlaneLine B M). cell line.held n) drawn.line ∙ cell-zeros B M n;
+  stuck = λ n. ap (λ (line : PlaneLine B M). cell line.stuck n) drawn.line ∙ cell-zeros B M n;
+  misses = λ n. ap (λ (line : PlaneLine B M). digit line.misses n) drawn.line ∙ digit-zeros B M n;
+  spent = λ n. unspent n (nat_lt n (8 * (B + M))) refl;
+  pulses = ap (λ (line : PlaneLine B M). line.pulses) drawn.line;
+}
+  where
+    unspent : (n : ℕ) (b : Bool) → nat_lt n (8 * (B + M)) ≡ b → cond b (wear.lo - slice_index row.left n) 0 ≡ 0
+    unspent n true is =
+        let left : slice_index row.left n ≡ endurance wear (word_at n (xoshiro_of (bit_xor wear.seed number))) =
+        ap (λ (c : SeededCell). c.left) (drawn.cells n (ltb-true n (8 * (B + M)) is)) in
+        omega (arith, left)
+    unspent n false is = refl
 
 abbrev cell_of : Bool → Bool → ℕ → ℕ → ℕ → Bool → SeededCell
 cell_of value stuck misses left limit end = record {

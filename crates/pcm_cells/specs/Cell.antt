@@ -16,9 +16,10 @@ pub record CellLine (B M : ℕ) : Type 0 where
   pub misses : List ℕ
   pub pulses : ℕ
 
--- what it stands for
+-- what it stands for; no count of changes is kept, since its cells may stick at once
 abbrev pub line_state : {B M : ℕ} → CellLine B M → LineState B M
-line_state line = record { held = line.held; stuck = cell line.stuck; misses = slice_index line.misses; pulses = line.pulses }
+line_state line =
+    record { held = line.held; stuck = cell line.stuck; misses = slice_index line.misses; spent = λ n. 0; pulses = line.pulses }
 
 -- a line of zeros, none stuck, that was never pulsed
 abbrev pub blank_line : (B M : ℕ) → CellLine B M

@@ -4,7 +4,7 @@ use Rattle.std.specs.Int.{bit_at}
 use Rattle.pcm_cells.specs.declared.row.Cells.{Cells}
 use Rattle.pcm_cells.specs.declared.digits.Digits.{Digits}
 use Rattle.pcm_cells.specs.Rows.{cell, zero_row}
-use Rattle.pcm_cells.specs.Device.{LineState}
+use Rattle.pcm_cells.specs.declared.line.CellState.{CellState}
 
 -- whether bit i of a byte is 1
 abbrev pub bit_in : ℕ → ℕ → Bool
@@ -29,9 +29,9 @@ pub record PlaneLine (B M : ℕ) : Type 0 where
   pub misses : Digits B M
   pub pulses : ℕ
 
--- what it stands for
-abbrev pub plane_state : {B M : ℕ} → PlaneLine B M → LineState B M
-plane_state line = record { held = line.held; stuck = cell line.stuck; misses = digit line.misses; pulses = line.pulses }
+-- what its cell with this number holds, whether it is stuck, and its misses since its last change
+abbrev pub plane_cell : {B M : ℕ} → PlaneLine B M → ℕ → CellState
+plane_cell line n = record { value = cell line.held n; stuck = cell line.stuck n; misses = digit line.misses n }
 
 -- a line of zeros, none stuck, that was never pulsed
 abbrev pub blank_planes : (B M : ℕ) → PlaneLine B M

@@ -6,12 +6,11 @@ use Rattle.pcm_cells.specs.declared.row.Cells.{Cells}
 use Rattle.pcm_cells.specs.declared.array.Wear.{Wear}
 use Rattle.pcm_cells.specs.declared.seeded.SeededCell.{SeededCell}
 use Rattle.pcm_cells.specs.Rows.{cell, zero_row}
-use Rattle.pcm_cells.specs.Device.{ArrayState, CellBounds, counted}
+use Rattle.pcm_cells.specs.Device.{ArrayState, LineState, CellBounds, counted}
 use Rattle.pcm_cells.specs.declared.digits.Digits.{Digits}
 use Rattle.pcm_cells.specs.declared.counts.Counts.{Counts}
 use Rattle.pcm_cells.specs.Counts.{count}
-use Rattle.pcm_cells.specs.Cell.{cell_state}
-use Rattle.pcm_cells.specs.Planes.{PlaneLine, plane_state, blank_planes, digit, zero_digits}
+use Rattle.pcm_cells.specs.Planes.{PlaneLine, plane_cell, blank_planes, digit, zero_digits}
 use Rattle.pcm_cells.specs.Follows.{Follows}
 use Rattle.pcm_cells.specs.Words.{xoshiro_of, word_at}
 
@@ -71,7 +70,7 @@ IsCalm calm stuck counts = (n : ℕ) → slice_index_or calm (n / 64) false ≡ 
 
 abbrev pub seeded_cell : {B M : ℕ} → LifeLine B M → ℕ → SeededCell
 seeded_cell row number = record {
-  state = cell_state (plane_state row.line) number;
+  state = plane_cell row.line number;
   left = slice_index row.left number;
   limit = digit row.limits number;
   end = cell row.ends number;
@@ -101,10 +100,21 @@ abbrev pub bounds_of : Option Wear → CellBounds
 bounds_of None = record { endures = 0; misses = 7 }
 bounds_of (Some wear) = record { endures = wear.lo; misses = wear.misses }
 
+-- what a controller may know of a line whose cells keep to these bounds: of the changes that all cells endure, each has spent those that
+-- it no longer has left
+abbrev pub life_state : {B M : ℕ} → CellBounds → LifeLine B M → LineState B M
+life_state {B} {M} bounds row = record {
+  held = row.line.held;
+  stuck = cell row.line.stuck;
+  misses = digit row.line.misses;
+  spent = λ n. if nat_lt n (8 * (B + M)) then bounds.endures - slice_index row.left n else 0;
+  pulses = row.line.pulses;
+}
+
 -- what a controller may know of the array; it tells no log
 abbrev pub seeded_state : {B M : ℕ} → SeededArray B M → ArrayState B M
 seeded_state array = record {
-  line = λ number. plane_state (seeded_line array number).line;
+  line = λ number. life_state (bounds_of array.wear) (seeded_line array number);
   lines = length array.lines;
   tears = array.tears;
   log = None;

@@ -44,7 +44,7 @@ returns-in-None-clause-reaches g c =
     let would = rw (← c.self.view_is) at c.requires.cancels in
     let none = sym c.change.ensures ∙ c.in-None.is in
     let holds = rw c.cut-in-None.ensures.bank at c.cut-in-None.ensures.holds in
-    let goes = cancels-work (clock_of c.self.inside) c.args.line would c.self.invariant.fit c.is_iterating-tearing.result c.is_iterating-tearing.ensures (g.A.CellArray.state c.args.array.now) (g.A.CellArray.state c.cut-in-None.new.array) none c.cut-in-None.ensures.touches holds in
+    let goes = cancels-work (clock_of c.self.inside) c.args.line would c.self.invariant.fit c.is_iterating-tearing.result c.is_iterating-tearing.ensures (g.A.CellArray.state c.args.array.now) (g.A.CellArray.state c.cut-in-None.new.array) none c.cut-in-None.ensures.touches holds c.cut-in-None.ensures.torn in
     rw (← c.self.view_is, c.cut-in-None.ensures.bank) goes
 
 pub is_iterating-tearing-requires : goal.is_iterating-tearing-requires

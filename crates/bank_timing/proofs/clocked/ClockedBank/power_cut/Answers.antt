@@ -71,7 +71,7 @@ returns-clause-extends g c =
     (subst (λ (now : ClockState g.row.B g.row.M g.row.E). CutExtends now (after_cut clock (bank_with_lost [] (cut_off clock.bank))) (g.A.CellArray.state c.args.array.now) (g.A.CellArray.state c.read_back.new.array)
     c.args.results.now (lost_recorded clock.tick (rows_of clock.bank.waiting) c.args.results.now)) c.self.view_is
     (cut-extends (meets c.self.view_is c.self.invariant.fit c.requires.led c.requires.unset) c.tears_work-work.result (work-is g was) c.cut.ensures.touches c.tears_change-change.result (change-is g was) c.cut-2.ensures.touches held
-    (third g (goal.at.returns-clause-extends g c).After-read_back) (holds_on g (goal.at.returns-clause-extends g c).After-lose)))
+    (third g (goal.at.returns-clause-extends g c).After-read_back) (holds_on g (goal.at.returns-clause-extends g c).After-lose) c.cut.ensures.torn))
 
 pub returns-clause-unset : goal.returns-clause-unset
 returns-clause-unset g c = rw (c.lose.ensures.results, c.read_back.ensures.clock, c.lose.ensures.clock, c.cut.ensures.bank) (cut-unset (meets c.self.view_is c.self.invariant.fit c.requires.led c.requires.unset))
@@ -82,7 +82,7 @@ returns-clause-others g c =
     let held : AreHeld (broken_off c.self.inside.regs) (g.A.CellArray.state c.cut-2.new.array) = rw c.cut-2.ensures.regs at c.cut-2.ensures.held in
     rw (c.lose.ensures.results, c.cut.ensures.bank, ← c.self.view_is)
     (cut-others (meets c.self.view_is c.self.invariant.fit c.requires.led c.requires.unset) c.tears_work-work.result (work-is g was) c.cut.ensures.touches c.tears_change-change.result (change-is g was) c.cut-2.ensures.touches held
-    (third g (goal.at.returns-clause-others g c).After-read_back) (holds_on g (goal.at.returns-clause-others g c).After-lose))
+    (third g (goal.at.returns-clause-others g c).After-read_back) (holds_on g (goal.at.returns-clause-others g c).After-lose) c.cut.ensures.torn)
 
 pub change-requires : goal.change-requires
 change-requires g c = grind arith

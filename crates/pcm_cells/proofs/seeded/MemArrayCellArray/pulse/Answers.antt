@@ -1,14 +1,31 @@
-use Rattle.std.proofs.Common.{arith}
-use Rattle.pcm_cells.specs.Seeded.{bounds_of, seeded_line}
+use Rattle.std.proofs.Common.{◌∙◌, ap, arith, refl, subst, sym, Option}
+use Rattle.pcm_cells.specs.declared.array.Wear.{Wear}
+use Rattle.pcm_cells.specs.Device.{DeviceStep}
+use Rattle.pcm_cells.specs.Seeded.{bounds_of, life_state, seeded_line}
 use Rattle.pcm_cells.proofs.SeededLemmas.{seeded_device_step}
-use Rattle.pcm_cells.proofs.EnduranceLemmas.{bounded_keeps}
+use Rattle.pcm_cells.proofs.EnduranceLemmas.{bounded_keeps, masked_within}
 use Rattle.pcm_cells.proofs.seeded.MemArrayCellArray.pulse.Goals as goal
 
 pub returns-clause-step : goal.returns-clause-step
 returns-clause-step g c =
     let wears = c.wear.ensures.wears in
     let bounds = bounds_of c.args.self.now.wear in
-    seeded_device_step bounds c.args.mask.now c.args.want.now
+    subst
+    (λ (w : Option Wear). DeviceStep bounds c.args.mask.now c.args.want.now (life_state bounds (seeded_line c.args.self.now c.args.line)) (life_state (bounds_of w) (seeded_line c.wear.new.self c.args.line)))
+    (sym c.wear.ensures.wear)
+    (seeded_device_step bounds c.args.mask.now c.args.want.now
     (seeded_line c.args.self.now c.args.line) (seeded_line c.wear.new.self c.args.line) c.wear.ensures.range.misses wears.cells
+    (λ n masked. masked_within c.args.mask.now n (omega arith) (omega arith) masked)
     (bounded_keeps bounds c.wear.new.self c.args.line c.args.mask.now (omega arith) (omega arith) (omega (arith, c.requires.exists, wears.lines)) c.wear.ensures.bounded)
-    wears.pulses
+    wears.pulses)
+
+pub returns-clause-others : goal.returns-clause-others
+returns-clause-others g c = record {
+  others = λ n apart.
+      ap (λ (w : Option Wear). life_state (bounds_of w) (seeded_line c.wear.new.self n)) c.wear.ensures.wear
+      ∙ ap (life_state (bounds_of c.args.self.now.wear)) (c.wear.ensures.wears.others n apart);
+  lines = c.wear.ensures.wears.lines;
+  log = refl;
+  wear = c.wear.ensures.wear;
+  bounds = ap bounds_of c.wear.ensures.wear;
+}
