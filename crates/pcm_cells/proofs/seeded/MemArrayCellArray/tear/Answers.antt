@@ -24,7 +24,7 @@ returns-clause-step g c =
 
 pub returns-clause-others : goal.returns-clause-others
 returns-clause-others g c =
-    subst (λ (s : SeededArray g.row.B g.row.M). ChangesOnly c.args.line (seeded_state c.args.self.now) (record (seeded_state s) { tears = c.self.inside.tears })) (sym c.self.view_is)
+    subst (λ (s : SeededArray g.row.B g.row.M). ChangesOnly c.args.line (seeded_state c.args.self.now) (record (seeded_state s) { tears = c.saturating_add-self-inside.result })) (sym c.self.view_is)
     (record {
       others = λ n apart.
           ap (λ (w : Option Wear). life_state (bounds_of w) (seeded_line c.wear.new.self n)) c.wear.ensures.wear
