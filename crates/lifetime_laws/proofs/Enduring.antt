@@ -45,12 +45,12 @@ live-line {B} {M} e row stuck l none =
         omega (arith, last, l.room, l.most, lt)
 
 pub unworn_law : UnwornLaw
-unworn_law B M e array most line l ages few =
+unworn_law B M e array most line l late few =
     live-line e (array.line line).held (array.line line).stuck l
-    (λ n within. false_from_ne_true ((array.line line).stuck n) (λ is. let le : array.bounds.endures ≤ most = ages.stuck n is in absurd (omega (arith, le, few))))
+    (λ n within. false_from_ne_true ((array.line line).stuck n) (λ is. let le : array.bounds.endures ≤ most = late n is in absurd (omega (arith, le, few))))
 
 pub controls_law : ControlsLaw
 controls_law n m e shape array rules rows layout lines bears item lt =
     let pulses : ℕ = (array.line (control_line shape item)).pulses in
-    unworn_law n m e array pulses (control_line shape item) layout (record { live = λ none. omega arith; stuck = lines.endure item lt })
+    unworn_law n m e array pulses (control_line shape item) layout (lines.endure item lt)
     (omega (arith, lines.controls item lt, bears item lt))

@@ -35,7 +35,7 @@ use Rattle.place_laws.proofs.WornOut.{none-ready}
 use Rattle.bank_model.specs.Sensing.{most_steps, pulses_of}
 use Rattle.lifetime_laws.specs.Spread.{is_stored_on, stores_on, most_at, finding_at, stay}
 use Rattle.bank_model.specs.Works.{works_on, held_on}
-use Rattle.lifetime_laws.specs.Works.{stores_at, most_works, fine_each, LinePulsesLaw, LineAgesLaw}
+use Rattle.lifetime_laws.specs.Works.{stores_at, most_works, LinePulsesLaw, LineAgesLaw}
 use Rattle.lifetime_laws.specs.Lifetime.{BearsControls, own_stores, other_stores, most_hot_works, AttackLaw, HotLinesLaw, KeptLinesLaw, LifetimeLaw}
 use Rattle.lifetime_laws.proofs.Counting.{one, passing-none}
 use Rattle.lifetime_laws.proofs.Ranks.{count-cons, count-sum, Each}
@@ -73,12 +73,10 @@ line_pulses_law n m e shape pace xs array slot sized l idle leaves exists =
 -- and how it ages
 pub line_ages_law : LineAgesLaw
 line_ages_law n m e shape pace xs array slot sized l idle aged exists =
-    let w : ℕ = array.bounds.misses + 1 in
     let none : held_on shape (shape.base + slot) (core xs) ≡ 0 = rests-held e shape pace xs (shape.base + slot) l idle in
-    let more : w * works_on shape (shape.base + slot) (core xs) ≤ tries pace.policy * w * most_works shape (table_of shape xs) slot =
-    as_often w (tries pace.policy) (works_on shape (shape.base + slot) (core xs)) (most_works shape (table_of shape xs) slot) (works_law n m e shape pace xs slot sized l exists) in
+    let more = works_law n m e shape pace xs slot sized l exists in
     let ages = aged.age slot (omega (arith, exists)) in
-    record { live = λ fine. omega (arith, ages.live fine, none, more); stuck = λ c is. omega (arith, ages.stuck c is, none, more) }
+    record { live = λ fine c. omega (arith, ages.live fine c, none, more); stuck = λ c is. omega (arith, ages.stuck c is, none, more) }
 
 pub kept_lines_law : KeptLinesLaw
 kept_lines_law n m e shape pace xs array sized l idle leaves aged = record {
@@ -265,7 +263,7 @@ lifetime_law n m e shape array rules rows hot layout some each read keeps places
     unworn_controls bears = controls_law n m e shape array rules rows layout lines bears
 
     a_write : ℕ
-    a_write = fine_each array.bounds rules
+    a_write = tries rules.policy
 
     -- what it has aged by is below what cells endure
     few-works : (slot : ℕ) → slot < slots_of shape → a_write * most_works shape rows slot < array.bounds.endures
@@ -283,4 +281,4 @@ lifetime_law n m e shape array rules rows hot layout some each read keeps places
         (λ is. let early : array.bounds.endures ≤ a_write * most_works shape rows slot = (lines.ages slot exists).stuck c is in absurd (omega (arith, early, few-works slot exists)))
 
     unworn : (slot : ℕ) → slot < slots_of shape → is_worn_at e array (shape.base + slot) ≡ false
-    unworn slot exists = unworn_law n m e array (a_write * most_works shape rows slot) (shape.base + slot) layout (lines.ages slot exists) (few-works slot exists)
+    unworn slot exists = unworn_law n m e array (a_write * most_works shape rows slot) (shape.base + slot) layout (lines.ages slot exists).stuck (few-works slot exists)

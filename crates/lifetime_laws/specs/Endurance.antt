@@ -1,5 +1,5 @@
 -- What a bank over cells that endure never shows: a worn line of a slot, a write that is refused, one that stays in the queue.
-use Rattle.std.specs.Prelude.{◌≡◌, ℕ, ◌+◌, ◌<◌, ◌&&◌, not, Bool, IsTrue, IsFalse, List, []}
+use Rattle.std.specs.Prelude.{◌≡◌, ℕ, ◌+◌, ◌<◌, ◌≤◌, ◌&&◌, not, Bool, IsTrue, IsFalse, List, []}
 use Rattle.pcm_cells.specs.Device.{ArrayState}
 use Rattle.ecp_line.specs.Layout.{IsLayout}
 use Rattle.row_rules.specs.declared.Row.{Row}
@@ -9,7 +9,6 @@ use Rattle.row_rules.specs.declared.Rules.{Rules}
 use Rattle.row_rules.specs.Wearing.{worn_row}
 use Rattle.bank_shape.specs.declared.BankShape.{BankShape}
 use Rattle.bank_shape.specs.Shape.{slots_of, controls_of, control_line}
-use Rattle.bank_model.specs.Aging.{Ages}
 use Rattle.bank_laws.specs.Laws.{KeepsPlaces, is_worn_at}
 use Rattle.bank_laws.specs.Places.{may_leave}
 use Rattle.end_laws.specs.Ends.{BankEnd, EndsWith}
@@ -17,10 +16,11 @@ use Rattle.end_laws.specs.Roles.{used_spares}
 
 -- ---- lines
 
--- a line that has aged by fewer pulses than cells endure isn't worn: no cell of it is stuck
+-- a line whose cells stick only where they endure no more than so isn't worn where they endure more: no cell of it is stuck
 abbrev pub UnwornLaw : Type 0
 UnwornLaw =
-    (B M e : ℕ) (array : ArrayState B M) (most line : ℕ) → IsLayout B M e → Ages array.bounds most (array.line line)
+    (B M e : ℕ) (array : ArrayState B M) (most line : ℕ) → IsLayout B M e
+    → ((c : ℕ) → IsTrue ((array.line line).stuck c) → array.bounds.endures ≤ most)
     → most < array.bounds.endures → IsFalse (is_worn_at e array line)
 
 -- ---- a bank's table

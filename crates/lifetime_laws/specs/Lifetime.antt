@@ -8,7 +8,7 @@ use Rattle.row_rules.specs.Answers.{is_stored}
 use Rattle.row_rules.specs.Rows.{each_row, asks_write, asks_write_of, line_of, is_cut}
 use Rattle.row_rules.specs.declared.Rules.{Rules}
 use Rattle.row_rules.specs.Table.{KeepsRows}
-use Rattle.row_rules.specs.Ticking.{is_in_time}
+use Rattle.row_rules.specs.Ticking.{is_in_time, tries}
 use Rattle.bank_shape.specs.declared.BankShape.{BankShape}
 use Rattle.bank_shape.specs.Shape.{slots_of, controls_of, control_line}
 use Rattle.bank_model.specs.Aging.{Ages, AreAged, Endures}
@@ -19,7 +19,7 @@ use Rattle.bank_laws.specs.Laws.{IsSized, LeavesArray, KeepsPlaces, is_worn_at, 
 use Rattle.bank_laws.specs.Outcomes.{table_of}
 use Rattle.bank_laws.specs.Places.{region_stores, is_placed, may_leave}
 use Rattle.lifetime_laws.specs.Spread.{most_at, most_moves, stay, stores_on}
-use Rattle.lifetime_laws.specs.Works.{most_works, most_each, fine_each, most_kept, stores_at}
+use Rattle.lifetime_laws.specs.Works.{most_works, most_each, most_kept, stores_at}
 use Rattle.lifetime_laws.specs.Endurance.{KeepsControls, is_unrefused, is_unqueued}
 
 -- the stores of a region that are of none of these lines
@@ -57,7 +57,7 @@ pub record KeepsLines {n m : ℕ} (shape : BankShape) (array : ArrayState n m) (
   pub pulses : (slot : ℕ) → slot < slots_of shape
       → (array.line (shape.base + slot)).pulses ≤ most_each rules * most_works shape rows slot
   pub ages : (slot : ℕ) → slot < slots_of shape
-      → Ages array.bounds (fine_each array.bounds rules * most_works shape rows slot) (array.line (shape.base + slot))
+      → Ages array.bounds (tries rules.policy * most_works shape rows slot) (array.line (shape.base + slot))
   pub controls : (item : ℕ) → item < controls_of shape
       → (array.line (control_line shape item)).pulses ≤ most_each rules * most_kept shape rows item
   pub endure : (item : ℕ) → item < controls_of shape → Endures array.bounds (array.line (control_line shape item))
@@ -122,11 +122,12 @@ pub record LivesOn {n m : ℕ} (e : ℕ) (shape : BankShape) (array : ArrayState
   pub finished : BearsControls array.bounds shape rules rows → IsTrue (each_row is_unqueued rows [])
   pub leaves : BearsControls array.bounds shape rules rows → IsFalse (may_leave shape (is_worn_at e array))
 
--- over cells that endure more pulses than a slot's own line may take while none of its cells is stuck, none of them sticks
+-- over cells that endure more changes than the line writes of a slot's own line may bring while none of its cells is stuck, none of them
+-- sticks, however often cells miss
 abbrev pub LifetimeLaw : Type 0
 LifetimeLaw =
     (n m e : ℕ) (shape : BankShape) (array : ArrayState n m) (rules : Rules) (rows : List (Row n)) (hot : List ℕ)
     → IsLayout n m e → 1 ≤ shape.lines → 1 ≤ shape.psi → 1 ≤ rules.read
     → KeepsRows rules rows → KeepsPlaces e shape array rules rows → KeepsLines shape array rules rows
-    → ((region : ℕ) → region < shape.regions → fine_each array.bounds rules * most_hot_works shape region hot rows < array.bounds.endures)
+    → ((region : ℕ) → region < shape.regions → tries rules.policy * most_hot_works shape region hot rows < array.bounds.endures)
     → LivesOn e shape array rules rows

@@ -1,7 +1,7 @@
 -- How many line writes one array line takes by the rows, and how many pulses: a slot's own line, and a control line, which is written by
 -- line writes of its own.
 use Rattle.std.specs.Prelude.{ℕ, ◌+◌, ◌*◌, ◌/◌, ◌<◌, ◌≤◌, ◌&&◌, nat_lt, if◌then◌else◌, List, count_by}
-use Rattle.pcm_cells.specs.Device.{CellBounds, ArrayState}
+use Rattle.pcm_cells.specs.Device.{ArrayState}
 use Rattle.row_rules.specs.declared.Row.{Row}
 use Rattle.row_rules.specs.Answers.{is_stored}
 use Rattle.row_rules.specs.Rows.{asks_write, is_cut}
@@ -36,10 +36,6 @@ most_works shape rows slot =
 abbrev pub most_each : Rules → ℕ
 most_each rules = tries rules.policy * rules.steps
 
--- the same on a line with no cell stuck: one pulse more than its cells miss, as often as it may be begun
-abbrev pub fine_each : CellBounds → Rules → ℕ
-fine_each bounds rules = tries rules.policy * (bounds.misses + 1)
-
 -- each array line but the control lines has at most so many pulses for each line write that ended on it, and those of the one in progress
 abbrev pub PulsesOnLaw : Type 0
 PulsesOnLaw =
@@ -60,12 +56,13 @@ LinePulsesLaw =
     → IsSized shape pace → Lawful shape pace e xs → IsIdle shape pace xs → LeavesArray e shape xs array → slot < slots_of shape
     → (array.line (shape.base + slot)).pulses ≤ most_each (rules_of e shape pace) * most_works shape (table_of shape xs) slot
 
--- and how it ages, in an array that has aged by the bank's events: as its first cell stuck, each line write had brought it few pulses
+-- and how it ages, in an array that has aged by the bank's events: as its first cell stuck, no cell of it had changed more than once in
+-- each line write, as often as it may be begun
 abbrev pub LineAgesLaw : Type 0
 LineAgesLaw =
     (n m e : ℕ) (shape : BankShape) (pace : Pace) (xs : List (TimedEvent n m)) (array : ArrayState n m) (slot : ℕ)
     → IsSized shape pace → Lawful shape pace e xs → IsIdle shape pace xs → AreAged shape (core xs) array → slot < slots_of shape
-    → Ages array.bounds (fine_each array.bounds (rules_of e shape pace) * most_works shape (table_of shape xs) slot) (array.line (shape.base + slot))
+    → Ages array.bounds (tries pace.policy * most_works shape (table_of shape xs) slot) (array.line (shape.base + slot))
 
 -- ---- control lines
 

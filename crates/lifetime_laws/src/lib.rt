@@ -1,5 +1,6 @@
 //! The lifetime that Start-Gap (Qureshi et al., MICRO 2009) gives a module: how the stores of one line are spread over the array
-//! lines of its region, how many pulses an array line takes, and that over cells that endure so many no line of a slot wears out.
+//! lines of its region, how many line writes an array line takes, and that over cells that endure so many changes no line of a slot wears
+//! out, however often cells miss.
 //! A law is what a function here ensures; the functions do nothing when they run.
 #![tactic(auto)]
 
@@ -59,7 +60,7 @@ pub fn attacks_are_spread()
     ensures { AttackLaw }
 {}
 
-/// A line that has aged by fewer pulses than its cells endure isn't worn.
+/// A line whose cells stick only where they endure no more than so isn't worn where they endure more.
 pub fn spared_lines_are_unworn()
     ensures { UnwornLaw }
 {}
@@ -95,7 +96,7 @@ pub fn line_pulses_are_few()
     ensures { LinePulsesLaw }
 {}
 
-/// And until its first cell stuck each line write brought it at most one pulse more than cells miss.
+/// And until its first cell stuck each line write changed a cell of it at most once.
 pub fn lines_age_slowly()
     ensures { LineAgesLaw }
 {}
@@ -116,8 +117,8 @@ pub fn asked_writes_bound_stores()
     ensures { AskedLaw }
 {}
 
-/// Over cells that endure more pulses than a slot's own line may take by its hot lines, k + 1 a line write where cells miss at most
-/// k times, no cell of such a line sticks.
+/// Over cells that endure more changes than a slot's own line may take by its hot lines, one a line write however often cells miss, no
+/// cell of such a line sticks.
 pub fn hot_lines_leave_banks_alive()
     ensures { LifetimeLaw }
 {}

@@ -6,7 +6,7 @@ use Rattle.bank_laws.specs.Laws.{is_worn_at}
 use Rattle.bank_invariant.specs.Tied.{decoded}
 use Rattle.lifetime_laws.specs.Endurance.{NoneRetiredLaw}
 use Rattle.lifetime_laws.specs.Lifetime.{AskedLaw, LifetimeLaw, LivesOn, most_hot_works, most_asked_works}
-use Rattle.lifetime_laws.specs.Works.{fine_each}
+use Rattle.row_rules.specs.Ticking.{tries}
 use Rattle.run_laws.specs.Runs.{table_in, rules_in}
 use Rattle.run_laws.specs.Lasting.{AliveLaw, AskedAliveLaw}
 
@@ -23,7 +23,7 @@ pub asked_alive_law : AskedLaw → LifetimeLaw → NoneRetiredLaw → AskedAlive
 asked_alive_law asked lifetime retired n m e raw seed rows array ends hot bank shape layout right exists few =
     alive_law lifetime retired n m e raw seed rows array ends hot bank shape layout right exists
     (λ region lt.
-    let each : ℕ = fine_each array.bounds (rules_in e raw bank) in
+    let each : ℕ = tries (rules_in e raw bank).policy in
     let fewer : each * most_hot_works (bank_shape (module_of raw) bank) region hot (table_in raw seed bank rows)
     ≤ each * most_asked_works (bank_shape (module_of raw) bank) region hot (table_in raw seed bank rows) =
     mul-le-mul_left each

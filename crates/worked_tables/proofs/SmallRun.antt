@@ -79,6 +79,13 @@ few_pulses at = by (at == 17)
     by true = lit≤ tt
     by false = lit≤ tt
 
+few_spent : (at c : ℕ) → (ended.line at).spent c ≤ 1
+few_spent at c = by (at == 17)
+  where
+    by : (b : Bool) → (cond b (holding 0x11 1) (holding 0 0)).spent c ≤ 1
+    by true = lit≤ tt
+    by false = lit≤ tt
+
 none_stuck : (at c : ℕ) → (ended.line at).stuck c ≡ false
 none_stuck at c = by (at == 17)
   where
@@ -89,7 +96,7 @@ none_stuck at c = by (at == 17)
 first_lines : KeepsLines (bank_shape (module_of small) 0) ended (rules_in 1 small 0) (first_bank 0)
 first_lines = record {
   pulses = λ slot exists. omega (arith, few_pulses ((bank_shape (module_of small) 0).base + slot));
-  ages = λ slot exists. record { live = λ none. omega (arith, few_pulses ((bank_shape (module_of small) 0).base + slot)); stuck = λ c is. absurd (cc (is, none_stuck ((bank_shape (module_of small) 0).base + slot) c)) };
+  ages = λ slot exists. record { live = λ none c. omega (arith, few_spent ((bank_shape (module_of small) 0).base + slot) c); stuck = λ c is. absurd (cc (is, none_stuck ((bank_shape (module_of small) 0).base + slot) c)) };
   controls = λ item exists. absurd (omega (arith, exists));
   endure = λ item exists. absurd (omega (arith, exists));
 }
@@ -97,7 +104,7 @@ first_lines = record {
 second_lines : KeepsLines (bank_shape (module_of small) 1) ended (rules_in 1 small 1) (second_bank 0x11)
 second_lines = record {
   pulses = λ slot exists. omega (arith, few_pulses ((bank_shape (module_of small) 1).base + slot));
-  ages = λ slot exists. record { live = λ none. omega (arith, few_pulses ((bank_shape (module_of small) 1).base + slot)); stuck = λ c is. absurd (cc (is, none_stuck ((bank_shape (module_of small) 1).base + slot) c)) };
+  ages = λ slot exists. record { live = λ none c. omega (arith, few_spent ((bank_shape (module_of small) 1).base + slot) c); stuck = λ c is. absurd (cc (is, none_stuck ((bank_shape (module_of small) 1).base + slot) c)) };
   controls = λ item exists. absurd (omega (arith, exists));
   endure = λ item exists. absurd (omega (arith, exists));
 }
@@ -242,7 +249,7 @@ pub hammered_is_wrong : RunsRight 1 small 0 rows hammered unmoved → ⊥
 unfolding next_u64 stream_of
 hammered_is_wrong right = let many : 100 ≤ 80 = (right.serves.lines 1 (lit< tt)).pulses 6 (lit< tt) in absurd (omega (arith, many))
 
--- one with no cell stuck that was pulsed more often than its stores account for where cells never miss, though not more than they might
+-- one with no cell stuck of which a cell changed more often than its stores account for, though it was pulsed no more often than it might be
 pub strained_is_wrong : RunsRight 1 small 0 rows strained unmoved → ⊥
 unfolding next_u64 stream_of
-strained_is_wrong right = let many : 10 ≤ 2 = ((right.serves.lines 1 (lit< tt)).ages 6 (lit< tt)).live (λ c. refl) in absurd (omega (arith, many))
+strained_is_wrong right = let many : 10 ≤ 2 = ((right.serves.lines 1 (lit< tt)).ages 6 (lit< tt)).live (λ c. refl) 0 in absurd (omega (arith, many))

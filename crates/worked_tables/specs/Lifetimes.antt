@@ -1,6 +1,5 @@
 -- Worked tables of a bank of one region of two lines, with a gap move after each store. The newest row is first.
 use Rattle.std.specs.Prelude.{ℕ, zero, suc, ◌+◌, ◌*◌, ◌==◌, Bool, false, if◌then◌else◌, List, [], ◌∷◌, count_by}
-use Rattle.pcm_cells.specs.Device.{CellBounds}
 use Rattle.result_rows.specs.declared.Outcome.TheVariants as out
 use Rattle.row_rules.specs.declared.Row.{Row}
 use Rattle.row_rules.specs.Rows.{asks_write_of}
@@ -11,10 +10,6 @@ use Rattle.bank_shape.specs.Shape.{slot_moved}
 
 abbrev pub two_lines : BankShape
 two_lines = record { base = 0; regions = 1; lines = 2; spares = 0; writes = 4; reads = 4; psi = 1; home = home.Guarded }
-
--- cells that miss at most three times before each change
-abbrev pub three_misses : CellBounds
-three_misses = record { endures = 20000; misses = 3 }
 
 -- no line is worn
 abbrev pub none_worn : ℕ → Bool

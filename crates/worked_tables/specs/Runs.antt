@@ -43,9 +43,10 @@ first_bank other = R 100 5 (out.Read 105 6 (whole other)) ∷ []
 abbrev pub second_bank : ℕ → List (Row 2)
 second_bank written = R 100 5 (out.Read 105 17 (whole written)) ∷ W 0 5 0x11 (out.Stored 15 17) ∷ []
 
--- a line that holds these bytes, with no cell stuck, after so many pulses
+-- a line that holds these bytes, with no cell stuck, after so many pulses, each of which changed every cell
 abbrev pub holding : ℕ → ℕ → LineState 2 1
-holding b pulses = record { held = record { bits = whole b; meta = 0 ∷ [] }; stuck = λ n. false; misses = λ n. 0; pulses = pulses }
+holding b pulses =
+    record { held = record { bits = whole b; meta = 0 ∷ [] }; stuck = λ n. false; misses = λ n. 0; spent = λ n. pulses; pulses = pulses }
 
 -- the senses of the run, the oldest first
 abbrev pub senses : List (Sense 2 1)
@@ -74,7 +75,7 @@ forgotten = record { line = λ line. if line == 17 then holding 0 1 else holding
 abbrev pub hammered : ArrayState 2 1
 hammered = record { line = λ line. if line == 17 then holding 0x11 100 else holding 0 0; lines = 22; tears = 0; log = None; wear = None; bounds = never_missing }
 
--- and 10 times, as a line may be with cells that stick, but not with none of them stuck
+-- and 10 times, each a change of every cell, as a line may be with cells that stick, but not with none of them stuck
 abbrev pub strained : ArrayState 2 1
 strained = record hammered { line = λ line. if line == 17 then holding 0x11 10 else holding 0 0 }
 
