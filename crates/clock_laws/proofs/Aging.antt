@@ -33,9 +33,9 @@ IsStruckBy shape h (Regs event) pulsed old new = Unit {0}
 -- One line
 
 -- a line has aged by so many line writes that ended on it, while that in progress has had so many iterations
-record IsAged {n m : ℕ} (bounds : CellBounds) (works held : ℕ) (line : LineState n m) : Type 0 where
-  age : Ages bounds (works + min held 1) line
-  missed : MissesUnspent held works line
+pub record IsAged {n m : ℕ} (bounds : CellBounds) (works held : ℕ) (line : LineState n m) : Type 0 where
+  pub age : Ages bounds (works + min held 1) line
+  pub missed : MissesUnspent held works line
 
 module _ {n m : ℕ} (bounds : CellBounds) (old new : LineState n m) where
   -- a cell that a pulse or a tear leaves live was live
@@ -155,8 +155,11 @@ module _ {n m : ℕ} (shape : BankShape) (pace : Pace) (e at : ℕ) (low : at < 
   idle-ended true none = aged-ended bounds works (held_on shape at (core xs)) old aged (1 + works) (omega (arith, none))
   idle-ended false none = aged-ended bounds works (held_on shape at (core xs)) old aged (0 + works) (omega (arith, none))
 
-  more-works : (tearing : Bool) → IsAged bounds (works + 1) 0 new → IsAged bounds (1 + works) 0 new
-  more-works tearing is = let turned : works + 1 ≡ 1 + works = omega arith in subst (λ (k : ℕ). IsAged bounds k 0 new) turned is
+  more-works : IsAged bounds (works + 1) 0 new → IsAged bounds (1 + works) 0 new
+  more-works is = let turned : works + 1 ≡ 1 + works = omega arith in subst (λ (k : ℕ). IsAged bounds k 0 new) turned is
+
+  same-works : (held : ℕ) → IsAged bounds works held new → IsAged bounds (0 + works) held new
+  same-works held is = let same : works ≡ 0 + works = omega arith in subst (λ (k : ℕ). IsAged bounds k held new) same is
 
   -- an iteration of this line, or of another one
   stepped : (going here : Bool) (k : ℕ) (o : Option ℕ) → x.pulsed ≡ o → is_at o at ≡ here → held_on shape at (core xs) ≡ cond here k 0
@@ -164,10 +167,10 @@ module _ {n m : ℕ} (shape : BankShape) (pace : Pace) (e at : ℕ) (low : at < 
       → IsAged bounds (cond (not going && here) 1 0 + works) (cond (going && here) (k + 1) 0) new
   stepped true true k o is on held strikes =
       let hit : is_at x.pulsed at ≡ true = ap (λ o. is_at o at) is ∙ on in
-      struck-going bounds old new works k false (sticks hit) (strikes hit) (subst (λ (k : ℕ). IsAged bounds works k old) held aged) refl
+      same-works (k + 1) (struck-going bounds old new works k false (sticks hit) (strikes hit) (subst (λ (k : ℕ). IsAged bounds works k old) held aged) refl)
   stepped false true k o is on held strikes =
       let hit : is_at x.pulsed at ≡ true = ap (λ o. is_at o at) is ∙ on in
-      more-works false (struck-ended bounds old new works k false (sticks hit) (strikes hit) (subst (λ (k : ℕ). IsAged bounds works k old) held aged))
+      more-works (struck-ended bounds old new works k false (sticks hit) (strikes hit) (subst (λ (k : ℕ). IsAged bounds works k old) held aged))
   stepped true false k o is off held strikes = untouched o is off (0 + works) 0 (idle-ended false held)
   stepped false false k o is off held strikes = untouched o is off (0 + works) 0 (idle-ended false held)
 
@@ -177,7 +180,7 @@ module _ {n m : ℕ} (shape : BankShape) (pace : Pace) (e at : ℕ) (low : at < 
       → IsAged bounds (cond (busy && here) 1 0 + works) 0 new
   broken true true true k o is on held tears strikes =
       let hit : is_at x.pulsed at ≡ true = ap (λ o. is_at o at) is ∙ on in
-      more-works true (struck-ended bounds old new works k true (sticks hit) (strikes hit) (subst (λ (k : ℕ). IsAged bounds works k old) held aged))
+      more-works (struck-ended bounds old new works k true (sticks hit) (strikes hit) (subst (λ (k : ℕ). IsAged bounds works k old) held aged))
   broken true false true k o is off held tears strikes =
       untouched o is off (1 + works) 0 (aged-ended bounds works (held_on shape at (core xs)) old aged (1 + works) (omega arith))
   broken true true false k o is off held tears strikes = untouched o is off (0 + works) 0 (idle-ended false held)
@@ -196,7 +199,7 @@ module _ {n m : ℕ} (shape : BankShape) (pace : Pace) (e at : ℕ) (low : at < 
       (subst (λ (k : ℕ). IsAged bounds (works_on shape at (Begin answer ∷ core xs)) k old) (sym (none_held (goes_on answer && (target_after shape (Begin answer ∷ core xs) == at))))
       (idle-ended (not (goes_on answer) && (target_after shape (core xs) == at)) (idle-held shape at (core xs) (begins-idle shape (core xs) may.may.0))))
     where
-      none_held : (b : Bool) → cond b 0 0 ≡ 0
+      none_held : (b : Bool) → cond {A = ℕ} b 0 0 ≡ 0
       none_held true = refl
       none_held false = refl
   ages-next (Core (Iterate answer)) may strikes =
