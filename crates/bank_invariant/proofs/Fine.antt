@@ -2,8 +2,6 @@
 use Rattle.std.proofs.Common.{◌≡◌, ◌∙◌, ℕ, ◌≤◌, true, false, List, Option, Some, sym, subst, arith}
 use Rattle.std.specs.Prelude.{IfSome}
 use Rattle.pcm_cells.specs.Device.{ArrayState, LineState}
-use Rattle.pcm_cells.specs.Rows.{cell}
-use Rattle.pcm_cells.specs.declared.row.Cells.{Cells}
 use Rattle.program_verify.specs.declared.prog.Prog.{Prog}
 use Rattle.program_verify.specs.Programming.{IsRound, IsTear, is_wrong}
 use Rattle.power_recovery.specs.Kept.{target_slot}

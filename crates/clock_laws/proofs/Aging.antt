@@ -1,11 +1,10 @@
 -- How the lines of a bank age over one event.
-use Rattle.std.proofs.Common.{◌≡◌, ◌⊎◌, inl, inr, ℕ, ◌+◌, ◌*◌, ◌-◌, ◌^◌, ◌<◌, ◌≤◌, ◌==◌, ◌&&◌, ◌||◌, not, Bool, true, false, List, [], ◌∷◌, Option, Some, None, is_some, min, refl, sym, ap, ◌∙◌, subst, arith, cond}
+use Rattle.std.proofs.Common.{◌≡◌, ◌⊎◌, inl, inr, ℕ, ◌+◌, ◌-◌, ◌^◌, ◌<◌, ◌≤◌, ◌==◌, ◌&&◌, not, Bool, true, false, List, [], ◌∷◌, Option, Some, None, min, refl, sym, ap, ◌∙◌, subst, arith, cond}
 use Rattle.std.specs.Prelude.{IsFalse}
 use Rattle.std.proofs.lemmas.Bool.{cases_lt}
 use Rattle.pcm_cells.specs.Device.{CellBounds, LineState, ArrayState, IsBlank, counted}
 use Rattle.bank_shape.specs.declared.BankShape.{BankShape}
 use Rattle.bank_shape.specs.Shape.{slots_of, lines_in, controls_from}
-use Rattle.bank_shape.specs.declared.answer.Step.{Step}
 use Rattle.bank_model.specs.Events.{Event, Write, Read, Serve, Begin, Iterate, Cut}
 use Rattle.bank_model.specs.History.{goes_on, in_progress, iterated}
 use Rattle.bank_model.specs.After.{target_after}
@@ -21,7 +20,7 @@ use Rattle.bank_model.specs.Touching.{Sticks, Strikes, AreStruck, Touches, break
 use Rattle.bank_model.specs.Works.{works_on, held_on}
 use Rattle.bank_laws.proofs.Counted.{counted-cases, pulses-few}
 use Rattle.bank_laws.proofs.Targets.{WorkAfter, spares_work, working, target-same}
-use Rattle.bank_laws.proofs.Works.{counted-few, tearing-going, kept-elsewhere, torn-elsewhere, idle-held, busy-held, held-same, going-held}
+use Rattle.bank_laws.proofs.Works.{tearing-going, kept-elsewhere, torn-elsewhere, idle-held, busy-held, held-same, going-held}
 use Rattle.place_laws.proofs.Pulsing.{begins-idle}
 use Rattle.clock_laws.proofs.Ranges.{ArePulses}
 

@@ -47,7 +47,8 @@ pub record LeadsOn {n m e : ℕ} (shape : BankShape) (xs : List (TimedEvent n m)
 
 module _ {n m e : ℕ} where
   -- the action that runs from now on ends by an event, which leaves this bank, these control lines and this array: it pulsed this
-  -- line, in cells that had missed before, and then sensed these. The change that it brings is put, and the control lines hold what the bank now keeps
+  -- line, in cells that had missed before, and then sensed these. The change that it brings is put, and the control lines hold what the
+  -- bank now keeps
   pub record IsCompletion (xs : List (TimedEvent n m)) (clock : ClockState n m e) (bank : BankState n m e) (regs : RegsState n m e) (event : Event n) (action : Action)
       (sensed : List ℕ) (pulsed : Option ℕ) (old new : ArrayState n m) : Type 0 where
     pub next : next_action clock ≡ Some action
@@ -193,7 +194,8 @@ CutEndsLaw =
     → Holds (Cut (tears_now clock) ∷ core xs) bank new → bank.kept.shape ≡ clock.bank.kept.shape → bank.running ≡ None → bank.lost ≡ []
     → Control bank.kept (broken_off clock.regs) new
     → Touches clock.tick (all_controls clock.bank.kept.shape) (torn_line tearing clock.regs clock.regs.change clock.bank.running) tearing old new
-    → AreStruck clock.bank.kept.shape (core xs) (Cut (tears_now clock)) (torn_line tearing clock.regs clock.regs.change clock.bank.running) old new
+    → AreStruck clock.bank.kept.shape (core xs) (Cut (tears_now clock))
+    (torn_line tearing clock.regs clock.regs.change clock.bank.running) old new
     → LeadsOn clock.bank.kept.shape xs (cut xs clock new) (after_cut clock bank) old new
 
 -- a history reaches this clock and this array by a cancel, which adds what it touched

@@ -86,8 +86,8 @@ module _ {n m e : ℕ} where
       record { bank = clock.bank; regs = regs; pace = clock.pace; tick = ends clock.pace action; action = None; arrivals = clock.arrivals; cancels = cancels_with {n = n} (Regs event) false clock.cancels; drained = clock.drained }
 
 -- the action that runs from now on ends by its event, which extends the history; that it ends later, that it strikes cells that missed
--- before, that what it sensed is read right, that a gap move in progress writes what its begin sensed, and that the control lines are told by the history and hold what the
--- bank keeps, are premises
+-- before, that what it sensed is read right, that a gap move in progress writes what its begin sensed, and that the control lines are
+-- told by the history and hold what the bank keeps, are premises
 abbrev pub CompletionLaw : Type 0
 CompletionLaw =
     (n m e : ℕ) (event : Event n) (action : Action) (xs : List (TimedEvent n m)) (clock : ClockState n m e) (bank : BankState n m e) (regs : RegsState n m e) (old new : ArrayState n m)

@@ -14,14 +14,16 @@ use Rattle.lifetime_laws.specs.Lifetime.{LivesOn, most_hot_works, most_asked_wor
 use Rattle.run_laws.specs.Runs.{table_in, rules_in, RunsRight}
 
 module _ {n : ℕ} (e : ℕ) (raw : RawShape) (seed : ℕ) (rows : List (Row n)) (bank : ℕ) (hot : List ℕ) where
-  -- the most changes of a cell of any slot's own line of a bank's region, by the bank's hot lines, in the numbers that its lines have there:
-  -- one for each line write, as often as it may be begun
+  -- the most changes of a cell of any slot's own line of a bank's region, by the bank's hot lines, in the numbers that its lines have
+  -- there: one for each line write, as often as it may be begun
   abbrev pub most_in : ℕ → ℕ
-  most_in region = tries (rules_in e raw bank).policy * most_hot_works (bank_shape (module_of raw) bank) region hot (table_in raw seed bank rows)
+  most_in region =
+      tries (rules_in e raw bank).policy * most_hot_works (bank_shape (module_of raw) bank) region hot (table_in raw seed bank rows)
 
   -- the same by what the trace asks for, whatever becomes of it
   abbrev pub most_asked_in : ℕ → ℕ
-  most_asked_in region = tries (rules_in e raw bank).policy * most_asked_works (bank_shape (module_of raw) bank) region hot (table_in raw seed bank rows)
+  most_asked_in region =
+      tries (rules_in e raw bank).policy * most_asked_works (bank_shape (module_of raw) bank) region hot (table_in raw seed bank rows)
 
 module _ {n : ℕ} (bounds : CellBounds) (e : ℕ) (raw : RawShape) (seed : ℕ) (rows : List (Row n)) (bank : ℕ) (hot : List ℕ) where
   -- cells endure more than that in each region
