@@ -10,7 +10,7 @@ use Rattle.pcm_top.specs.Reading.{SourceChange}
 use Rattle.pcm_top.specs.Rows.{rows_of}
 use Rattle.pcm_top.specs.Running.{Runs}
 
--- every run that is made over cells that endure more pulses than its hot lines bring any slot's own line of a bank, by the run's stores:
+-- every run that is made over cells that endure more changes than its hot lines bring any slot's own line of a bank, by the run's stores:
 -- the bank wears out nowhere, whichever trace it is
 abbrev pub LastingLaw : Type 0
 LastingLaw =
@@ -27,7 +27,7 @@ LastingTraceLaw =
     → OutlastsAsked array.bounds e job.shape job.seed (rows_of run.events run.outcomes) bank hot
     → IsAlive e job.shape job.seed (rows_of run.events run.outcomes) array (run.ends bank) bank
 
--- so every run over the seeded array lasts by its own options alone: cells endure as much, and miss as often, as they say
+-- so every run over the seeded array lasts by its own options alone: cells endure as much as they say
 abbrev pub SeededLastingLaw : Type 0
 SeededLastingLaw =
     (n m e : ℕ) (job : RunJob) (s : SourceChange) (array : SeededArray n m) (run : Runs n m e job s (seeded_state array)) (hot : List ℕ) (bank : ℕ)

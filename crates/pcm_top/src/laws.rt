@@ -42,16 +42,16 @@ pub fn drawn_runs_are_runs_of_their_text()
     gen_text_is_short();
 }
 
-/// Of whichever trace: over cells that endure more pulses than the hot lines of a bank may bring any slot's own line, k + 1 a line
-/// write where cells miss at most k times, the bank wears out nowhere: no write is refused for want of a spare or left in the queue,
-/// each slot has its own line, and no spare is used. Start-Gap divides what one hot line brings by the lines of its region.
+/// Of whichever trace: over cells that endure more changes than the hot lines of a bank may bring any slot's own line, one a line
+/// write however often cells miss, the bank wears out nowhere: no write is refused for want of a spare or left in the queue, each slot
+/// has its own line, and no spare is used. Start-Gap divides what one hot line brings by the lines of its region.
 pub fn runs_last()
     ensures { LastingLaw }
 {
     runs_live_on();
 }
 
-/// So it is where the writes that the trace asks for bring no slot's own line of a bank as many pulses, whatever becomes of them.
+/// So it is where the writes that the trace asks for bring no slot's own line of a bank as many changes, whatever becomes of them.
 pub fn traces_last()
     ensures { LastingTraceLaw }
 {
@@ -59,7 +59,7 @@ pub fn traces_last()
 }
 
 /// And of every run over the seeded array, as the program makes it, by its options alone: its cells endure as many changes as
-/// `--lo` says, and miss no more often than `--misses`; by the run's stores, or by what its trace asks for.
+/// `--lo` says; by the run's stores, or by what its trace asks for.
 pub fn seeded_runs_last()
     ensures stored { SeededLastingLaw }
     ensures asked { SeededTraceLaw }

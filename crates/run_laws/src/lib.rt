@@ -90,9 +90,9 @@ pub fn no_row_falls_short()
     ensures { NoneShortLaw }
 {}
 
-/// Over cells that endure more pulses than a run's hot lines may bring any slot's own line of a bank, k + 1 a line write where cells
-/// miss at most k times, the bank wears out nowhere: no row is refused for want of a spare or left in the queue, each slot has its own
-/// line, and no spare is used.
+/// Over cells that endure more changes than a run's hot lines may bring any slot's own line of a bank, one a line write however often
+/// cells miss, the bank wears out nowhere: no row is refused for want of a spare or left in the queue, each slot has its own line, and no
+/// spare is used.
 pub fn runs_live_on()
     ensures { AliveLaw }
 {

@@ -15,7 +15,7 @@ pub fn worked_lines_are_mixed()
     ensures second { table_in small 0 1 (reading 0x11 0) ≡ second_bank 0x11 }
 {}
 
-/// A run is right; stale bytes, another place, a touched unused cell, a forgotten line and needless pulses aren't.
+/// A run is right; stale bytes, another place, a touched unused cell, a forgotten line, needless pulses and needless changes aren't.
 pub fn worked_runs_are_judged()
     ensures right { RunsRight 1 small 0 (reading 0x11 0) ended unmoved }
     ensures stale { NeverRight (reading 0 0) }
