@@ -23,9 +23,11 @@ impl<const B: usize, const M: usize, const E: usize> Bank<B, M, E> {
         requires rises { self.old.rows_below ≤ row }
         requires masked { IsMasked B bytes given }
         ensures answer { result ≡ write_from self.old line }
-        ensures bank { self.new ≡ after_write self.old (record { row = row; line = line; bytes = bytes.entry; given = given.entry }) result }
+        ensures bank { self.new ≡ after_write
+            self.old (record { row = row; line = line; bytes = bytes.entry; given = given.entry }) result }
         ensures tied { (array : ArrayState B M) → IsTied self.old array → IsTied self.new array }
-        ensures holds { (h : List (Event B)) (array : ArrayState B M) → Holds h self.old array → Holds (Write row line bytes.entry given.entry result ∷ h) self.new array }
+        ensures holds { (h : List (Event B)) (array : ArrayState B M) → Holds h self.old array
+            → Holds (Write row line bytes.entry given.entry result ∷ h) self.new array }
     {
         self.rows_below = row as u64 + 1;
         if self.kept.exhausted() {

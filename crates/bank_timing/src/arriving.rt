@@ -50,7 +50,9 @@ impl<const B: usize, const M: usize, const E: usize> ClockedBank<B, M, E> {
         ensures going { self.new.drained ≡ false }
         ensures rows { self.new.bank.rows_below ≡ row + 1 }
         ensures extends { (xs : List (TimedEvent B M)) (array : ArrayState B M) → Leads xs self.old array
-            → Extends xs (arrival self.old.tick (Write row line bytes.entry given.entry (write_from self.old.bank line)) ∷ []) self.old self.new array array results.old results.new }
+            → Extends xs
+                (arrival self.old.tick (Write row line bytes.entry given.entry (write_from self.old.bank line)) ∷ [])
+                self.old self.new array array results.old results.new }
         ensures unset { AreOpen self.new.bank results.new }
         ensures others { LeavesOthersThan row self.old.bank results.old results.new }
     {
@@ -79,7 +81,8 @@ impl<const B: usize, const M: usize, const E: usize> ClockedBank<B, M, E> {
     // The entry of this row, which was merged, arrived now.
     fn arrive_again(&mut self, row: u32)
         requires there { has_row self.old.bank.kept.entries row ≡ true }
-        ensures { (place : ℕ) × IsSomeAnd (slice_get self.old.bank.kept.entries place) (λ entry. entry.row ≡ row)
+        ensures { (place : ℕ) × IsSomeAnd (slice_get self.old.bank.kept.entries place)
+            (λ entry. entry.row ≡ row)
             × (self.new ≡ with_arrivals (slice_set self.old.arrivals place self.old.tick) self.old) }
     {
         let place = place_of(self.bank.kept(), row);
@@ -107,7 +110,10 @@ impl<const B: usize, const M: usize, const E: usize> ClockedBank<B, M, E> {
         ensures going { self.new.drained ≡ false }
         ensures rows { self.new.bank.rows_below ≡ row + 1 }
         ensures extends { (xs : List (TimedEvent B M)) → Leads xs self.old (A.state array.old)
-            → Extends xs (arrival self.old.tick (Read row line (read_from self.old.bank line)) ∷ cancel_first xs self.old line) self.old self.new (A.state array.old) (A.state array.new) results.old results.new }
+            → Extends xs
+                (arrival self.old.tick (Read row line (read_from self.old.bank line))
+                    ∷ cancel_first xs self.old line)
+                self.old self.new (A.state array.old) (A.state array.new) results.old results.new }
         ensures unset { AreOpen self.new.bank results.new }
         ensures others { LeavesOthersThan row self.old.bank results.old results.new }
     {
@@ -127,9 +133,14 @@ impl<const B: usize, const M: usize, const E: usize> ClockedBank<B, M, E> {
         ensures now { self.new.tick ≡ self.old.tick }
         ensures drained { self.new.drained ≡ self.old.drained }
         ensures rows { self.new.bank.rows_below ≡ row + 1 }
-        ensures extends { (results : List (RowOutcome B)) → AreOpen self.old.bank results → IsOpen results row → (xs : List (TimedEvent B M)) → Leads xs self.old (A.state array.old)
-            → Extends xs (arrival self.old.tick (Read row line (read_from self.old.bank line)) ∷ cancel_by self.old.regs.change xs self.old ∷ []) self.old self.new (A.state array.old) (A.state array.new) results results }
-        ensures unset { (results : List (RowOutcome B)) → AreOpen self.old.bank results → IsOpen results row → AreOpen self.new.bank results }
+        ensures extends { (results : List (RowOutcome B)) → AreOpen self.old.bank results → IsOpen results row
+            → (xs : List (TimedEvent B M)) → Leads xs self.old (A.state array.old)
+            → Extends xs
+                (arrival self.old.tick (Read row line (read_from self.old.bank line))
+                    ∷ cancel_by self.old.regs.change xs self.old ∷ [])
+                self.old self.new (A.state array.old) (A.state array.new) results results }
+        ensures unset { (results : List (RowOutcome B)) → AreOpen self.old.bank results → IsOpen results row
+            → AreOpen self.new.bank results }
     {
         self.cancel(array, line);
         self.bank.read(row, line);
@@ -147,7 +158,8 @@ impl<const B: usize, const M: usize, const E: usize> ClockedBank<B, M, E> {
         ensures drained { self.new.drained ≡ self.old.drained }
         ensures rows { self.new.bank.rows_below ≡ row + 1 }
         ensures extends { (xs : List (TimedEvent B M)) (array : ArrayState B M) → Leads xs self.old array
-            → Extends xs (arrival self.old.tick (Read row line (read_from self.old.bank line)) ∷ []) self.old self.new array array results.old results.new }
+            → Extends xs (arrival self.old.tick (Read row line (read_from self.old.bank line)) ∷ [])
+                self.old self.new array array results.old results.new }
         ensures unset { AreOpen self.new.bank results.new }
         ensures others { LeavesOthersThan row self.old.bank results.old results.new }
     {
@@ -191,7 +203,8 @@ impl<const B: usize, const M: usize, const E: usize> ClockedBank<B, M, E> {
 
     // Whether the bank's next work is one, and its begin runs.
     fn begins_work_of(&self, line: u32) -> bool
-        ensures { result ≡ is_doing Beginning self.now.action && is_store_of line (next_work self.now.bank.kept) }
+        ensures { result ≡ is_doing Beginning self.now.action
+            && is_store_of line (next_work self.now.bank.kept) }
     {
         match self.action {
             Some(

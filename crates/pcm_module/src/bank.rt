@@ -34,7 +34,9 @@ pub fn read_at<const B: usize, const M: usize, const E: usize, A: CellArray<B, M
     requires fresh { IsOpen results.old row }
     ensures at { IsAt tick (row + 1) timed.new results.new }
     ensures step { (xs : List (TimedEvent B M)) → Leads xs timed.old (A.state array.old)
-        → (added : List (TimedEvent B M)) × IsStep xs added (record { row = row; tick = tick; asks = Reads line }) timed.old timed.new (A.state array.old) (A.state array.new) results.old results.new }
+        → (added : List (TimedEvent B M))
+        × IsStep xs added (record { row = row; tick = tick; asks = Reads line }) timed.old timed.new
+            (A.state array.old) (A.state array.new) results.old results.new }
 {
     timed.advance(array, tick, results);
     timed.arrive_read(array, row, line, results);
@@ -63,7 +65,9 @@ pub fn write_at<const B: usize, const M: usize, const E: usize, A: CellArray<B, 
     requires fresh { IsOpen results.old row }
     ensures at { IsAt tick (row + 1) timed.new results.new }
     ensures step { (xs : List (TimedEvent B M)) → Leads xs timed.old (A.state array.old)
-        → (added : List (TimedEvent B M)) × IsStep xs added (record { row = row; tick = tick; asks = Writes line bytes.entry given.entry }) timed.old timed.new (A.state array.old) (A.state array.new) results.old results.new }
+        → (added : List (TimedEvent B M))
+        × IsStep xs added (record { row = row; tick = tick; asks = Writes line bytes.entry given.entry })
+            timed.old timed.new (A.state array.old) (A.state array.new) results.old results.new }
 {
     timed.advance(array, tick, results);
     timed.arrive_write(row, line, bytes, given, results);
@@ -84,7 +88,9 @@ pub fn cut_at<const B: usize, const M: usize, const E: usize, A: CellArray<B, M>
     requires open { AreOpen timed.old.bank results.old }
     ensures at { IsAt tick timed.old.bank.rows_below timed.new results.new }
     ensures step { (row : ℕ) (xs : List (TimedEvent B M)) → Leads xs timed.old (A.state array.old)
-        → (added : List (TimedEvent B M)) × IsStep xs added (record { row = row; tick = tick; asks = Cuts }) timed.old timed.new (A.state array.old) (A.state array.new) results.old results.new }
+        → (added : List (TimedEvent B M))
+        × IsStep xs added (record { row = row; tick = tick; asks = Cuts }) timed.old timed.new
+            (A.state array.old) (A.state array.new) results.old results.new }
 {
     timed.advance(array, tick, results);
     timed.power_cut(array, results);

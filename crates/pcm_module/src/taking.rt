@@ -31,7 +31,8 @@ impl<const B: usize, const M: usize, const E: usize> Module<B, M, E> {
         results: &mut Results<B>,
     )
         requires going { self.old.finished ≡ false }
-        requires replays { (h : ℕ → List (TimedEvent B M)) × (asked : List (Asked B)) × Replays h asked self.old (A.state array.old) results.old }
+        requires replays { (h : ℕ → List (TimedEvent B M)) × (asked : List (Asked B))
+            × Replays h asked self.old (A.state array.old) results.old }
         requires event { IsEventFor (total_of self.old.shape) self.old.tick event.now }
         requires rises { self.old.rows_below ≤ row }
         requires open { IsOpen results.old row }
@@ -43,11 +44,16 @@ impl<const B: usize, const M: usize, const E: usize> Module<B, M, E> {
         ensures table { length results.new ≡ length results.old }
 
         // each bank's history goes on, and leads on with this row
-        ensures replays { (h : ℕ → List (TimedEvent B M)) (asked : List (Asked B)) → Replays h asked self.old (A.state array.old) results.old
-            → (added : ℕ → List (TimedEvent B M)) × Replays (λ bank. added bank ++ h bank) (asked_by row event.now ∷ asked) self.new (A.state array.new) results.new }
+        ensures replays { (h : ℕ → List (TimedEvent B M)) (asked : List (Asked B))
+            → Replays h asked self.old (A.state array.old) results.old
+            → (added : ℕ → List (TimedEvent B M))
+            × Replays (λ bank. added bank ++ h bank) (asked_by row event.now ∷ asked) self.new
+                (A.state array.new) results.new }
         ensures open { (other : ℕ) → row < other → IsOpen results.old other → IsOpen results.new other }
-        ensures others { (other : ℕ) → HasRow results.old other → other ≢ row → StandsNowhere self.old other → outcome_in results.new other ≡ outcome_in results.old other }
-        ensures stays { StaysBeyond (self.old.shape.banks * array_lines_of (module_of self.old.shape)) (A.state array.old) (A.state array.new) }
+        ensures others { (other : ℕ) → HasRow results.old other → other ≢ row → StandsNowhere self.old other
+            → outcome_in results.new other ≡ outcome_in results.old other }
+        ensures stays { StaysBeyond (self.old.shape.banks * array_lines_of (module_of self.old.shape))
+            (A.state array.old) (A.state array.new) }
     {
         // A field that is read makes known what is true of every module.
         let _ = &self.shape;
@@ -78,7 +84,8 @@ impl<const B: usize, const M: usize, const E: usize> Module<B, M, E> {
         requires exists { line < total_of self.old.shape }
         requires rises { self.old.rows_below ≤ row }
         requires fresh { IsOpen results.old row }
-        ensures takes { Takes (record { row = row; tick = tick; asks = Reads line }) self.old self.new (A.state array.old) (A.state array.new) results.old results.new }
+        ensures takes { Takes (record { row = row; tick = tick; asks = Reads line }) self.old self.new
+            (A.state array.old) (A.state array.new) results.old results.new }
     {
         let place = self.place(line);
         let timed = &mut self.banks[place.bank as usize];
@@ -105,7 +112,8 @@ impl<const B: usize, const M: usize, const E: usize> Module<B, M, E> {
         requires masked { IsMasked B bytes given }
         requires rises { self.old.rows_below ≤ row }
         requires fresh { IsOpen results.old row }
-        ensures takes { Takes (record { row = row; tick = tick; asks = Writes line bytes.entry given.entry }) self.old self.new (A.state array.old) (A.state array.new) results.old results.new }
+        ensures takes { Takes (record { row = row; tick = tick; asks = Writes line bytes.entry given.entry })
+            self.old self.new (A.state array.old) (A.state array.new) results.old results.new }
     {
         let place = self.place(line);
         let timed = &mut self.banks[place.bank as usize];
@@ -127,7 +135,8 @@ impl<const B: usize, const M: usize, const E: usize> Module<B, M, E> {
         requires within { tick ≤ last_tick }
         requires rises { self.old.rows_below ≤ row }
         requires fresh { IsOpen results.old row }
-        ensures takes { Takes (record { row = row; tick = tick; asks = Cuts }) self.old self.new (A.state array.old) (A.state array.new) results.old results.new }
+        ensures takes { Takes (record { row = row; tick = tick; asks = Cuts }) self.old self.new
+            (A.state array.old) (A.state array.new) results.old results.new }
     {
         let banks = self.shape.banks();
         results.set(row, Outcome::Cut { tick });

@@ -1,6 +1,6 @@
 -- Counts of a bank's rows by sorted keys.
 use Rattle.std.proofs.Common.{◌≡◌, ℕ, zero, suc, ◌+◌, ◌<◌, ◌≤◌, ◌==◌, ◌&&◌, ◌⊎◌, inl, inr, Bool, true, false, List, [], ◌∷◌, length, refl, ap, ◌∙◌, cond, arith}
-use Rattle.masked_bytes.proofs.Truth.{and_first, and_second}
+use Rattle.masked_bytes.proofs.Truth.{and_first, and_second, and_false}
 use Rattle.std.specs.Prelude.{nat_le, nat_lt, count_by, slice_index_or}
 use Rattle.std.proofs.lemmas.Bool.{le-leb, lt-leb, lt-ltb, ltb-true, le-ltb, cases_lt, cases_order, eq-eqb, ne_eqb}
 use Rattle.std.proofs.lemmas.List.Sorted.{sum_by-IsPermutation}
@@ -64,10 +64,6 @@ up_to-more j k (x ∷ keys) le =
         let i : one_if (nat_le x j) ≡ 1 = ap one_if (le-leb x j l) in
         let h : one_if (nat_le x k) ≡ 1 = ap one_if (le-leb x k (omega (arith, l, le))) in
         omega (arith, a, b, r, i, h)
-
-and_false : (b : Bool) → (b && false) ≡ false
-and_false true = refl
-and_false false = refl
 
 -- what a key adds to the count up to u over that up to a, of its own bank and of another
 step : (bank other a u v : ℕ) → a ≤ u → u < reach → v < reach
