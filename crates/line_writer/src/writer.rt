@@ -108,7 +108,7 @@ impl<const B: usize, const M: usize, const E: usize> LineWriter<B, M, E> {
         ensures unused { LeavesUnused E self.old.prog }
         ensures worn { IsWorn result
             → is_worn_line E ((A.state array.new).line line).held ((A.state array.new).line line).stuck
-                ≡ true }
+            ≡ true }
         ensures bytes { self.new.bytes ≡ self.old.bytes }
         ensures steps { steps_left self.new < steps_left self.old }
     {

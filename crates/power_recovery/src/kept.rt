@@ -146,7 +146,7 @@ impl<const B: usize> Kept<B> {
         // by how often the gap of its region moved, and no other line has it
         ensures after { (t : ℕ) → StandsFor (region_at self.now (line / self.now.shape.lines)).rotation t
             → result ≡ slot_at self.now.shape (line / self.now.shape.lines)
-                (place_after self.now.shape.lines (line % self.now.shape.lines) t) }
+            (place_after self.now.shape.lines (line % self.now.shape.lines) t) }
         ensures apart { (other : ℕ) → other < bank_lines self.now.shape → slot_of self.now other ≡ result
             → other ≡ line }
     {

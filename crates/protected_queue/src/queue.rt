@@ -63,7 +63,8 @@ impl<const B: usize> Queue<B> {
         requires within { place < length self.old.entries }
         ensures row { result ≡ row_at self.old.entries place }
         ensures entries { self.new ≡ record self.old {
-            entries = merged_at place newer.now.row newer.now.bytes newer.now.given self.old.entries } }
+          entries = merged_at place newer.now.row newer.now.bytes newer.now.given self.old.entries;
+        } }
     {
         let Some(slot) = self.ring.get_mut(place) else {
             unreachable!()

@@ -95,8 +95,8 @@ impl<const B: usize, const M: usize, const E: usize> RegLines<B, M, E> {
             (A.state array.old) (A.state array.new) }
         ensures done { result ≡ keep.Done
             → IfSome self.old.change
-                (λ change. decode E ((A.state array.new).line (self.old.base + change.item)).held
-                    ≡ encoded B change.values) }
+            (λ change. decode E ((A.state array.new).line (self.old.base + change.item)).held
+            ≡ encoded B change.values) }
         ensures held { AreHeld self.new (A.state array.new) }
     {
         let Some(change) = self.change else {
@@ -116,8 +116,8 @@ impl<const B: usize, const M: usize, const E: usize> RegLines<B, M, E> {
             false (A.state array.old) (A.state array.new) }
         ensures done { result ≡ keep.Done
             → IfSome self.old.change
-                (λ change. decode E ((A.state array.new).line (self.old.base + change.item)).held
-                    ≡ encoded B change.values) }
+            (λ change. decode E ((A.state array.new).line (self.old.base + change.item)).held
+            ≡ encoded B change.values) }
         ensures held { AreHeld self.new (A.state array.new) }
     {
         let Some(change) = self.change else {
