@@ -187,7 +187,7 @@ impl<const B: usize, const M: usize, const E: usize> Bank<B, M, E> {
         requires sound { IsOfSoundLine E seen }
         ensures { (old new : ArrayState B M)
             → (old.line (array_line self.old.kept (slot_at self.old.kept.shape region step.from))).held
-                ≡ copied.entry
+            ≡ copied.entry
             → (old.line target).held ≡ seen.entry → IsSoundLine E (old.line target)
             → new.line target ≡ old.line target → IsBegin self.old self.new result old new }
     {

@@ -43,7 +43,7 @@ impl<const B: usize, const M: usize, const E: usize> Bank<B, M, E> {
             (A.state array.old) (A.state array.new)) }
         ensures touches { IfSome self.old.running
             (λ op. Touches tick (op.target ∷ []) (Some op.target) false
-                (A.state array.old) (A.state array.new)) }
+            (A.state array.old) (A.state array.new)) }
         ensures tied { IsTied self.new (A.state array.new) }
         ensures holds { (h : List (Event B)) → Holds h self.old (A.state array.old)
             → Holds (Iterate result ∷ h) self.new (A.state array.new) }

@@ -1,10 +1,7 @@
 -- Every answer to a write keeps the invariant.
 use Rattle.std.proofs.Common.{◌≡◌, ◌≢◌, ℕ, ◌+◌, ◌<◌, ◌==◌, Bool, true, false, if◌then◌else◌, nat_lt, List, [], ◌∷◌, ◌++◌, length, slice_get, Option, Some, None, IfSome, IsSomeAnd, refl, sym, subst, ap, ◌∙◌, arith, eqb-true}
 use Rattle.std.proofs.lemmas.Bool.{eqb-false, lt-ltb}
-use Rattle.pcm_cells.specs.Rows.{cell}
 use Rattle.pcm_cells.specs.Device.{ArrayState}
-use Rattle.ecp_line.specs.Layout as layout
-use Rattle.ecp_line.specs.Reading.{decode}
 use Rattle.ecp_line.proofs.Bytes.{length-decode}
 use Rattle.masked_bytes.specs.Masked.{laid, IsMasked}
 use Rattle.masked_bytes.specs.Entries.{Layer, stacked, layer_of, candidate, candidate_place, newest_place, merged, merged_at, row_at, RowsApart, AllMasked}
@@ -65,11 +62,6 @@ answer_merged shape h false None old e = by (length (queue shape h) == shape.wri
     by : (full : Bool) → wrote.Merged old ≡ (if full then wrote.Full else wrote.Accepted) → (false ≡ false) × (None ≡ Some old)
     by true e = absurd cc
     by false e = absurd cc
-
--- Bytes
-
-unfolding decode
-length-decode {n} e row = length-bytes_from (layout.decoded n e (cell row)) 0 n
 
 -- a write of a line lies over its entries, and leaves those of the others
 record LiesOver {n : ℕ} (line : ℕ) (bytes : List ℕ) (given : List Bool) (es after : List (Entry n)) : Type 0 where

@@ -36,9 +36,6 @@ use Rattle.bank_invariant.specs.Tied.{decoded, IsUnderWay, AreSound, IsOf}
 use Rattle.bank_invariant.specs.Holds.{stands_for}
 use Rattle.bank_invariant.specs.Tearing.{DiffersAt}
 
-unfolding decode
-length-decode {n} e row = length-bytes_from _ 0 n
-
 -- the head is of this line and gives each byte of it
 abbrev pub IsGivenWhole : {n : ℕ} → List (Entry n) → ℕ → Type 0
 IsGivenWhole es line = IsSomeAnd (slice_get es 0) (λ head. (head.line ≡ line) × IsTrue (gives_all head.given))

@@ -19,7 +19,7 @@ use Rattle.row_judging.specs.Counting.{line_stores, FirstByCountLaw, LastByCount
 use Rattle.row_judging.proofs.Cuts.{count-cons}
 
 -- one where the test holds
-abbrev one_if : Bool → ℕ
+abbrev pub one_if : Bool → ℕ
 one_if b = cond b 1 0
 
 pub count-same : {A : Type 0} (p q : A → Bool) → ((x : A) → p x ≡ q x) → (xs : List A) → count_by p xs ≡ count_by q xs
@@ -113,7 +113,7 @@ module _ {n : ℕ} (t line e : ℕ) where
       by own (out.Lost v) is k number ih = none own k number ih
       by own (out.Cut v) is k number ih = none own k number ih
 
-before_next : (u v : ℕ) → not (nat_lt v u) ≡ nat_le u v
+pub before_next : (u v : ℕ) → not (nat_lt v u) ≡ nat_le u v
 before_next u v = by (cases_lt v u)
   where
     by : (v < u) ⊎ (u ≤ v) → not (nat_lt v u) ≡ nat_le u v

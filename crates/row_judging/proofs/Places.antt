@@ -15,10 +15,7 @@ use Rattle.row_rules.specs.Table.{is_of, of_bank}
 use Rattle.row_rules.specs.Ticking.{stores_in, reads_in}
 use Rattle.row_judging.specs.Keys.{reach, key, up_to, is_short, all_short, store_key, store_keys, read_key, read_keys, PlaceLaw, CountLaw}
 use Rattle.row_judging.proofs.Cuts.{count-cons}
-
--- one where the test holds
-abbrev one_if : Bool → ℕ
-one_if b = cond b 1 0
+use Rattle.row_judging.proofs.Counts.{one_if}
 
 -- behind the first place that fails, none passes
 none_passes : (p : ℕ → Bool) (keys : List ℕ) → ((k d : ℕ) → k < length keys → p (slice_index_or keys k d) ≡ false) → count_by p keys ≡ 0

@@ -1,5 +1,5 @@
 -- Worked tables of a bank of one region of two lines, with a gap move after each store. The newest row is first.
-use Rattle.std.specs.Prelude.{ℕ, zero, suc, ◌+◌, ◌*◌, ◌==◌, Bool, false, if◌then◌else◌, List, [], ◌∷◌, count_by}
+use Rattle.std.specs.Prelude.{ℕ, zero, suc, ◌+◌, ◌*◌, ◌==◌, if◌then◌else◌, List, [], ◌∷◌, count_by}
 use Rattle.pcm_cells.specs.Device.{CellBounds}
 use Rattle.result_rows.specs.declared.Outcome.TheVariants as out
 use Rattle.row_rules.specs.declared.Row.{Row}
@@ -15,10 +15,6 @@ two_lines = record { base = 0; regions = 1; lines = 2; spares = 0; writes = 4; r
 -- cells that miss at most three times before each change
 abbrev pub three_misses : CellBounds
 three_misses = record { endures = 20000; misses = 3 }
-
--- no line is worn
-abbrev pub none_worn : ℕ → Bool
-none_worn line = false
 
 -- so many stores, one every 100 ticks, the k-th of the line that a rule gives; each lies where its line stands
 abbrev pub storing : (ℕ → ℕ) → ℕ → List (Row 2)
