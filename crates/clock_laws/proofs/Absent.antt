@@ -14,7 +14,6 @@ use Rattle.bank_laws.proofs.Entries.{no_wait-push, no_wait-drop, lacks-push, lac
 use Rattle.clock_laws.specs.Standing.{is_arrival_of}
 
 module _ {n : ℕ} where
-
   lacks-begun : (due : Option ℕ) (newest_of : ℕ → List ℕ) (es : List (Entry n)) (row : ℕ) → has_row es row ≡ false → has_row (begun due newest_of es) row ≡ false
   lacks-begun (Some region) newest_of es row none = none
   lacks-begun None newest_of [] row none = none

@@ -62,7 +62,6 @@ apart_law n m e xs clock array leads =
 -- Rows that don't
 
 module _ {n : ℕ} where
-
   -- a row that isn't there is another
   other-row : (es : List (Entry n)) (at row : ℕ) → has_row es at ≡ true → has_row es row ≡ false → (at == row) ≡ false
   other-row es at row there none = by (at == row) (eqb-true at row)
