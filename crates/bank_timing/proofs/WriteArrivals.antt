@@ -21,6 +21,7 @@ use Rattle.bank_model.specs.Timing.{TimedEvent, core}
 use Rattle.bank_laws.specs.Outcomes.{outcome_by}
 use Rattle.bank_laws.proofs.Answering.{candidate-there}
 use Rattle.bank_laws.proofs.Fates.{new-merged}
+use Rattle.bank_laws.proofs.Entries.{lacks-push, lacks-merged}
 use Rattle.bank_shape.specs.declared.waiting.Waiting.{Waiting}
 use Rattle.bank_invariant.specs.State.{BankState}
 use Rattle.bank_invariant.specs.Holds.{Holds}
@@ -35,7 +36,6 @@ use Rattle.clock_laws.specs.Standing.{has_waiting, AreApart}
 use Rattle.clock_laws.proofs.Arriving.{write_law}
 use Rattle.clock_laws.proofs.Fitting.{fit_write_law}
 use Rattle.clock_laws.proofs.Extending.{arrival_added_law}
-use Rattle.clock_laws.proofs.Absent.{lacks-push, lacks-merged}
 use Rattle.clock_laws.proofs.Others.{apart_law}
 use Rattle.bank_timing.specs.Clock.{IsClock}
 use Rattle.bank_timing.specs.Extending.{Extends, AreOpen, IsOpen, StandOpen, LeavesOthersThan, outcome_in}

@@ -24,39 +24,35 @@ use crate::clocked::ClockedBank;
 use bank_shape::Work;
 use bank_shape::answer::{ReadAnswer, WriteAnswer};
 use bank_shape::clock::{Action, Doing};
+use masked_bytes::entry::Entry;
 use masked_bytes::layers::has_all;
 use pcm_cells::CellArray;
 use power_recovery::kept::Kept;
 use result_rows::{Outcome, Results};
 
 impl<const B: usize, const M: usize, const E: usize> ClockedBank<B, M, E> {
-    /// A write of a bank line arrives now, with its row's number, above those of all before it. A byte that isn't given is 0.
-    pub fn arrive_write(
-        &mut self,
-        row: u32,
-        line: u32,
-        bytes: [u8; B],
-        given: [bool; B],
-        results: &mut Results<B>,
-    )
+    /// A write of a bank line arrives now; the number of its row is above those of all before it.
+    pub fn arrive_write(&mut self, entry: Entry<B>, results: &mut Results<B>)
         requires going { self.old.drained ≡ false }
         requires led { (xs : List (TimedEvent B M)) × (array : ArrayState B M) × Leads xs self.old array }
-        requires exists { line < bank_lines self.old.bank.kept.shape }
-        requires rises { self.old.bank.rows_below ≤ row }
-        requires masked { IsMasked B bytes given }
+        requires exists { entry.line < bank_lines self.old.bank.kept.shape }
+        requires rises { self.old.bank.rows_below ≤ entry.row }
+        requires masked { IsMasked B entry.bytes entry.given }
         requires unset { AreOpen self.old.bank results.old }
-        requires fresh { IsOpen results.old row }
+        requires fresh { IsOpen results.old entry.row }
         ensures now { self.new.tick ≡ self.old.tick }
         ensures going { self.new.drained ≡ false }
-        ensures rows { self.new.bank.rows_below ≡ row + 1 }
+        ensures rows { self.new.bank.rows_below ≡ entry.entry.row + 1 }
         ensures extends { (xs : List (TimedEvent B M)) (array : ArrayState B M) → Leads xs self.old array
             → Extends xs
-                (arrival self.old.tick (Write row line bytes.entry given.entry (write_from self.old.bank line)) ∷ [])
-                self.old self.new array array results.old results.new }
+            (arrival self.old.tick (Write entry.entry.row entry.entry.line entry.entry.bytes entry.entry.given
+            (write_from self.old.bank entry.entry.line)) ∷ [])
+            self.old self.new array array results.old results.new }
         ensures unset { AreOpen self.new.bank results.new }
-        ensures others { LeavesOthersThan row self.old.bank results.old results.new }
+        ensures others { LeavesOthersThan entry.entry.row self.old.bank results.old results.new }
     {
-        match self.bank.write(row, line, bytes, given) {
+        let row = entry.row;
+        match self.bank.write(entry) {
             WriteAnswer::Accepted => self.arrive_last(),
             WriteAnswer::Merged(old) => {
                 results.set(old, Outcome::Merged { tick: self.tick });
@@ -111,9 +107,9 @@ impl<const B: usize, const M: usize, const E: usize> ClockedBank<B, M, E> {
         ensures rows { self.new.bank.rows_below ≡ row + 1 }
         ensures extends { (xs : List (TimedEvent B M)) → Leads xs self.old (A.state array.old)
             → Extends xs
-                (arrival self.old.tick (Read row line (read_from self.old.bank line))
-                    ∷ cancel_first xs self.old line)
-                self.old self.new (A.state array.old) (A.state array.new) results.old results.new }
+            (arrival self.old.tick (Read row line (read_from self.old.bank line))
+            ∷ cancel_first xs self.old line)
+            self.old self.new (A.state array.old) (A.state array.new) results.old results.new }
         ensures unset { AreOpen self.new.bank results.new }
         ensures others { LeavesOthersThan row self.old.bank results.old results.new }
     {
@@ -136,9 +132,9 @@ impl<const B: usize, const M: usize, const E: usize> ClockedBank<B, M, E> {
         ensures extends { (results : List (RowOutcome B)) → AreOpen self.old.bank results → IsOpen results row
             → (xs : List (TimedEvent B M)) → Leads xs self.old (A.state array.old)
             → Extends xs
-                (arrival self.old.tick (Read row line (read_from self.old.bank line))
-                    ∷ cancel_by self.old.regs.change xs self.old ∷ [])
-                self.old self.new (A.state array.old) (A.state array.new) results results }
+            (arrival self.old.tick (Read row line (read_from self.old.bank line))
+            ∷ cancel_by self.old.regs.change xs self.old ∷ [])
+            self.old self.new (A.state array.old) (A.state array.new) results results }
         ensures unset { (results : List (RowOutcome B)) → AreOpen self.old.bank results → IsOpen results row
             → AreOpen self.new.bank results }
     {
@@ -159,7 +155,7 @@ impl<const B: usize, const M: usize, const E: usize> ClockedBank<B, M, E> {
         ensures rows { self.new.bank.rows_below ≡ row + 1 }
         ensures extends { (xs : List (TimedEvent B M)) (array : ArrayState B M) → Leads xs self.old array
             → Extends xs (arrival self.old.tick (Read row line (read_from self.old.bank line)) ∷ [])
-                self.old self.new array array results.old results.new }
+            self.old self.new array array results.old results.new }
         ensures unset { AreOpen self.new.bank results.new }
         ensures others { LeavesOthersThan row self.old.bank results.old results.new }
     {

@@ -122,7 +122,7 @@ impl<const B: usize, const M: usize, const E: usize> ClockedBank<B, M, E> {
         ensures extends { (xs : List (TimedEvent B M)) → Leads xs self.old (A.state array.old)
             → (added : List (TimedEvent B M))
             × Extends xs added self.old self.new (A.state array.old) (A.state array.new)
-                results.old results.new × IsQuiet added }
+            results.old results.new × IsQuiet added }
         ensures unset { AreOpen self.new.bank results.new }
         ensures others { LeavesOthers self.old.bank results.old results.new }
     {

@@ -36,7 +36,7 @@ impl<const B: usize, const M: usize, const E: usize> ClockedBank<B, M, E> {
         ensures rows { self.new.bank.rows_below ≡ self.old.bank.rows_below }
         ensures extends { (xs : List (TimedEvent B M)) → Leads xs self.old (A.state array.old)
             → Extends xs (cut xs self.old (A.state array.new) ∷ []) self.old self.new
-                (A.state array.old) (A.state array.new) results.old results.new }
+            (A.state array.old) (A.state array.new) results.old results.new }
         ensures unset { AreOpen self.new.bank results.new }
         ensures others { LeavesOthers self.old.bank results.old results.new }
         ensures kept { self.new.bank.kept ≡ self.old.bank.kept }
@@ -81,7 +81,7 @@ impl<const B: usize, const M: usize, const E: usize> ClockedBank<B, M, E> {
         ensures clock { self.new ≡ cancelled_by self.old.regs.change self.old }
         ensures reaches { (xs : List (TimedEvent B M)) → Leads xs self.old (A.state array.old)
             → ReachesBy self.old.bank.kept.shape xs (cancel_by self.old.regs.change xs self.old) self.new
-                (A.state array.old) (A.state array.new) }
+            (A.state array.old) (A.state array.new) }
     {
         let tearing = is_iterating(self.action);
         self.action = None;

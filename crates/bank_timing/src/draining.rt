@@ -32,7 +32,7 @@ impl<const B: usize, const M: usize, const E: usize> ClockedBank<B, M, E> {
         ensures drains { (xs : List (TimedEvent B M)) → Leads xs self.old (A.state array.old)
             → (added : List (TimedEvent B M))
             × Drains xs added self.old self.new (A.state array.old) (A.state array.new)
-                results.old results.new }
+            results.old results.new }
         ensures others { LeavesOthers self.old.bank results.old results.new }
         ensures laws { (xs : List (TimedEvent B M)) → Leads xs self.new (A.state array.new)
             → KeepsLaws E self.new.bank.kept.shape self.new.pace xs (A.state array.new) }

@@ -16,6 +16,7 @@ ghost use Rattle.pcm_module.specs.Taking.{Takes, StaysBeyond};
 
 use crate::bank::{cut_at, read_at, write_at};
 use crate::side_by_side::Module;
+use masked_bytes::entry::Entry;
 use pcm_cells::CellArray;
 use result_rows::{Outcome, Results};
 use trace_reader::{Event, EventOp};
@@ -60,10 +61,13 @@ impl<const B: usize, const M: usize, const E: usize> Module<B, M, E> {
         match event.op {
             EventOp::Read(line) => self.read(array, event.tick, row, line, results),
             EventOp::Write(line, bytes) => {
-                self.write(array, event.tick, row, line, bytes, [true; B], results);
+                let given = [true; B];
+                let entry = Entry { row, line, bytes, given };
+                self.write(array, event.tick, entry, results);
             }
             EventOp::Mask(line, bytes, given) => {
-                self.write(array, event.tick, row, line, bytes, given, results);
+                let entry = Entry { row, line, bytes, given };
+                self.write(array, event.tick, entry, results);
             }
             EventOp::Cut => self.cut(array, event.tick, row, results),
         }
@@ -94,32 +98,40 @@ impl<const B: usize, const M: usize, const E: usize> Module<B, M, E> {
         self.rows_below = row as u64 + 1;
     }
 
-    // A write of a line arrives at its bank.
+    // A write of a line of the module arrives at its bank, where the line has another number.
     fn write<A: CellArray<B, M>>(
         &mut self,
         array: &mut A,
         tick: u64,
-        row: u32,
-        line: u32,
-        bytes: [u8; B],
-        given: [bool; B],
+        entry: Entry<B>,
         results: &mut Results<B>,
     )
         requires led { IsReplayed self.old (A.state array.old) results.old }
         requires forward { self.old.tick ≤ tick }
         requires within { tick ≤ last_tick }
-        requires exists { line < total_of self.old.shape }
-        requires masked { IsMasked B bytes given }
-        requires rises { self.old.rows_below ≤ row }
-        requires fresh { IsOpen results.old row }
-        ensures takes { Takes (record { row = row; tick = tick; asks = Writes line bytes.entry given.entry })
+        requires exists { entry.line < total_of self.old.shape }
+        requires masked { IsMasked B entry.bytes entry.given }
+        requires rises { self.old.rows_below ≤ entry.row }
+        requires fresh { IsOpen results.old entry.row }
+        ensures takes { Takes
+            (record {
+              row = entry.entry.row;
+              tick = tick;
+              asks = Writes entry.entry.line entry.entry.bytes entry.entry.given;
+            })
             self.old self.new (A.state array.old) (A.state array.new) results.old results.new }
     {
-        let place = self.place(line);
+        let place = self.place(entry.line);
+        let here = Entry {
+            row: entry.row,
+            line: place.line,
+            bytes: entry.bytes,
+            given: entry.given,
+        };
         let timed = &mut self.banks[place.bank as usize];
-        write_at(timed, array, tick, row, place.line, bytes, given, results);
+        write_at(timed, array, tick, here, results);
         self.tick = tick;
-        self.rows_below = row as u64 + 1;
+        self.rows_below = entry.row as u64 + 1;
     }
 
     // The power is cut: each bank is brought to the tick and cut, in order. The outcome of the cut's own row is known at once.
