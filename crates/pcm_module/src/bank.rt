@@ -37,7 +37,7 @@ pub fn read_at<const B: usize, const M: usize, const E: usize, A: CellArray<B, M
     ensures step { (xs : List (TimedEvent B M)) → Leads xs timed.old (A.state array.old)
         → (added : List (TimedEvent B M))
         × IsStep xs added (record { row = row; tick = tick; asks = Reads line }) timed.old timed.new
-            (A.state array.old) (A.state array.new) results.old results.new }
+        (A.state array.old) (A.state array.new) results.old results.new }
 {
     timed.advance(array, tick, results);
     timed.arrive_read(array, row, line, results);
@@ -65,12 +65,12 @@ pub fn write_at<const B: usize, const M: usize, const E: usize, A: CellArray<B, 
     ensures step { (xs : List (TimedEvent B M)) → Leads xs timed.old (A.state array.old)
         → (added : List (TimedEvent B M))
         × IsStep xs added
-            (record {
-              row = entry.entry.row;
-              tick = tick;
-              asks = Writes entry.entry.line entry.entry.bytes entry.entry.given;
-            })
-            timed.old timed.new (A.state array.old) (A.state array.new) results.old results.new }
+        (record {
+          row = entry.entry.row;
+          tick = tick;
+          asks = Writes entry.entry.line entry.entry.bytes entry.entry.given;
+        })
+        timed.old timed.new (A.state array.old) (A.state array.new) results.old results.new }
 {
     timed.advance(array, tick, results);
     timed.arrive_write(entry, results);
@@ -93,7 +93,7 @@ pub fn cut_at<const B: usize, const M: usize, const E: usize, A: CellArray<B, M>
     ensures step { (row : ℕ) (xs : List (TimedEvent B M)) → Leads xs timed.old (A.state array.old)
         → (added : List (TimedEvent B M))
         × IsStep xs added (record { row = row; tick = tick; asks = Cuts }) timed.old timed.new
-            (A.state array.old) (A.state array.new) results.old results.new }
+        (A.state array.old) (A.state array.new) results.old results.new }
 {
     timed.advance(array, tick, results);
     timed.power_cut(array, results);

@@ -37,12 +37,12 @@ impl<const B: usize, const M: usize, const E: usize> Module<B, M, E> {
             → Replays h asked self.old (A.state array.old) results.old
             → (added : ℕ → List (TimedEvent B M))
             × IsFinished self.new.shape self.new.seed (λ bank. added bank ++ h bank) asked (bank_at self.new)
-                (A.state array.new) (outcome_in results.new) }
+            (A.state array.new) (outcome_in results.new) }
         ensures right { (h : ℕ → List (TimedEvent B M)) (asked : List (Asked B))
             → Replays h asked self.old (A.state array.old) results.old
             → (ends : ℕ → BankEnd) × AreEndsOf self.new ends
             × RunsRight E self.new.shape self.new.seed (map (row_with (outcome_in results.new)) asked)
-                (A.state array.new) ends }
+            (A.state array.new) ends }
         ensures others { (row : ℕ) → HasRow results.old row → StandsNowhere self.old row
             → outcome_in results.new row ≡ outcome_in results.old row }
         ensures stays { StaysBeyond (self.old.shape.banks * array_lines_of (module_of self.old.shape))
@@ -64,7 +64,7 @@ fn drain_all<const B: usize, const M: usize, const E: usize, A: CellArray<B, M>>
     requires ready { (of : ModuleState B M E) × MayFinish of banks.old.items (A.state array.old) results.old }
     ensures drained { (of : ModuleState B M E) → MayFinish of banks.old.items (A.state array.old) results.old
         → AreDrained of of.shape.banks banks.new.items (A.state array.old) (A.state array.new)
-            results.old results.new }
+        results.old results.new }
 {
     for bank in 0..banks.len() {
         banks[bank].drain(array, results);

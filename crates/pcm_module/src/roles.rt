@@ -18,7 +18,7 @@ impl<const B: usize, const M: usize, const E: usize> Module<B, M, E> {
         requires exists { array_line < self.now.shape.banks * array_lines_of (module_of self.now.shape) }
         ensures { (ends : ℕ → BankEnd) → AreEndsOf self.now ends
             → IsRole (bank_shape (module_of self.now.shape)
-                (array_line / array_lines_of (module_of self.now.shape)))
+            (array_line / array_lines_of (module_of self.now.shape)))
             (line_named self.now.shape self.now.seed (array_line / array_lines_of (module_of self.now.shape)))
             (ends (array_line / array_lines_of (module_of self.now.shape))) array_line result }
     {

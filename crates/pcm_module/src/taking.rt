@@ -49,7 +49,7 @@ impl<const B: usize, const M: usize, const E: usize> Module<B, M, E> {
             → Replays h asked self.old (A.state array.old) results.old
             → (added : ℕ → List (TimedEvent B M))
             × Replays (λ bank. added bank ++ h bank) (asked_by row event.now ∷ asked) self.new
-                (A.state array.new) results.new }
+            (A.state array.new) results.new }
         ensures open { (other : ℕ) → row < other → IsOpen results.old other → IsOpen results.new other }
         ensures others { (other : ℕ) → HasRow results.old other → other ≢ row → StandsNowhere self.old other
             → outcome_in results.new other ≡ outcome_in results.old other }
@@ -62,11 +62,21 @@ impl<const B: usize, const M: usize, const E: usize> Module<B, M, E> {
             EventOp::Read(line) => self.read(array, event.tick, row, line, results),
             EventOp::Write(line, bytes) => {
                 let given = [true; B];
-                let entry = Entry { row, line, bytes, given };
+                let entry = Entry {
+                    row,
+                    line,
+                    bytes,
+                    given,
+                };
                 self.write(array, event.tick, entry, results);
             }
             EventOp::Mask(line, bytes, given) => {
-                let entry = Entry { row, line, bytes, given };
+                let entry = Entry {
+                    row,
+                    line,
+                    bytes,
+                    given,
+                };
                 self.write(array, event.tick, entry, results);
             }
             EventOp::Cut => self.cut(array, event.tick, row, results),
