@@ -132,12 +132,8 @@ impl<const B: usize, const M: usize, const E: usize> Module<B, M, E> {
             self.old self.new (A.state array.old) (A.state array.new) results.old results.new }
     {
         let place = self.place(entry.line);
-        let here = Entry {
-            row: entry.row,
-            line: place.line,
-            bytes: entry.bytes,
-            given: entry.given,
-        };
+        let mut here = entry;
+        here.line = place.line;
         let timed = &mut self.banks[place.bank as usize];
         write_at(timed, array, tick, here, results);
         self.tick = tick;
