@@ -199,7 +199,7 @@ fn given_at<'a, const B: usize>(
     requires whole { B % 8 ≡ 0 }
     ensures gives { Gives (λ x. (x.0, cursor x.1)) result
         (field (B / 8) kind.Entry (is_given B bytes.now) (λ bits. given_from bits 0 B)
-            (cursor fields.entry)) }
+        (cursor fields.entry)) }
     ensures at { IfOk result (λ x. x.1.at ≡ fields.entry.at + B / 8) }
 {
     if fields.left.len() < B / 8 {
