@@ -1,5 +1,5 @@
 -- That the begin of a line write keeps the tie and the invariant.
-use Rattle.std.proofs.Common.{◌≡◌, ℕ, ◌<◌, ◌≤◌, ◌&&◌, not, refl, sym, ap, subst, ◌∙◌, arith, Bool, true, false, List, [], ◌∷◌, length, slice_get, Option, Some, None, is_some}
+use Rattle.std.proofs.Common.{◌≡◌, ℕ, ◌<◌, ◌≤◌, not, refl, sym, ap, subst, ◌∙◌, arith, true, false, List, [], ◌∷◌, length, slice_get, Option, Some, None, is_some}
 use Rattle.std.proofs.lemmas.Bool.{and_parts}
 use Rattle.std.specs.Prelude.{IsSomeAnd, IfSome, IsTrue}
 use Rattle.masked_bytes.specs.Masked.{laid}
@@ -7,7 +7,7 @@ use Rattle.masked_bytes.specs.Entries.{completed, head_line, head_row}
 use Rattle.masked_bytes.specs.declared.entry.Entry.{Entry}
 use Rattle.pcm_cells.specs.declared.row.Cells.{Cells}
 use Rattle.pcm_cells.specs.Device.{ArrayState, LineState}
-use Rattle.ecp_line.specs.Reading.{decode}
+use Rattle.ecp_line.specs.Reading.{decode, IsSoundLine}
 use Rattle.start_gap.specs.declared.Move.{Move}
 use Rattle.start_gap.specs.Rotation.{move_by}
 use Rattle.bank_shape.specs.declared.Work.{Work}
@@ -20,7 +20,7 @@ use Rattle.line_writer.specs.declared.writer.Progress.TheVariants as progress
 use Rattle.line_writer.specs.Writing.{IsProgress, HasBegun, Writes, steps_left, most_steps}
 use Rattle.power_recovery.specs.Slots.{bank_lines}
 use Rattle.power_recovery.specs.Kept.{KeptState, IsKept, region_at, slot_of, array_line, due_region, next_work}
-use Rattle.power_recovery.specs.Events.{is_store, is_copy, completed_kept, stored_kept}
+use Rattle.power_recovery.specs.Events.{completed_kept, stored_kept}
 use Rattle.power_recovery.proofs.Bundle.{next_work-store, next_work-copy, head-known, due_region-Some}
 use Rattle.power_recovery.proofs.Placing.{slot_of-within}
 use Rattle.power_recovery.proofs.Frames.{next_work-completed}
@@ -28,8 +28,9 @@ use Rattle.bank_shape.specs.declared.answer.Step.{Step}
 use Rattle.bank_shape.specs.declared.answer.Step.TheVariants as did
 use Rattle.bank_model.specs.Events.{Event, Begin}
 use Rattle.bank_shape.specs.declared.waiting.Waiting.{Waiting}
+use Rattle.bank_shape.specs.Kinds.{is_store, is_copy}
 use Rattle.bank_invariant.specs.State.{BankState, Operation, target_of, is_free, may_begin}
-use Rattle.bank_invariant.specs.Tied.{StandsAs, decoded, AreSound, IsOf, IsTied, IsSoundLine}
+use Rattle.bank_invariant.specs.Tied.{StandsAs, decoded, AreSound, IsOf, IsTied}
 use Rattle.bank_invariant.specs.Holds.{Holds}
 use Rattle.bank_invariant.specs.Beginning.{begun_with}
 use Rattle.bank_invariant.specs.Storing.{resting}

@@ -5,14 +5,15 @@ use Rattle.pcm_cells.specs.Device.{ArrayState}
 use Rattle.power_recovery.specs.Kept.{IsKept, target_slot}
 use Rattle.bank_model.specs.Events.{Event, Cut}
 use Rattle.bank_invariant.specs.State.{BankState, Operation}
-use Rattle.bank_invariant.specs.Tied.{IsTied, IsRunning, IsUnderWay}
+use Rattle.bank_invariant.specs.Tied.{IsTied, IsUnderWay}
 use Rattle.bank_invariant.specs.Holds.{Holds}
 use Rattle.bank_invariant.specs.Steps.{cut_off}
 use Rattle.bank_invariant.specs.Tearing.{DiffersAt}
-use Rattle.bank_invariant.proofs.Targets.{IsTargetOf, running-target, AreSound-differs, AreUntouched-differs, AreOrderly-differs, DiffersAt-tear, target-exists}
+use Rattle.bank_invariant.proofs.Targets.{AreSound-differs, AreUntouched-differs, AreOrderly-differs, DiffersAt-tear}
 use Rattle.bank_invariant.proofs.Quiet.{cut_law}
 use Rattle.bank_invariant.proofs.Tearing.{torn_law}
 use Rattle.bank_core.specs.Cutting.{IsTorn, stopped, reads_lost}
+use Rattle.bank_core.proofs.Keeping.{tied-running, tied-target, tied-exists, some_running}
 
 no-rows : (xs : List ℕ) → length xs ≡ 0 → xs ≡ []
 no-rows [] none = refl
@@ -27,16 +28,6 @@ module _ {n m e : ℕ} where
       with-lost : BankState n m e → List ℕ → BankState n m e
       with-lost b xs = record { kept = b.kept; running = None; waiting = []; lost = xs ++ map (λ w. w.row) b.waiting; rows_below = b.rows_below }
 
-  running-is : (bank : BankState n m e) (array : ArrayState n m) (op : Operation n m e)
-      → IsTied bank array → bank.running ≡ Some op → IsRunning bank.kept array bank.waiting op
-  running-is bank array op tied is = subst (λ (r : Option (Operation n m e)). IfSome r (IsRunning bank.kept array bank.waiting)) is tied.operation
-
-  target-is : (bank : BankState n m e) (array : ArrayState n m) (op : Operation n m e)
-      → IsKept bank.kept → IsTied bank array → bank.running ≡ Some op → IsTargetOf bank.kept bank.waiting op.target (target_slot bank.kept op.work)
-  target-is bank array op range tied is =
-      let run = running-is bank array op tied is in
-      running-target e bank.kept array bank.waiting op.writer.bytes op.work op.target range run.next run.target run.of
-
   -- what a tear asks for
   pub record IsTearable (op : Operation n m e) (array : ArrayState n m) : Type 0 where
     pub exists : op.target < array.lines
@@ -47,19 +38,15 @@ module _ {n m e : ℕ} where
   tearable bank view array op same range tied is =
       let there : IsTied view array = subst (λ (b : BankState n m e). IsTied b array) same tied in
       record {
-        exists = target-exists view.kept view.waiting op.target (target_slot view.kept op.work) array range there.lines (target-is view array op range there is);
-        writing = (running-is view array op there is).writing;
+        exists = tied-exists view array op range there is;
+        writing = (tied-running view array op there is).writing;
       }
-
-  some_op : (r : Option (Operation n m e)) → IsTrue (is_some r) → (op : Operation n m e) × (r ≡ Some op)
-  some_op None some = cc
-  some_op (Some op) some = (op, refl)
 
   torn-op : (bank : BankState n m e) (before after : ArrayState n m) (op : Operation n m e) → IsTied bank before → bank.running ≡ Some op
       → IfSome bank.running (λ op. IsTorn op before after) → DiffersAt e op.target before after
   torn-op bank before after op tied is torn =
       let by : IsTorn op before after = subst (λ (r : Option (Operation n m e)). IfSome r (λ op. IsTorn op before after)) is torn in
-      DiffersAt-tear e op.target op.writer before after (running-is bank before op tied is).writing by.tear by.sound by.unused
+      DiffersAt-tear e op.target op.writer before after (tied-running bank before op tied is).writing by.tear by.sound by.unused
 
   pub cut_holds : (tearing : Bool) (bank : BankState n m e) (before after : ArrayState n m)
       → (IsTrue tearing → IsTrue (is_some bank.running)) → (IsFalse tearing → after ≡ before)
@@ -68,7 +55,7 @@ module _ {n m e : ℕ} where
   cut_holds false bank before after runs quiet torn h holds =
       subst (λ (a : ArrayState n m). Holds (Cut false ∷ h) (cut_off bank) a) (sym (quiet refl)) (cut_law n m e h bank before holds)
   cut_holds true bank before after runs quiet torn h holds =
-      let some = some_op bank.running (runs refl) in
+      let some = some_running bank.running (runs refl) in
       torn_law n m e h bank before after some.0 holds some.1 (torn-op bank before after some.0 holds.tied some.1 (torn refl))
 
   quiet_tied : (bank : BankState n m e) (array : ArrayState n m) → IsTied bank array → IsTied (cut_off bank) array
@@ -87,12 +74,12 @@ module _ {n m e : ℕ} where
   cut_tied false bank before after range runs quiet torn tied =
       subst (λ (a : ArrayState n m). IsTied (cut_off bank) a) (sym (quiet refl)) (quiet_tied bank before tied)
   cut_tied true bank before after range runs quiet torn tied =
-      let some = some_op bank.running (runs refl) in
+      let some = some_running bank.running (runs refl) in
       let op = some.0 in
       let differs = torn-op bank before after op tied some.1 (torn refl) in
       record {
         lines = omega (arith, tied.lines, differs.lines);
-        sound = AreSound-differs e bank.kept bank.waiting op.target (target_slot bank.kept op.work) before after range tied.sound (target-is bank before op range tied some.1) differs;
+        sound = AreSound-differs e bank.kept bank.waiting op.target (target_slot bank.kept op.work) before after range tied.sound (tied-target bank before op range tied some.1) differs;
         unused = AreUntouched-differs e op.target _ _ before after differs tied.unused;
         orderly = AreOrderly-differs e op.target _ _ before after differs tied.orderly;
         operation = tt;

@@ -18,7 +18,7 @@ use Rattle.bank_shape.specs.declared.answer.Step.{Step}
 use Rattle.bank_shape.specs.declared.answer.Step.TheVariants as did
 use Rattle.bank_model.specs.Events.{Event, Iterate}
 use Rattle.bank_invariant.specs.State.{BankState, Operation, target_of}
-use Rattle.bank_invariant.specs.Tied.{AreSound, IsOf, IsRunning, IsUnderWay, IsTied, IsWornLine}
+use Rattle.bank_invariant.specs.Tied.{AreSound, IsOf, IsRunning, IsUnderWay, IsTied}
 use Rattle.bank_invariant.specs.Holds.{Holds}
 use Rattle.bank_invariant.specs.Tearing.{DiffersAt}
 use Rattle.bank_invariant.specs.Iterating.{going_on}
@@ -32,6 +32,7 @@ use Rattle.bank_invariant.proofs.Agreeing.{agree_law}
 use Rattle.bank_invariant.proofs.Retiring.{exhausted_law, retired_law, may_iterate, retired-count, unmarked, marked-target, AreSound-retired}
 use Rattle.bank_model.specs.After.{work_after, slot_of_work}
 use Rattle.bank_shape.specs.declared.waiting.Waiting.{Waiting}
+use Rattle.ecp_line.specs.Reading.{IsWornLine}
 use Rattle.bank_core.specs.Steps.{is_some_work}
 use Rattle.bank_core.specs.Stepping.{done_from, done_kept, step_from, left_by, IsWriterStep, IsIteration}
 
@@ -284,7 +285,7 @@ module _ {n m e : ℕ} where
   -- What a bank with a line write in progress gives
 
   -- some line write is in progress
-  some_running : (r : Option (Operation n m e)) → IsTrue (is_some r) → (op : Operation n m e) × (r ≡ Some op)
+  pub some_running : (r : Option (Operation n m e)) → IsTrue (is_some r) → (op : Operation n m e) × (r ≡ Some op)
   some_running None some = cc
   some_running (Some op) some = (op, refl)
 

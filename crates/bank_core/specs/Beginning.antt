@@ -12,7 +12,8 @@ use Rattle.power_recovery.specs.Kept.{KeptState, array_line, next_work}
 use Rattle.power_recovery.specs.Events.{completed_kept}
 use Rattle.bank_shape.specs.declared.answer.Step.{Step}
 use Rattle.bank_invariant.specs.State.{BankState, Operation, target_of}
-use Rattle.bank_invariant.specs.Tied.{decoded, IsSoundLine}
+use Rattle.bank_invariant.specs.Tied.{decoded}
+use Rattle.ecp_line.specs.Reading.{IsSoundLine}
 use Rattle.bank_core.specs.Stepping.{with_kept, step_from, left_by}
 
 module _ {n : ℕ} where

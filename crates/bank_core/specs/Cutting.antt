@@ -4,7 +4,7 @@ use Rattle.pcm_cells.specs.Device.{ArrayState}
 use Rattle.program_verify.specs.Programming.{IsTear}
 use Rattle.line_writer.specs.Untouched.{LeavesUnused}
 use Rattle.bank_invariant.specs.State.{BankState, Operation}
-use Rattle.bank_invariant.specs.Tied.{IsSoundLine}
+use Rattle.ecp_line.specs.Reading.{IsSoundLine}
 
 module _ {n m e : ℕ} where
   -- the bank with no line write in progress

@@ -17,9 +17,9 @@ use Rattle.power_recovery.specs.Events.{stored_kept, moved_kept, retired_kept, e
 use Rattle.bank_shape.specs.declared.answer.Step.{Step}
 use Rattle.bank_shape.specs.declared.answer.Step.TheVariants as did
 use Rattle.bank_invariant.specs.State.{BankState, Operation}
-use Rattle.bank_invariant.specs.Tied.{IsSoundLine, IsWornLine}
 use Rattle.bank_invariant.specs.Iterating.{going_on}
 use Rattle.bank_invariant.specs.Retiring.{ended}
+use Rattle.ecp_line.specs.Reading.{IsSoundLine, IsWornLine}
 
 module _ {n : ℕ} where
   -- the answer once a work is done: the row of the head and its array line, or the gap move

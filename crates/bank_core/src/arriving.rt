@@ -17,27 +17,22 @@ use masked_bytes::entry::Entry;
 use protected_queue::accept::Accept;
 
 impl<const B: usize, const M: usize, const E: usize> Bank<B, M, E> {
-    /// A write of a bank line arrives, with the number of its row, above those of all before it. A byte that isn't given is 0.
-    pub fn write(&mut self, row: u32, line: u32, bytes: [u8; B], given: [bool; B]) -> WriteAnswer
-        requires exists { line < bank_lines self.old.kept.shape }
-        requires rises { self.old.rows_below ≤ row }
-        requires masked { IsMasked B bytes given }
-        ensures answer { result ≡ write_from self.old line }
-        ensures bank { self.new ≡ after_write self.old (record { row = row; line = line; bytes = bytes.entry; given = given.entry }) result }
+    /// A write of a bank line arrives; the number of its row is above those of all before it.
+    pub fn write(&mut self, entry: Entry<B>) -> WriteAnswer
+        requires exists { entry.line < bank_lines self.old.kept.shape }
+        requires rises { self.old.rows_below ≤ entry.row }
+        requires masked { IsMasked B entry.bytes entry.given }
+        ensures answer { result ≡ write_from self.old entry.entry.line }
+        ensures bank { self.new ≡ after_write self.old entry.entry result }
         ensures tied { (array : ArrayState B M) → IsTied self.old array → IsTied self.new array }
-        ensures holds { (h : List (Event B)) (array : ArrayState B M) → Holds h self.old array → Holds (Write row line bytes.entry given.entry result ∷ h) self.new array }
+        ensures holds { (h : List (Event B)) (array : ArrayState B M) → Holds h self.old array
+            → Holds (Write entry.entry.row entry.entry.line entry.entry.bytes entry.entry.given result ∷ h) self.new array }
     {
-        self.rows_below = row as u64 + 1;
+        self.rows_below = entry.row as u64 + 1;
         if self.kept.exhausted() {
             return WriteAnswer::Exhausted;
         }
         let busy = self.storing();
-        let entry = Entry {
-            row,
-            line,
-            bytes,
-            given,
-        };
         answer_to(self.kept.accept(entry, busy))
     }
 

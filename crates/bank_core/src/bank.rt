@@ -61,7 +61,8 @@ impl<const B: usize, const M: usize, const E: usize> Bank<B, M, E> {
         requires layout { IsLayout B M E }
         requires limits { IsBankShape shape }
         ensures first { IfOk result (λ bank. bank ≡ first_bank shape) }
-        ensures holds { IfOk result (λ bank. (array : ArrayState B M) → IsFreshFor shape array → Holds [] bank array) }
+        ensures holds { IfOk result (λ bank. (array : ArrayState B M) → IsFreshFor shape array
+            → Holds [] bank array) }
     {
         let kept = Kept::new(alloc, shape)?;
         let waiting = HeapCircularBuffer::with_capacity(alloc, shape.reads as usize)?;
@@ -117,7 +118,8 @@ impl<const B: usize, const M: usize, const E: usize> Bank<B, M, E> {
         ensures answer { result ≡ read_from self.old line }
         ensures bank { self.new ≡ after_read self.old row line result }
         ensures tied { (array : ArrayState B M) → IsTied self.old array → IsTied self.new array }
-        ensures holds { (h : List (Event B)) (array : ArrayState B M) → Holds h self.old array → Holds (Read row line result ∷ h) self.new array }
+        ensures holds { (h : List (Event B)) (array : ArrayState B M) → Holds h self.old array
+            → Holds (Read row line result ∷ h) self.new array }
     {
         let (kept, given) = self.kept.newest(line);
         self.rows_below = row as u64 + 1;
@@ -141,7 +143,8 @@ impl<const B: usize, const M: usize, const E: usize> Bank<B, M, E> {
         ensures row { result ≡ slice_get self.old.lost 0 }
         ensures bank { self.new ≡ lost_taken self.old }
         ensures tied { (array : ArrayState B M) → IsTied self.old array → IsTied self.new array }
-        ensures holds { (h : List (Event B)) (array : ArrayState B M) → Holds h self.old array → Holds h self.new array }
+        ensures holds { (h : List (Event B)) (array : ArrayState B M) → Holds h self.old array
+            → Holds h self.new array }
     {
         self.lost.pop_front()
     }

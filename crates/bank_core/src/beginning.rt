@@ -10,7 +10,8 @@ ghost use Rattle.power_recovery.specs.Kept.{array_line, next_work};
 ghost use Rattle.bank_model.specs.Events.{Event, Begin};
 ghost use Rattle.bank_model.specs.Touching.{Touches};
 ghost use Rattle.bank_invariant.specs.State.{may_begin, is_free, target_of};
-ghost use Rattle.bank_invariant.specs.Tied.{IsTied, IsSoundLine};
+ghost use Rattle.ecp_line.specs.Reading.{IsSoundLine};
+ghost use Rattle.bank_invariant.specs.Tied.{IsTied};
 ghost use Rattle.bank_invariant.specs.Holds.{Holds};
 ghost use Rattle.bank_invariant.specs.Beginning.{lines_sensed};
 ghost use Rattle.bank_core.specs.Running.{running_of};
@@ -66,9 +67,11 @@ impl<const B: usize, const M: usize, const E: usize> Bank<B, M, E> {
         requires ready { IsTrue (may_begin self.old) }
         requires tied { IsTied self.old (A.state array.old) }
         ensures begins { IsBegin self.old self.new result (A.state array.old) (A.state array.new) }
-        ensures touches { Touches tick (lines_sensed self.old.kept (next_work self.old.kept)) None false (A.state array.old) (A.state array.new) }
+        ensures touches { Touches tick (lines_sensed self.old.kept (next_work self.old.kept)) None false
+            (A.state array.old) (A.state array.new) }
         ensures tied { IsTied self.new (A.state array.new) }
-        ensures holds { (h : List (Event B)) → Holds h self.old (A.state array.old) → Holds (Begin result ∷ h) self.new (A.state array.new) }
+        ensures holds { (h : List (Event B)) → Holds h self.old (A.state array.old)
+            → Holds (Begin result ∷ h) self.new (A.state array.new) }
     {
         self.begin_next(array, tick)
     }
@@ -78,7 +81,8 @@ impl<const B: usize, const M: usize, const E: usize> Bank<B, M, E> {
         requires ready { IsTrue (may_begin self.old) }
         requires tied { IsTied self.old (A.state array.old) }
         ensures begins { IsBegin self.old self.new result (A.state array.old) (A.state array.new) }
-        ensures touches { Touches tick (lines_sensed self.old.kept (next_work self.old.kept)) None false (A.state array.old) (A.state array.new) }
+        ensures touches { Touches tick (lines_sensed self.old.kept (next_work self.old.kept)) None false
+            (A.state array.old) (A.state array.new) }
     {
         match self.kept.next_work() {
             Work::Nothing => unreachable!(),
@@ -99,7 +103,8 @@ impl<const B: usize, const M: usize, const E: usize> Bank<B, M, E> {
         requires next { next_work self.old.kept ≡ Store line slot }
         requires tied { IsTied self.old (A.state array.old) }
         ensures begins { IsBegin self.old self.new result (A.state array.old) (A.state array.new) }
-        ensures touches { Touches tick (lines_sensed self.old.kept (Store line slot)) None false (A.state array.old) (A.state array.new) }
+        ensures touches { Touches tick (lines_sensed self.old.kept (Store line slot)) None false
+            (A.state array.old) (A.state array.new) }
     {
         let target = self.kept.array_line(slot);
         let seen = array.sense(target, tick);
@@ -118,7 +123,8 @@ impl<const B: usize, const M: usize, const E: usize> Bank<B, M, E> {
         requires next { next_work self.old.kept ≡ Copy region step }
         requires tied { IsTied self.old (A.state array.old) }
         ensures begins { IsBegin self.old self.new result (A.state array.old) (A.state array.new) }
-        ensures touches { Touches tick (lines_sensed self.old.kept (Copy region step)) None false (A.state array.old) (A.state array.new) }
+        ensures touches { Touches tick (lines_sensed self.old.kept (Copy region step)) None false
+            (A.state array.old) (A.state array.new) }
     {
         let source = self
             .kept
@@ -138,7 +144,8 @@ impl<const B: usize, const M: usize, const E: usize> Bank<B, M, E> {
         requires next { next_work self.old.kept ≡ Store line slot }
         requires place { target ≡ array_line self.old.kept slot }
         requires sound { IsOfSoundLine E seen }
-        ensures { (old new : ArrayState B M) → (old.line target).held ≡ seen.entry → IsSoundLine E (old.line target) → new.line target ≡ old.line target
+        ensures { (old new : ArrayState B M) → (old.line target).held ≡ seen.entry
+            → IsSoundLine E (old.line target) → new.line target ≡ old.line target
             → IsBegin self.old self.new result old new }
     {
         let under = Ecp::<B, M, E>::decode(&seen);
@@ -178,8 +185,11 @@ impl<const B: usize, const M: usize, const E: usize> Bank<B, M, E> {
         requires next { next_work self.old.kept ≡ Copy region step }
         requires place { target ≡ target_of self.old.kept (Copy region step) }
         requires sound { IsOfSoundLine E seen }
-        ensures { (old new : ArrayState B M) → (old.line (array_line self.old.kept (slot_at self.old.kept.shape region step.from))).held ≡ copied.entry
-            → (old.line target).held ≡ seen.entry → IsSoundLine E (old.line target) → new.line target ≡ old.line target → IsBegin self.old self.new result old new }
+        ensures { (old new : ArrayState B M)
+            → (old.line (array_line self.old.kept (slot_at self.old.kept.shape region step.from))).held
+            ≡ copied.entry
+            → (old.line target).held ≡ seen.entry → IsSoundLine E (old.line target)
+            → new.line target ≡ old.line target → IsBegin self.old self.new result old new }
     {
         let bytes = Ecp::<B, M, E>::decode(&copied);
         let writer = LineWriter::begin(seen, bytes);
@@ -197,8 +207,10 @@ impl<const B: usize, const M: usize, const E: usize> Bank<B, M, E> {
         requires some { IsTrue (is_some_work running.work) }
         requires next { running.work ≡ next_work self.old.kept }
         requires begun { HasBegun running.writer.progress }
-        ensures answer { result ≡ step_from self.old.kept (running_of running.entry) running.entry.writer.progress }
-        ensures bank { self.new ≡ left_by self.old (running_of running.entry) (running_of running.entry) running.entry.writer.progress }
+        ensures answer { result ≡ step_from self.old.kept (running_of running.entry)
+            running.entry.writer.progress }
+        ensures bank { self.new ≡ left_by self.old (running_of running.entry) (running_of running.entry)
+            running.entry.writer.progress }
     {
         match running.writer.status() {
             Progress::More => {

@@ -19,10 +19,13 @@ impl<const B: usize, const M: usize, const E: usize> Bank<B, M, E> {
         requires tied { IsTied self.old (A.state array.old) }
         ensures bank { self.new ≡ cut_off self.old }
         ensures quiet { IsFalse tearing → A.state array.new ≡ A.state array.old }
-        ensures torn { IsTrue tearing → IfSome self.old.running (λ op. IsTorn op (A.state array.old) (A.state array.new)) }
-        ensures touches { Touches tick [] (torn_line tearing self.old.running) tearing (A.state array.old) (A.state array.new) }
+        ensures torn { IsTrue tearing
+            → IfSome self.old.running (λ op. IsTorn op (A.state array.old) (A.state array.new)) }
+        ensures touches { Touches tick [] (torn_line tearing self.old.running) tearing
+            (A.state array.old) (A.state array.new) }
         ensures tied { IsTied self.new (A.state array.new) }
-        ensures holds { (h : List (Event B)) → Holds h self.old (A.state array.old) → Holds (Cut tearing ∷ h) self.new (A.state array.new) }
+        ensures holds { (h : List (Event B)) → Holds h self.old (A.state array.old)
+            → Holds (Cut tearing ∷ h) self.new (A.state array.new) }
     {
         self.stop(array, tearing, tick);
         self.lose_reads();
@@ -36,7 +39,8 @@ impl<const B: usize, const M: usize, const E: usize> Bank<B, M, E> {
         ensures in_range { IsKept self.old.kept }
         ensures room { length self.old.waiting ≤ self.old.kept.shape.reads }
         ensures quiet { IsFalse tearing → A.state array.new ≡ A.state array.old }
-        ensures torn { IsTrue tearing → IfSome self.old.running (λ op. IsTorn op (A.state array.old) (A.state array.new)) }
+        ensures torn { IsTrue tearing
+            → IfSome self.old.running (λ op. IsTorn op (A.state array.old) (A.state array.new)) }
     {
         if let Some(running) = self.running.take() {
             if tearing {

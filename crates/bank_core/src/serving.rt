@@ -17,11 +17,14 @@ impl<const B: usize, const M: usize, const E: usize> Bank<B, M, E> {
     pub fn serve<A: CellArray<B, M>>(&mut self, array: &mut A, tick: u64) -> Served<B>
         requires waits { 0 < length self.old.waiting }
         requires tied { IsTied self.old (A.state array.old) }
-        ensures answer { IfSome (slice_get self.old.waiting 0) (λ w. result ≡ served_from self.old (A.state array.old) w) }
+        ensures answer { IfSome (slice_get self.old.waiting 0)
+            (λ w. result ≡ served_from self.old (A.state array.old) w) }
         ensures bank { self.new ≡ served self.old }
-        ensures touches { Touches tick (result.place ∷ []) None false (A.state array.old) (A.state array.new) }
+        ensures touches { Touches tick (result.place ∷ []) None false
+            (A.state array.old) (A.state array.new) }
         ensures tied { IsTied self.new (A.state array.new) }
-        ensures holds { (h : List (Event B)) → Holds h self.old (A.state array.old) → Holds (Serve result ∷ h) self.new (A.state array.new) }
+        ensures holds { (h : List (Event B)) → Holds h self.old (A.state array.old)
+            → Holds (Serve result ∷ h) self.new (A.state array.new) }
     {
         let Some(read) = self.waiting.pop_front() else {
             unreachable!()

@@ -27,7 +27,8 @@ impl<const B: usize, const M: usize, const E: usize> Running<B, M, E> {
         requires more { self.old.writer.progress ≡ Progress.More }
         requires writes { Writes self.old.writer ((A.state array.old).line self.old.target) }
         ensures is { result ≡ self.new.writer.progress }
-        ensures step { IsWriterStep tick (running_of self.old) (running_of self.new) (A.state array.old) (A.state array.new) }
+        ensures step { IsWriterStep tick (running_of self.old) (running_of self.new)
+            (A.state array.old) (A.state array.new) }
     {
         self.writer.step(array, self.target, tick)
     }
@@ -38,10 +39,14 @@ impl<const B: usize, const M: usize, const E: usize> Bank<B, M, E> {
     pub fn iterate<A: CellArray<B, M>>(&mut self, array: &mut A, tick: u64) -> Step
         requires runs { IsTrue (is_some self.old.running) }
         requires tied { IsTied self.old (A.state array.old) }
-        ensures step { IfSome self.old.running (λ op. IsIteration tick op self.old self.new result (A.state array.old) (A.state array.new)) }
-        ensures touches { IfSome self.old.running (λ op. Touches tick (op.target ∷ []) (Some op.target) false (A.state array.old) (A.state array.new)) }
+        ensures step { IfSome self.old.running (λ op. IsIteration tick op self.old self.new result
+            (A.state array.old) (A.state array.new)) }
+        ensures touches { IfSome self.old.running
+            (λ op. Touches tick (op.target ∷ []) (Some op.target) false
+            (A.state array.old) (A.state array.new)) }
         ensures tied { IsTied self.new (A.state array.new) }
-        ensures holds { (h : List (Event B)) → Holds h self.old (A.state array.old) → Holds (Iterate result ∷ h) self.new (A.state array.new) }
+        ensures holds { (h : List (Event B)) → Holds h self.old (A.state array.old)
+            → Holds (Iterate result ∷ h) self.new (A.state array.new) }
     {
         self.advance(array, tick)
     }
@@ -51,7 +56,8 @@ impl<const B: usize, const M: usize, const E: usize> Bank<B, M, E> {
         requires runs { IsTrue (is_some self.old.running) }
         requires tied { IsTied self.old (A.state array.old) }
         ensures in_range { IsKept self.old.kept }
-        ensures step { IfSome self.old.running (λ op. IsIteration tick op self.old self.new result (A.state array.old) (A.state array.new)) }
+        ensures step { IfSome self.old.running (λ op. IsIteration tick op self.old self.new result
+            (A.state array.old) (A.state array.new)) }
     {
         let Some(running) = &mut self.running else {
             unreachable!();

@@ -1,5 +1,5 @@
 -- What follows from a bank's kept state is what follows from its history.
-use Rattle.std.proofs.Common.{◌≡◌, ◌≢◌, ℕ, ◌+◌, ◌*◌, ◌/◌, ◌<◌, ◌≤◌, ◌==◌, ◌&&◌, ◌||◌, nat_le, not, cond, inl, inr, refl, sym, ap, subst, ◌∙◌, arith, Bool, true, false, List, [], ◌∷◌, map, Option, Some, None, is_some, IfSome}
+use Rattle.std.proofs.Common.{◌≡◌, ◌≢◌, ℕ, ◌+◌, ◌*◌, ◌/◌, ◌<◌, ◌≤◌, ◌==◌, ◌&&◌, ◌||◌, nat_le, not, cond, inl, inr, refl, sym, ap, subst, ◌∙◌, arith, true, false, List, [], ◌∷◌, map, Option, Some, None, is_some, IfSome}
 use Rattle.std.specs.List.{list_any}
 use Rattle.std.proofs.lemmas.Bool.{cases_eq, le-leb, lt-leb}
 use Rattle.std.proofs.lemmas.Nat.{div_below}
@@ -9,59 +9,22 @@ use Rattle.pcm_cells.specs.Device.{ArrayState}
 use Rattle.start_gap.specs.Rotation.{move_after}
 use Rattle.start_gap.proofs.Turning.{move-stands}
 use Rattle.spare_pool.specs.Table.{line_by}
-use Rattle.bank_shape.specs.declared.BankShape.{BankShape}
 use Rattle.bank_shape.specs.declared.Work.{Work}
 use Rattle.bank_shape.specs.declared.Work.TheVariants.{Nothing, Store, Copy}
 use Rattle.power_recovery.specs.Kept.{AllBelow, region_at, slot_of, array_line, stands_at, due_region, due_work, next_work, target_slot}
-use Rattle.power_recovery.specs.Events.{is_store}
 use Rattle.power_recovery.proofs.Placing.{region-exists, slot_of-after}
 use Rattle.power_recovery.proofs.Bundle.{due_region-Some, due_region-is, due_region-None}
-use Rattle.bank_shape.specs.declared.answer.Step.TheVariants as did
-use Rattle.bank_model.specs.Events.{Event, Write, Read, Serve, Begin, Iterate, Cut, line_of_row}
+use Rattle.bank_shape.specs.Kinds.{is_store}
+use Rattle.bank_model.specs.Events.{Event}
 use Rattle.bank_model.specs.History.{Awaited, queue, waits, in_progress, stores, moved_in, stored_in, due_after, has_exhausted, first_or}
 use Rattle.bank_model.specs.After as after
 use Rattle.bank_model.specs.After.{slot_after, array_line_after, stands_at_after, work_after, slot_of_work, target_after, is_ready, may_begin_after}
-use Rattle.bank_model.specs.Answers.{MayAll, head_busy_after}
+use Rattle.bank_model.specs.Answers.{head_busy_after}
+use Rattle.bank_model.proofs.Within.{last_store-known}
 use Rattle.bank_invariant.specs.State.{BankState, Operation, target_of, is_free, may_begin, is_storing}
 use Rattle.bank_invariant.specs.Tied.{IsRunning}
 use Rattle.bank_invariant.specs.Holds.{Holds, waiting_of}
 use Rattle.bank_invariant.specs.Bridge.{AgreeLaw}
-
--- Stored lines
-
-module _ {n : ℕ} (shape : BankShape) (most : ℕ) (some : 0 < shape.regions * shape.lines) where
-  -- each write is of a line of the bank
-  pub line_of_row-known : (h : List (Event n)) (row : ℕ) → MayAll shape most h → line_of_row row h < shape.regions * shape.lines
-  line_of_row-known [] row may = some
-  line_of_row-known (Write at line bytes given answer ∷ h) row may =
-      by (at == row) may.0.0 (line_of_row-known h row may.1)
-    where
-      by : (b : Bool) → line < shape.regions * shape.lines → line_of_row row h < shape.regions * shape.lines → cond b line (line_of_row row h) < shape.regions * shape.lines
-      by true own older = own
-      by false own older = older
-  line_of_row-known (Read at line answer ∷ h) row may = line_of_row-known h row may.1
-  line_of_row-known (Serve answer ∷ h) row may = line_of_row-known h row may.1
-  line_of_row-known (Begin answer ∷ h) row may = line_of_row-known h row may.1
-  line_of_row-known (Iterate answer ∷ h) row may = line_of_row-known h row may.1
-  line_of_row-known (Cut tearing ∷ h) row may = line_of_row-known h row may.1
-
-  -- and so is each store
-  pub last_store-known : (h : List (Event n)) → MayAll shape most h → first_or 0 (stores h) < shape.regions * shape.lines
-  last_store-known [] may = some
-  last_store-known (Write at line bytes given answer ∷ h) may = last_store-known h may.1
-  last_store-known (Read at line answer ∷ h) may = last_store-known h may.1
-  last_store-known (Serve answer ∷ h) may = last_store-known h may.1
-  last_store-known (Begin (did.Stored row place) ∷ h) may = line_of_row-known h row may.1
-  last_store-known (Begin did.More ∷ h) may = last_store-known h may.1
-  last_store-known (Begin (did.Moved step) ∷ h) may = last_store-known h may.1
-  last_store-known (Begin (did.Retired slot line) ∷ h) may = last_store-known h may.1
-  last_store-known (Begin did.Exhausted ∷ h) may = last_store-known h may.1
-  last_store-known (Iterate (did.Stored row place) ∷ h) may = line_of_row-known h row may.1
-  last_store-known (Iterate did.More ∷ h) may = last_store-known h may.1
-  last_store-known (Iterate (did.Moved step) ∷ h) may = last_store-known h may.1
-  last_store-known (Iterate (did.Retired slot line) ∷ h) may = last_store-known h may.1
-  last_store-known (Iterate did.Exhausted ∷ h) may = last_store-known h may.1
-  last_store-known (Cut tearing ∷ h) may = last_store-known h may.1
 
 -- Counters
 
@@ -73,11 +36,6 @@ counter-not_due : (psi counter moved stored : ℕ) → counter + psi * moved ≡
 counter-not_due psi counter moved stored e few ne = lt-leb (psi * (moved + 1)) stored (omega (arith, e, few, ne))
 
 -- Works
-
-same_store : (work : Work) → is_store work ≡ after.is_store work
-same_store Nothing = refl
-same_store (Store line slot) = refl
-same_store (Copy region step) = refl
 
 any_waiting : (n line : ℕ) (ws : List Awaited) → list_any (λ w. w.line == line) (map (waiting_of {n = n}) ws) ≡ list_any (λ w. w.line == line) ws
 any_waiting n line [] = refl
@@ -186,7 +144,7 @@ module _ {n m e : ℕ} (h : List (Event n)) (bank : BankState n m e) (array : Ar
   agree_storing =
       storing_by bank.running holds.tied.operation
       ∙ ap (λ b. b && is_store (next_work bank.kept)) holds.running
-      ∙ ap (λ b. in_progress h && b) (same_store (next_work bank.kept) ∙ ap (λ work. after.is_store work) agree_work)
+      ∙ ap (λ b. in_progress h && b) (ap (λ work. is_store work) agree_work)
 
   agree_ready : may_begin bank ≡ may_begin_after bank.kept.shape h
   agree_ready =

@@ -1,7 +1,7 @@
 -- A head that isn't complete is the only entry of its line: entries of one line merge, except into a head that is being stored, and
 -- such a head is complete.
-use Rattle.std.proofs.Common.{◌≡◌, ℕ, ◌==◌, ◌&&◌, not, if◌then◌else◌, inl, inr, ◌⊎◌, Bool, true, false, List, [], ◌∷◌, ◌++◌, drop, Option, Some, None, refl, sym, ap, ◌∙◌, eqb-true, eq-eqb}
-use Rattle.masked_bytes.proofs.Truth.{and_first, and_second}
+use Rattle.std.proofs.Common.{◌≡◌, ℕ, ◌==◌, ◌&&◌, not, if◌then◌else◌, inl, inr, ◌⊎◌, Bool, true, false, List, [], ◌∷◌, ◌++◌, drop, Option, Some, None, refl, ap, ◌∙◌}
+use Rattle.masked_bytes.proofs.Truth.{and_first, and_second, differ_sym}
 use Rattle.std.specs.Prelude.{IsTrue}
 use Rattle.masked_bytes.specs.Masked.{joined, gives_all, all_given, IsMasked}
 use Rattle.masked_bytes.specs.Entries.{or_this, newest_row, candidate, laid_on, merged, no_layer, layer_of}
@@ -12,9 +12,10 @@ use Rattle.bank_shape.specs.declared.answer.WriteAnswer.TheVariants as wrote
 use Rattle.bank_shape.specs.declared.answer.Step.TheVariants as did
 use Rattle.bank_model.specs.Events.{Event, Write, Read, Serve, Begin, Iterate, Cut, newest}
 use Rattle.bank_model.specs.History.{Awaited, queue, waits, begun, due_after, has_exhausted, in_progress}
-use Rattle.bank_model.specs.After.{due_work, work_after, is_ready, is_store}
+use Rattle.bank_model.specs.After.{due_work, work_after, is_ready}
 use Rattle.bank_model.specs.Answers.{MayAll, head_busy_after}
 use Rattle.bank_shape.specs.declared.Work.TheVariants.{Nothing}
+use Rattle.bank_shape.specs.Kinds.{is_store}
 use Rattle.bank_invariant.proofs.Taking.{answer_accepted}
 
 -- a head that doesn't give each byte of its line is the only entry of its line
@@ -43,13 +44,6 @@ absent : (b : Bool) (row : ℕ) → b ≡ false → (if b then Some row else Non
 absent true row h = cc
 absent false row h = refl
 
-turned : (a b : ℕ) → (a == b) ≡ false → (b == a) ≡ false
-turned a b h = by (b == a) (eqb-true b a)
-  where
-    by : (t : Bool) → (t ≡ true → b ≡ a) → t ≡ false
-    by false f = refl
-    by true f = let same : (a == b) ≡ true = eq-eqb a b (sym (f refl)) in cc
-
 module _ {n : ℕ} where
   -- no two of these entries are of one line
   abbrev LinesApart : List (Entry n) → Type 0
@@ -77,7 +71,7 @@ module _ {n : ℕ} where
   LinesApart-append : (es : List (Entry n)) (x : Entry n) → LinesApart es → newest_row es x.line ≡ None → LinesApart (es ++ x ∷ [])
   LinesApart-append [] x apart none = (refl, tt)
   LinesApart-append (e ∷ es) x apart none = (
-    row-append es x e.line apart.0 (turned e.line x.line (not_there (e.line == x.line) e.row (neither_other (newest_row es x.line) _ none))),
+    row-append es x e.line apart.0 (differ_sym e.line x.line (not_there (e.line == x.line) e.row (neither_other (newest_row es x.line) _ none))),
     LinesApart-append es x apart.1 (neither_first (newest_row es x.line) _ none),
   )
 
@@ -91,7 +85,7 @@ module _ {n : ℕ} where
       by true none whole apart = inl (whole refl)
       by false none whole (inl all) = inl all
       by false none whole (inr alone) =
-          inr (row-append es x e.line alone (turned e.line x.line (not_there (e.line == x.line) e.row (neither_other (newest_row es x.line) _ none))))
+          inr (row-append es x e.line alone (differ_sym e.line x.line (not_there (e.line == x.line) e.row (neither_other (newest_row es x.line) _ none))))
 
   IsComplete-append : (es : List (Entry n)) (x : Entry n) → IsComplete es → IsComplete (es ++ x ∷ [])
   IsComplete-append [] x whole = absurd whole

@@ -2,7 +2,7 @@
 use Rattle.std.proofs.Common.{◌≡◌, ◌≢◌, ℕ, ◌+◌, ◌*◌, ◌<◌, ◌≤◌, ◌==◌, cond, refl, sym, ap, subst, ◌∙◌, arith, Bool, true, false, List, [], ◌∷◌, ◌++◌, map, length, drop, get_or, slice_get, length-append, eq-eqb, Option, Some, None, IfSome, IsTrue}
 use Rattle.std.specs.Prelude.{IsSomeAnd, All}
 use Rattle.std.proofs.lemmas.Bool.{eqb-false}
-use Rattle.std.proofs.lemmas.List.{length-replicate, map_push, length-map, drop-map}
+use Rattle.std.proofs.lemmas.List.{map_push, length-map, drop-map}
 use Rattle.std.proofs.lemmas.List.Elements.{All-push, All-drop}
 use Rattle.masked_bytes.specs.Masked.{laid, gives_all}
 use Rattle.masked_bytes.specs.Entries.{Layer, layer_of, AllMasked}
@@ -11,7 +11,7 @@ use Rattle.masked_bytes.proofs.Layering.{length-laid, laid-all_given, joined-all
 use Rattle.masked_bytes.proofs.Queueing.{IsLayer-layer_of}
 use Rattle.pcm_cells.specs.declared.array.Sense.{Sense}
 use Rattle.pcm_cells.specs.Device.{ArrayState, LineState, Senses}
-use Rattle.ecp_line.specs.Reading.{decode}
+use Rattle.ecp_line.specs.Reading.{decode, IsSoundLine, IsWornLine}
 use Rattle.line_writer.specs.Orderly.{IsLive}
 use Rattle.line_writer.proofs.Untouched.{AreUntouched-same}
 use Rattle.line_writer.proofs.Orderly.{AreOrderly-same}
@@ -30,7 +30,7 @@ use Rattle.bank_model.specs.Answers.{MayAll, IsServed}
 use Rattle.bank_model.specs.Touching.{Touches}
 use Rattle.bank_shape.specs.declared.waiting.Waiting.{Waiting}
 use Rattle.bank_invariant.specs.State.{BankState, Operation}
-use Rattle.bank_invariant.specs.Tied.{StandsAs, decoded, IsSoundLine, IsWornLine, IsUnderWay, IsOf, IsRunning, AreSound, AreTied}
+use Rattle.bank_invariant.specs.Tied.{StandsAs, decoded, IsUnderWay, IsOf, IsRunning, AreSound, AreTied}
 use Rattle.bank_invariant.specs.Holds.{Holds, waiting_of}
 use Rattle.bank_invariant.specs.Serving.{kept_with, served_from, WaitingLaw, SensedLaw, MayReadLaw, MayServeLaw, ServedLaw}
 use Rattle.bank_invariant.proofs.Quiet.{RowsBelow-more}

@@ -10,6 +10,7 @@ use Rattle.masked_bytes.proofs.Layering.{laid-all_given, all_given-gives_all}
 use Rattle.masked_bytes.proofs.Standing.{layer_of-head, layer_of-head_other}
 use Rattle.pcm_cells.specs.Device.{ArrayState, LineState}
 use Rattle.ecp_line.specs.Reading.{decode}
+use Rattle.ecp_line.proofs.Bytes.{length-decode}
 use Rattle.region_regs.specs.Region.{RegionState, after_store}
 use Rattle.line_writer.specs.Writing.{steps_left, most_steps}
 use Rattle.bank_shape.specs.declared.Work.{Work}
@@ -17,11 +18,12 @@ use Rattle.bank_shape.specs.declared.Work.TheVariants.{Nothing, Store, Copy}
 use Rattle.bank_shape.specs.Shape.{slots_of}
 use Rattle.power_recovery.specs.Slots.{bank_lines}
 use Rattle.power_recovery.specs.Kept.{KeptState, no_region, region_at, slot_of, array_line, stands_at, due_region, due_work, next_work, target_slot}
-use Rattle.power_recovery.specs.Events.{is_store, with_entries, with_regions, completed_kept, stored_kept}
+use Rattle.power_recovery.specs.Events.{with_entries, with_regions, completed_kept, stored_kept}
 use Rattle.power_recovery.proofs.Frames.{slot_of-stored}
 use Rattle.power_recovery.proofs.Placing.{slot_of-within, slot_of-apart}
 use Rattle.power_recovery.proofs.Bundle.{next_work-store, none_due, head-known, head_region-exists, IsKept-stored}
 use Rattle.bank_shape.specs.declared.answer.Step.TheVariants as did
+use Rattle.bank_shape.specs.Kinds.{is_store}
 use Rattle.bank_model.specs.Events.{Event, Begin, newest, line_of_row}
 use Rattle.bank_model.specs.History.{Awaited, waits, iterated, stored_in, moved_in}
 use Rattle.bank_model.specs.After.{work_after}
@@ -31,7 +33,7 @@ use Rattle.bank_invariant.specs.Tied.{decoded, AreSound, IsOf}
 use Rattle.bank_invariant.specs.Holds.{Holds, IsRegionAfter, stands_for}
 use Rattle.bank_invariant.specs.Tearing.{DiffersAt}
 use Rattle.bank_invariant.specs.Storing.{StoredLaw, BegunStoredLaw, resting}
-use Rattle.bank_invariant.proofs.Targets.{length-decode, next_store-slot, decoded-other, AreSound-differs, AreUntouched-differs, AreOrderly-differs}
+use Rattle.bank_invariant.proofs.Targets.{next_store-slot, decoded-other, AreSound-differs, AreUntouched-differs, AreOrderly-differs}
 use Rattle.bank_invariant.proofs.Tearing.{running_of, target_of_running, in_progress_of}
 use Rattle.bank_invariant.proofs.Iterating.{under_way-steps, served-differs}
 use Rattle.bank_invariant.proofs.Agreeing.{agree_law}

@@ -21,12 +21,14 @@ use Rattle.power_recovery.proofs.Frames.{array_line-retired}
 use Rattle.bank_model.specs.Events.{Event}
 use Rattle.bank_model.specs.History.{Awaited, waits, iterated, retired}
 use Rattle.bank_shape.specs.declared.waiting.Waiting.{Waiting}
+use Rattle.ecp_line.specs.Reading.{IsSoundLine, IsWornLine}
+use Rattle.ecp_line.proofs.Bytes.{length-decode}
 use Rattle.bank_invariant.specs.State.{BankState, Operation, target_of}
-use Rattle.bank_invariant.specs.Tied.{decoded, AreSound, IsSoundLine, IsWornLine}
+use Rattle.bank_invariant.specs.Tied.{decoded, AreSound}
 use Rattle.bank_invariant.specs.Holds.{Holds, stands_for}
 use Rattle.bank_invariant.specs.Tearing.{DiffersAt}
 use Rattle.bank_invariant.specs.Retiring.{ExhaustedLaw, RetiredLaw}
-use Rattle.bank_invariant.proofs.Targets.{IsTargetOf, laid-whole, length-decode, decoded-off, stands_for-differs, AreSound-differs, AreUntouched-differs, AreOrderly-differs}
+use Rattle.bank_invariant.proofs.Targets.{IsTargetOf, laid-whole, decoded-off, stands_for-differs, AreSound-differs, AreUntouched-differs, AreOrderly-differs}
 use Rattle.bank_invariant.proofs.Tearing.{running_of, target_of_running, in_progress_of, not_exhausted_of}
 use Rattle.bank_invariant.proofs.Iterating.{under_way-steps, waits-off, served-differs}
 

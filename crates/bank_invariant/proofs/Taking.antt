@@ -1,11 +1,8 @@
 -- Every answer to a write keeps the invariant.
-use Rattle.std.proofs.Common.{◌≡◌, ◌≢◌, ℕ, zero, suc, ◌+◌, ◌<◌, ◌==◌, Bool, true, false, if◌then◌else◌, nat_lt, List, [], ◌∷◌, ◌++◌, length, slice_get, Option, Some, None, IfSome, IsSomeAnd, refl, sym, subst, ap, ◌∙◌, arith, eqb-true}
+use Rattle.std.proofs.Common.{◌≡◌, ◌≢◌, ℕ, ◌+◌, ◌<◌, ◌==◌, Bool, true, false, if◌then◌else◌, nat_lt, List, [], ◌∷◌, ◌++◌, length, slice_get, Option, Some, None, IfSome, IsSomeAnd, refl, sym, subst, ap, ◌∙◌, arith, eqb-true}
 use Rattle.std.proofs.lemmas.Bool.{eqb-false, lt-ltb}
-use Rattle.pcm_cells.specs.declared.row.Cells.{Cells}
-use Rattle.pcm_cells.specs.Rows.{cell}
 use Rattle.pcm_cells.specs.Device.{ArrayState}
-use Rattle.ecp_line.specs.Layout as layout
-use Rattle.ecp_line.specs.Reading.{decode, bytes_from}
+use Rattle.ecp_line.proofs.Bytes.{length-decode}
 use Rattle.masked_bytes.specs.Masked.{laid, IsMasked}
 use Rattle.masked_bytes.specs.Entries.{Layer, stacked, layer_of, candidate, candidate_place, newest_place, merged, merged_at, row_at, RowsApart, AllMasked}
 use Rattle.masked_bytes.specs.declared.entry.Entry.{Entry}
@@ -17,7 +14,7 @@ use Rattle.bank_shape.specs.declared.BankShape.{BankShape}
 use Rattle.bank_shape.specs.declared.Work.{Work}
 use Rattle.bank_shape.specs.declared.Work.TheVariants.{Nothing, Store, Copy}
 use Rattle.power_recovery.specs.Kept.{KeptState, next_work, stands_at}
-use Rattle.power_recovery.specs.Events.{is_store, is_copy, accepted_kept}
+use Rattle.power_recovery.specs.Events.{accepted_kept}
 use Rattle.power_recovery.proofs.Frames.{head-accepted_busy, next_work-accepted, next_work-due}
 use Rattle.power_recovery.proofs.Bundle.{IsKept-accepted, next_work-store, next_work-copy}
 use Rattle.bank_shape.specs.declared.answer.WriteAnswer.TheVariants as wrote
@@ -25,6 +22,7 @@ use Rattle.bank_model.specs.Events.{Event, Write, newest}
 use Rattle.bank_model.specs.History.{queue, has_exhausted}
 use Rattle.bank_model.specs.Answers.{accept_answer, head_busy_after}
 use Rattle.bank_shape.specs.declared.waiting.Waiting.{Waiting}
+use Rattle.bank_shape.specs.Kinds.{is_store, is_copy}
 use Rattle.bank_invariant.specs.State.{Operation, target_of, is_storing}
 use Rattle.bank_invariant.specs.Tied.{decoded, IsOf, IsRunning, AreTied}
 use Rattle.bank_invariant.specs.Writes.{FullLaw, ExhaustedWriteLaw, AcceptedLaw, MergedLaw}
@@ -64,17 +62,6 @@ answer_merged shape h false None old e = by (length (queue shape h) == shape.wri
     by : (full : Bool) → wrote.Merged old ≡ (if full then wrote.Full else wrote.Accepted) → (false ≡ false) × (None ≡ Some old)
     by true e = absurd cc
     by false e = absurd cc
-
--- Bytes
-
-length-bytes_from : (bit : ℕ → Bool) (k n : ℕ) → length (bytes_from bit k n) ≡ n
-length-bytes_from bit k zero = refl
-length-bytes_from bit k (suc n) = let rest = length-bytes_from bit (k + 1) n in omega arith
-
--- a line is read as n bytes
-length-decode : {n m : ℕ} (e : ℕ) (row : Cells n m) → length (decode e row) ≡ n
-unfolding decode
-length-decode {n} e row = length-bytes_from (layout.decoded n e (cell row)) 0 n
 
 -- a write of a line lies over its entries, and leaves those of the others
 record LiesOver {n : ℕ} (line : ℕ) (bytes : List ℕ) (given : List Bool) (es after : List (Entry n)) : Type 0 where

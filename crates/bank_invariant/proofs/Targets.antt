@@ -1,5 +1,5 @@
 -- What stays while an array differs at most at the line that is being written, and that line is sound.
-use Rattle.std.proofs.Common.{◌≡◌, ◌≢◌, ℕ, ◌+◌, ◌<◌, ◌≤◌, inl, inr, Bool, true, false, cond, List, [], ◌∷◌, zero, suc, length, slice_get, get_or, Option, Some, None, refl, sym, ap, subst, ◌∙◌, arith}
+use Rattle.std.proofs.Common.{◌≡◌, ◌≢◌, ℕ, ◌+◌, ◌<◌, ◌≤◌, inl, inr, Bool, true, false, cond, List, [], ◌∷◌, length, slice_get, get_or, Option, Some, None, sym, ap, subst, ◌∙◌, arith}
 use Rattle.std.proofs.lemmas.Bool.{cases_eq}
 use Rattle.std.specs.Prelude.{IsTrue, IsSomeAnd, All}
 use Rattle.std.proofs.lemmas.List.Elements.{All-weaker}
@@ -9,8 +9,8 @@ use Rattle.masked_bytes.specs.declared.entry.Entry.{Entry}
 use Rattle.masked_bytes.proofs.Layering.{laid-all_given, all_given-gives_all}
 use Rattle.masked_bytes.proofs.Standing.{layer_of-head}
 use Rattle.pcm_cells.specs.Device.{ArrayState, LineState}
-use Rattle.pcm_cells.specs.declared.row.Cells.{Cells}
-use Rattle.ecp_line.specs.Reading.{bytes_from, decode}
+use Rattle.ecp_line.specs.Reading.{decode, IsSoundLine, IsWornLine}
+use Rattle.ecp_line.proofs.Bytes.{length-decode}
 use Rattle.program_verify.specs.declared.prog.Prog.{Prog}
 use Rattle.program_verify.specs.Programming.{IsRound, IsTear}
 use Rattle.line_writer.specs.Untouched.{AreUntouched, LeavesUnused}
@@ -32,19 +32,9 @@ use Rattle.power_recovery.proofs.Placing.{slot_of-within, slot_of-apart, slot_of
 use Rattle.power_recovery.proofs.Bundle.{due_region-Some}
 use Rattle.bank_shape.specs.declared.waiting.Waiting.{Waiting}
 use Rattle.bank_invariant.specs.State.{target_of}
-use Rattle.bank_invariant.specs.Tied.{decoded, IsSoundLine, IsWornLine, IsUnderWay, AreSound, IsOf}
+use Rattle.bank_invariant.specs.Tied.{decoded, IsUnderWay, AreSound, IsOf}
 use Rattle.bank_invariant.specs.Holds.{stands_for}
 use Rattle.bank_invariant.specs.Tearing.{DiffersAt}
-
--- How many bytes a line is read as
-
-length-bytes_from : (bit : ℕ → Bool) (k n : ℕ) → length (bytes_from bit k n) ≡ n
-length-bytes_from bit k zero = refl
-length-bytes_from bit k (suc n) = let t = length-bytes_from bit (k + 1) n in omega arith
-
-pub length-decode : {n m : ℕ} (e : ℕ) (row : Cells n m) → length (decode e row) ≡ n
-unfolding decode
-length-decode {n} e row = length-bytes_from _ 0 n
 
 -- the head is of this line and gives each byte of it
 abbrev pub IsGivenWhole : {n : ℕ} → List (Entry n) → ℕ → Type 0

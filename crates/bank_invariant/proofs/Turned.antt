@@ -18,17 +18,18 @@ use Rattle.bank_shape.specs.declared.Work.TheVariants.{Copy}
 use Rattle.bank_shape.specs.Shape.{slots_of, slot_at}
 use Rattle.power_recovery.specs.Slots.{bank_lines}
 use Rattle.power_recovery.specs.Kept.{KeptState, IsKept, no_region, region_at, slot_of, array_line, stands_at, due_region, next_work}
-use Rattle.power_recovery.specs.Events.{is_copy}
 use Rattle.power_recovery.proofs.Placing.{slot_of-within, slot_of-off_gap, slot_at-within}
 use Rattle.power_recovery.proofs.Frames.{moved_at, moved_kept-at, slot_of-moved, slot_of-moved_region, slot_of-moved_other}
 use Rattle.power_recovery.proofs.Bundle.{due_region-Some, next_work-copy, IsKept-moved_at}
 use Rattle.bank_shape.specs.declared.answer.Step.TheVariants as did
+use Rattle.bank_shape.specs.Kinds.{is_copy}
 use Rattle.bank_model.specs.Events.{Event, Begin, Iterate, newest}
 use Rattle.bank_model.specs.History.{Awaited, queue, begun, waits, in_progress, iterated, stores, stored_in, moved_in, due_after, first_or}
 use Rattle.bank_model.specs.After.{work_after, may_begin_after}
 use Rattle.bank_model.specs.Answers.{IsDone}
+use Rattle.ecp_line.specs.Reading.{IsSoundLine}
 use Rattle.bank_invariant.specs.State.{BankState, Operation, target_of, is_free}
-use Rattle.bank_invariant.specs.Tied.{decoded, IsSoundLine, AreTied}
+use Rattle.bank_invariant.specs.Tied.{decoded, AreTied}
 use Rattle.bank_invariant.specs.Holds.{Holds, IsRegionAfter, stands_for}
 use Rattle.bank_invariant.specs.Tearing.{DiffersAt}
 use Rattle.bank_invariant.specs.Moving.{MovedLaw, MovedAtOnceLaw, moved}

@@ -8,8 +8,8 @@ use Rattle.power_recovery.specs.Events.{retired_kept, exhausted_kept}
 use Rattle.bank_shape.specs.declared.answer.Step.TheVariants as did
 use Rattle.bank_model.specs.Events.{Event, Iterate}
 use Rattle.bank_model.specs.Answers.{MayHappen}
+use Rattle.ecp_line.specs.Reading.{IsWornLine}
 use Rattle.bank_invariant.specs.State.{BankState, Operation}
-use Rattle.bank_invariant.specs.Tied.{IsWornLine}
 use Rattle.bank_invariant.specs.Holds.{Holds}
 use Rattle.bank_invariant.specs.Tearing.{DiffersAt}
 

@@ -7,8 +7,9 @@ use Rattle.bank_shape.specs.declared.Work.{Work}
 use Rattle.bank_shape.specs.declared.Work.TheVariants.{Nothing, Store, Copy}
 use Rattle.line_writer.specs.declared.writer.LineWriter.{LineWriter}
 use Rattle.power_recovery.specs.Kept.{KeptState, array_line, target_slot, next_work}
-use Rattle.power_recovery.specs.Events.{first_kept, is_store}
+use Rattle.power_recovery.specs.Events.{first_kept}
 use Rattle.bank_shape.specs.declared.waiting.Waiting.{Waiting}
+use Rattle.bank_shape.specs.Kinds.{is_store}
 
 -- a line write in progress: what it is for, the array line that it writes, and how far it has come
 pub record Operation (n m e : ℕ) : Type 0 where

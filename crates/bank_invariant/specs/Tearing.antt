@@ -4,8 +4,8 @@ use Rattle.pcm_cells.specs.Device.{ArrayState}
 use Rattle.line_writer.specs.Untouched.{HasUntouched}
 use Rattle.line_writer.specs.Orderly.{IsOrderly}
 use Rattle.bank_model.specs.Events.{Event, Cut}
+use Rattle.ecp_line.specs.Reading.{IsSoundLine}
 use Rattle.bank_invariant.specs.State.{BankState, Operation}
-use Rattle.bank_invariant.specs.Tied.{IsSoundLine}
 use Rattle.bank_invariant.specs.Holds.{Holds}
 use Rattle.bank_invariant.specs.Steps.{cut_off}
 

@@ -2,9 +2,7 @@
 use Rattle.std.specs.Prelude.{◌≡◌, ◌≢◌, ℕ, ◌+◌, ◌<◌, ◌≤◌, IsTrue, List, Option, None, IfSome, IsSomeAnd, slice_get, All}
 use Rattle.masked_bytes.specs.Masked.{gives_all}
 use Rattle.pcm_cells.specs.Device.{ArrayState, LineState}
-use Rattle.pcm_cells.specs.Rows.{cell}
-use Rattle.ecp_line.specs.Layout.{Sound}
-use Rattle.ecp_line.specs.Reading.{decode, is_worn_line}
+use Rattle.ecp_line.specs.Reading.{decode, IsSoundLine, IsWornLine}
 use Rattle.spare_pool.specs.Table.{line_by, used_by}
 use Rattle.bank_shape.specs.declared.Work.{Work}
 use Rattle.bank_shape.specs.declared.Work.TheVariants.{Nothing, Store, Copy}
@@ -27,12 +25,6 @@ pub record StandsAs {n m : ℕ} (old new : ArrayState n m) : Type 0 where
 -- what an array line is read as
 abbrev pub decoded : {n m : ℕ} → ℕ → ArrayState n m → ℕ → List ℕ
 decoded e array line = decode e (array.line line).held
-
-abbrev pub IsSoundLine : {n m : ℕ} → ℕ → LineState n m → Type 0
-IsSoundLine {n} {m} e line = Sound n m e (cell line.held) line.stuck
-
-abbrev pub IsWornLine : {n m : ℕ} → ℕ → LineState n m → Type 0
-IsWornLine e line = IsTrue (is_worn_line e line.held line.stuck)
 
 module _ {n m : ℕ} where
   -- a line write has a step left, and its writer and its line are to each other as the writer says

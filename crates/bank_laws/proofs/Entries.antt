@@ -1,7 +1,7 @@
 -- The rows of entries and of waiting reads, as they come, merge and go.
-use Rattle.std.proofs.Common.{◌≡◌, ℕ, ◌<◌, ◌==◌, ◌||◌, Bool, true, false, List, [], ◌∷◌, ◌++◌, Option, Some, None, drop, refl, sym, subst, arith, cond, eqb, eqb-true}
-use Rattle.masked_bytes.proofs.Truth.{neither_first, neither_second}
-use Rattle.std.proofs.lemmas.Bool.{eqb-false, ne_eqb, or_from}
+use Rattle.std.proofs.Common.{◌≡◌, ℕ, ◌<◌, ◌==◌, Bool, true, false, List, [], ◌∷◌, ◌++◌, Option, Some, None, drop, refl, subst, arith, cond, eqb, eqb-true}
+use Rattle.masked_bytes.proofs.Truth.{neither_first, neither_second, differ_sym}
+use Rattle.std.proofs.lemmas.Bool.{ne_eqb, or_from}
 use Rattle.masked_bytes.specs.declared.entry.Entry.{Entry}
 use Rattle.masked_bytes.specs.Entries.{has_row, RowsApart, merged, laid_on}
 use Rattle.bank_model.specs.History.{Awaited, begun}
@@ -17,9 +17,6 @@ differ a b lt = ne_eqb a b (λ e. omega arith)
 
 pub differ_back : (a b : ℕ) → a < b → (b == a) ≡ false
 differ_back a b lt = ne_eqb b a (λ e. omega arith)
-
-pub differ_sym : (a b : ℕ) → (a == b) ≡ false → (b == a) ≡ false
-differ_sym a b h = ne_eqb b a (λ e. eqb-false a b h (sym e))
 
 module _ {n : ℕ} where
   pub lacks-push : (es : List (Entry n)) (x : Entry n) (r : ℕ) → has_row es r ≡ false → (x.row == r) ≡ false → has_row (es ++ x ∷ []) r ≡ false

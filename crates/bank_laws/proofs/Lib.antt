@@ -20,3 +20,5 @@ pub mod Changing
 pub mod Targets
 pub mod Counted
 pub mod Works
+pub mod Asked
+pub mod Given

@@ -1,6 +1,6 @@
 -- Two entries of one line stand only where the lower one is the head and gives all bytes.
 use Rattle.std.proofs.Common.{◌≡◌, ℕ, ◌==◌, ◌||◌, ◌&&◌, not, Bool, true, false, List, [], ◌∷◌, ◌++◌, Option, Some, None, drop, length, refl, sym, ap, ◌∙◌, subst, arith, cond, eqb, eqb-true}
-use Rattle.masked_bytes.proofs.Truth.{neither_first, neither_second, and_first, and_second}
+use Rattle.masked_bytes.proofs.Truth.{neither_first, neither_second, and_first, and_second, differ_sym}
 use Rattle.std.proofs.lemmas.Bool.{eq-eqb, or_from}
 use Rattle.std.proofs.lemmas.List.{length-replicate}
 use Rattle.masked_bytes.specs.declared.entry.Entry.{Entry}
@@ -11,12 +11,13 @@ use Rattle.bank_shape.specs.declared.BankShape.{BankShape}
 use Rattle.bank_shape.specs.declared.Work.TheVariants.{Nothing}
 use Rattle.bank_shape.specs.declared.answer.WriteAnswer.TheVariants as wrote
 use Rattle.bank_shape.specs.declared.answer.Step.TheVariants as did
+use Rattle.bank_shape.specs.Kinds.{is_store}
 use Rattle.bank_model.specs.Events.{Event, Write, Read, Serve, Begin, Iterate, Cut, newest}
 use Rattle.bank_model.specs.History.{Awaited, begun, queue, waits, due_after, has_exhausted, in_progress}
-use Rattle.bank_model.specs.After.{is_ready, is_store, due_work}
+use Rattle.bank_model.specs.After.{is_ready, due_work}
 use Rattle.bank_model.specs.Answers.{head_busy_after, accept_answer, write_answer, MayAll}
 use Rattle.bank_laws.specs.Pairs.{has_line, LinesApart, ArePaired, PairLaw}
-use Rattle.bank_laws.proofs.Entries.{differ_sym, either}
+use Rattle.bank_laws.proofs.Entries.{either}
 
 pub eqb-same : (a : ℕ) → (a == a) ≡ true
 eqb-same a = eq-eqb a a refl

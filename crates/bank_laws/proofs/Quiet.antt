@@ -1,6 +1,6 @@
 -- A bank that never accepted a write has nothing to do, and so the laws of worn rows.
-use Rattle.std.proofs.Common.{◌≡◌, ℕ, ◌+◌, ◌*◌, ◌/◌, ◌<◌, ◌≤◌, ◌&&◌, ◌||◌, not, Bool, true, false, List, [], ◌∷◌, ◌++◌, Option, Some, None, refl, sym, ap, ◌∙◌, arith, cond, append_assoc}
-use Rattle.masked_bytes.proofs.Truth.{neither_first, neither_second}
+use Rattle.std.proofs.Common.{◌≡◌, ℕ, ◌+◌, ◌*◌, ◌/◌, ◌<◌, ◌≤◌, ◌&&◌, not, Bool, true, false, List, [], ◌∷◌, ◌++◌, Option, Some, None, refl, sym, ap, ◌∙◌, arith, cond, append_assoc}
+use Rattle.masked_bytes.proofs.Truth.{neither_first, neither_second, implied}
 use Rattle.std.specs.Prelude.{nat_le}
 use Rattle.std.specs.List.{list_any}
 use Rattle.std.proofs.lemmas.Bool.{lt-leb, and_from}
@@ -123,10 +123,6 @@ module _ {n m : ℕ} (shape : BankShape) (pace : Pace) (e : ℕ) (all : List (Ti
   stores_fit (out.Lost at) before after h = refl
   stores_fit (out.Cut at) before after h = refl
 
-  or_true : (a b : Bool) → (a ≡ true → b ≡ true) → (not a || b) ≡ true
-  or_true true b h = h refl
-  or_true false b h = refl
-
   worn-is_worn : (tick : ℕ) (answer : WriteAnswer) (o : Outcome n) → IsOutcome tick answer o → answer ≡ wrote.Exhausted → is_worn o ≡ true
   worn-is_worn tick wrote.Accepted o is ex = absurd (cc)
   worn-is_worn tick (wrote.Merged old) o is ex = absurd (cc)
@@ -144,7 +140,7 @@ module _ {n m : ℕ} (shape : BankShape) (pace : Pace) (e : ℕ) (all : List (Ti
       by (Core (Write at line bytes given answer)) cancels may on worn =
           let is : IsOutcome x.tick answer (ended x.tick (outcome_of shape all at)) = write_outcome shape pace e all ys x at line bytes given answer o may on in
           and_from _ _
-          (or_true (list_any worn_row (rows_from shape all ys)) _
+          (implied (list_any worn_row (rows_from shape all ys)) _
           (λ w. worn-is_worn x.tick answer (ended x.tick (outcome_of shape all at)) is (exhausted-refused shape (core ys) line answer may.may.2 (worn w))))
           (stores_fit (ended x.tick (outcome_of shape all at)) (rows_from shape all ys) (rows_after shape all later)
           (λ u p s.
@@ -169,7 +165,7 @@ module _ {n m : ℕ} (shape : BankShape) (pace : Pace) (e : ℕ) (all : List (Ti
       by : (h : Happens n) (cancels : Bool) → MayCome shape pace e ys x h → Onwards shape all ys x.tick h → (list_any accepted (rows_from shape all ys) ≡ false → IsQuiet shape (core ys))
           → Passes is_wear_earned (rows_from shape all ys) (row_with shape all h x.tick cancels) (rows_after shape all later)
       by (Core (Write at line bytes given answer)) cancels may on calm =
-          or_true (is_worn (ended x.tick (outcome_of shape all at))) _ (λ worn.
+          implied (is_worn (ended x.tick (outcome_of shape all at))) _ (λ worn.
           let ex : has_exhausted (core ys) ≡ true =
           refused-exhausted shape (core ys) line
           (sym (worn_outcome x.tick answer (ended x.tick (outcome_of shape all at)) (write_outcome shape pace e all ys x at line bytes given answer o may on) worn) ∙ may.may.2) in

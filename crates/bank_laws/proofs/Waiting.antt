@@ -56,7 +56,7 @@ empty-lacks : (ws : List Awaited) (row : ℕ) → is_empty ws ≡ true → has_w
 empty-lacks [] row h = refl
 empty-lacks (w ∷ ws) row h = absurd (cc)
 
-wait-push : (ws : List Awaited) (w : Awaited) (row : ℕ) → has_wait ws row ≡ true → has_wait (ws ++ w ∷ []) row ≡ true
+pub wait-push : (ws : List Awaited) (w : Awaited) (row : ℕ) → has_wait ws row ≡ true → has_wait (ws ++ w ∷ []) row ≡ true
 wait-push [] w row h = absurd (cc)
 wait-push (v ∷ ws) w row h = by (v.row == row) (λ k. wait-push ws w row k) h
   where

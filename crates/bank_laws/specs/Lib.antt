@@ -10,3 +10,4 @@ pub mod Settling
 pub mod Standing
 pub mod Ticks
 pub mod Worked
+pub mod Whole

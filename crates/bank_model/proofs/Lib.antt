@@ -1,2 +1,4 @@
 pub mod Newest
 pub mod Sticking
+pub mod Touched
+pub mod Within

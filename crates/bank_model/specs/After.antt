@@ -17,16 +17,16 @@ is_ready ws Nothing = false
 is_ready ws (Store line slot) = not (list_any (λ w. w.line == line) ws)
 is_ready ws (Copy region step) = true
 
--- whether a work is a store, and whether it is one of this line
-abbrev pub is_store : Work → Bool
-is_store Nothing = false
-is_store (Store line slot) = true
-is_store (Copy region step) = false
-
+-- whether a work is the store of a write of this line
 abbrev pub is_store_of : ℕ → Work → Bool
 is_store_of at Nothing = false
 is_store_of at (Store line slot) = line == at
 is_store_of at (Copy region step) = false
+
+-- how many gap moves are due: one, if a region is due to move
+abbrev pub due_moves : Option ℕ → ℕ
+due_moves None = 0
+due_moves (Some region) = 1
 
 module _ {n : ℕ} (shape : BankShape) (h : List (Event n)) where
   -- the slot where a line stands

@@ -13,9 +13,10 @@ use Rattle.bank_shape.specs.declared.answer.ReadAnswer.TheVariants as came
 use Rattle.bank_shape.specs.declared.answer.Served.{Served}
 use Rattle.bank_shape.specs.declared.answer.Step.{Step}
 use Rattle.bank_shape.specs.declared.answer.Step.TheVariants as did
+use Rattle.bank_shape.specs.Kinds.{is_store}
 use Rattle.bank_model.specs.Events.{Event, Write, Read, Serve, Begin, Iterate, Cut, newest}
 use Rattle.bank_model.specs.History.{Awaited, queue, waits, retired, has_exhausted, in_progress, iterated}
-use Rattle.bank_model.specs.After.{work_after, slot_of_work, array_line_after, stands_at_after, may_begin_after, is_store}
+use Rattle.bank_model.specs.After.{work_after, slot_of_work, array_line_after, stands_at_after, may_begin_after}
 
 module _ {n : ℕ} (shape : BankShape) (h : List (Event n)) where
   -- a store is in progress, so nothing merges into the head of the queue

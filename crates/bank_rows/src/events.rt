@@ -10,6 +10,7 @@ ghost use Rattle.bank_invariant.specs.Tied.{IsTied};
 use bank_core::bank::Bank;
 use bank_shape::answer::{ReadAnswer, Step, WriteAnswer};
 use bank_shape::{BankShape, Home};
+use masked_bytes::entry::Entry;
 use pcm_cells::{Act, CellArray, Script, ScriptArray, Wear};
 use std::alloc::{AllocError, Global};
 use std::test::Fail;
@@ -123,7 +124,8 @@ fn write(bank: &mut Bank<64, 8, 6>, row: u32, line: u32, bytes: [u8; 64], given:
     ensures tied { (array : ArrayState 64 8) → IsTied bank.old array → IsTied bank.new array }
 {
     if has_line(bank, line) {
-        wrote(bank.write(row, line, bytes, given))
+        let entry = Entry { row, line, bytes, given };
+        wrote(bank.write(entry))
     } else {
         Saw::Refused
     }

@@ -12,6 +12,7 @@ ghost use Rattle.bank_timing.specs.Extending.{AreOpen, IsOpen};
 
 use bank_shape::{BankShape, Home, Pace, Policy};
 use bank_timing::clocked::ClockedBank;
+use masked_bytes::entry::Entry;
 use pcm_cells::{Act, CellArray, Script, ScriptArray, Wear};
 use result_rows::{Outcome, Results};
 use std::alloc::{AllocError, Global};
@@ -133,7 +134,8 @@ fn write<A: CellArray<64, 8>>(
     if !has_line(timed, line) || !is_open(results, row) {
         return false;
     }
-    timed.arrive_write(row, line, bytes, given, results);
+    let entry = Entry { row, line, bytes, given };
+    timed.arrive_write(entry, results);
     true
 }
 

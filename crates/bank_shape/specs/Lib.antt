@@ -1,3 +1,4 @@
 pub mod Acting
 pub mod Pausing
 pub mod Shape
+pub mod Kinds

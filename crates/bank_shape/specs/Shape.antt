@@ -28,6 +28,10 @@ controls_of shape = if_array shape.home (shape.regions + shape.spares + 1)
 abbrev pub lines_in : BankShape → ℕ
 lines_in shape = slots_of shape + shape.spares + controls_of shape
 
+-- an array line is one of a bank's
+abbrev pub IsIn : BankShape → ℕ → Type 0
+IsIn shape line = (shape.base ≤ line) × (line < shape.base + lines_in shape)
+
 -- the first of its control lines, and the one of an item
 abbrev pub controls_from : BankShape → ℕ
 controls_from shape = shape.base + slots_of shape + shape.spares

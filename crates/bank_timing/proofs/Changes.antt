@@ -14,7 +14,7 @@ use Rattle.bank_shape.specs.Shape.{controls_of, controls_from, slots_of}
 use Rattle.line_writer.specs.declared.writer.Progress.{Progress}
 use Rattle.line_writer.specs.declared.writer.Progress.TheVariants as progress
 use Rattle.power_recovery.specs.Kept.{KeptState, IsKept, due_region, due_work, next_work, target_slot}
-use Rattle.power_recovery.specs.Events.{is_store, is_copy, completed_kept, stored_kept, moved_kept, retired_kept, exhausted_kept}
+use Rattle.power_recovery.specs.Events.{completed_kept, stored_kept, moved_kept, retired_kept, exhausted_kept}
 use Rattle.power_recovery.proofs.Bundle.{next_work-store, next_work-copy}
 use Rattle.bank_shape.specs.declared.answer.Step.{Step}
 use Rattle.bank_shape.specs.declared.answer.Step.TheVariants as did
@@ -30,6 +30,7 @@ use Rattle.register_laws.proofs.Putting.{put_law}
 use Rattle.register_laws.proofs.Staying.{stays_law}
 use Rattle.bank_invariant.specs.State.{BankState, Operation}
 use Rattle.bank_shape.specs.declared.clock.Action.{Action}
+use Rattle.bank_shape.specs.Kinds.{is_store, is_copy}
 use Rattle.bank_model.specs.Events.{Begin, Iterate}
 use Rattle.bank_model.specs.Timing.{ends}
 use Rattle.clock_laws.specs.State.{ClockState}

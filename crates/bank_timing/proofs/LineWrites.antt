@@ -19,11 +19,12 @@ use Rattle.line_writer.specs.declared.writer.Progress.{Progress}
 use Rattle.line_writer.specs.declared.writer.Progress.TheVariants as progress
 use Rattle.line_writer.specs.Writing.{HasBegun, steps_left, most_steps}
 use Rattle.power_recovery.specs.Kept.{KeptState, IsKept, target_slot, next_work}
-use Rattle.power_recovery.specs.Events.{is_store, is_copy, stored_kept, moved_kept, retired_kept, exhausted_kept}
+use Rattle.power_recovery.specs.Events.{stored_kept, moved_kept, retired_kept, exhausted_kept}
 use Rattle.power_recovery.proofs.Bundle.{next_work-store}
 use Rattle.bank_shape.specs.declared.answer.Step.{Step}
 use Rattle.bank_shape.specs.declared.answer.Step.TheVariants as did
 use Rattle.bank_shape.specs.declared.clock.Action.{Action}
+use Rattle.bank_shape.specs.Kinds.{is_store, is_copy}
 use Rattle.bank_model.specs.Events.{Event}
 use Rattle.bank_model.specs.History.{Awaited}
 use Rattle.bank_model.specs.Timing.{TimedEvent, Core, ends}

@@ -3,7 +3,7 @@ use Rattle.std.proofs.Common.{◌≡◌, ℕ, zero, suc, ◌+◌, ◌==◌, true
 use Rattle.std.proofs.Math.ListN.{set}
 use Rattle.masked_bytes.specs.declared.entry.Entry.{Entry}
 use Rattle.masked_bytes.specs.Entries.{has_row}
-use Rattle.clock_laws.proofs.Deciding.{or_rest}
+use Rattle.masked_bytes.proofs.Truth.{or_rest}
 use Rattle.bank_timing.specs.Queueing.{entry_has_row}
 
 module _ {n : ℕ} (row : ℕ) where

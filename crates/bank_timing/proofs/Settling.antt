@@ -18,9 +18,11 @@ use Rattle.bank_shape.specs.Pausing.{IsPace}
 use Rattle.bank_invariant.specs.State.{Operation}
 use Rattle.clock_laws.specs.State.{ClockState}
 use Rattle.clock_laws.specs.Leads.{Leads}
-use Rattle.clock_laws.specs.Remaining.{actions_left, attempts_left, attempt_left, keeping_left, present_left, due_moves, last_attempts}
+use Rattle.clock_laws.specs.Remaining.{actions_left, attempts_left, attempt_left, keeping_left, present_left, last_attempts}
 use Rattle.line_writer.specs.declared.writer.LineWriter.{LineWriter}
 use Rattle.bank_model.specs.Changes.{rounds_after}
+use Rattle.bank_model.specs.After.{due_moves}
+use Rattle.bank_model.proofs.Within.{due_moves-few}
 use Rattle.register_laws.specs.Telling.{item_of}
 
 few-pointers : (e w m : ℕ) → m ≤ 16 → e * (w + 1) + 1 ≤ 8 * m → e ≤ 127
@@ -30,10 +32,6 @@ few-pointers e w m few room =
   where
     within : (p : ℕ) → e ≤ p → p + 1 ≤ 8 * m → e ≤ 127
     within p more room = omega (arith, few)
-
-one-due : (due : Option ℕ) → due_moves due ≤ 1
-one-due None = omega arith
-one-due (Some region) = omega arith
 
 one-last : (b : Bool) → last_attempts b ≤ 1
 one-last true = omega arith
@@ -45,7 +43,7 @@ few-sum entries due spares used last a b c d = omega (arith, a, b, c, d)
 few-attempts : {n : ℕ} (kept : KeptState n) → IsKept kept → attempts_left kept ≤ 1538
 few-attempts kept range =
     few-sum (length kept.entries) (due_moves (due_region kept)) kept.table.spares (used_by kept.table) (last_attempts kept.exhausted)
-    (entries range.few_entries range.shape.few_writes) (one-due (due_region kept)) (spares range.spares range.shape.few_spares) (one-last kept.exhausted)
+    (entries range.few_entries range.shape.few_writes) (due_moves-few (due_region kept)) (spares range.spares range.shape.few_spares) (one-last kept.exhausted)
   where
     entries : length kept.entries ≤ kept.shape.writes → kept.shape.writes ≤ 256 → length kept.entries ≤ 256
     entries h k = omega arith

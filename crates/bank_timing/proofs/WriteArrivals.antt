@@ -1,8 +1,8 @@
 -- A write arrives: what becomes of the clock and of the results.
-use Rattle.std.proofs.Common.{◌≡◌, ◌≢◌, ℕ, ◌+◌, ◌<◌, ◌≤◌, ◌==◌, ◌||◌, Bool, true, false, List, [], ◌∷◌, ◌++◌, length, ◌⊎◌, inl, inr, refl, sym, ap, subst, ◌∙◌, arith, eqb-true, eq-eqb, length-append}
+use Rattle.std.proofs.Common.{◌≡◌, ◌≢◌, ℕ, ◌+◌, ◌<◌, ◌≤◌, ◌==◌, Bool, true, false, List, [], ◌∷◌, ◌++◌, length, ◌⊎◌, inl, inr, refl, sym, ap, subst, ◌∙◌, arith, eqb-true, length-append}
 use Rattle.std.specs.Prelude.{unwrap_or, if◌then◌else◌}
 use Rattle.std.proofs.lemmas.List.{length-map}
-use Rattle.std.proofs.lemmas.Bool.{ne_eqb, false≢true, or_from, or_left, or_right}
+use Rattle.std.proofs.lemmas.Bool.{ne_eqb, or_from}
 use Rattle.pcm_cells.specs.Device.{ArrayState}
 use Rattle.result_rows.specs.declared.Outcome.{Outcome}
 use Rattle.result_rows.specs.declared.Outcome.TheVariants as out
@@ -19,6 +19,9 @@ use Rattle.bank_model.specs.History.{Awaited, queue, waits, has_exhausted}
 use Rattle.bank_model.specs.Answers.{MayAll, head_busy_after}
 use Rattle.bank_model.specs.Timing.{TimedEvent, core}
 use Rattle.bank_laws.specs.Outcomes.{outcome_by}
+use Rattle.bank_laws.proofs.Answering.{candidate-there}
+use Rattle.bank_laws.proofs.Fates.{new-merged}
+use Rattle.bank_laws.proofs.Entries.{lacks-push, lacks-merged}
 use Rattle.bank_shape.specs.declared.waiting.Waiting.{Waiting}
 use Rattle.bank_invariant.specs.State.{BankState}
 use Rattle.bank_invariant.specs.Holds.{Holds}
@@ -33,8 +36,7 @@ use Rattle.clock_laws.specs.Standing.{has_waiting, AreApart}
 use Rattle.clock_laws.proofs.Arriving.{write_law}
 use Rattle.clock_laws.proofs.Fitting.{fit_write_law}
 use Rattle.clock_laws.proofs.Extending.{arrival_added_law}
-use Rattle.clock_laws.proofs.Absent.{lacks-push, lacks-merged}
-use Rattle.clock_laws.proofs.Others.{apart_law, candidate-there}
+use Rattle.clock_laws.proofs.Others.{apart_law}
 use Rattle.bank_timing.specs.Clock.{IsClock}
 use Rattle.bank_timing.specs.Extending.{Extends, AreOpen, IsOpen, StandOpen, LeavesOthersThan, outcome_in}
 use Rattle.bank_timing.proofs.Rows.{rows-set, in-set, open-set}
@@ -57,15 +59,6 @@ module _ {n : ℕ} where
       by : (b : Bool) → (e.row == old) ≡ b → has_row (merged old row bytes given es) old ≡ false → has_row (if b then laid_on row bytes given e ∷ es else e ∷ merged old row bytes given es) old ≡ false
       by true is rest = or_from (row == old) _ h (subst (λ (r : ℕ). has_row es r ≡ false) (eqb-true e.row old is) a.0)
       by false is rest = or_from (e.row == old) _ is rest
-
-  new-merged : (old row : ℕ) (bytes : List ℕ) (given : List Bool) (es : List (Entry n)) → has_row es old ≡ true → has_row (merged old row bytes given es) row ≡ true
-  new-merged old row bytes given [] there = absurd (false≢true there)
-  new-merged old row bytes given (e ∷ es) there = by (e.row == old) (new-merged old row bytes given es) there
-    where
-      by : (b : Bool) → (has_row es old ≡ true → has_row (merged old row bytes given es) row ≡ true) → (b || has_row es old) ≡ true
-          → has_row (if b then laid_on row bytes given e ∷ es else e ∷ merged old row bytes given es) row ≡ true
-      by true rest there = or_left (row == row) (has_row es row) (eq-eqb row row refl)
-      by false rest there = or_right (e.row == row) (has_row (merged old row bytes given es) row) (rest there)
 
   -- a row of the queue then is one of before, or the new one
   old-or-new : (before after : List (Entry n)) (row r : ℕ) → (has_row before r ≡ false → (row == r) ≡ false → has_row after r ≡ false) → has_row after r ≡ true

@@ -24,37 +24,35 @@ use crate::clocked::ClockedBank;
 use bank_shape::Work;
 use bank_shape::answer::{ReadAnswer, WriteAnswer};
 use bank_shape::clock::{Action, Doing};
+use masked_bytes::entry::Entry;
 use masked_bytes::layers::has_all;
 use pcm_cells::CellArray;
 use power_recovery::kept::Kept;
 use result_rows::{Outcome, Results};
 
 impl<const B: usize, const M: usize, const E: usize> ClockedBank<B, M, E> {
-    /// A write of a bank line arrives now, with its row's number, above those of all before it. A byte that isn't given is 0.
-    pub fn arrive_write(
-        &mut self,
-        row: u32,
-        line: u32,
-        bytes: [u8; B],
-        given: [bool; B],
-        results: &mut Results<B>,
-    )
+    /// A write of a bank line arrives now; the number of its row is above those of all before it.
+    pub fn arrive_write(&mut self, entry: Entry<B>, results: &mut Results<B>)
         requires going { self.old.drained ≡ false }
         requires led { (xs : List (TimedEvent B M)) × (array : ArrayState B M) × Leads xs self.old array }
-        requires exists { line < bank_lines self.old.bank.kept.shape }
-        requires rises { self.old.bank.rows_below ≤ row }
-        requires masked { IsMasked B bytes given }
+        requires exists { entry.line < bank_lines self.old.bank.kept.shape }
+        requires rises { self.old.bank.rows_below ≤ entry.row }
+        requires masked { IsMasked B entry.bytes entry.given }
         requires unset { AreOpen self.old.bank results.old }
-        requires fresh { IsOpen results.old row }
+        requires fresh { IsOpen results.old entry.row }
         ensures now { self.new.tick ≡ self.old.tick }
         ensures going { self.new.drained ≡ false }
-        ensures rows { self.new.bank.rows_below ≡ row + 1 }
+        ensures rows { self.new.bank.rows_below ≡ entry.entry.row + 1 }
         ensures extends { (xs : List (TimedEvent B M)) (array : ArrayState B M) → Leads xs self.old array
-            → Extends xs (arrival self.old.tick (Write row line bytes.entry given.entry (write_from self.old.bank line)) ∷ []) self.old self.new array array results.old results.new }
+            → Extends xs
+            (arrival self.old.tick (Write entry.entry.row entry.entry.line entry.entry.bytes entry.entry.given
+            (write_from self.old.bank entry.entry.line)) ∷ [])
+            self.old self.new array array results.old results.new }
         ensures unset { AreOpen self.new.bank results.new }
-        ensures others { LeavesOthersThan row self.old.bank results.old results.new }
+        ensures others { LeavesOthersThan entry.entry.row self.old.bank results.old results.new }
     {
-        match self.bank.write(row, line, bytes, given) {
+        let row = entry.row;
+        match self.bank.write(entry) {
             WriteAnswer::Accepted => self.arrive_last(),
             WriteAnswer::Merged(old) => {
                 results.set(old, Outcome::Merged { tick: self.tick });
@@ -79,7 +77,8 @@ impl<const B: usize, const M: usize, const E: usize> ClockedBank<B, M, E> {
     // The entry of this row, which was merged, arrived now.
     fn arrive_again(&mut self, row: u32)
         requires there { has_row self.old.bank.kept.entries row ≡ true }
-        ensures { (place : ℕ) × IsSomeAnd (slice_get self.old.bank.kept.entries place) (λ entry. entry.row ≡ row)
+        ensures { (place : ℕ) × IsSomeAnd (slice_get self.old.bank.kept.entries place)
+            (λ entry. entry.row ≡ row)
             × (self.new ≡ with_arrivals (slice_set self.old.arrivals place self.old.tick) self.old) }
     {
         let place = place_of(self.bank.kept(), row);
@@ -107,7 +106,10 @@ impl<const B: usize, const M: usize, const E: usize> ClockedBank<B, M, E> {
         ensures going { self.new.drained ≡ false }
         ensures rows { self.new.bank.rows_below ≡ row + 1 }
         ensures extends { (xs : List (TimedEvent B M)) → Leads xs self.old (A.state array.old)
-            → Extends xs (arrival self.old.tick (Read row line (read_from self.old.bank line)) ∷ cancel_first xs self.old line) self.old self.new (A.state array.old) (A.state array.new) results.old results.new }
+            → Extends xs
+            (arrival self.old.tick (Read row line (read_from self.old.bank line))
+            ∷ cancel_first xs self.old line)
+            self.old self.new (A.state array.old) (A.state array.new) results.old results.new }
         ensures unset { AreOpen self.new.bank results.new }
         ensures others { LeavesOthersThan row self.old.bank results.old results.new }
     {
@@ -127,9 +129,14 @@ impl<const B: usize, const M: usize, const E: usize> ClockedBank<B, M, E> {
         ensures now { self.new.tick ≡ self.old.tick }
         ensures drained { self.new.drained ≡ self.old.drained }
         ensures rows { self.new.bank.rows_below ≡ row + 1 }
-        ensures extends { (results : List (RowOutcome B)) → AreOpen self.old.bank results → IsOpen results row → (xs : List (TimedEvent B M)) → Leads xs self.old (A.state array.old)
-            → Extends xs (arrival self.old.tick (Read row line (read_from self.old.bank line)) ∷ cancel_by self.old.regs.change xs self.old ∷ []) self.old self.new (A.state array.old) (A.state array.new) results results }
-        ensures unset { (results : List (RowOutcome B)) → AreOpen self.old.bank results → IsOpen results row → AreOpen self.new.bank results }
+        ensures extends { (results : List (RowOutcome B)) → AreOpen self.old.bank results → IsOpen results row
+            → (xs : List (TimedEvent B M)) → Leads xs self.old (A.state array.old)
+            → Extends xs
+            (arrival self.old.tick (Read row line (read_from self.old.bank line))
+            ∷ cancel_by self.old.regs.change xs self.old ∷ [])
+            self.old self.new (A.state array.old) (A.state array.new) results results }
+        ensures unset { (results : List (RowOutcome B)) → AreOpen self.old.bank results → IsOpen results row
+            → AreOpen self.new.bank results }
     {
         self.cancel(array, line);
         self.bank.read(row, line);
@@ -147,7 +154,8 @@ impl<const B: usize, const M: usize, const E: usize> ClockedBank<B, M, E> {
         ensures drained { self.new.drained ≡ self.old.drained }
         ensures rows { self.new.bank.rows_below ≡ row + 1 }
         ensures extends { (xs : List (TimedEvent B M)) (array : ArrayState B M) → Leads xs self.old array
-            → Extends xs (arrival self.old.tick (Read row line (read_from self.old.bank line)) ∷ []) self.old self.new array array results.old results.new }
+            → Extends xs (arrival self.old.tick (Read row line (read_from self.old.bank line)) ∷ [])
+            self.old self.new array array results.old results.new }
         ensures unset { AreOpen self.new.bank results.new }
         ensures others { LeavesOthersThan row self.old.bank results.old results.new }
     {
@@ -191,7 +199,8 @@ impl<const B: usize, const M: usize, const E: usize> ClockedBank<B, M, E> {
 
     // Whether the bank's next work is one, and its begin runs.
     fn begins_work_of(&self, line: u32) -> bool
-        ensures { result ≡ is_doing Beginning self.now.action && is_store_of line (next_work self.now.bank.kept) }
+        ensures { result ≡ is_doing Beginning self.now.action
+            && is_store_of line (next_work self.now.bank.kept) }
     {
         match self.action {
             Some(

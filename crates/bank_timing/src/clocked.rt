@@ -63,7 +63,8 @@ impl<const B: usize, const M: usize, const E: usize> ClockedBank<B, M, E> {
         requires paced { IsPace pace }
         requires wide { shape.home ≡ Array → 16 ≤ B }
         ensures first { IfOk result (λ timed. timed ≡ first_clock shape pace) }
-        ensures leads { IfOk result (λ timed. (array : ArrayState B M) → IsFreshFor shape array → Leads [] timed array) }
+        ensures leads { IfOk result (λ timed. (array : ArrayState B M) → IsFreshFor shape array
+            → Leads [] timed array) }
     {
         let bank = Bank::new(alloc, shape)?;
         let arrivals = HeapCircularBuffer::with_capacity(alloc, shape.writes as usize)?;
@@ -119,7 +120,9 @@ impl<const B: usize, const M: usize, const E: usize> ClockedBank<B, M, E> {
         ensures going { self.new.drained ≡ false }
         ensures rows { self.new.bank.rows_below ≡ self.old.bank.rows_below }
         ensures extends { (xs : List (TimedEvent B M)) → Leads xs self.old (A.state array.old)
-            → (added : List (TimedEvent B M)) × Extends xs added self.old self.new (A.state array.old) (A.state array.new) results.old results.new × IsQuiet added }
+            → (added : List (TimedEvent B M))
+            × Extends xs added self.old self.new (A.state array.old) (A.state array.new)
+            results.old results.new × IsQuiet added }
         ensures unset { AreOpen self.new.bank results.new }
         ensures others { LeavesOthers self.old.bank results.old results.new }
     {
@@ -196,7 +199,8 @@ impl<const B: usize, const M: usize, const E: usize> ClockedBank<B, M, E> {
         requires later { self.old.tick < to }
         requires runs { IfSome action (λ a. to < ends self.old.pace a) }
         ensures clock { self.new ≡ at_tick to (next_action self.old) self.old }
-        ensures leads { (xs : List (TimedEvent B M)) (array : ArrayState B M) → Leads xs self.old array → Leads xs self.new array }
+        ensures leads { (xs : List (TimedEvent B M)) (array : ArrayState B M) → Leads xs self.old array
+            → Leads xs self.new array }
     {
         self.action = action;
         self.tick = to;

@@ -36,7 +36,8 @@ impl<const B: usize, const M: usize, const E: usize> ClockedBank<B, M, E> {
         requires next { next_action self.old ≡ Some action }
         requires within { self.old.tick ≤ last_tick_with_drain }
         requires unset { AreOpen self.old.bank results.old }
-        ensures { Completes self.old self.new action (A.state array.old) (A.state array.new) results.old results.new }
+        ensures { Completes self.old self.new action (A.state array.old) (A.state array.new)
+            results.old results.new }
     {
         match action.doing {
             Doing::Serving => self.serve(array, action, results),
@@ -52,7 +53,8 @@ impl<const B: usize, const M: usize, const E: usize> ClockedBank<B, M, E> {
         requires doing { action.doing ≡ Serving }
         requires within { self.old.tick ≤ last_tick_with_drain }
         requires unset { AreOpen self.old.bank results.old }
-        ensures { Completes self.old self.new action (A.state array.old) (A.state array.new) results.old results.new }
+        ensures { Completes self.old self.new action (A.state array.old) (A.state array.new)
+            results.old results.new }
     {
         self.tick = action.ends(self.pace.read, self.pace.iter);
         self.action = None;
@@ -74,7 +76,8 @@ impl<const B: usize, const M: usize, const E: usize> ClockedBank<B, M, E> {
         requires doing { action.doing ≡ Beginning }
         requires within { self.old.tick ≤ last_tick_with_drain }
         requires unset { AreOpen self.old.bank results.old }
-        ensures { Completes self.old self.new action (A.state array.old) (A.state array.new) results.old results.new }
+        ensures { Completes self.old self.new action (A.state array.old) (A.state array.new)
+            results.old results.new }
     {
         match self.regs.change() {
             Some(_) => self.begin_change(array, action),
@@ -94,7 +97,8 @@ impl<const B: usize, const M: usize, const E: usize> ClockedBank<B, M, E> {
         requires doing { action.doing ≡ Iterating }
         requires within { self.old.tick ≤ last_tick_with_drain }
         requires unset { AreOpen self.old.bank results.old }
-        ensures { Completes self.old self.new action (A.state array.old) (A.state array.new) results.old results.new }
+        ensures { Completes self.old self.new action (A.state array.old) (A.state array.new)
+            results.old results.new }
     {
         match self.regs.change() {
             Some(_) => self.iterate_change(array, action),
@@ -147,7 +151,8 @@ impl<const B: usize, const M: usize, const E: usize> ClockedBank<B, M, E> {
         requires within { self.old.tick ≤ last_tick_with_drain }
         requires unset { AreOpen self.old.bank results.old }
         requires alone { self.old.regs.change ≡ None }
-        ensures { Completes self.old self.new action (A.state array.old) (A.state array.new) results.old results.new }
+        ensures { Completes self.old self.new action (A.state array.old) (A.state array.new)
+            results.old results.new }
     {
         self.tick = action.ends(self.pace.read, self.pace.iter);
         self.action = None;
@@ -170,7 +175,8 @@ impl<const B: usize, const M: usize, const E: usize> ClockedBank<B, M, E> {
         requires within { self.old.tick ≤ last_tick_with_drain }
         requires unset { AreOpen self.old.bank results.old }
         requires alone { self.old.regs.change ≡ None }
-        ensures { Completes self.old self.new action (A.state array.old) (A.state array.new) results.old results.new }
+        ensures { Completes self.old self.new action (A.state array.old) (A.state array.new)
+            results.old results.new }
     {
         self.tick = action.ends(self.pace.read, self.pace.iter);
         self.action = None;
@@ -201,12 +207,16 @@ impl<const B: usize, const M: usize, const E: usize> ClockedBank<B, M, E> {
 
     // The change that a step of the bank's line write brings is put, with the values that the bank keeps now.
     fn put(&mut self, region: u32, used: u32, step: Step)
-        requires free { IfSome (item_from self.old.bank.kept.shape region used step) (λ item. self.old.regs.change ≡ None) }
-        requires items { IfSome (item_from self.old.bank.kept.shape region used step) (λ item. item < self.old.regs.items) }
-        requires known { IfSome (item_from self.old.bank.kept.shape region used step) (λ item. item < items_of self.old.bank.kept.shape) }
+        requires free { IfSome (item_from self.old.bank.kept.shape region used step)
+            (λ item. self.old.regs.change ≡ None) }
+        requires items { IfSome (item_from self.old.bank.kept.shape region used step)
+            (λ item. item < self.old.regs.items) }
+        requires known { IfSome (item_from self.old.bank.kept.shape region used step)
+            (λ item. item < items_of self.old.bank.kept.shape) }
         requires few { used ≤ self.old.bank.kept.shape.spares }
         requires rests { self.old.action ≡ None }
-        ensures { self.new ≡ with_regs (put_if (item_from self.old.bank.kept.shape region used step) self.old.bank.kept self.old.regs) self.old }
+        ensures { self.new ≡ with_regs (put_if (item_from self.old.bank.kept.shape region used step)
+            self.old.bank.kept self.old.regs) self.old }
     {
         let shape = *self.bank.kept().shape();
         if let Some(item) = item_from(&shape, region, used, step) {

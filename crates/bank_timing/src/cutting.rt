@@ -35,7 +35,8 @@ impl<const B: usize, const M: usize, const E: usize> ClockedBank<B, M, E> {
         ensures going { self.new.drained ≡ false }
         ensures rows { self.new.bank.rows_below ≡ self.old.bank.rows_below }
         ensures extends { (xs : List (TimedEvent B M)) → Leads xs self.old (A.state array.old)
-            → Extends xs (cut xs self.old (A.state array.new) ∷ []) self.old self.new (A.state array.old) (A.state array.new) results.old results.new }
+            → Extends xs (cut xs self.old (A.state array.new) ∷ []) self.old self.new
+            (A.state array.old) (A.state array.new) results.old results.new }
         ensures unset { AreOpen self.new.bank results.new }
         ensures others { LeavesOthers self.old.bank results.old results.new }
         ensures kept { self.new.bank.kept ≡ self.old.bank.kept }
@@ -61,7 +62,8 @@ impl<const B: usize, const M: usize, const E: usize> ClockedBank<B, M, E> {
         requires in_range { IsKept self.old.bank.kept }
         requires control { Control self.old.bank.kept self.old.regs (A.state array.old) }
         ensures clock { self.new ≡ self.old }
-        ensures touches { Touches self.old.tick (all_controls self.old.bank.kept.shape) None false (A.state array.old) (A.state array.new) }
+        ensures touches { Touches self.old.tick (all_controls self.old.bank.kept.shape) None false
+            (A.state array.old) (A.state array.new) }
     {
         match self.bank.kept().shape().home {
             Home::Guarded => {}
@@ -78,7 +80,8 @@ impl<const B: usize, const M: usize, const E: usize> ClockedBank<B, M, E> {
         requires cancels { IsTrue (cancels_for self.old line) }
         ensures clock { self.new ≡ cancelled_by self.old.regs.change self.old }
         ensures reaches { (xs : List (TimedEvent B M)) → Leads xs self.old (A.state array.old)
-            → ReachesBy self.old.bank.kept.shape xs (cancel_by self.old.regs.change xs self.old) self.new (A.state array.old) (A.state array.new) }
+            → ReachesBy self.old.bank.kept.shape xs (cancel_by self.old.regs.change xs self.old) self.new
+            (A.state array.old) (A.state array.new) }
     {
         let tearing = is_iterating(self.action);
         self.action = None;
@@ -94,7 +97,8 @@ impl<const B: usize, const M: usize, const E: usize> ClockedBank<B, M, E> {
         requires unset { LosesOpen self.old.tick self.old.bank.lost results.old }
         ensures clock { self.new ≡ with_lost [] self.old }
         ensures results { results.new ≡ lost_recorded self.old.tick self.old.bank.lost results.old }
-        ensures holds { (h : List (Event B)) (array : ArrayState B M) → Holds h self.old.bank array → Holds h self.new.bank array }
+        ensures holds { (h : List (Event B)) (array : ArrayState B M) → Holds h self.old.bank array
+            → Holds h self.new.bank array }
     {
         while let Some(row) = self.bank.take_lost() {
             results.set(row, Outcome::Lost { tick: self.tick });

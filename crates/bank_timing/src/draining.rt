@@ -30,11 +30,15 @@ impl<const B: usize, const M: usize, const E: usize> ClockedBank<B, M, E> {
         ensures drained { self.new.drained ≡ true }
         ensures rows { self.new.bank.rows_below ≡ self.old.bank.rows_below }
         ensures drains { (xs : List (TimedEvent B M)) → Leads xs self.old (A.state array.old)
-            → (added : List (TimedEvent B M)) × Drains xs added self.old self.new (A.state array.old) (A.state array.new) results.old results.new }
+            → (added : List (TimedEvent B M))
+            × Drains xs added self.old self.new (A.state array.old) (A.state array.new)
+            results.old results.new }
         ensures others { LeavesOthers self.old.bank results.old results.new }
-        ensures laws { (xs : List (TimedEvent B M)) → Leads xs self.new (A.state array.new) → KeepsLaws E self.new.bank.kept.shape self.new.pace xs (A.state array.new) }
+        ensures laws { (xs : List (TimedEvent B M)) → Leads xs self.new (A.state array.new)
+            → KeepsLaws E self.new.bank.kept.shape self.new.pace xs (A.state array.new) }
         ensures registers { (xs : List (TimedEvent B M)) → Leads xs self.new (A.state array.new)
-            → (region : ℕ) → region < self.new.bank.kept.shape.regions → FollowsStores xs self.new (A.state array.new) region }
+            → (region : ℕ) → region < self.new.bank.kept.shape.regions
+            → FollowsStores xs self.new (A.state array.new) region }
     {
         tables_keep_their_laws();
         places_keep_their_laws();
@@ -49,7 +53,8 @@ impl<const B: usize, const M: usize, const E: usize> ClockedBank<B, M, E> {
         requires led { (xs : List (TimedEvent B M)) × Leads xs self.old (A.state array.old) }
         requires within { self.old.tick ≤ last_tick }
         requires unset { AreOpen self.old.bank results.old }
-        ensures ran { RunsDown self.old self.new (A.state array.old) (A.state array.new) results.old results.new }
+        ensures ran { RunsDown self.old self.new (A.state array.old) (A.state array.new)
+            results.old results.new }
         ensures rests { next_action self.new ≡ None }
     {
         // A field that is read makes known what is true of every clock.
@@ -87,7 +92,8 @@ fn queue_at<const B: usize>(
     requires there { place < length kept.now.entries }
     requires told { place < length arrivals.now.items }
     requires unset { IsSomeAnd (slice_get kept.now.entries place) (λ entry. IsOpen results.old entry.row) }
-    ensures { IsSomeAnd (slice_get kept.now.entries place) (λ entry. IsSomeAnd (slice_get arrivals.now.items place) (λ tick.
+    ensures { IsSomeAnd (slice_get kept.now.entries place)
+        (λ entry. IsSomeAnd (slice_get arrivals.now.items place) (λ tick.
         results.new ≡ with_outcome results.old entry.row (Queued tick))) }
 {
     if let Some(entry) = kept.at(place) {

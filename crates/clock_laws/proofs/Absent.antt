@@ -1,48 +1,23 @@
 -- Rows that stand nowhere: a row comes into a bank by its own event alone.
-use Rattle.std.proofs.Common.{◌≡◌, ℕ, ◌==◌, Bool, true, false, if◌then◌else◌, List, [], ◌∷◌, ◌++◌, drop, Option, Some, None, refl}
-use Rattle.std.proofs.lemmas.Bool.{or_from}
-use Rattle.masked_bytes.proofs.Truth.{neither_first, neither_second}
+use Rattle.std.proofs.Common.{◌≡◌, ℕ, false, List, [], ◌∷◌, Option, Some, None, refl}
 use Rattle.masked_bytes.specs.declared.entry.Entry.{Entry}
-use Rattle.masked_bytes.specs.Entries.{laid_on, merged, has_row}
+use Rattle.masked_bytes.specs.Entries.{has_row}
 use Rattle.bank_shape.specs.declared.BankShape.{BankShape}
 use Rattle.bank_shape.specs.declared.answer.WriteAnswer.TheVariants as wrote
 use Rattle.bank_shape.specs.declared.answer.ReadAnswer.TheVariants as came
 use Rattle.bank_shape.specs.declared.answer.Step.TheVariants as did
 use Rattle.bank_model.specs.Events.{Event, Write, Read, Serve, Begin, Iterate, Cut, newest}
-use Rattle.bank_model.specs.History.{Awaited, queue, waits, begun, due_after}
+use Rattle.bank_model.specs.History.{queue, waits, begun, due_after}
 use Rattle.bank_model.specs.Timing.{Core}
 use Rattle.bank_laws.specs.Standing.{has_wait}
+use Rattle.bank_laws.proofs.Entries.{no_wait-push, no_wait-drop, lacks-push, lacks-drop, lacks-merged}
 use Rattle.clock_laws.specs.Standing.{is_arrival_of}
 
-no_wait-push : (ws : List Awaited) (w : Awaited) (row : ℕ) → has_wait ws row ≡ false → (w.row == row) ≡ false → has_wait (ws ++ w ∷ []) row ≡ false
-no_wait-push [] w row none off = or_from (w.row == row) false off refl
-no_wait-push (v ∷ ws) w row none off = or_from (v.row == row) _ (neither_first (v.row == row) _ none) (no_wait-push ws w row (neither_second (v.row == row) _ none) off)
-
-no_wait-drop : (ws : List Awaited) (row : ℕ) → has_wait ws row ≡ false → has_wait (drop 1 ws) row ≡ false
-no_wait-drop [] row none = none
-no_wait-drop (w ∷ ws) row none = neither_second (w.row == row) _ none
-
 module _ {n : ℕ} where
-  pub lacks-push : (es : List (Entry n)) (x : Entry n) (row : ℕ) → has_row es row ≡ false → (x.row == row) ≡ false → has_row (es ++ x ∷ []) row ≡ false
-  lacks-push [] x row none off = or_from (x.row == row) false off refl
-  lacks-push (e ∷ es) x row none off = or_from (e.row == row) _ (neither_first (e.row == row) _ none) (lacks-push es x row (neither_second (e.row == row) _ none) off)
-
-  lacks-drop : (es : List (Entry n)) (row : ℕ) → has_row es row ≡ false → has_row (drop 1 es) row ≡ false
-  lacks-drop [] row none = none
-  lacks-drop (e ∷ es) row none = neither_second (e.row == row) _ none
-
   lacks-begun : (due : Option ℕ) (newest_of : ℕ → List ℕ) (es : List (Entry n)) (row : ℕ) → has_row es row ≡ false → has_row (begun due newest_of es) row ≡ false
   lacks-begun (Some region) newest_of es row none = none
   lacks-begun None newest_of [] row none = none
   lacks-begun None newest_of (e ∷ es) row none = none
-
-  pub lacks-merged : (old at : ℕ) (bytes : List ℕ) (given : List Bool) (es : List (Entry n)) (row : ℕ) → has_row es row ≡ false → (at == row) ≡ false → has_row (merged old at bytes given es) row ≡ false
-  lacks-merged old at bytes given [] row none off = refl
-  lacks-merged old at bytes given (e ∷ es) row none off = by (e.row == old) (lacks-merged old at bytes given es row (neither_second (e.row == row) _ none) off)
-    where
-      by : (b : Bool) → has_row (merged old at bytes given es) row ≡ false → has_row (if b then laid_on at bytes given e ∷ es else e ∷ merged old at bytes given es) row ≡ false
-      by true rest = or_from (at == row) _ off (neither_second (e.row == row) _ none)
-      by false rest = or_from (e.row == row) _ (neither_first (e.row == row) _ none) rest
 
   -- a row comes into the queue by its own write alone, and begins to wait by its own read alone
   module _ (shape : BankShape) (h : List (Event n)) (row : ℕ) where

@@ -1,6 +1,6 @@
 -- A write or a read that arrives.
 use Rattle.std.proofs.Common.{◌≡◌, ℕ, ◌<◌, ◌==◌, ◌&&◌, nat_lt, Bool, true, false, cond, if◌then◌else◌, List, [], ◌∷◌, ◌++◌, zero, suc, map, slice_get, slice_set, Option, Some, None, refl, sym, ap, subst, ◌∙◌, arith, eq-eqb, append-nil}
-use Rattle.masked_bytes.proofs.Truth.{neither_first, neither_second}
+use Rattle.masked_bytes.proofs.Truth.{neither_first, neither_second, differ_sym}
 use Rattle.std.specs.Prelude.{IfSome, IsSomeAnd, not, length}
 use Rattle.std.proofs.lemmas.List.{map_push}
 use Rattle.masked_bytes.specs.declared.entry.Entry.{Entry}
@@ -38,7 +38,6 @@ use Rattle.clock_laws.proofs.Ties.{agrees, same_reads}
 use Rattle.clock_laws.proofs.Controls.{control-kept}
 use Rattle.clock_laws.proofs.Stepping.{follows, stepped, leads-reaches, bank-leads}
 use Rattle.clock_laws.proofs.Putting.{told-on}
-use Rattle.clock_laws.proofs.Deciding.{turned}
 
 -- Arrival ticks
 
@@ -51,7 +50,7 @@ module _ {n : ℕ} (row tick : ℕ) (ticks : ℕ → ℕ) where
   ticks-others : (es : List (Entry n)) → has_row es row ≡ false → map (λ entry. ticks entry.row) es ≡ map (λ entry. with_row row tick ticks entry.row) es
   ticks-others [] none = refl
   ticks-others (entry ∷ es) none =
-      let off : (row == entry.row) ≡ false = turned entry.row row (neither_first (entry.row == row) (has_row es row) none) in
+      let off : (row == entry.row) ≡ false = differ_sym entry.row row (neither_first (entry.row == row) (has_row es row) none) in
       ap (λ b. cond b tick (ticks entry.row) ∷ map (λ entry. ticks entry.row) es) (sym off)
       ∙ ap (λ rest. with_row row tick ticks entry.row ∷ rest) (ticks-others es (neither_second (entry.row == row) (has_row es row) none))
 
@@ -99,7 +98,7 @@ module _ {n : ℕ} (row tick : ℕ) (ticks : ℕ → ℕ) where
       by true (suc place) next has = absurd (not-at es place rest has)
       by false zero next has = let is : (entry.row == row) ≡ true = eq-eqb entry.row row has in absurd (cc)
       by false (suc place) next has =
-          ap (λ b. cond b tick (ticks entry.row) ∷ slice_set (map (λ entry. ticks entry.row) es) place tick) (sym (turned entry.row row off))
+          ap (λ b. cond b tick (ticks entry.row) ∷ slice_set (map (λ entry. ticks entry.row) es) place tick) (sym (differ_sym entry.row row off))
           ∙ ap (λ rest. with_row row tick ticks entry.row ∷ rest) (next place has)
 
 -- Writes and reads

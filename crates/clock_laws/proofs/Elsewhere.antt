@@ -4,7 +4,7 @@ use Rattle.std.specs.Prelude.{IfSome}
 use Rattle.masked_bytes.specs.Masked.{laid}
 use Rattle.masked_bytes.specs.Entries.{Layer, layer_of}
 use Rattle.pcm_cells.specs.Device.{ArrayState, LineState}
-use Rattle.ecp_line.specs.Reading.{decode}
+use Rattle.ecp_line.specs.Reading.{decode, IsSoundLine, IsWornLine}
 use Rattle.line_writer.specs.Orderly.{IsLive}
 use Rattle.line_writer.proofs.Orderly.{AreOrderly-same}
 use Rattle.line_writer.proofs.Untouched.{AreUntouched-same}
@@ -18,7 +18,7 @@ use Rattle.bank_model.specs.History.{Awaited, waits, iterated}
 use Rattle.bank_model.specs.Timing.{core}
 use Rattle.bank_shape.specs.declared.waiting.Waiting.{Waiting}
 use Rattle.bank_invariant.specs.State.{BankState, Operation, target_of}
-use Rattle.bank_invariant.specs.Tied.{decoded, IsSoundLine, IsWornLine, IsUnderWay, IsOf, IsRunning, AreSound, AreTied}
+use Rattle.bank_invariant.specs.Tied.{decoded, IsUnderWay, IsOf, IsRunning, AreSound, AreTied}
 use Rattle.bank_invariant.specs.Holds.{Holds}
 use Rattle.bank_invariant.proofs.Awaiting.{waits-known}
 use Rattle.clock_laws.specs.Extending.{ElsewhereLaw}

@@ -6,6 +6,7 @@ use Rattle.masked_bytes.specs.Entries.{layer_of, head_row, head_line}
 use Rattle.masked_bytes.specs.declared.entry.Entry.{Entry}
 use Rattle.pcm_cells.specs.Device.{ArrayState, LineState}
 use Rattle.ecp_line.specs.Reading.{decode}
+use Rattle.ecp_line.proofs.Bytes.{length-decode}
 use Rattle.start_gap.specs.declared.Move.{Move}
 use Rattle.bank_shape.specs.declared.BankShape.{BankShape}
 use Rattle.bank_shape.specs.declared.Work.{Work}
@@ -13,7 +14,6 @@ use Rattle.bank_shape.specs.declared.Work.TheVariants.{Nothing, Store, Copy}
 use Rattle.bank_shape.specs.Shape.{slot_at}
 use Rattle.power_recovery.specs.Slots.{bank_lines}
 use Rattle.power_recovery.specs.Kept.{KeptState, slot_of, array_line, stands_at, due_region, next_work}
-use Rattle.power_recovery.specs.Events.{is_copy}
 use Rattle.power_recovery.proofs.Bundle.{head-known}
 use Rattle.bank_shape.specs.declared.answer.Step.{Step}
 use Rattle.bank_shape.specs.declared.answer.Step.TheVariants as did
@@ -31,11 +31,12 @@ use Rattle.bank_laws.proofs.Pairs.{pair_law}
 use Rattle.reg_lines.specs.Regs.{RegsState}
 use Rattle.register_laws.specs.Telling.{AreTold}
 use Rattle.bank_shape.specs.declared.waiting.Waiting.{Waiting}
+use Rattle.bank_shape.specs.Kinds.{is_copy}
 use Rattle.bank_invariant.specs.State.{BankState, Operation, target_of}
 use Rattle.bank_invariant.specs.Tied.{decoded, IsOf}
 use Rattle.bank_invariant.specs.Holds.{waiting_of}
 use Rattle.bank_invariant.specs.Beginning.{sources, lines_sensed}
-use Rattle.bank_invariant.proofs.Targets.{length-decode, next_store-slot}
+use Rattle.bank_invariant.proofs.Targets.{next_store-slot}
 use Rattle.bank_invariant.proofs.Tearing.{running_of}
 use Rattle.bank_invariant.proofs.Awaiting.{waits-known}
 use Rattle.bank_invariant.proofs.Finishing.{next_store-line}

@@ -1,7 +1,7 @@
 -- What an action needs of its bank.
 use Rattle.std.proofs.Common.{◌≡◌, inl, inr, ℕ, ◌<◌, ◌==◌, ◌||◌, ◌&&◌, not, nat_lt, if◌then◌else◌, Bool, true, false, List, [], ◌∷◌, ◌++◌, length, Option, Some, None, is_some, refl, sym, ap, subst, ◌∙◌, arith, ltb-true, lt-ltb}
 use Rattle.std.proofs.lemmas.Bool.{and_from}
-use Rattle.masked_bytes.proofs.Truth.{and_first, and_second}
+use Rattle.masked_bytes.proofs.Truth.{and_first, and_second, differ_sym}
 use Rattle.std.specs.Prelude.{IfSome}
 use Rattle.std.specs.List.{list_any}
 use Rattle.std.proofs.lemmas.List.{length-append}
@@ -11,7 +11,7 @@ use Rattle.protected_queue.specs.Queue.{accepted}
 use Rattle.bank_shape.specs.declared.Work.{Work}
 use Rattle.bank_shape.specs.declared.Work.TheVariants.{Nothing, Store, Copy}
 use Rattle.power_recovery.specs.Kept.{KeptState, next_work}
-use Rattle.power_recovery.specs.Events.{is_store, is_copy, accepted_kept}
+use Rattle.power_recovery.specs.Events.{accepted_kept}
 use Rattle.power_recovery.proofs.Frames.{next_work-accepted, next_work-due}
 use Rattle.power_recovery.proofs.Bundle.{next_work-store, next_work-copy}
 use Rattle.bank_shape.specs.declared.clock.Doing.{Doing}
@@ -25,13 +25,14 @@ use Rattle.reg_lines.specs.declared.Change.{Change}
 use Rattle.reg_lines.specs.Regs.{RegsState}
 use Rattle.register_laws.specs.Telling.{item_of}
 use Rattle.bank_shape.specs.declared.waiting.Waiting.{Waiting}
+use Rattle.bank_shape.specs.Kinds.{is_store, is_copy}
 use Rattle.bank_invariant.specs.State.{BankState, is_free, may_begin}
 use Rattle.bank_invariant.specs.Serving.{kept_with, waits_too}
 use Rattle.bank_invariant.specs.Writes.{taken}
 use Rattle.clock_laws.specs.State.{is_busy, may_start, or_else, started_at, chosen}
 use Rattle.clock_laws.specs.Arriving.{drops}
 use Rattle.clock_laws.specs.Fitting.{Fits, IsFit, HasEnded, NeedsLaw, ChosenLaw, RestLaw, FitWriteLaw, FitReadLaw}
-use Rattle.clock_laws.proofs.Deciding.{not_false, turned}
+use Rattle.clock_laws.proofs.Deciding.{not_false}
 
 -- Choices
 
@@ -198,7 +199,7 @@ any-push at (v ∷ ws) w off none = by (v.line == at) none (any-push at ws w off
 -- a work that may be begun may still be, where the read isn't of the line that it stores
 free-stays : {n : ℕ} (work : Work) (ws : List (Waiting n)) (w : Waiting n) → is_store_of w.line work ≡ false → is_free ws work ≡ true → is_free (ws ++ w ∷ []) work ≡ true
 free-stays Nothing ws w off free = cc
-free-stays (Store line slot) ws w off free = ap (λ b. not b) (any-push line ws w (turned line w.line off) (not_false _ free))
+free-stays (Store line slot) ws w off free = ap (λ b. not b) (any-push line ws w (differ_sym line w.line off) (not_false _ free))
 free-stays (Copy region step) ws w off free = free
 
 fit-waits : {n m e : ℕ} (bank : BankState n m e) (regs : RegsState n m e) (row line first : ℕ) (doing : Doing) → Fits bank regs doing

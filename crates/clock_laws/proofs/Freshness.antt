@@ -1,7 +1,7 @@
 -- Each entry of a history's queue gives the newest bytes of its line as of its own write.
-use Rattle.std.proofs.Common.{◌≡◌, ℕ, ◌==◌, ◌||◌, ◌&&◌, not, Bool, true, false, cond, if◌then◌else◌, List, [], ◌∷◌, ◌++◌, length, drop, slice_get, Option, Some, None, refl, sym, ap, subst, ◌∙◌, arith, eqb-true, eq-eqb}
+use Rattle.std.proofs.Common.{◌≡◌, ℕ, ◌==◌, ◌||◌, Bool, true, false, cond, if◌then◌else◌, List, [], ◌∷◌, ◌++◌, length, drop, slice_get, Option, Some, None, refl, sym, ap, subst, ◌∙◌, arith, eqb-true, eq-eqb}
 use Rattle.std.proofs.lemmas.Bool.{or_from, or_right}
-use Rattle.masked_bytes.proofs.Truth.{neither_first, neither_second}
+use Rattle.masked_bytes.proofs.Truth.{neither_first, neither_second, differ_sym}
 use Rattle.std.specs.Prelude.{IsTrue, IsSomeAnd}
 use Rattle.std.proofs.lemmas.List.{length-replicate}
 use Rattle.masked_bytes.specs.declared.entry.Entry.{Entry}
@@ -22,7 +22,6 @@ use Rattle.bank_laws.proofs.Standing.{stand_apart}
 use Rattle.bank_invariant.proofs.Taking.{answer_merged}
 use Rattle.clock_laws.specs.Newest.{GiveNewest, EntryLaw}
 use Rattle.bank_model.proofs.Newest.{length-newest}
-use Rattle.clock_laws.proofs.Deciding.{turned}
 
 -- an entry of n bytes changes nothing of what was newest as of its write; and if it is the newest of its line, that is newest now
 pub record IsFresh {n : ℕ} (was now : List ℕ) (behind : Bool) (entry : Entry n) : Type 0 where
@@ -50,7 +49,7 @@ module _ {n : ℕ} where
       → has_row es row ≡ false → AreFresh was now es → AreFresh after now es
   fresh-aside row was after now [] aside none fresh = tt
   fresh-aside row was after now (e ∷ es) aside none fresh =
-      let same : was e.row e.line ≡ after e.row e.line = sym (aside e.row e.line (turned e.row row (neither_first (e.row == row) (has_row es row) none))) in (
+      let same : was e.row e.line ≡ after e.row e.line = sym (aside e.row e.line (differ_sym e.row row (neither_first (e.row == row) (has_row es row) none))) in (
         subst (λ (bytes : List ℕ). IsFresh bytes (now e.line) (has_line es e.line) e) same fresh.0,
         fresh-aside row was after now es aside (neither_second (e.row == row) (has_row es row) none) fresh.1,
       )
@@ -60,7 +59,7 @@ module _ {n : ℕ} where
     fresh-one : (e : Entry n) (behind later : Bool) → (e.row == row) ≡ false → (later ≡ false → (behind ≡ false) × ((line == e.line) ≡ false))
         → IsFresh (was e.row e.line) (now e.line) behind e → IsFresh (after e.row e.line) (next e.line) later e
     fresh-one e behind later other apart fresh =
-        let same : after e.row e.line ≡ was e.row e.line = goes.aside e.row e.line (turned e.row row other) in
+        let same : after e.row e.line ≡ was e.row e.line = goes.aside e.row e.line (differ_sym e.row row other) in
         record {
           bytes_len = fresh.bytes_len;
           given_len = fresh.given_len;
@@ -98,7 +97,7 @@ module _ {n : ℕ} where
     fresh-off [] none off fresh = tt
     fresh-off (e ∷ es) none off fresh = (
       fresh-one e (has_line es e.line) (has_line es e.line) (neither_first (e.row == row) (has_row es row) none)
-          (λ behind. (behind, turned e.line line (neither_first (e.line == line) (has_line es line) off))) fresh.0,
+          (λ behind. (behind, differ_sym e.line line (neither_first (e.line == line) (has_line es line) off))) fresh.0,
       fresh-off es (neither_second (e.row == row) (has_row es row) none) (neither_second (e.line == line) (has_line es line) off) fresh.1,
     )
 

@@ -2,7 +2,7 @@
 use Rattle.std.proofs.Common.{◌≡◌, ◌≢◌, ℕ, ◌+◌, ◌<◌, ◌≤◌, not, is_some, Bool, true, false, List, [], ◌∷◌, Option, Some, None, refl, sym, ap, subst, ◌∙◌, arith}
 use Rattle.std.specs.Prelude.{IfSome, IsSomeAnd, IsTrue}
 use Rattle.pcm_cells.specs.Device.{ArrayState}
-use Rattle.bank_shape.specs.Shape.{controls_from}
+use Rattle.bank_shape.specs.Shape.{controls_from, IsIn}
 use Rattle.bank_shape.specs.declared.answer.Keep.{Keep}
 use Rattle.bank_shape.specs.declared.answer.Keep.TheVariants as keep
 use Rattle.bank_shape.specs.declared.clock.Doing.{Doing}
@@ -26,7 +26,7 @@ use Rattle.clock_laws.specs.Leads.{Leads}
 use Rattle.clock_laws.specs.Completing.{EndsKeeping, line_kept, keep_completed, after_keep}
 use Rattle.clock_laws.specs.Extending.{is_tear}
 use Rattle.clock_laws.specs.Actions.{LeadsOn, KeepBeginEndsLaw, KeepIterateEndsLaw}
-use Rattle.clock_laws.proofs.Ranges.{IsIn, change-in, kept-pulsed-in}
+use Rattle.clock_laws.proofs.Ranges.{change-in, kept-pulsed-in}
 use Rattle.clock_laws.proofs.Controls.{change-known}
 use Rattle.clock_laws.proofs.Completing.{keeping_law}
 use Rattle.clock_laws.proofs.Extending.{one_added_law}

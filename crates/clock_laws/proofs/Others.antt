@@ -1,12 +1,11 @@
 -- The rows that stand, and that no other outcome is touched.
-use Rattle.std.proofs.Common.{◌≡◌, ℕ, ◌==◌, ◌||◌, ◌&&◌, not, Bool, true, false, cond, if◌then◌else◌, List, [], ◌∷◌, ◌++◌, map, Option, Some, None, refl, sym, ap, subst, ◌∙◌, eqb-true, eq-eqb}
-use Rattle.std.proofs.lemmas.Bool.{or_right}
+use Rattle.std.proofs.Common.{◌≡◌, ℕ, ◌==◌, ◌||◌, Bool, true, false, cond, if◌then◌else◌, List, [], ◌∷◌, ◌++◌, map, Option, Some, None, refl, sym, ap, subst, ◌∙◌, eqb-true}
 use Rattle.masked_bytes.proofs.Truth.{neither_first, neither_second}
 use Rattle.std.specs.Prelude.{unwrap_or}
 use Rattle.result_rows.specs.declared.Outcome.{Outcome}
 use Rattle.result_rows.specs.declared.Outcome.TheVariants as out
 use Rattle.masked_bytes.specs.declared.entry.Entry.{Entry}
-use Rattle.masked_bytes.specs.Entries.{or_this, newest_row, candidate, has_row, head_row}
+use Rattle.masked_bytes.specs.Entries.{candidate, has_row, head_row}
 use Rattle.bank_shape.specs.declared.BankShape.{BankShape}
 use Rattle.bank_shape.specs.declared.Work.TheVariants.{Nothing}
 use Rattle.bank_shape.specs.declared.answer.WriteAnswer.TheVariants as wrote
@@ -24,6 +23,7 @@ use Rattle.bank_model.specs.Sensing.{most_steps}
 use Rattle.bank_laws.specs.Outcomes.{outcome_by, outcome_with, on_row}
 use Rattle.bank_laws.specs.Standing.{has_wait, WaitsApart, AreRowsApart}
 use Rattle.bank_laws.proofs.Standing.{stand_apart}
+use Rattle.bank_laws.proofs.Answering.{candidate-there}
 use Rattle.bank_shape.specs.declared.waiting.Waiting.{Waiting}
 use Rattle.bank_invariant.specs.Holds.{waiting_of}
 use Rattle.bank_invariant.proofs.Taking.{answer_merged}
@@ -62,25 +62,6 @@ apart_law n m e xs clock array leads =
 -- Rows that don't
 
 module _ {n : ℕ} where
-  -- the entry into which a write is merged is there
-  pub candidate-there : (busy : Bool) (es : List (Entry n)) (line old : ℕ) → candidate busy es line ≡ Some old → has_row es old ≡ true
-  candidate-there busy [] line old is = cc
-  candidate-there busy (e ∷ es) line old is = by (newest_row es line) (rest es) (not busy && e.line == line) is
-    where
-      rest : (es : List (Entry n)) → newest_row es line ≡ Some old → has_row es old ≡ true
-      rest [] is = cc
-      rest (f ∷ es) is = own (newest_row es line) (rest es) (f.line == line) is
-        where
-          own : (r : Option ℕ) → (r ≡ Some old → has_row es old ≡ true) → (b : Bool) → or_this r (if b then Some f.row else None) ≡ Some old → has_row (f ∷ es) old ≡ true
-          own (Some at) there b is = or_right (f.row == old) (has_row es old) (there is)
-          own None there true is = let same : f.row ≡ old = cc in ap (λ b. b || has_row es old) (eq-eqb f.row old same)
-          own None there false is = cc
-
-      by : (r : Option ℕ) → (r ≡ Some old → has_row es old ≡ true) → (b : Bool) → or_this r (if b then Some e.row else None) ≡ Some old → has_row (e ∷ es) old ≡ true
-      by (Some at) there b is = or_right (e.row == old) (has_row es old) (there is)
-      by None there true is = let same : e.row ≡ old = cc in ap (λ b. b || has_row es old) (eq-eqb e.row old same)
-      by None there false is = cc
-
   -- a row that isn't there is another
   other-row : (es : List (Entry n)) (at row : ℕ) → has_row es at ≡ true → has_row es row ≡ false → (at == row) ≡ false
   other-row es at row there none = by (at == row) (eqb-true at row)

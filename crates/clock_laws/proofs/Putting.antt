@@ -14,10 +14,10 @@ use Rattle.bank_shape.specs.declared.Work.{Work}
 use Rattle.bank_shape.specs.declared.Work.TheVariants.{Nothing, Store, Copy}
 use Rattle.start_gap.specs.declared.Move.{Move}
 use Rattle.power_recovery.specs.Kept.{KeptState, due_region}
-use Rattle.power_recovery.specs.Events.{is_store, is_copy}
 use Rattle.power_recovery.proofs.Bundle.{next_work-store, next_work-copy}
 use Rattle.bank_shape.specs.declared.answer.Step.{Step}
 use Rattle.bank_shape.specs.declared.answer.Step.TheVariants as did
+use Rattle.bank_shape.specs.Kinds.{is_store, is_copy}
 use Rattle.bank_model.specs.Events.{Write, Read, Serve, Begin, Iterate, Cut, line_of_row}
 use Rattle.bank_model.specs.History.{queue, stores, first_or}
 use Rattle.bank_model.specs.After.{work_after}

@@ -1,19 +1,19 @@
 -- The array lines that a bank senses and pulses are its own.
-use Rattle.std.proofs.Common.{◌≡◌, ℕ, ◌+◌, ◌-◌, ◌<◌, ◌≤◌, ◌==◌, inl, inr, Bool, true, false, cond, zero, suc, List, [], ◌∷◌, ◌++◌, map, Option, Some, None, refl, sym, ap, subst, ◌∙◌, arith}
+use Rattle.std.proofs.Common.{◌≡◌, ℕ, ◌+◌, ◌-◌, ◌<◌, ◌≤◌, Bool, true, false, cond, zero, suc, List, [], ◌∷◌, ◌++◌, map, Option, Some, None, refl, sym, ap, subst, ◌∙◌, arith}
 use Rattle.std.specs.Prelude.{All, IfSome}
-use Rattle.std.proofs.lemmas.Bool.{cases_eq, ne_eqb}
 use Rattle.std.proofs.lemmas.List.Elements.{All-nil, All-cons}
 use Rattle.std.proofs.Math.Nat.{mul-le-mul_left}
 use Rattle.masked_bytes.specs.declared.entry.Entry.{Entry}
 use Rattle.pcm_cells.specs.declared.array.Sense.{Sense}
 use Rattle.pcm_cells.specs.Device.{ArrayState, counted, sense_of}
 use Rattle.start_gap.specs.Rotation.{Rotation, below_gap}
+use Rattle.start_gap.proofs.Places.{below_gap-within}
 use Rattle.spare_pool.specs.Table.{line_by, used_by}
 use Rattle.spare_pool.proofs.Lines.{line_by-within}
 use Rattle.bank_shape.specs.declared.BankShape.{BankShape}
 use Rattle.bank_shape.specs.declared.Work.{Work}
 use Rattle.bank_shape.specs.declared.Work.TheVariants.{Nothing, Store, Copy}
-use Rattle.bank_shape.specs.Shape.{slots_of, slot_at, lines_in, controls_of, controls_from, control_line}
+use Rattle.bank_shape.specs.Shape.{slots_of, slot_at, lines_in, controls_of, controls_from, control_line, IsIn}
 use Rattle.power_recovery.specs.Slots.{bank_lines}
 use Rattle.power_recovery.specs.Kept.{KeptState, IsKept, AllBelow, region_at, slot_of, array_line, stands_at, due_region, due_work, next_work, target_slot}
 use Rattle.power_recovery.proofs.Placing.{slot_of-within, slot_at-within}
@@ -32,10 +32,6 @@ use Rattle.bank_invariant.specs.Holds.{Holds}
 use Rattle.bank_invariant.specs.Bridge.{AgreesWith}
 use Rattle.bank_invariant.proofs.Awaiting.{waits-known}
 use Rattle.bank_invariant.proofs.Agreeing.{agree_law}
-
--- a line of a bank's own
-abbrev pub IsIn : BankShape → ℕ → Type 0
-IsIn shape line = (shape.base ≤ line) × (line < shape.base + lines_in shape)
 
 -- one that is no control line
 abbrev pub IsSlotOrSpare : BankShape → ℕ → Type 0
@@ -56,16 +52,6 @@ AreIn shape (line ∷ lines) = IsIn shape line × AreIn shape lines
 AreIn-append : (shape : BankShape) (first rest : List ℕ) → AreIn shape first → AreIn shape rest → AreIn shape (first ++ rest)
 AreIn-append shape [] rest h k = k
 AreIn-append shape (line ∷ first) rest h k = (h.0, AreIn-append shape first rest h.1 k)
-
-below_gap-within : (n gap : ℕ) → gap ≤ n → below_gap n gap ≤ n
-below_gap-within n gap few =
-    elim (cases_eq gap 0) [
-      | inl end ↦ subst (λ (b : Bool). cond b n (gap - 1) ≤ n) (sym (eq-test end)) (omega arith)
-      | inr further ↦ subst (λ (b : Bool). cond b n (gap - 1) ≤ n) (sym (ne_eqb gap 0 further)) (omega arith)
-    ]
-  where
-    eq-test : gap ≡ 0 → (gap == 0) ≡ true
-    eq-test end = ap (λ (g : ℕ). g == 0) end
 
 module _ {n : ℕ} (kept : KeptState n) (range : IsKept kept) where
   -- each slot's array line is one of the bank

@@ -11,7 +11,7 @@ use Rattle.region_regs.specs.Region.{RegionState, after_move}
 use Rattle.spare_pool.specs.Table.{used_by}
 use Rattle.line_writer.specs.Writing.{steps_left, most_steps}
 use Rattle.power_recovery.specs.Kept.{KeptState, IsKept, no_region, region_at, due_region, next_work}
-use Rattle.power_recovery.specs.Events.{is_store, is_copy, completed_kept, stored_kept, moved_kept, retired_kept, exhausted_kept}
+use Rattle.power_recovery.specs.Events.{completed_kept, stored_kept, moved_kept, retired_kept, exhausted_kept}
 use Rattle.power_recovery.proofs.Frames.{moved_at, moved_kept-at, next_work-completed}
 use Rattle.power_recovery.proofs.Bundle.{due_region-Some, due_region-None, next_work-store, next_work-copy, IsKept-moved}
 use Rattle.bank_invariant.specs.State.{BankState, Operation}
@@ -20,16 +20,15 @@ use Rattle.bank_invariant.specs.Beginning.{begun_with}
 use Rattle.bank_shape.specs.declared.waiting.Waiting.{Waiting}
 use Rattle.line_writer.specs.declared.writer.LineWriter.{LineWriter}
 use Rattle.bank_shape.specs.declared.answer.Keep.TheVariants as keep
+use Rattle.bank_shape.specs.Kinds.{is_store, is_copy}
 use Rattle.bank_laws.proofs.Changing.{changed-idle}
 use Rattle.reg_lines.specs.declared.Change.{Change}
 use Rattle.reg_lines.specs.Regs.{RegsState}
 use Rattle.reg_lines.specs.Keeping.{kept_on}
 use Rattle.register_laws.specs.Telling.{item_of}
-use Rattle.clock_laws.specs.Remaining.{due_moves, last_attempts, attempts_left, attempt_left, keeping_left, present_left, actions_left, FallingLaw, OneWriteLaw}
-
-few_moves : (due : Option ℕ) → due_moves due ≤ 1
-few_moves None = omega arith
-few_moves (Some region) = omega arith
+use Rattle.bank_model.specs.After.{due_moves}
+use Rattle.bank_model.proofs.Within.{due_moves-few}
+use Rattle.clock_laws.specs.Remaining.{last_attempts, attempts_left, attempt_left, keeping_left, present_left, actions_left, FallingLaw, OneWriteLaw}
 
 length-rest : {n : ℕ} (es : List (Entry n)) → 0 < length es → length (drop 1 es) + 1 ≡ length es
 length-rest [] some = grind arith
@@ -44,7 +43,7 @@ module _ {n : ℕ} (kept : KeptState n) where
   stored-fewer stores =
       let store = next_work-store kept stores in
       let none : due_moves (due_region kept) ≡ 0 = ap due_moves store.1 in
-      omega (arith, length-rest kept.entries store.2, few_moves (due_region (stored_kept kept)), none)
+      omega (arith, length-rest kept.entries store.2, due_moves-few (due_region (stored_kept kept)), none)
 
   none-due-moved : (region : ℕ) → IsKept kept → is_copy (next_work kept) ≡ true → due_region kept ≡ Some region → due_region (moved_kept kept) ≡ None
   none-due-moved region range copies due =

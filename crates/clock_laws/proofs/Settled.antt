@@ -6,6 +6,7 @@ use Rattle.result_rows.specs.declared.Outcome.{Outcome}
 use Rattle.result_rows.specs.declared.Outcome.TheVariants as out
 use Rattle.masked_bytes.specs.declared.entry.Entry.{Entry}
 use Rattle.masked_bytes.specs.Entries.{candidate, laid_on, merged, has_row, head_row}
+use Rattle.masked_bytes.proofs.Truth.{or_rest}
 use Rattle.bank_shape.specs.declared.BankShape.{BankShape}
 use Rattle.bank_shape.specs.declared.Work.{Work}
 use Rattle.bank_shape.specs.declared.Work.TheVariants.{Nothing, Store, Copy}
@@ -25,10 +26,11 @@ use Rattle.bank_model.specs.Sensing.{most_steps}
 use Rattle.bank_model.specs.Told.{tick_by, tick_of_row}
 use Rattle.bank_laws.specs.Outcomes.{outcome_by, outcome_with, outcome_of, on_row}
 use Rattle.bank_laws.specs.Standing.{has_wait}
+use Rattle.bank_laws.proofs.Answering.{candidate-there}
+use Rattle.bank_laws.proofs.Waiting.{wait-push}
 use Rattle.bank_invariant.proofs.Taking.{answer_merged}
 use Rattle.clock_laws.specs.Standing.{has_waiting, is_arrival_of, arrives_with, SettledLaw, LostRowsLaw, ArrivalTickLaw}
-use Rattle.clock_laws.proofs.Others.{same_wait, candidate-there}
-use Rattle.clock_laws.proofs.Deciding.{or_rest}
+use Rattle.clock_laws.proofs.Others.{same_wait}
 
 -- whether a row has its outcome
 abbrev is_set : {n : ℕ} → Outcome n → Bool
@@ -78,14 +80,6 @@ module _ {n : ℕ} (old at : ℕ) (bytes : List ℕ) (given : List Bool) where
           → has_row (if b then laid_on at bytes given e ∷ es else e ∷ merged old at bytes given es) at ≡ true
       by true is rest = or_left (at == at) _ (eq-eqb at at refl)
       by false is rest = or_right (e.row == at) _ (rest (or_rest (e.row == old) _ is h))
-
-wait-push : (ws : List Awaited) (w : Awaited) (row : ℕ) → has_wait ws row ≡ true → has_wait (ws ++ w ∷ []) row ≡ true
-wait-push [] w row h = cc
-wait-push (v ∷ ws) w row h = by (v.row == row) h (wait-push ws w row)
-  where
-    by : (b : Bool) → (b || has_wait ws row) ≡ true → (has_wait ws row ≡ true → has_wait (ws ++ w ∷ []) row ≡ true) → (b || has_wait (ws ++ w ∷ []) row) ≡ true
-    by true h rest = refl
-    by false h rest = rest h
 
 wait-new : (ws : List Awaited) (w : Awaited) (row : ℕ) → (w.row == row) ≡ true → has_wait (ws ++ w ∷ []) row ≡ true
 wait-new [] w row h = or_left (w.row == row) false h

@@ -4,11 +4,9 @@ use Rattle.std.specs.Prelude.{IfSome}
 use Rattle.std.proofs.lemmas.Bool.{le-ltb}
 use Rattle.pcm_cells.specs.Device.{ArrayState}
 use Rattle.bank_shape.specs.declared.clock.Doing.{Doing}
-use Rattle.bank_shape.specs.declared.clock.Doing.TheVariants.{Serving, Beginning, Iterating}
 use Rattle.bank_shape.specs.declared.clock.Action.{Action}
 use Rattle.bank_model.specs.History.{Awaited, waits}
 use Rattle.bank_model.specs.Changes.{change_after, keeping_after, halted_after}
-use Rattle.bank_shape.specs.Acting.{lasts}
 use Rattle.bank_model.specs.Timing.{TimedEvent, ends, core, is_empty, last_tick}
 use Rattle.bank_shape.specs.Pausing.{gives_way}
 use Rattle.bank_shape.specs.Acting.{choice, chosen_by}
@@ -17,6 +15,7 @@ use Rattle.bank_invariant.specs.State.{may_begin}
 use Rattle.bank_invariant.specs.Holds.{waiting_of}
 use Rattle.bank_invariant.specs.Bridge.{AgreesWith}
 use Rattle.bank_invariant.proofs.Agreeing.{agree_law}
+use Rattle.bank_laws.proofs.Ticks.{lasts_some}
 use Rattle.clock_laws.specs.State.{ClockState, is_busy, may_start, started_at, or_else, chosen, next_action}
 use Rattle.clock_laws.specs.Leads.{Leads}
 
@@ -107,11 +106,6 @@ module _ {n m e : ℕ} (xs : List (TimedEvent n m)) (clock : ClockState n m e) (
 
 -- Ends
 
-lasts-some : (read iter : ℕ) (doing : Doing) → 1 ≤ read → 1 ≤ iter → 1 ≤ lasts read iter doing
-lasts-some read iter Serving some some_iter = some
-lasts-some read iter Beginning some some_iter = some
-lasts-some read iter Iterating some some_iter = some_iter
-
 -- the action that runs from now on ends later, where each lasts
 pub ends-later : {n m e : ℕ} (clock : ClockState n m e) → IfSome clock.action (λ a. clock.tick < ends clock.pace a) → 1 ≤ clock.pace.read → 1 ≤ clock.pace.iter
     → IfSome (next_action clock) (λ a. clock.tick < ends clock.pace a)
@@ -120,4 +114,4 @@ ends-later clock above some some_iter = by clock.action (chosen clock) above
     by : (r : Option Action) (d : Option Doing) → IfSome r (λ a. clock.tick < ends clock.pace a) → IfSome (or_else r (started_at clock.tick d)) (λ a. clock.tick < ends clock.pace a)
     by (Some action) d above = above
     by None None above = tt
-    by None (Some doing) above = omega (arith, lasts-some clock.pace.read clock.pace.iter doing some some_iter)
+    by None (Some doing) above = omega (arith, lasts_some clock.pace.read clock.pace.iter doing some some_iter)

@@ -3,7 +3,7 @@ use Rattle.std.specs.Prelude.{◌≡◌, ℕ, ◌+◌, ◌<◌, ◌≤◌, IsTru
 use Rattle.pcm_cells.specs.Device.{ArrayState}
 use Rattle.ecp_line.specs.Reading.{decode}
 use Rattle.bank_shape.specs.Shape.{lines_in}
-use Rattle.power_recovery.specs.Events.{is_copy}
+use Rattle.bank_shape.specs.Kinds.{is_copy}
 use Rattle.bank_model.specs.Aging.{AreAged}
 use Rattle.bank_model.specs.History.{queue}
 use Rattle.bank_model.specs.Running.{running_at, cancels_after}

@@ -5,7 +5,7 @@ use Rattle.spare_pool.specs.Table.{used_by}
 use Rattle.line_writer.specs.declared.writer.LineWriter.{LineWriter}
 use Rattle.line_writer.specs.Writing.{steps_left, most_steps}
 use Rattle.power_recovery.specs.Kept.{KeptState, IsKept, due_region, next_work}
-use Rattle.power_recovery.specs.Events.{is_store, is_copy, completed_kept, stored_kept, retired_kept, exhausted_kept}
+use Rattle.power_recovery.specs.Events.{completed_kept, stored_kept, retired_kept, exhausted_kept}
 use Rattle.bank_invariant.specs.State.{BankState, Operation}
 use Rattle.bank_invariant.specs.Iterating.{going_on}
 use Rattle.bank_invariant.specs.Serving.{served}
@@ -14,17 +14,14 @@ use Rattle.bank_invariant.specs.Storing.{resting}
 use Rattle.bank_invariant.specs.Moving.{moved}
 use Rattle.bank_invariant.specs.Retiring.{ended}
 use Rattle.bank_model.specs.Timing.{TimedEvent}
+use Rattle.bank_model.specs.After.{due_moves}
 use Rattle.bank_shape.specs.declared.answer.Keep.TheVariants as keep
+use Rattle.bank_shape.specs.Kinds.{is_store, is_copy}
 use Rattle.reg_lines.specs.Regs.{RegsState}
 use Rattle.reg_lines.specs.Keeping.{kept_on}
 use Rattle.register_laws.specs.Telling.{item_of}
 use Rattle.clock_laws.specs.State.{ClockState}
 use Rattle.clock_laws.specs.Leads.{Leads}
-
--- one, if a region is due to move
-abbrev pub due_moves : Option ℕ → ℕ
-due_moves None = 0
-due_moves (Some region) = 1
 
 -- one, if no line has yet found no spare
 abbrev pub last_attempts : Bool → ℕ

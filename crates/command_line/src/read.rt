@@ -105,7 +105,8 @@ fn named(name: &str, matches: &ArgMatches<'_>) -> Option<Job>
 
 // The words behind the program's name.
 fn with_program_name<'a>(alloc: Global, words: &'a [String]) -> Result<Vec<&'a str>, AllocError>
-    ensures { IfOk result (λ all. map (λ s. s.now) all.items ≡ codes "pcm" ∷ map string_bytes words.entry.now) }
+    ensures { IfOk result (λ all. map (λ s. s.now) all.items
+        ≡ codes "pcm" ∷ map string_bytes words.entry.now) }
 {
     let mut all = Vec::new(alloc);
     all.push("pcm")?;

@@ -82,7 +82,8 @@ fn add_option<'a>(
     name: &'a str,
 ) -> Result<Command<'a>, AllocError>
     requires { (out-Command command).has_globals ≡ false }
-    ensures app { IfOk result (λ c. app_of c ≡ with_rule (app_of command.entry) (option_rule name.entry.now)) }
+    ensures app { IfOk result (λ c. app_of c
+        ≡ with_rule (app_of command.entry) (option_rule name.entry.now)) }
     ensures globals { IfOk result (λ c. (out-Command c).has_globals ≡ false) }
 {
     command.arg(Arg::new(alloc, name).long(name).action(ArgAction::Set))
@@ -107,7 +108,8 @@ fn with_leaf<'a>(
     name: &'a str,
     options: &'a [&'a str],
 ) -> Result<Command<'a>, AllocError>
-    ensures { IfOk result (λ c. app_of c ≡ with_subcommand (app_of command.entry) (leaf_app name.entry.now (map (λ s. s.now) options.entry.now)).top) }
+    ensures { IfOk result (λ c. app_of c ≡ with_subcommand (app_of command.entry)
+        (leaf_app name.entry.now (map (λ s. s.now) options.entry.now)).top) }
 {
     command.subcommand(leaf(alloc, name, options)?)
 }

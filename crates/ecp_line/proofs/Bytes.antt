@@ -12,6 +12,11 @@ pub length-bytes_from : (bit : ℕ → Bool) (k n : ℕ) → length (bytes_from 
 length-bytes_from bit k zero = refl
 length-bytes_from bit k (suc n) = let t = length-bytes_from bit (k + 1) n in omega arith
 
+-- a line is read as n bytes
+pub length-decode : {n m : ℕ} (e : ℕ) (row : Cells n m) → length (decode e row) ≡ n
+unfolding decode
+length-decode {n} e row = length-bytes_from _ 0 n
+
 pub get_or-bytes_from : (bit : ℕ → Bool) (k n i : ℕ) → i < n → get_or (bytes_from bit k n) i 0 ≡ number bit (8 * (k + i)) 8
 get_or-bytes_from bit k zero i h = absurd (omega arith)
 get_or-bytes_from bit k (suc n) zero h = let e : 8 * k ≡ 8 * (k + 0) = omega arith in ap (λ (a : ℕ). number bit a 8) e

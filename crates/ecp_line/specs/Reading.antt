@@ -1,8 +1,9 @@
--- What a line is read as, as bytes, and when it is worn.
-use Rattle.std.specs.Prelude.{ℕ, zero, suc, ◌+◌, ◌*◌, ◌-◌, nat_lt, Bool, not, ◌&&◌, ◌||◌, List, [], ◌∷◌}
+-- What a line is read as, as bytes, and when it is sound or worn.
+use Rattle.std.specs.Prelude.{ℕ, zero, suc, ◌+◌, ◌*◌, ◌-◌, nat_lt, Bool, not, ◌&&◌, ◌||◌, IsTrue, List, [], ◌∷◌}
 use Rattle.pcm_cells.specs.Rows.{cell, members}
 use Rattle.pcm_cells.specs.declared.row.Cells.{Cells}
-use Rattle.ecp_line.specs.Layout.{number, decoded, full_cell, activity_cell, some_below}
+use Rattle.pcm_cells.specs.Device.{LineState}
+use Rattle.ecp_line.specs.Layout.{number, decoded, full_cell, activity_cell, some_below, Sound}
 
 -- n bytes from byte k on, of these bits
 abbrev pub bytes_from : (ℕ → Bool) → ℕ → ℕ → List ℕ
@@ -18,3 +19,11 @@ abbrev pub is_worn_line : {B M : ℕ} → ℕ → Cells B M → (ℕ → Bool) �
 is_worn_line {B} {M} E row stuck =
     nat_lt E (members stuck (8 * (B + M))) || (stuck (full_cell B E)
     || (not (cell row (full_cell B E)) && some_below (λ i. stuck (activity_cell B E + i)) (E - 1)))
+
+-- the cells that a line holds are sound
+abbrev pub IsSoundLine : {n m : ℕ} → ℕ → LineState n m → Type 0
+IsSoundLine {n} {m} e line = Sound n m e (cell line.held) line.stuck
+
+-- a line is worn
+abbrev pub IsWornLine : {n m : ℕ} → ℕ → LineState n m → Type 0
+IsWornLine e line = IsTrue (is_worn_line e line.held line.stuck)

@@ -124,7 +124,8 @@ impl<const B: usize, const M: usize, const E: usize> Ecp<B, M, E> {
     /// The cells as they have to be for the line to be read as the bytes, and the mask of the sources of all bits.
     pub fn wanted(cells: &Cells<B, M>, bytes: &[u8; B]) -> (Cells<B, M>, Cells<B, M>)
         requires { IsLayout B M E }
-        ensures { let f = cell cells.now in IsWanted B (active B E f) f bytes.now (cell result.0) (cell result.1) }
+        ensures { let f = cell cells.now in
+            IsWanted B (active B E f) f bytes.now (cell result.0) (cell result.1) }
     {
         let given = with_data(cells, bytes);
         let mut want = given;
@@ -147,9 +148,11 @@ impl<const B: usize, const M: usize, const E: usize> Ecp<B, M, E> {
     /// The lowest bit that is not read as in the bytes. Whole bytes are compared first.
     pub fn wrong(cells: &Cells<B, M>, bytes: &[u8; B]) -> Option<u16>
         requires { IsLayout B M E }
-        ensures some { IfSome result (λ x. (x < 8 * B) × IsLowest (λ y. xor (decoded B E (cell cells.now) y) (bit_of bytes.now y)) x) }
+        ensures some { IfSome result (λ x. (x < 8 * B)
+            × IsLowest (λ y. xor (decoded B E (cell cells.now) y) (bit_of bytes.now y)) x) }
         ensures none { IfNone result (decode E cells.now ≡ bytes.now) }
-        ensures right { IfNone result ((x : ℕ) → x < 8 * B → decoded B E (cell cells.now) x ≡ bit_of bytes.now x) }
+        ensures right { IfNone result ((x : ℕ) → x < 8 * B
+            → decoded B E (cell cells.now) x ≡ bit_of bytes.now x) }
     {
         let read = Self::corrected(cells);
         let given = with_data(&read, bytes);

@@ -25,7 +25,7 @@ use Rattle.bank_laws.specs.Places.{region_stores}
 use Rattle.bank_laws.proofs.Settling.{lawful_before, above_all}
 use Rattle.bank_laws.proofs.Waiting.{may_all}
 use Rattle.bank_laws.proofs.Walking.{Passes, walk, rows_after}
-use Rattle.place_laws.proofs.Asked.{Asked, asked-within, wrote-asked, queue-wrote}
+use Rattle.bank_laws.proofs.Asked.{Asked, asked-within, wrote-asked, queue-wrote}
 use Rattle.place_laws.proofs.Moves.{keeps, none-due}
 use Rattle.place_laws.proofs.Tables.{between}
 use Rattle.place_laws.proofs.Slots.{slot_moved-within}

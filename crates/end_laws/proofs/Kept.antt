@@ -25,7 +25,7 @@ use Rattle.bank_laws.proofs.Settling.{opens}
 use Rattle.bank_laws.proofs.Pairs.{AllLong, KeepsPairs, keeps_pairs}
 use Rattle.bank_laws.proofs.Serves.{same_bytes-same, newest_same}
 use Rattle.bank_laws.proofs.Waiting.{may_all}
-use Rattle.queue_laws.proofs.Spread.{spread, spread-layer, spread-alone, spread-other}
+use Rattle.bank_laws.proofs.Given.{given_of, given-layer, given-alone, given-other}
 use Rattle.queue_laws.proofs.Showing.{Front}
 use Rattle.queue_laws.proofs.Floors.{since, floor_of}
 use Rattle.queue_laws.proofs.Covering.{is_covered}
@@ -37,23 +37,23 @@ use Rattle.end_laws.proofs.Leaving.{agreeing}
 
 module _ {n : ℕ} where
   -- the entries of a line that isn't the head's, or whose head lacks a byte, give what the writes from the floor on give
-  spread-front : (s : ℕ → List Bool) (floor line : ℕ) (es : List (Entry n)) → AllLong es → ArePaired es → Front s floor line es → is_excepted (whole_head es) line ≡ false → spread es line ≡ s floor
-  spread-front s floor line [] long paired f free = sym f
-  spread-front s floor line (e ∷ es) long paired f free = by (eqb e.line line) refl
+  given-front : (s : ℕ → List Bool) (floor line : ℕ) (es : List (Entry n)) → AllLong es → ArePaired es → Front s floor line es → is_excepted (whole_head es) line ≡ false → given_of es line ≡ s floor
+  given-front s floor line [] long paired f free = sym f
+  given-front s floor line (e ∷ es) long paired f free = by (eqb e.line line) refl
     where
       lacks : (b : Bool) → gives_all e.given ≡ b → (e.line == line) ≡ true → is_excepted (cond b (Some e.line) None) line ≡ false → gives_all e.given ≡ false
       lacks true is own free = absurd (cc)
       lacks false is own free = is
 
-      head : (e.line == line) ≡ true → gives_all e.given ≡ false → (e.given ≡ s floor) ⊎ (gives_all e.given ≡ true) → spread (e ∷ es) line ≡ s floor
+      head : (e.line == line) ≡ true → gives_all e.given ≡ false → (e.given ≡ s floor) ⊎ (gives_all e.given ≡ true) → given_of (e ∷ es) line ≡ s floor
       head own few (inr full) = absurd (cc)
       head own few (inl is) =
           let alone : has_line es e.line ≡ false = either (has_line es e.line) (λ there. absurd (cc (paired.1 there, few))) (λ none. none) in
-          spread-alone e es line long own (subst (λ k. has_line es k ≡ false) (eqb-true e.line line own) alone) ∙ is
+          given-alone e es line long own (subst (λ k. has_line es k ≡ false) (eqb-true e.line line own) alone) ∙ is
 
-      by : (b : Bool) → eqb e.line line ≡ b → spread (e ∷ es) line ≡ s floor
+      by : (b : Bool) → eqb e.line line ≡ b → given_of (e ∷ es) line ≡ s floor
       by true own = head own (lacks (gives_all e.given) refl own free) (f.1 own)
-      by false other = spread-other e es line other ∙ f.0 other
+      by false other = given-other e es line other ∙ f.0 other
 
   ended-stored : (tick : ℕ) (o : Outcome n) → is_stored (ended tick o) ≡ is_stored o
   ended-stored tick out.Unset = refl
@@ -69,8 +69,8 @@ module _ {n m : ℕ} (shape : BankShape) (pace : Pace) (e : ℕ) (all : List (Ti
   pub given-unstored : (line : ℕ) → is_excepted (whole_head (queue shape (core all))) line ≡ false → (layer_of (queue shape (core all)) line).given ≡ unstored is_stored line (table_of shape all)
   given-unstored line free =
       let pairs : KeepsPairs shape (core all) = keeps_pairs shape (most_steps e) (core all) (may_all shape pace e all l) in
-      spread-layer (queue shape (core all)) line
-      ∙ spread-front (λ f. since (core all) line f) (floor_of (outcome_of shape all) (core all) line) line (queue shape (core all)) pairs.long pairs.paired
+      given-layer (queue shape (core all)) line
+      ∙ given-front (λ f. since (core all) line f) (floor_of (outcome_of shape all) (core all) line) line (queue shape (core all)) pairs.long pairs.paired
       ((is_covered shape pace e all sized.read sized.iter l).front line) free
       ∙ sym (unstored-since line)
 

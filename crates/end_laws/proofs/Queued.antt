@@ -19,7 +19,7 @@ use Rattle.bank_laws.specs.Outcomes.{outcome_of, ended, row_with, rows_from, tab
 use Rattle.bank_laws.proofs.Lines.{Stands, stands-row}
 use Rattle.bank_laws.proofs.Settling.{opens, above_all}
 use Rattle.bank_laws.proofs.Waiting.{may_all}
-use Rattle.place_laws.proofs.Asked.{Wrote, queue-wrote}
+use Rattle.bank_laws.proofs.Asked.{Wrote, queue-wrote}
 use Rattle.end_laws.specs.Ends.{is_excused}
 use Rattle.end_laws.specs.EndLaws.{QueuedLaw, whole_head}
 

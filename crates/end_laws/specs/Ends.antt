@@ -1,5 +1,5 @@
 -- Where each line's newest bytes are in the end.
-use Rattle.std.specs.Prelude.{◌≡◌, ◌⊎◌, ℕ, ◌+◌, ◌*◌, ◌/◌, ◌<◌, ◌≤◌, ◌==◌, ◌&&◌, ◌||◌, nat_lt, nat_le, Bool, true, false, IsTrue, List, [], ◌∷◌, ◌++◌, Option, Some, None}
+use Rattle.std.specs.Prelude.{◌≡◌, ◌⊎◌, ℕ, ◌+◌, ◌*◌, ◌/◌, ◌<◌, ◌≤◌, ◌==◌, ◌&&◌, ◌||◌, nat_lt, nat_le, Bool, true, IsTrue, List, [], ◌∷◌, ◌++◌, Option, Some, None}
 use Rattle.std.specs.List.{list_any}
 use Rattle.masked_bytes.specs.Masked.{laid}
 use Rattle.result_rows.specs.declared.Outcome.{Outcome}
@@ -12,6 +12,7 @@ use Rattle.row_rules.specs.Serving.{same_bytes}
 use Rattle.bank_shape.specs.declared.BankShape.{BankShape}
 use Rattle.bank_shape.specs.Shape.{slots_of, slot_moved}
 use Rattle.bank_laws.specs.Places.{region_stores, is_moved}
+use Rattle.bank_model.specs.Sensing.{is_at}
 
 -- an array line for each slot of a bank, no two the same: its own, or a spare where its own is worn
 pub record IsRemapped (shape : BankShape) (worn : ℕ → Bool) (table : ℕ → ℕ) : Type 0 where
@@ -43,8 +44,7 @@ is_still_there shape worn table before r after = outcome_ends shape worn table (
 
 -- the line that is excepted, if there is one; it has a write that is still queued
 abbrev pub is_excepted : Option ℕ → ℕ → Bool
-is_excepted None line = false
-is_excepted (Some at) line = at == line
+is_excepted = is_at
 
 abbrev pub is_excused : {n : ℕ} → Option ℕ → List (Row n) → Bool
 is_excused None rows = true

@@ -1,8 +1,9 @@
--- The logarithm of a power of two, and what lies between two powers.
-use Rattle.std.proofs.Common.{◌≡◌, ℕ, zero, suc, false, true, ◌+◌, ◌*◌, ◌/◌, ◌^◌, ◌<◌, ◌≤◌, nat_lt, refl, ◌∙◌, ap, arith}
+-- The logarithm of a power of two, what lies between two powers, and how many bits the numbers of lines have.
+use Rattle.std.proofs.Common.{◌≡◌, ℕ, zero, suc, false, true, ◌+◌, ◌*◌, ◌/◌, ◌^◌, ◌<◌, ◌≤◌, nat_lt, inl, inr, lit<, refl, ◌∙◌, ap, arith}
+use Rattle.std.proofs.lemmas.Bool.{cases_lt}
 use Rattle.std.proofs.lemmas.Bool.Decides.{nat_tests}
 use Rattle.std.proofs.lemmas.Nat.{pow_pos}
-use Rattle.std.proofs.Math.Nat.{pow-suc}
+use Rattle.std.proofs.Math.Nat.{pow-suc, pow-le-pow_right}
 use Rattle.feistel_map.specs.Log2.{halvings, log2}
 
 halvings-between : (r most n : ℕ) → n ≤ most → 2 ^ r ≤ n → n < 2 * 2 ^ r → halvings most n ≡ r
@@ -25,3 +26,16 @@ log2-between r n low high = halvings-between r n n (omega arith) low high
 
 pub log2-pow : (b : ℕ) → log2 (2 ^ b) ≡ b
 log2-pow b = log2-between b (2 ^ b) (omega arith) (omega (arith, pow_pos b))
+
+-- how many bits the numbers of four lines or more have, and those of 65,536 lines or fewer
+pub bits_some : (r n : ℕ) → 4 ≤ n → n < 2 * 2 ^ r → 2 ≤ r
+bits_some zero n some high = absurd (omega arith)
+bits_some (suc zero) n some high = absurd (omega arith)
+bits_some (suc (suc r)) n some high = omega arith
+
+pub bits_few : (r n : ℕ) → n ≤ 65536 → 2 ^ r ≤ n → r ≤ 16
+bits_few r n few low =
+    elim (cases_lt 16 r) [
+      | inl more ↦ absurd (omega (arith, pow-le-pow_right {n = 2} (lit< tt) {i = 17} {j = r} more))
+      | inr less ↦ less
+    ]

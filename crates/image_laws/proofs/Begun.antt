@@ -1,18 +1,19 @@
 -- Whether a store of the queue's head was begun: never where a gap move is due, and always where a line write is in progress or found no
 -- spare and none is due.
-use Rattle.std.proofs.Common.{◌≡◌, ℕ, ◌==◌, ◌&&◌, ◌||◌, ◌⊎◌, inl, inr, Bool, true, false, List, [], ◌∷◌, ◌++◌, drop, Option, Some, None, refl, sym, ◌∙◌, subst, cond, eqb-true}
+use Rattle.std.proofs.Common.{◌≡◌, ℕ, ◌==◌, ◌||◌, ◌⊎◌, inl, inr, Bool, true, false, List, [], ◌∷◌, ◌++◌, drop, Option, Some, None, refl, sym, ◌∙◌, subst, cond, eqb-true}
 use Rattle.masked_bytes.proofs.Truth.{and_first, and_second}
 use Rattle.std.specs.Prelude.{is_none}
-use Rattle.std.proofs.lemmas.Bool.{eq-eqb}
+use Rattle.std.proofs.lemmas.Bool.{eq-eqb, or_cases}
 use Rattle.masked_bytes.specs.declared.entry.Entry.{Entry}
 use Rattle.masked_bytes.specs.Entries.{candidate, laid_on, merged}
 use Rattle.bank_shape.specs.declared.BankShape.{BankShape}
 use Rattle.bank_shape.specs.declared.Work.TheVariants.{Nothing}
 use Rattle.bank_shape.specs.declared.answer.WriteAnswer.TheVariants as wrote
 use Rattle.bank_shape.specs.declared.answer.Step.TheVariants as did
+use Rattle.bank_shape.specs.Kinds.{is_store}
 use Rattle.bank_model.specs.Events.{Event, Write, Read, Serve, Begin, Iterate, Cut, newest}
 use Rattle.bank_model.specs.History.{begun, queue, due_after, has_exhausted, in_progress}
-use Rattle.bank_model.specs.After.{due_work, is_store, work_after}
+use Rattle.bank_model.specs.After.{due_work, work_after}
 use Rattle.bank_model.specs.Answers.{MayAll, head_busy_after, write_answer}
 use Rattle.bank_laws.specs.Pairs.{has_line, ArePaired}
 use Rattle.bank_laws.proofs.Pairs.{accepted-none, keeps_pairs, line-merged, no_candidate-head}
@@ -93,13 +94,9 @@ abbrev pub Again : {n : ℕ} → List (Entry n) → Bool → Type 0
 Again [] begun = Unit {0}
 Again (e ∷ es) begun = has_line es e.line ≡ true → begun ≡ true
 
-or-of : (a b : Bool) → (a || b) ≡ true → (a ≡ true) ⊎ (b ≡ true)
-or-of true b is = inl refl
-or-of false b is = inr is
-
 module _ {n : ℕ} where
   line-pushed : (es : List (Entry n)) (x : Entry n) (line : ℕ) → has_line (es ++ x ∷ []) line ≡ true → (has_line es line ≡ true) ⊎ (x.line ≡ line)
-  line-pushed [] x line is = elim (or-of (x.line == line) false is) [ inl same ↦ inr (eqb-true x.line line same) | inr none ↦ absurd (cc) ]
+  line-pushed [] x line is = elim (or_cases (x.line == line) false is) [ inl same ↦ inr (eqb-true x.line line same) | inr none ↦ absurd (cc) ]
   line-pushed (e ∷ es) x line is = by (e.line == line) (line-pushed es x line) is
     where
       by : (b : Bool) → (has_line (es ++ x ∷ []) line ≡ true → (has_line es line ≡ true) ⊎ (x.line ≡ line)) → (b || has_line (es ++ x ∷ []) line) ≡ true

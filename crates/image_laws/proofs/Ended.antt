@@ -1,6 +1,6 @@
 -- What is saved of a bank is that of its end: its counters are those of its stores by the rows, and its spares those of its table.
-use Rattle.std.proofs.Common.{◌≡◌, ℕ, ◌+◌, ◌*◌, ◌/◌, ◌%◌, ◌<◌, ◌≤◌, ◌==◌, ◌&&◌, ◌||◌, ◌⊎◌, inl, inr, Bool, true, false, List, map, length, get_or, refl, sym, ap, ◌∙◌, subst, arith, eqb-true}
-use Rattle.std.proofs.lemmas.Bool.{cases_lt}
+use Rattle.std.proofs.Common.{◌≡◌, ℕ, ◌+◌, ◌*◌, ◌/◌, ◌%◌, ◌<◌, ◌≤◌, ◌==◌, ◌&&◌, ◌⊎◌, inl, inr, Bool, true, false, List, map, length, get_or, refl, sym, ap, ◌∙◌, subst, arith, eqb-true}
+use Rattle.std.proofs.lemmas.Bool.{cases_lt, or_cases}
 use Rattle.std.proofs.lemmas.Nat.{mul-le}
 use Rattle.std.proofs.Math.Nat.{div-add-mod}
 use Rattle.std.proofs.Math.ListN.{get_or-map}
@@ -74,17 +74,13 @@ moves-near shape worn rows region moves own psi is few near = by moved counted
     count : ℕ
     count = region_stores is_stored shape region rows
 
-    or-of : (a b : Bool) → (a || b) ≡ true → (a ≡ true) ⊎ (b ≡ true)
-    or-of true b is = inl refl
-    or-of false b is = inr is
-
     and-first : (a b : Bool) → (a && b) ≡ true → a ≡ true
     and-first true b is = refl
     and-first false b is = absurd (cc)
 
     moved : (moves ≡ count / shape.psi) ⊎ (moves + 1 ≡ count / shape.psi)
     moved =
-        elim (or-of (moves == count / shape.psi) (moves + 1 == count / shape.psi && (count % shape.psi == 0 && may_leave shape worn)) is) [
+        elim (or_cases (moves == count / shape.psi) (moves + 1 == count / shape.psi && (count % shape.psi == 0 && may_leave shape worn)) is) [
           | inl all ↦ inl (eqb-true moves (count / shape.psi) all)
           | inr less ↦ inr (eqb-true (moves + 1) (count / shape.psi) (and-first _ _ less))
         ]

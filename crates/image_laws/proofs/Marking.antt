@@ -2,7 +2,7 @@
 use Rattle.std.proofs.Common.{◌≡◌, ℕ, zero, suc, ◌<◌, ◌==◌, ◌&&◌, ◌||◌, ◌⊎◌, inl, inr, Bool, true, false, List, [], ◌∷◌, ◌++◌, map, filter, length, get_or, Option, Some, None, refl, sym, ap, ◌∙◌, subst, arith, cond, eqb-true, append_assoc}
 use Rattle.std.specs.Prelude.{IfSome}
 use Rattle.std.specs.List.{list_any}
-use Rattle.std.proofs.lemmas.Bool.{eq-eqb}
+use Rattle.std.proofs.lemmas.Bool.{eq-eqb, or_cases}
 use Rattle.std.proofs.lemmas.List.{length-map}
 use Rattle.std.proofs.Math.ListN.{get_or-map}
 use Rattle.result_rows.specs.declared.Outcome.{Outcome}
@@ -281,11 +281,6 @@ module _ {n m e : ℕ} (pace : Pace) (all : List (TimedEvent n m)) (bank : BankS
     marked = λ mark none. begun-when.1 (mark-exhausted mark) (saved-none none);
   }
 
-  -- its mark
-  or-of : (a b : Bool) → (a || b) ≡ true → (a ≡ true) ⊎ (b ≡ true)
-  or-of true b is = inl refl
-  or-of false b is = inr is
-
   or-left : (a b : Bool) → a ≡ true → (a || b) ≡ true
   or-left true b is = refl
   or-left false b is = absurd (cc)
@@ -312,7 +307,7 @@ module _ {n m e : ℕ} (pace : Pace) (all : List (TimedEvent n m)) (bank : BankS
           or-left (list_any queued_row table) (is_due shape.psi saved) (some-queue shape pace e all l some.0 some.1 some.2)
 
   work-why : has_work shape.psi table saved ≡ true → is_over shape all ≡ true
-  work-why is = by (or-of (list_any queued_row table) (is_due shape.psi saved) is)
+  work-why is = by (or_cases (list_any queued_row table) (is_due shape.psi saved) is)
     where
       by : (list_any queued_row table ≡ true) ⊎ (is_due shape.psi saved ≡ true) → is_over shape all ≡ true
       by (inl queued) =

@@ -1,6 +1,6 @@
 -- The accepted writes of a history by their places, each with the number of its row; those that stand are the queue's, in its order.
-use Rattle.std.proofs.Common.{◌≡◌, ℕ, ◌==◌, ◌&&◌, ◌||◌, ◌⊎◌, inl, inr, Bool, true, false, List, [], ◌∷◌, ◌++◌, Option, Some, None, refl, sym, ap, ◌∙◌, subst, cond, eqb, eqb-true}
-use Rattle.masked_bytes.proofs.Truth.{and_first}
+use Rattle.std.proofs.Common.{◌≡◌, ℕ, ◌==◌, ◌&&◌, ◌⊎◌, inl, inr, Bool, true, false, List, [], ◌∷◌, ◌++◌, Option, Some, None, refl, sym, ap, ◌∙◌, subst, cond, eqb, eqb-true}
+use Rattle.masked_bytes.proofs.Truth.{and_first, or_rest}
 use Rattle.std.proofs.lemmas.Bool.{eq-eqb}
 use Rattle.masked_bytes.specs.declared.entry.Entry.{Entry}
 use Rattle.masked_bytes.specs.Entries.{has_row, laid_on, merged, completed_by}
@@ -13,10 +13,6 @@ use Rattle.image_laws.specs.Queued.{QueuedWrite, merging, in_place}
 pub record Numbered (n : ℕ) : Type 0 where
   pub row : ℕ
   pub write : QueuedWrite n
-
-or-left : (a b : Bool) → a ≡ false → (a || b) ≡ true → b ≡ true
-or-left true b none is = absurd (cc)
-or-left false b none is = is
 
 module _ {n : ℕ} where
   -- one that is merged with another gives it its place
@@ -176,7 +172,7 @@ module _ {n : ℕ} where
       each-merged es (v ∷ ws) only there (inr m) all =
           by (eqb v.row old) refl
           (λ isnt.
-          each-merged m.1 ws only.1 (or-left (m.0.row == old) (has_row m.1 old) (ap (λ r. eqb r old) m.3 ∙ isnt) (subst (λ (q : List (Entry n)). has_row q old ≡ true) m.2 there)) m.5 all.1)
+          each-merged m.1 ws only.1 (or_rest (m.0.row == old) (has_row m.1 old) (ap (λ r. eqb r old) m.3 ∙ isnt) (subst (λ (q : List (Entry n)). has_row q old ≡ true) m.2 there)) m.5 all.1)
         where
           by : (b : Bool) → eqb v.row old ≡ b → (eqb v.row old ≡ false → Each Q (put w ws)) → Each Q (put w (v ∷ ws))
           by true is rest =

@@ -7,6 +7,7 @@ use Rattle.result_rows.specs.declared.Outcome.TheVariants as out
 use Rattle.masked_bytes.specs.declared.entry.Entry.{Entry}
 use Rattle.masked_bytes.specs.Entries.{Layer, has_row, RowsApart, stacked}
 use Rattle.masked_bytes.proofs.Layering.{all_given-gives_all}
+use Rattle.masked_bytes.proofs.Truth.{differ_sym}
 use Rattle.row_rules.specs.declared.Asks.TheVariants.{Writes}
 use Rattle.row_rules.specs.declared.Row.{Row}
 use Rattle.row_rules.specs.Answers.{accepts, is_merged, is_queued}
@@ -25,7 +26,6 @@ use Rattle.bank_laws.specs.Outcomes.{outcome_of, ended, row_with, rows_from, tab
 use Rattle.bank_laws.specs.Pairs.{has_line}
 use Rattle.bank_laws.specs.Settling.{AreOpen}
 use Rattle.bank_laws.proofs.Answering.{IsHead, stored-head}
-use Rattle.bank_laws.proofs.Entries.{differ_sym}
 use Rattle.bank_laws.proofs.Settling.{opens, above_all, lawful_before, stays, step_stays}
 use Rattle.bank_laws.proofs.Standing.{stand_apart}
 use Rattle.bank_laws.proofs.Ending.{Onwards, own_row, accepting, outcome-accepts, write_outcome}

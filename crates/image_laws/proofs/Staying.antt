@@ -1,9 +1,9 @@
 -- A right run stays right where its array is only sensed.
-use Rattle.std.proofs.Common.{◌≡◌, ℕ, ◌+◌, ◌*◌, ◌<◌, Bool, List, [], ◌∷◌, ◌++◌, Some, Option, refl, sym, ap, subst, ◌∙◌, arith}
-use Rattle.std.specs.Prelude.{All, map, nat_le, nat_lt, ◌&&◌}
+use Rattle.std.proofs.Common.{◌≡◌, ℕ, ◌+◌, ◌<◌, Bool, List, ◌++◌, Some, sym, ap, subst, ◌∙◌}
+use Rattle.std.specs.Prelude.{All, nat_le, nat_lt, ◌&&◌}
 use Rattle.std.proofs.Math.Path.{fun_ext}
 use Rattle.std.proofs.lemmas.List.Elements.{All-filter, All-from_get_or, All-get_or, filter-append}
-use Rattle.pcm_cells.specs.Device.{ArrayState, LineState, sense_of}
+use Rattle.pcm_cells.specs.Device.{ArrayState, sense_of}
 use Rattle.pcm_cells.specs.declared.array.Sense.{Sense}
 use Rattle.row_rules.specs.declared.Row.{Row}
 use Rattle.bank_shape.specs.declared.BankShape.{BankShape}
@@ -12,15 +12,13 @@ use Rattle.bank_model.specs.Adding.{senses_of}
 use Rattle.bank_shape.specs.declared.pace.Pace.{Pace}
 use Rattle.bank_model.specs.Timing.{TimedEvent}
 use Rattle.bank_model.specs.Lawful.{Lawful}
-use Rattle.bank_laws.specs.Laws.{IsSized, KeepsLog, LeavesArray, log_of}
+use Rattle.bank_laws.specs.Laws.{KeepsLog, LeavesArray, log_of}
 use Rattle.bank_laws.specs.Outcomes.{table_of}
-use Rattle.table_laws.specs.Whole.{WholeLogLaw}
+use Rattle.bank_laws.specs.Whole.{WholeLogLaw}
 use Rattle.clock_laws.specs.Ending.{LeavingLaw}
-use Rattle.clock_laws.specs.State.{ClockState}
 use Rattle.module_shape.specs.declared.raw.RawShape.{RawShape}
 use Rattle.module_shape.specs.Limits.{IsShape}
 use Rattle.module_shape.specs.Addresses.{module_of, bank_shape}
-use Rattle.module_laws.specs.Asking.{row_with}
 use Rattle.module_laws.specs.Serves.{BankTableLaw}
 use Rattle.end_laws.specs.Ends.{BankEnd}
 use Rattle.run_laws.proofs.Finished.{sized}

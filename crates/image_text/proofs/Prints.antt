@@ -1,12 +1,12 @@
 -- How printed pieces follow one another.
-use Rattle.std.proofs.Common.{◌≡◌, ℕ, suc, ◌+◌, ◌<◌, ◌≤◌, Bool, List, [], ◌∷◌, ◌++◌, length, get_or, take, drop, Option, Some, None, refl, sym, ap, subst, ◌∙◌, arith, append_assoc}
-use Rattle.std.specs.Prelude.{if◌then◌else◌, map, Result, Ok, Err, OnOk, OnErr}
-use Rattle.std.specs.Io.KnownBytes.{Appends}
+use Rattle.std.proofs.Common.{◌≡◌, ℕ, ◌+◌, ◌<◌, ◌≤◌, Bool, List, [], ◌∷◌, ◌++◌, length, get_or, take, drop, Option, refl, sym, ap, subst, ◌∙◌, append_assoc}
+use Rattle.std.specs.Prelude.{if◌then◌else◌, map}
 use Rattle.std.specs.List.{flat_map}
 use Rattle.std.proofs.lemmas.Grind.{flat_map-append}
-use Rattle.std.proofs.lemmas.List.{append-nil, length-append, take-append-le, take_all, take_more, take-append-drop, length-map}
+use Rattle.std.proofs.lemmas.List.{append-nil, take_all, take_more, take-append-drop, length-map}
 use Rattle.pcm_io.specs.Giving.{AppendsPrefix}
 use Rattle.pcm_io.specs.Reserved.{Reserved, appended, reserved}
+use Rattle.pcm_io.proofs.ByteLemmas.{AppendsPrefix-longer}
 use Rattle.run_text.specs.Gathering.{Printed}
 use Rattle.run_text.proofs.Gathered.{printed-first, printed-more, printed-same}
 use Rattle.spare_pool.specs.Table.{Table}
@@ -14,12 +14,6 @@ use Rattle.power_recovery.specs.Kept.{KeptState}
 use Rattle.pcm_image.specs.Spelling.{bank_bytes, entry_bytes, region_bytes, u8, u16, u32}
 use Rattle.image_laws.specs.Saving.{saved_bank, saved_entry, saved_region}
 use Rattle.image_text.specs.Printing.{PrintsMore, PrintsPart}
-
--- first bytes of some bytes are first bytes of more
-prefix-more : (a b : Option (List ℕ)) (xs ys : List ℕ) → AppendsPrefix a b xs → AppendsPrefix a b (xs ++ ys)
-prefix-more a b xs ys part =
-    let size = length-append xs ys in
-    (part.0, omega (arith, part.1, size), rw (take-append-le part.0 xs ys part.1) part.2)
 
 -- a piece that is put into a text with room for it
 pub piece-printed : (old mid new : Reserved) (was now : Option (List ℕ)) (piece : List ℕ)
@@ -31,7 +25,7 @@ piece-printed old mid new was now piece made after =
 pub piece-part : (old : Reserved) (was now : Option (List ℕ)) (piece : List ℕ)
     → ((before : Option (List ℕ)) (whole : List ℕ) → Printed before was old whole → AppendsPrefix before now whole)
     → PrintsPart old was now piece
-piece-part old was now piece part = λ before whole later p. prefix-more before now whole (piece ++ later) (part before whole p)
+piece-part old was now piece part = λ before whole later p. AppendsPrefix-longer before now whole (piece ++ later) (part before whole p)
 
 -- nothing more
 pub more-none : (old : Reserved) (was : Option (List ℕ)) → PrintsMore old old was was []
@@ -111,19 +105,6 @@ module _ {X : Type 0} (f : X → List ℕ) (xs : List X) where
 
   pub more-all : (a b : Reserved) (u v : Option (List ℕ)) (i : ℕ) → length xs ≤ i → PrintsMore a b u v (flat_map f (take i xs)) → PrintsMore a b u v (flat_map f xs)
   more-all a b u v i all had = more-same a b u v (flat_map f (take i xs)) (flat_map f xs) (ap (flat_map f) (take_all i xs all)) had
-
--- a fact that follows, of whichever answer
-pub on_err_any : {T E : Type 0} (r : Result T E) (P : Type 0) → P → OnErr r P
-on_err_any (Ok x) P h = tt
-on_err_any (Err e) P h = h
-
-pub on_ok : {T E : Type 0} (r : Result T E) (P Q : Type 0) → OnOk r P → (P → Q) → OnOk r Q
-on_ok (Ok x) P Q h f = f h
-on_ok (Err e) P Q h f = tt
-
-pub on_err : {T E : Type 0} (r : Result T E) (P Q : Type 0) → OnErr r P → (P → Q) → OnErr r Q
-on_err (Ok x) P Q h f = tt
-on_err (Err e) P Q h f = f h
 
 -- the pieces of a bank
 pub whole-bank : {n : ℕ} (kept : KeptState n) (table : Table) (exhausted : Bool) (mark used count : ℕ) → table ≡ kept.table → exhausted ≡ kept.exhausted → mark ≡ (if exhausted then 1 else 0) → used ≡ length table.replaced → count ≡ length kept.entries

@@ -23,7 +23,7 @@ use Rattle.bank_laws.proofs.Settling.{opens, above_all}
 use Rattle.bank_laws.proofs.Ending.{own_row}
 use Rattle.bank_laws.proofs.Lines.{stands-row}
 use Rattle.bank_laws.proofs.Waiting.{may_all}
-use Rattle.place_laws.proofs.Asked.{queue-wrote, wrote-line}
+use Rattle.bank_laws.proofs.Asked.{queue-wrote, wrote-line}
 use Rattle.place_laws.proofs.Counts.{one_if, writes_with, writes-same, writes-more}
 use Rattle.place_laws.proofs.Storing.{none_first}
 use Rattle.place_laws.proofs.Tables.{rows-counted}

@@ -57,8 +57,10 @@ impl<const B: usize, const M: usize, const E: usize> LineWriter<B, M, E> {
     /// A write of the bytes to a line that holds `seen`. Its status is `More` or `Stored`.
     pub fn begin(seen: Cells<B, M>, bytes: [u8; B]) -> LineWriter<B, M, E>
         requires { IsLayout B M E }
-        ensures writes { (line : LineState B M) → line.held ≡ seen.entry → Sound B M E (cell line.held) line.stuck → Writes result line }
-        ensures begun { (line : LineState B M) → line.held ≡ seen.entry → Sound B M E (cell line.held) line.stuck → HasBegun result.progress }
+        ensures writes { (line : LineState B M) → line.held ≡ seen.entry
+            → Sound B M E (cell line.held) line.stuck → Writes result line }
+        ensures begun { (line : LineState B M) → line.held ≡ seen.entry
+            → Sound B M E (cell line.held) line.stuck → HasBegun result.progress }
         ensures bytes { result.bytes ≡ bytes.entry }
         ensures steps { steps_left result ≤ most_steps E }
     {
@@ -83,7 +85,8 @@ impl<const B: usize, const M: usize, const E: usize> LineWriter<B, M, E> {
     pub fn status(&self) -> Progress
         ensures is { result ≡ self.now.progress }
         ensures progress { (line : LineState B M) → Writes self.now line → IsProgress self.now line result }
-        ensures left { (line : LineState B M) → Writes self.now line → result ≡ Progress.More → 0 < steps_left self.now }
+        ensures left { (line : LineState B M) → Writes self.now line → result ≡ Progress.More
+            → 0 < steps_left self.now }
     {
         self.progress
     }
@@ -97,10 +100,15 @@ impl<const B: usize, const M: usize, const E: usize> LineWriter<B, M, E> {
         ensures writes { Writes self.new ((A.state array.new).line line) }
         ensures is { result ≡ self.new.progress }
         ensures progress { IsProgress self.new ((A.state array.new).line line) result }
-        ensures sound { Sound B M E (cell ((A.state array.new).line line).held) ((A.state array.new).line line).stuck }
-        ensures round { (after : Prog B M) × IsRound line tick self.old.prog after (A.state array.old) (A.state array.new) × (((A.state array.new).line line).held ≡ after.seen) }
+        ensures sound { Sound B M E (cell ((A.state array.new).line line).held)
+            ((A.state array.new).line line).stuck }
+        ensures round { (after : Prog B M)
+            × IsRound line tick self.old.prog after (A.state array.old) (A.state array.new)
+            × (((A.state array.new).line line).held ≡ after.seen) }
         ensures unused { LeavesUnused E self.old.prog }
-        ensures worn { IsWorn result → is_worn_line E ((A.state array.new).line line).held ((A.state array.new).line line).stuck ≡ true }
+        ensures worn { IsWorn result
+            → is_worn_line E ((A.state array.new).line line).held ((A.state array.new).line line).stuck
+            ≡ true }
         ensures bytes { self.new.bytes ≡ self.old.bytes }
         ensures steps { steps_left self.new < steps_left self.old }
     {
@@ -116,7 +124,8 @@ impl<const B: usize, const M: usize, const E: usize> LineWriter<B, M, E> {
         requires more { self.progress ≡ Progress.More }
         requires writes { Writes self ((A.state array.old).line line) }
         ensures tear { IsTear line self.entry.prog (A.state array.old) (A.state array.new) }
-        ensures sound { Sound B M E (cell ((A.state array.new).line line).held) ((A.state array.new).line line).stuck }
+        ensures sound { Sound B M E (cell ((A.state array.new).line line).held)
+            ((A.state array.new).line line).stuck }
         ensures unused { LeavesUnused E self.entry.prog }
     {
         self.prog.tear(array, line, tick);
@@ -126,9 +135,12 @@ impl<const B: usize, const M: usize, const E: usize> LineWriter<B, M, E> {
     fn advance(&mut self, turn: &Turn<B, M>) -> Progress
         requires layout { IsLayout B M E }
         requires entries { self.old.entries ≤ most_entries E self.old.phase }
-        ensures line { (line : LineState B M) → HasRound self.old line → IsStatus self.old.prog turn.now → IsStuckWhereWrong line turn.now → IsWriting self.new line × IsProgress self.new line result }
+        ensures line { (line : LineState B M) → HasRound self.old line → IsStatus self.old.prog turn.now
+            → IsStuckWhereWrong line turn.now → IsWriting self.new line × IsProgress self.new line result }
         ensures bytes { self.new.bytes ≡ self.old.bytes }
-        ensures begun { (line : LineState B M) → HasRound self.old line → IsStatus self.old.prog turn.now → IsStuckWhereWrong line turn.now → self.old.phase ≡ Phase.Clear → self.old.prog.rounds ≡ 0 → HasBegun result }
+        ensures begun { (line : LineState B M) → HasRound self.old line → IsStatus self.old.prog turn.now
+            → IsStuckWhereWrong line turn.now → self.old.phase ≡ Phase.Clear → self.old.prog.rounds ≡ 0
+            → HasBegun result }
         ensures steps { IsStatus self.old.prog turn.now → steps_left self.new ≤ steps_left self.old }
     {
         let Turn::Settled { wrong } = turn else {
@@ -147,8 +159,12 @@ impl<const B: usize, const M: usize, const E: usize> LineWriter<B, M, E> {
         requires layout { IsLayout B M E }
         requires phase { self.old.phase ≡ Phase.Clear }
         requires entries { self.old.entries ≤ E }
-        ensures line { (line : LineState B M) → IsDone self.old line → ((n : ℕ) → cell wrong.now n ≡ is_wrong self.old.prog n) → IsWriting self.new line × IsProgress self.new line result }
-        ensures begun { (line : LineState B M) → IsDone self.old line → ((n : ℕ) → cell wrong.now n ≡ is_wrong self.old.prog n) → ((n : ℕ) → is_wrong self.old.prog n ≡ false) → HasBegun result }
+        ensures line { (line : LineState B M) → IsDone self.old line
+            → ((n : ℕ) → cell wrong.now n ≡ is_wrong self.old.prog n)
+            → IsWriting self.new line × IsProgress self.new line result }
+        ensures begun { (line : LineState B M) → IsDone self.old line
+            → ((n : ℕ) → cell wrong.now n ≡ is_wrong self.old.prog n)
+            → ((n : ℕ) → is_wrong self.old.prog n ≡ false) → HasBegun result }
         ensures bytes { self.new.bytes ≡ self.old.bytes }
         ensures steps { steps_left self.new ≤ 8 * (3 * E + 1) + (8 - self.old.prog.rounds) }
     {
@@ -162,7 +178,8 @@ impl<const B: usize, const M: usize, const E: usize> LineWriter<B, M, E> {
     fn filling(seen: Cells<B, M>, bytes: [u8; B], entries: u8) -> LineWriter<B, M, E>
         requires layout { IsLayout B M E }
         requires most { entries ≤ E }
-        ensures line { (line : LineState B M) → IsInOrder E seen.entry entries line → Writes result line × HasBegun result.progress }
+        ensures line { (line : LineState B M) → IsInOrder E seen.entry entries line
+            → Writes result line × HasBegun result.progress }
         ensures bytes { result.bytes ≡ bytes.entry }
         ensures steps { steps_left result ≤ 8 + 24 * (E - entries) }
     {
@@ -187,7 +204,8 @@ impl<const B: usize, const M: usize, const E: usize> LineWriter<B, M, E> {
     fn fill(&mut self) -> Progress
         requires layout { IsLayout B M E }
         requires entries { self.old.entries ≤ E }
-        ensures line { (line : LineState B M) → IsFillable self.old line → IsWriting self.new line × IsProgress self.new line result × HasBegun result }
+        ensures line { (line : LineState B M) → IsFillable self.old line
+            → IsWriting self.new line × IsProgress self.new line result × HasBegun result }
         ensures bytes { self.new.bytes ≡ self.old.bytes }
         ensures steps { steps_left self.new ≤ 8 + 24 * (E - self.old.entries) }
     {
@@ -200,8 +218,10 @@ impl<const B: usize, const M: usize, const E: usize> LineWriter<B, M, E> {
         requires layout { IsLayout B M E }
         requires phase { self.old.phase ≡ Phase.Fill }
         requires entries { self.old.entries ≤ E }
-        ensures line { (line : LineState B M) → IsDone self.old line → IsWriting self.new line × IsProgress self.new line result }
-        ensures stored { (line : LineState B M) → IsDone self.old line → ((n : ℕ) → is_wrong self.old.prog n ≡ false) → result ≡ Progress.Stored }
+        ensures line { (line : LineState B M) → IsDone self.old line
+            → IsWriting self.new line × IsProgress self.new line result }
+        ensures stored { (line : LineState B M) → IsDone self.old line
+            → ((n : ℕ) → is_wrong self.old.prog n ≡ false) → result ≡ Progress.Stored }
         ensures bytes { self.new.bytes ≡ self.old.bytes }
         ensures steps { steps_left self.new ≤ 24 * (E - self.old.entries) + (8 - self.old.prog.rounds) }
     {
@@ -217,7 +237,8 @@ impl<const B: usize, const M: usize, const E: usize> LineWriter<B, M, E> {
         requires layout { IsLayout B M E }
         requires entries { self.old.entries < E }
         requires data { bit < 8 * B }
-        ensures line { (line : LineState B M) → IsPointable self.old bit line → IsWriting self.new line × IsProgress self.new line result }
+        ensures line { (line : LineState B M) → IsPointable self.old bit line
+            → IsWriting self.new line × IsProgress self.new line result }
         ensures bytes { self.new.bytes ≡ self.old.bytes }
         ensures steps { steps_left self.new ≤ 24 * (E - self.old.entries) }
     {
@@ -234,7 +255,8 @@ impl<const B: usize, const M: usize, const E: usize> LineWriter<B, M, E> {
     fn switch(&mut self) -> Progress
         requires layout { IsLayout B M E }
         requires entries { self.old.entries < E }
-        ensures line { (line : LineState B M) → IsSwitchable self.old line → IsWriting self.new line × IsProgress self.new line result }
+        ensures line { (line : LineState B M) → IsSwitchable self.old line
+            → IsWriting self.new line × IsProgress self.new line result }
         ensures bytes { self.new.bytes ≡ self.old.bytes }
         ensures steps { steps_left self.new ≡ 24 * (E - self.old.entries) - 8 }
     {
@@ -253,7 +275,8 @@ impl<const B: usize, const M: usize, const E: usize> LineWriter<B, M, E> {
         requires layout { IsLayout B M E }
         requires phase { self.old.phase ≡ Phase.Switch }
         requires entries { self.old.entries < E }
-        ensures line { (line : LineState B M) → IsDone self.old line → IsWriting self.new line × IsProgress self.new line result }
+        ensures line { (line : LineState B M) → IsDone self.old line
+            → IsWriting self.new line × IsProgress self.new line result }
         ensures bytes { self.new.bytes ≡ self.old.bytes }
         ensures steps { steps_left self.new ≤ 24 * (E - self.old.entries) - 16 + (8 - self.old.prog.rounds) }
     {

@@ -10,7 +10,8 @@ use Rattle.bank_model.specs.History.{begun}
 use Rattle.bank_laws.specs.Pairs.{has_line}
 use Rattle.bank_laws.proofs.Pairs.{AllLong, gives_all-joined}
 use Rattle.bank_laws.proofs.Fates.{eqb-same}
-use Rattle.log_laws.proofs.Given.{given_of, length-given, given-lacks, given-push, given-push_other, NewestOf, newest-of, given-merged, given-merged_other}
+use Rattle.bank_laws.proofs.Given.{given_of, length-given, given-lacks, given-push, given-push_other, NewestOf, newest-of, given-merged, given-merged_other}
+use Rattle.bank_laws.proofs.Lines.{newest-stands}
 
 -- these rows, and one more if so said
 abbrev pub out_with : Bool → (ℕ → Bool) → ℕ → ℕ → Bool
@@ -161,7 +162,7 @@ module _ {n : ℕ} where
       by (newest-of e es of at apart is) (λ there. tails-merged_other u (out_with (e.line == line) out e.row) of line at row bytes given es apart.1 there other t.1)
     where
       whole : given_of (merged at row bytes given (e ∷ es)) line ≡ u out
-      whole = given-merged_other at row bytes given (e ∷ es) of line apart is other ∙ t.0
+      whole = given-merged_other at row bytes given (e ∷ es) of line apart (newest-stands (e ∷ es) of at is) other ∙ t.0
 
       by : NewestOf e es of at → (newest_row es of ≡ Some at → Tails u (out_with (e.line == line) out e.row) line (merged at row bytes given es))
           → Tails u out line (cond (eqb e.row at) (laid_on row bytes given e ∷ es) (e ∷ merged at row bytes given es))
@@ -183,7 +184,7 @@ module _ {n : ℕ} where
       by (newest-of e es of at apart is) (λ there. tails-merged_other u (out_with (e.line == line) out e.row) of line at row bytes given es apart.1 there other t.1)
     where
       whole : (gives_all (given_of (merged at row bytes given (e ∷ es)) line) ≡ true) ⊎ (given_of (merged at row bytes given (e ∷ es)) line ≡ u out)
-      whole = subst (λ given. (gives_all given ≡ true) ⊎ (given ≡ u out)) (sym (given-merged_other at row bytes given (e ∷ es) of line apart is other)) t.0
+      whole = subst (λ given. (gives_all given ≡ true) ⊎ (given ≡ u out)) (sym (given-merged_other at row bytes given (e ∷ es) of line apart (newest-stands (e ∷ es) of at is) other)) t.0
 
       by : NewestOf e es of at → (newest_row es of ≡ Some at → Tails u (out_with (e.line == line) out e.row) line (merged at row bytes given es))
           → Fits u out line (cond (eqb e.row at) (laid_on row bytes given e ∷ es) (e ∷ merged at row bytes given es))

@@ -6,7 +6,6 @@ mod Owning
 mod Pulsing
 mod Stepping
 mod Fair
-mod Given
 mod Fitting
 mod Naming
 mod Covering

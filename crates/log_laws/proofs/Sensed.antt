@@ -14,7 +14,6 @@ use Rattle.row_rules.specs.declared.Row.{Row}
 use Rattle.row_rules.specs.declared.Asks.TheVariants.{Reads, Writes}
 use Rattle.row_rules.specs.Queueing.{cover}
 use Rattle.row_rules.specs.Rows as rows
-use Rattle.row_rules.specs.Rows.{each_row}
 use Rattle.row_rules.specs.Serving.{may_have, same_bytes}
 use Rattle.bank_shape.specs.declared.BankShape.{BankShape}
 use Rattle.bank_shape.specs.Shape.{lines_in}
@@ -38,7 +37,7 @@ use Rattle.bank_laws.proofs.Serves.{idle-waits, may_at, newest_same, onwards_at}
 use Rattle.bank_laws.proofs.Settling.{opens}
 use Rattle.bank_laws.proofs.Walking.{Passes, walk, rows_after}
 use Rattle.log_laws.specs.Laws.{SensedLaw}
-use Rattle.log_laws.proofs.Given.{given_of, given-layer}
+use Rattle.bank_laws.proofs.Given.{given_of, given-layer}
 use Rattle.log_laws.proofs.Reading.{read-sensed}
 use Rattle.log_laws.proofs.Storing.{stored-sensed}
 use Rattle.log_laws.proofs.Uncovering.{cover-same}

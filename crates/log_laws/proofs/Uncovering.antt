@@ -34,7 +34,7 @@ use Rattle.bank_laws.proofs.Walking.{rows_after}
 use Rattle.bank_laws.proofs.Wears.{stored_by as stored_by_event, stored_up_to}
 use Rattle.log_laws.proofs.Covering.{uncovered, uncovered_by, out_in, fits-after}
 use Rattle.log_laws.proofs.Fitting.{fits-given}
-use Rattle.log_laws.proofs.Given.{given_of}
+use Rattle.bank_laws.proofs.Given.{given_of}
 use Rattle.log_laws.proofs.Outing.{out-same}
 use Rattle.log_laws.proofs.Unworn.{last-above}
 

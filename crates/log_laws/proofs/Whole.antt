@@ -1,5 +1,5 @@
 -- The law of the log, by its two parts.
-use Rattle.log_laws.specs.Laws.{WholeLogLaw}
+use Rattle.bank_laws.specs.Whole.{WholeLogLaw}
 use Rattle.log_laws.proofs.Fair.{pulse_steps_law}
 use Rattle.log_laws.proofs.Sensed.{sensed_law}
 use Rattle.log_laws.proofs.Controls.{controls_law}

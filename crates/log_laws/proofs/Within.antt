@@ -1,42 +1,36 @@
 -- The array lines that a history senses are those of its bank.
-use Rattle.std.proofs.Common.{◌≡◌, ℕ, ◌+◌, ◌-◌, ◌*◌, ◌/◌, ◌<◌, ◌≤◌, ◌==◌, inl, Bool, true, false, cond, List, [], ◌∷◌, Option, Some, None, refl, sym, subst, arith}
+use Rattle.std.proofs.Common.{◌≡◌, ℕ, ◌+◌, ◌-◌, ◌*◌, ◌/◌, ◌<◌, ◌≤◌, inl, Bool, true, false, cond, List, [], ◌∷◌, Option, Some, None, refl, sym, subst, arith}
 use Rattle.std.specs.Prelude.{zero, suc, All, IfSome, map}
 use Rattle.std.proofs.lemmas.Nat.{div_below}
 use Rattle.std.proofs.lemmas.List.Elements.{All-nil, All-cons, All-head, All-tail, All-append}
 use Rattle.masked_bytes.specs.declared.entry.Entry.{Entry}
 use Rattle.pcm_cells.specs.declared.array.Sense.{Sense}
-use Rattle.start_gap.specs.Rotation.{below_gap, gap_after, move_after}
+use Rattle.start_gap.specs.Rotation.{gap_after, move_after}
+use Rattle.start_gap.proofs.Places.{below_gap-within}
 use Rattle.spare_pool.specs.Table.{Table}
 use Rattle.spare_pool.proofs.Lines.{line_by-within}
 use Rattle.bank_shape.specs.declared.BankShape.{BankShape}
 use Rattle.bank_shape.specs.declared.Work.{Work}
 use Rattle.bank_shape.specs.declared.Work.TheVariants.{Nothing}
-use Rattle.bank_shape.specs.Shape.{slots_of, lines_in, controls_of, controls_from}
-use Rattle.bank_shape.specs.declared.answer.Step.TheVariants as did
+use Rattle.bank_shape.specs.Shape.{slots_of, lines_in, controls_of, controls_from, IsIn}
 use Rattle.bank_model.specs.Events.{Event, Write, Read, Serve, Begin, Iterate, Cut, RowsBelow, line_of_row}
 use Rattle.bank_model.specs.History.{Awaited, first_or, stores, moved_in, retired, has_exhausted, due_after, queue, waits}
 use Rattle.bank_model.specs.After.{due_work, work_after, slot_of_work, slot_after, array_line_after, target_after, sources_of}
 use Rattle.bank_model.specs.Answers.{MayAll}
 use Rattle.bank_model.specs.Sensing.{most_steps, stand_of, sensed_by, read_again, kept_sensed}
-use Rattle.bank_model.specs.Changes.{change_after, line_of_change, numbers_from, all_controls}
+use Rattle.bank_model.specs.Changes.{change_after, line_of_change, numbers_from}
 use Rattle.bank_model.specs.Timing.{Happens, Core, Regs, Keeping, KeepBegin, KeepIterate, KeepCut, core}
 use Rattle.bank_model.specs.Lawful.{MayCome}
 use Rattle.bank_model.specs.Adding.{senses_of}
+use Rattle.bank_model.proofs.Within.{line_of_row-known, last_store-known}
 use Rattle.bank_laws.proofs.Lines.{Stands}
 use Rattle.bank_laws.proofs.Settling.{above_all}
 use Rattle.bank_laws.proofs.Waiting.{may_all}
-use Rattle.place_laws.proofs.Asked.{WaitsFor, asked-within, wrote-asked, queue-wrote, waits-asked}
+use Rattle.bank_laws.proofs.Asked.{WaitsFor, asked-within, wrote-asked, queue-wrote, waits-asked}
 use Rattle.place_laws.proofs.Moves.{some-due}
 use Rattle.place_laws.proofs.Slots.{slot_at-within, slot_moved-within, gap-within, retired-few}
-use Rattle.place_laws.proofs.WornOut.{change-within}
+use Rattle.place_laws.proofs.WornOut.{change-within, some_product}
 use Rattle.log_laws.specs.Laws.{WithinLaw}
-
--- a line of a bank
-abbrev pub IsIn : BankShape → ℕ → Type 0
-IsIn shape line = (shape.base ≤ line) × (line < shape.base + lines_in shape)
-
-some_product : (a b : ℕ) → 1 ≤ a → 1 ≤ b → 0 < a * b
-some_product a b p q = grind (arith, p, q)
 
 -- so many lines from one on are a bank's where the last is
 numbers-in : (shape : BankShape) (from count : ℕ) → shape.base ≤ from → from + count ≤ shape.base + lines_in shape → All (IsIn shape) (numbers_from from count)
@@ -44,46 +38,13 @@ numbers-in shape from zero low high = All-nil (IsIn shape)
 numbers-in shape from (suc count) low high =
     All-cons (IsIn shape) from (numbers_from (from + 1) count) (low, omega (arith, high)) (numbers-in shape (from + 1) count (omega (arith, low)) (omega (arith, high)))
 
--- the place below a gap is one of the region's
-below_gap-within : (n gap : ℕ) → gap ≤ n → below_gap n gap ≤ n
-below_gap-within n gap few = by (gap == 0)
-  where
-    by : (b : Bool) → cond b n (gap - 1) ≤ n
-    by true = omega arith
-    by false = omega (arith, few)
-
 module _ {n : ℕ} (shape : BankShape) (r : 1 ≤ shape.regions) (l : 1 ≤ shape.lines) (most : ℕ) where
-  -- every write is of one of the bank's lines
+  -- every write is of one of the bank's lines, and so is the last store
   pub row_line-within : (h : List (Event n)) (row : ℕ) → MayAll shape most h → line_of_row row h < shape.regions * shape.lines
-  row_line-within [] row may = some_product shape.regions shape.lines r l
-  row_line-within (Write at line bytes given answer ∷ h) row may = by (at == row) (row_line-within h row may.1)
-    where
-      by : (b : Bool) → line_of_row row h < shape.regions * shape.lines → cond b line (line_of_row row h) < shape.regions * shape.lines
-      by true rest = may.0.0
-      by false rest = rest
-  row_line-within (Read at line answer ∷ h) row may = row_line-within h row may.1
-  row_line-within (Serve answer ∷ h) row may = row_line-within h row may.1
-  row_line-within (Begin answer ∷ h) row may = row_line-within h row may.1
-  row_line-within (Iterate answer ∷ h) row may = row_line-within h row may.1
-  row_line-within (Cut tearing ∷ h) row may = row_line-within h row may.1
+  row_line-within h row may = line_of_row-known shape most (some_product shape.regions shape.lines r l) h row may
 
-  -- and so is the last store
   pub last-within : (h : List (Event n)) → MayAll shape most h → first_or 0 (stores h) < shape.regions * shape.lines
-  last-within [] may = some_product shape.regions shape.lines r l
-  last-within (Write row line bytes given answer ∷ h) may = last-within h may.1
-  last-within (Read row line answer ∷ h) may = last-within h may.1
-  last-within (Serve answer ∷ h) may = last-within h may.1
-  last-within (Cut tearing ∷ h) may = last-within h may.1
-  last-within (Begin (did.Stored row place) ∷ h) may = row_line-within h row may.1
-  last-within (Begin did.More ∷ h) may = last-within h may.1
-  last-within (Begin (did.Moved step) ∷ h) may = last-within h may.1
-  last-within (Begin (did.Retired slot line) ∷ h) may = last-within h may.1
-  last-within (Begin did.Exhausted ∷ h) may = last-within h may.1
-  last-within (Iterate (did.Stored row place) ∷ h) may = row_line-within h row may.1
-  last-within (Iterate did.More ∷ h) may = last-within h may.1
-  last-within (Iterate (did.Moved step) ∷ h) may = last-within h may.1
-  last-within (Iterate (did.Retired slot line) ∷ h) may = last-within h may.1
-  last-within (Iterate did.Exhausted ∷ h) may = last-within h may.1
+  last-within h may = last_store-known shape most (some_product shape.regions shape.lines r l) h may
 
   module _ (h : List (Event n)) (may : MayAll shape most h) where
     -- each slot's array line is one of the bank's

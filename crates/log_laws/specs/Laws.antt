@@ -12,7 +12,7 @@ use Rattle.bank_model.specs.Timing.{TimedEvent}
 use Rattle.bank_model.specs.Lawful.{Lawful, IsIdle}
 use Rattle.bank_laws.specs.Outcomes.{table_of}
 use Rattle.bank_laws.specs.Logs.{has_sense, has_controls, is_line_fair}
-use Rattle.bank_laws.specs.Laws.{LeavesArray, IsSized, LogLaw, rules_of, log_of}
+use Rattle.bank_laws.specs.Laws.{LeavesArray, IsSized, rules_of, log_of}
 
 -- the senses of each of a bank's lines begin at no pulses, go on by at most one pulse, an iteration or broken off, and end with
 -- the line's pulses; senses that show those may have been added
@@ -43,7 +43,3 @@ abbrev pub WithinLaw : Type 0
 WithinLaw =
     (n m e : ℕ) (shape : BankShape) (pace : Pace) (xs : List (TimedEvent n m)) → 1 ≤ shape.regions → 1 ≤ shape.lines → Lawful shape pace e xs
     → All (λ s. (shape.base ≤ s.line) × (s.line < shape.base + lines_in shape)) (senses_of xs)
-
--- the law of the log, whatever the sizes of a line
-abbrev pub WholeLogLaw : Type 0
-WholeLogLaw = (n m : ℕ) → LogLaw n m

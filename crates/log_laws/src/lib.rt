@@ -2,7 +2,8 @@
 //! a function here ensures; the functions do nothing when they run.
 #![tactic(auto)]
 
-ghost use Rattle.log_laws.specs.Laws.{ControlsLaw, PulseStepsLaw, SensedLaw, WholeLogLaw, WithinLaw};
+ghost use Rattle.bank_laws.specs.Whole.{WholeLogLaw};
+ghost use Rattle.log_laws.specs.Laws.{ControlsLaw, PulseStepsLaw, SensedLaw, WithinLaw};
 
 /// The first sense of a line carries no pulses, the next at most one more each, an iteration later or broken off by a cut,
 /// none behind a bank's wearing out, and the last the line's pulses.

@@ -38,11 +38,11 @@ pub stacked-on_none : (n : ℕ) (bytes : List ℕ) (given : List Bool) → IsMas
     → let top : Layer = record { bytes = bytes; given = given } in stacked top (no_layer n) ≡ top
 stacked-on_none n bytes given m = same_layer _ _ (laid-zeros n bytes given m.bytes_len m.given_len m.others) (joined-none_right n given m.given_len)
 
-some_same : (a b : ℕ) → Some a ≡ Some b → a ≡ b
+pub some_same : (a b : ℕ) → Some a ≡ Some b → a ≡ b
 some_same a b h = cc
 
 module _ {n : ℕ} where
-  IsLayer-layer_by : (e : Entry n) → IsMasked n e.bytes e.given → IsLayer n (layer_by e)
+  pub IsLayer-layer_by : (e : Entry n) → IsMasked n e.bytes e.given → IsLayer n (layer_by e)
   IsLayer-layer_by e m = record { bytes_len = m.bytes_len; given_len = m.given_len }
 
   IsLayer-if : (b : Bool) (top below : Layer) → IsLayer n top → IsLayer n below → IsLayer n (if b then stacked top below else top)

@@ -1,27 +1,15 @@
 -- What each change of a queue leaves of what its entries stand for.
-use Rattle.std.proofs.Common.{◌≡◌, ℕ, ◌<◌, List, [], ◌∷◌, ◌++◌, Bool, true, false, ◌||◌, ◌==◌, if◌then◌else◌, zero, suc, length, refl, sym, subst, ap, ◌∙◌, arith, Option, Some, None, eq-eqb, eqb-true}
+use Rattle.std.proofs.Common.{◌≡◌, ℕ, ◌<◌, List, [], ◌∷◌, ◌++◌, Bool, true, false, ◌==◌, if◌then◌else◌, zero, suc, length, refl, sym, subst, ap, ◌∙◌, arith, Option, Some, None, eq-eqb, eqb-true}
 use Rattle.std.proofs.lemmas.Bool.{or_from}
-use Rattle.masked_bytes.proofs.Truth.{neither_first, neither_second}
+use Rattle.masked_bytes.proofs.Truth.{neither_first, neither_second, differ_sym}
 use Rattle.std.proofs.lemmas.List.{length-replicate}
 use Rattle.masked_bytes.specs.Masked.{laid, all_given, IsMasked}
 use Rattle.masked_bytes.specs.Entries.{Layer, no_layer, stacked, or_this, one_further, layer_by, layer_of, newest_place, laid_on, merged_at, completed, head_line, has_row, RowsApart, AllMasked}
 use Rattle.masked_bytes.specs.declared.entry.Entry.{Entry}
 use Rattle.masked_bytes.proofs.Layering.{length-laid, laid-all_given, laid-laid, IsMasked-laid, IsMasked-all_given}
-use Rattle.masked_bytes.proofs.Queueing.{IsLayer, IsLayer-layer_of, stacked-no_layer, append_under, layer_of-none}
-
-some_same : (a b : ℕ) → Some a ≡ Some b → a ≡ b
-some_same a b h = cc
-
-swapped : (a b : ℕ) → (a == b) ≡ false → (b == a) ≡ false
-swapped a b h = by (b == a) (eqb-true b a)
-  where
-    by : (t : Bool) → (t ≡ true → b ≡ a) → t ≡ false
-    by false f = refl
-    by true f = let same : (a == b) ≡ true = eq-eqb a b (sym (f refl)) in cc
+use Rattle.masked_bytes.proofs.Queueing.{IsLayer, IsLayer-layer_of, stacked-no_layer, append_under, layer_of-none, some_same, IsLayer-layer_by}
 
 module _ {n : ℕ} where
-  IsLayer-layer_by : (e : Entry n) → IsMasked n e.bytes e.given → IsLayer n (layer_by e)
-  IsLayer-layer_by e m = record { bytes_len = m.bytes_len; given_len = m.given_len }
 
   merged_head : (e : Entry n) (es : List (Entry n)) (line i row : ℕ) (bytes : List ℕ) (given : List Bool) (b : Bool)
       → IsMasked n e.bytes e.given → IsMasked n bytes given → layer_of es line ≡ no_layer n → (e.line == line) ≡ b
@@ -164,7 +152,7 @@ module _ {n : ℕ} where
   pub RowsApart-append : (es : List (Entry n)) (e : Entry n) → RowsApart es → has_row es e.row ≡ false → RowsApart (es ++ e ∷ [])
   RowsApart-append [] e apart h = (refl, tt)
   RowsApart-append (f ∷ es) e apart h =
-      (has_row-append es e f.row apart.0 (swapped f.row e.row (neither_first (f.row == e.row) _ h)), RowsApart-append es e apart.1 (neither_second (f.row == e.row) _ h))
+      (has_row-append es e f.row apart.0 (differ_sym f.row e.row (neither_first (f.row == e.row) _ h)), RowsApart-append es e apart.1 (neither_second (f.row == e.row) _ h))
 
   has_row-merged_at : (es : List (Entry n)) (i row : ℕ) (bytes : List ℕ) (given : List Bool) (other : ℕ) → has_row es other ≡ false → (row == other) ≡ false
       → has_row (merged_at i row bytes given es) other ≡ false
@@ -178,7 +166,7 @@ module _ {n : ℕ} where
   RowsApart-merged_at [] i row bytes given apart h = tt
   RowsApart-merged_at (e ∷ es) zero row bytes given apart h = (neither_second (e.row == row) _ h, apart.1)
   RowsApart-merged_at (e ∷ es) (suc i) row bytes given apart h = (
-    has_row-merged_at es i row bytes given e.row apart.0 (swapped e.row row (neither_first (e.row == row) _ h)),
+    has_row-merged_at es i row bytes given e.row apart.0 (differ_sym e.row row (neither_first (e.row == row) _ h)),
     RowsApart-merged_at es i row bytes given apart.1 (neither_second (e.row == row) _ h),
   )
 

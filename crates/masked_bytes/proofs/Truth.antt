@@ -1,6 +1,7 @@
--- The parts of a conjunction that is true, and of a disjunction that is false, for the crates above too.
-use Rattle.std.proofs.Common.{◌≡◌, Bool, true, false, ◌&&◌, ◌||◌}
-use Rattle.std.proofs.lemmas.Bool.{and_parts, or_parts}
+-- Tests: the parts of a conjunction that is true and of a disjunction that is false, both with a part that is known, and numbers that
+-- differ; for the crates above too.
+use Rattle.std.proofs.Common.{◌≡◌, ℕ, ◌==◌, refl, sym, not, Bool, true, false, ◌&&◌, ◌||◌}
+use Rattle.std.proofs.lemmas.Bool.{and_parts, or_parts, ne_eqb, eqb-false}
 
 pub and_first : (a b : Bool) → (a && b) ≡ true → a ≡ true
 and_first a b both = (and_parts a b both).0
@@ -13,3 +14,27 @@ neither_first a b neither = (or_parts a b neither).0
 
 pub neither_second : (a b : Bool) → (a || b) ≡ false → b ≡ false
 neither_second a b neither = (or_parts a b neither).1
+
+pub or_rest : (a b : Bool) → a ≡ false → (a || b) ≡ true → b ≡ true
+or_rest true b none either = absurd (cc)
+or_rest false b none either = either
+
+pub implied : (a b : Bool) → (a ≡ true → b ≡ true) → (not a || b) ≡ true
+implied true b so = so refl
+implied false b so = refl
+
+pub and_true : (a : Bool) → (a && true) ≡ a
+and_true true = refl
+and_true false = refl
+
+pub and_false : (a : Bool) → (a && false) ≡ false
+and_false true = refl
+and_false false = refl
+
+pub or_false : (a : Bool) → (a || false) ≡ a
+or_false true = refl
+or_false false = refl
+
+-- two numbers that differ, the other way round
+pub differ_sym : (a b : ℕ) → (a == b) ≡ false → (b == a) ≡ false
+differ_sym a b off = ne_eqb b a (λ same. eqb-false a b off (sym same))

@@ -1,10 +1,10 @@
 -- What sizes within the limits are like.
-use Rattle.std.proofs.Common.{◌≡◌, ℕ, zero, suc, ◌+◌, ◌*◌, ◌^◌, ◌<◌, ◌≤◌, Bool, true, false, ◌&&◌, nat_le, List, [], ◌∷◌, None, inl, inr, lit<, refl, ap, ◌∙◌, arith}
+use Rattle.std.proofs.Common.{◌≡◌, ℕ, ◌+◌, ◌*◌, ◌<◌, ◌≤◌, Bool, true, false, nat_le, List, [], ◌∷◌, None, refl, ap, ◌∙◌, arith}
 use Rattle.std.specs.Int.{is_power_of_two}
-use Rattle.std.proofs.lemmas.Bool.{cases_lt, and_parts}
+use Rattle.std.proofs.lemmas.Bool.{and_parts}
 use Rattle.std.proofs.lemmas.Bool.Decides.{nat_tests}
 use Rattle.std.proofs.lemmas.Nat.{mul-le}
-use Rattle.std.proofs.Math.Nat.{pow-le-pow_right, mul_assoc, mul_comm, mul-add}
+use Rattle.std.proofs.Math.Nat.{mul_assoc, mul_comm, mul-add}
 use Rattle.module_shape.specs.Limits.{is_between, total_of, limits, first_broken, shape_fault, IsShape}
 use Rattle.module_shape.specs.Addresses.{module_of, lines_of}
 use Rattle.module_shape.specs.declared.raw.RawShape.{RawShape}
@@ -116,16 +116,3 @@ total-is raw = mul_assoc raw.banks raw.regions raw.lines
 -- a module has at least four lines
 pub lines_some : (banks regions lines : ℕ) → 1 ≤ banks → 1 ≤ regions → 4 ≤ lines → 4 ≤ banks * regions * lines
 lines_some banks regions lines p q r = mul-le 1 4 (banks * regions) lines (mul-le 1 1 banks regions p q) r
-
--- the bits of the numbers of a module's lines
-pub bits_some : (r n : ℕ) → 4 ≤ n → n < 2 * 2 ^ r → 2 ≤ r
-bits_some zero n some high = absurd (omega arith)
-bits_some (suc zero) n some high = absurd (omega arith)
-bits_some (suc (suc r)) n some high = omega arith
-
-pub bits_few : (r n : ℕ) → n ≤ 65536 → 2 ^ r ≤ n → r ≤ 16
-bits_few r n few low =
-    elim (cases_lt 16 r) [
-      | inl more ↦ absurd (omega (arith, pow-le-pow_right {n = 2} (lit< tt) {i = 17} {j = r} more))
-      | inr less ↦ less
-    ]

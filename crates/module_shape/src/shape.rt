@@ -119,7 +119,8 @@ impl Shape {
         requires { bank < self.now.banks }
         ensures exact { result ≡ bank_shape (module_of self.now) bank }
         ensures shape { IsBankShape result }
-        ensures within { result.base + lines_in result ≤ self.now.banks * array_lines_of (module_of self.now) }
+        ensures within { result.base + lines_in result
+            ≤ self.now.banks * array_lines_of (module_of self.now) }
         ensures in_range { IsShape self.now }
     {
         BankShape {

@@ -1,7 +1,6 @@
 pub mod Loop
 pub mod Pairs
 pub mod Bits
-pub mod Powers
 pub mod Heads
 pub mod Steps
 pub mod Whole

@@ -87,7 +87,8 @@ pub fn u8_at<'a>(fields: Fields<'a>) -> Result<(u8, Fields<'a>), ReadImage>
 /// The next number of two bytes, the lowest byte first, as every number of an image.
 pub fn u16_at<'a>(fields: Fields<'a>) -> Result<(u16, Fields<'a>), ReadImage>
     requires { fields.at < 2 ^ 31 }
-    ensures gives { Gives (λ x. (x.0, cursor x.1)) result (number_at w16 kind.Short any (cursor fields.entry)) }
+    ensures gives { Gives (λ x. (x.0, cursor x.1)) result
+        (number_at w16 kind.Short any (cursor fields.entry)) }
     ensures at { IfOk result (λ x. x.1.at ≡ fields.entry.at + 2) }
 {
     if fields.left.len() < 2 {
@@ -115,7 +116,8 @@ fn is_power_in(number: u32, least: u32, most: u32) -> bool
 // A number of banks, or of regions.
 fn few_at<'a>(fields: Fields<'a>) -> Result<(u8, Fields<'a>), ReadImage>
     requires { fields.at < 2 ^ 31 }
-    ensures gives { Gives (λ x. (x.0, cursor x.1)) result (byte_at kind.Shape (is_power_between 1 16) (cursor fields.entry)) }
+    ensures gives { Gives (λ x. (x.0, cursor x.1)) result
+        (byte_at kind.Shape (is_power_between 1 16) (cursor fields.entry)) }
     ensures at { IfOk result (λ x. x.1.at ≡ fields.entry.at + 1) }
     ensures few { IfOk result (λ x. x.0 ≤ 16) }
 {
@@ -129,7 +131,8 @@ fn few_at<'a>(fields: Fields<'a>) -> Result<(u8, Fields<'a>), ReadImage>
 // The number of spares of a bank.
 fn spares_at<'a>(fields: Fields<'a>) -> Result<(u16, Fields<'a>), ReadImage>
     requires { fields.at < 2 ^ 31 }
-    ensures gives { Gives (λ x. (x.0, cursor x.1)) result (number_at w16 kind.Shape (λ n. nat_le n 1024) (cursor fields.entry)) }
+    ensures gives { Gives (λ x. (x.0, cursor x.1)) result
+        (number_at w16 kind.Shape (λ n. nat_le n 1024) (cursor fields.entry)) }
     ensures at { IfOk result (λ x. x.1.at ≡ fields.entry.at + 2) }
     ensures few { IfOk result (λ x. x.0 ≤ 1024) }
 {
@@ -143,7 +146,8 @@ fn spares_at<'a>(fields: Fields<'a>) -> Result<(u16, Fields<'a>), ReadImage>
 /// The next number of four bytes.
 pub fn u32_at<'a>(fields: Fields<'a>) -> Result<(u32, Fields<'a>), ReadImage>
     requires { fields.at < 2 ^ 31 }
-    ensures gives { Gives (λ x. (x.0, cursor x.1)) result (number_at w32 kind.Short any (cursor fields.entry)) }
+    ensures gives { Gives (λ x. (x.0, cursor x.1)) result
+        (number_at w32 kind.Short any (cursor fields.entry)) }
     ensures at { IfOk result (λ x. x.1.at ≡ fields.entry.at + 4) }
 {
     if fields.left.len() < 4 {
@@ -163,7 +167,8 @@ pub fn u32_at<'a>(fields: Fields<'a>) -> Result<(u32, Fields<'a>), ReadImage>
 /// The next number of eight bytes.
 pub fn u64_at<'a>(fields: Fields<'a>) -> Result<(u64, Fields<'a>), ReadImage>
     requires { fields.at < 2 ^ 31 }
-    ensures gives { Gives (λ x. (x.0, cursor x.1)) result (number_at w64 kind.Shape any (cursor fields.entry)) }
+    ensures gives { Gives (λ x. (x.0, cursor x.1)) result
+        (number_at w64 kind.Shape any (cursor fields.entry)) }
     ensures at { IfOk result (λ x. x.1.at ≡ fields.entry.at + 8) }
 {
     if fields.left.len() < 8 {
@@ -195,7 +200,8 @@ fn is_lines_of(banks: u8, regions: u8, lines: u16) -> bool
 fn lines_at<'a>(fields: Fields<'a>, banks: u8, regions: u8) -> Result<(u16, Fields<'a>), ReadImage>
     requires at { fields.at < 2 ^ 31 }
     requires few { (banks ≤ 16) × (regions ≤ 16) }
-    ensures gives { Gives (λ x. (x.0, cursor x.1)) result (number_at w16 kind.Shape (is_lines banks regions) (cursor fields.entry)) }
+    ensures gives { Gives (λ x. (x.0, cursor x.1)) result
+        (number_at w16 kind.Shape (is_lines banks regions) (cursor fields.entry)) }
     ensures at { IfOk result (λ x. x.1.at ≡ fields.entry.at + 2) }
     ensures few { IfOk result (λ x. banks * regions * x.0 ≤ 65536) }
 {
@@ -209,7 +215,8 @@ fn lines_at<'a>(fields: Fields<'a>, banks: u8, regions: u8) -> Result<(u16, Fiel
 // Where the registers are kept.
 fn home_at<'a>(fields: Fields<'a>) -> Result<(u8, Fields<'a>), ReadImage>
     requires { fields.at < 2 ^ 31 }
-    ensures gives { Gives (λ x. (x.0, cursor x.1)) result (byte_at kind.Shape (λ n. nat_lt n 2) (cursor fields.entry)) }
+    ensures gives { Gives (λ x. (x.0, cursor x.1)) result
+        (byte_at kind.Shape (λ n. nat_lt n 2) (cursor fields.entry)) }
     ensures at { IfOk result (λ x. x.1.at ≡ fields.entry.at + 1) }
 {
     let (number, rest) = u8_at(fields)?;

@@ -17,7 +17,8 @@ use std::alloc::Global;
 // The mark of a bank.
 fn mark_at<'a>(fields: Fields<'a>) -> Result<(u8, Fields<'a>), ReadImage>
     requires { fields.at < 2 ^ 31 }
-    ensures gives { Gives (λ x. (x.0, cursor x.1)) result (byte_at kind.Bank (λ n. nat_lt n 2) (cursor fields.entry)) }
+    ensures gives { Gives (λ x. (x.0, cursor x.1)) result
+        (byte_at kind.Bank (λ n. nat_lt n 2) (cursor fields.entry)) }
     ensures at { IfOk result (λ x. x.1.at ≡ fields.entry.at + 1) }
 {
     let (number, rest) = u8_at(fields)?;
@@ -30,7 +31,8 @@ fn mark_at<'a>(fields: Fields<'a>) -> Result<(u8, Fields<'a>), ReadImage>
 // A number of a bank that is at most another.
 fn up_to<'a>(fields: Fields<'a>, most: u16) -> Result<(u16, Fields<'a>), ReadImage>
     requires { fields.at < 2 ^ 31 }
-    ensures gives { Gives (λ x. (x.0, cursor x.1)) result (number_at w16 kind.Bank (λ n. nat_le n most) (cursor fields.entry)) }
+    ensures gives { Gives (λ x. (x.0, cursor x.1)) result
+        (number_at w16 kind.Bank (λ n. nat_le n most) (cursor fields.entry)) }
     ensures at { IfOk result (λ x. x.1.at ≡ fields.entry.at + 2) }
     ensures within { IfOk result (λ x. x.0 ≤ most) }
 {
@@ -44,7 +46,8 @@ fn up_to<'a>(fields: Fields<'a>, most: u16) -> Result<(u16, Fields<'a>), ReadIma
 // The register Start of a region of so many lines.
 fn start_at<'a>(fields: Fields<'a>, lines: u16) -> Result<(u16, Fields<'a>), ReadImage>
     requires { fields.at < 2 ^ 31 }
-    ensures gives { Gives (λ x. (x.0, cursor x.1)) result (number_at w16 kind.Bank (λ n. nat_lt n lines) (cursor fields.entry)) }
+    ensures gives { Gives (λ x. (x.0, cursor x.1)) result
+        (number_at w16 kind.Bank (λ n. nat_lt n lines) (cursor fields.entry)) }
     ensures at { IfOk result (λ x. x.1.at ≡ fields.entry.at + 2) }
 {
     let (number, rest) = u16_at(fields)?;
@@ -57,7 +60,8 @@ fn start_at<'a>(fields: Fields<'a>, lines: u16) -> Result<(u16, Fields<'a>), Rea
 // The stores of a region since its last move.
 fn counter_at<'a>(fields: Fields<'a>) -> Result<(u16, Fields<'a>), ReadImage>
     requires { fields.at < 2 ^ 31 }
-    ensures gives { Gives (λ x. (x.0, cursor x.1)) result (number_at w16 kind.Bank any (cursor fields.entry)) }
+    ensures gives { Gives (λ x. (x.0, cursor x.1)) result
+        (number_at w16 kind.Bank any (cursor fields.entry)) }
     ensures at { IfOk result (λ x. x.1.at ≡ fields.entry.at + 2) }
 {
     u16_at(fields)
@@ -66,7 +70,8 @@ fn counter_at<'a>(fields: Fields<'a>) -> Result<(u16, Fields<'a>), ReadImage>
 // The slot of a used spare.
 fn slot_at<'a>(fields: Fields<'a>, slots: u32) -> Result<(u32, Fields<'a>), ReadImage>
     requires { fields.at < 2 ^ 31 }
-    ensures gives { Gives (λ x. (x.0, cursor x.1)) result (number_at w32 kind.Bank (λ n. nat_lt n slots) (cursor fields.entry)) }
+    ensures gives { Gives (λ x. (x.0, cursor x.1)) result
+        (number_at w32 kind.Bank (λ n. nat_lt n slots) (cursor fields.entry)) }
     ensures at { IfOk result (λ x. x.1.at ≡ fields.entry.at + 4) }
 {
     let (number, rest) = u32_at(fields)?;
@@ -102,7 +107,8 @@ fn region_of<'a>(
 // The line of a write.
 fn entry_line<'a>(fields: Fields<'a>, lines: u32) -> Result<(u32, Fields<'a>), ReadImage>
     requires { fields.at < 2 ^ 31 }
-    ensures gives { Gives (λ x. (x.0, cursor x.1)) result (number_at w32 kind.Entry (λ n. nat_lt n lines) (cursor fields.entry)) }
+    ensures gives { Gives (λ x. (x.0, cursor x.1)) result
+        (number_at w32 kind.Entry (λ n. nat_lt n lines) (cursor fields.entry)) }
     ensures at { IfOk result (λ x. x.1.at ≡ fields.entry.at + 4) }
 {
     let (number, rest) = u32_at(fields)?;
@@ -116,7 +122,8 @@ fn entry_line<'a>(fields: Fields<'a>, lines: u32) -> Result<(u32, Fields<'a>), R
 fn bytes_at<'a, const B: usize>(fields: Fields<'a>) -> Result<([u8; B], Fields<'a>), ReadImage>
     requires at { fields.at < 2 ^ 31 }
     requires few { B ≤ 128 }
-    ensures gives { Gives (λ x. (x.0, cursor x.1)) result (field B kind.Entry any (λ bytes. bytes) (cursor fields.entry)) }
+    ensures gives { Gives (λ x. (x.0, cursor x.1)) result
+        (field B kind.Entry any (λ bytes. bytes) (cursor fields.entry)) }
     ensures at { IfOk result (λ x. x.1.at ≡ fields.entry.at + B) }
 {
     if fields.left.len() < B {
@@ -190,7 +197,9 @@ fn given_at<'a, const B: usize>(
     requires at { fields.at < 2 ^ 31 }
     requires few { B ≤ 128 }
     requires whole { B % 8 ≡ 0 }
-    ensures gives { Gives (λ x. (x.0, cursor x.1)) result (field (B / 8) kind.Entry (is_given B bytes.now) (λ bits. given_from bits 0 B) (cursor fields.entry)) }
+    ensures gives { Gives (λ x. (x.0, cursor x.1)) result
+        (field (B / 8) kind.Entry (is_given B bytes.now) (λ bits. given_from bits 0 B)
+        (cursor fields.entry)) }
     ensures at { IfOk result (λ x. x.1.at ≡ fields.entry.at + B / 8) }
 {
     if fields.left.len() < B / 8 {
@@ -219,7 +228,8 @@ fn entry_of<'a, const B: usize>(
     requires at { fields.at < 2 ^ 30 }
     requires few { B ≤ 128 }
     requires whole { B % 8 ≡ 0 }
-    ensures gives { Gives (λ x. (x.0, cursor x.1)) result (entry_at B (head_view head) (cursor fields.entry)) }
+    ensures gives { Gives (λ x. (x.0, cursor x.1)) result
+        (entry_at B (head_view head) (cursor fields.entry)) }
     ensures at { IfOk result (λ x. x.1.at ≤ fields.entry.at + 148) }
 {
     let (line, rest) = entry_line(fields, head.regions as u32 * head.lines as u32)?;
@@ -242,7 +252,8 @@ fn slots_of<'a>(
     slots: u32,
 ) -> Result<(Vec<u32>, Fields<'a>), ReadImage>
     requires { fields.at < 2 ^ 29 }
-    ensures gives { Gives (λ x. (x.0.items, cursor x.1)) result (times used (number_at w32 kind.Bank (λ n. nat_lt n slots)) (cursor fields.entry)) }
+    ensures gives { Gives (λ x. (x.0.items, cursor x.1)) result
+        (times used (number_at w32 kind.Bank (λ n. nat_lt n slots)) (cursor fields.entry)) }
     ensures at { IfOk result (λ x. x.1.at ≤ fields.entry.at + 4 * used) }
 {
     let mut items = Vec::new(alloc);
@@ -262,7 +273,8 @@ fn regions_of<'a>(
     head: HeadImage,
 ) -> Result<(Vec<RegionImage>, Fields<'a>), ReadImage>
     requires { fields.at < 2 ^ 29 }
-    ensures gives { Gives (λ x. (x.0.items, cursor x.1)) result (times head.regions (region_at (head_view head)) (cursor fields.entry)) }
+    ensures gives { Gives (λ x. (x.0.items, cursor x.1)) result
+        (times head.regions (region_at (head_view head)) (cursor fields.entry)) }
     ensures at { IfOk result (λ x. x.1.at ≤ fields.entry.at + 6 * head.regions) }
 {
     let mut items = Vec::new(alloc);
@@ -285,7 +297,8 @@ fn entries_of<'a, const B: usize>(
     requires at { fields.at < 2 ^ 29 }
     requires few { B ≤ 128 }
     requires whole { B % 8 ≡ 0 }
-    ensures gives { Gives (λ x. (x.0.items, cursor x.1)) result (times count (entry_at B (head_view head)) (cursor fields.entry)) }
+    ensures gives { Gives (λ x. (x.0.items, cursor x.1)) result
+        (times count (entry_at B (head_view head)) (cursor fields.entry)) }
     ensures at { IfOk result (λ x. x.1.at ≤ fields.entry.at + 148 * count) }
 {
     let mut items = Vec::new(alloc);
@@ -347,7 +360,8 @@ fn banks_of<'a, const B: usize>(
     requires few { B ≤ 128 }
     requires whole { B % 8 ≡ 0 }
     requires small { IsSmall (head_view head) }
-    ensures gives { Gives (λ x. (x.0.items, cursor x.1)) result (times head.banks (bank_at B (head_view head)) (cursor fields.entry)) }
+    ensures gives { Gives (λ x. (x.0.items, cursor x.1)) result
+        (times head.banks (bank_at B (head_view head)) (cursor fields.entry)) }
     ensures at { IfOk result (λ x. x.1.at ≤ 24 + 42093 * head.banks) }
 {
     let mut items = Vec::new(alloc);
@@ -398,7 +412,8 @@ fn rows_of<'a, const B: usize, const M: usize>(
     requires count { count ≤ 100000 }
     requires few { B ≤ 128 }
     requires checks { M ≤ 16 }
-    ensures gives { Gives (λ x. (x.0.items, cursor x.1)) result (times count (cells_at B M) (cursor fields.entry)) }
+    ensures gives { Gives (λ x. (x.0.items, cursor x.1)) result
+        (times count (cells_at B M) (cursor fields.entry)) }
     ensures at { IfOk result (λ x. x.1.at ≤ fields.entry.at + 144 * count) }
 {
     let mut items = Vec::new(alloc);
@@ -465,7 +480,8 @@ pub fn read_image<const B: usize, const M: usize>(
     // What is read is saved so, each byte of it.
     ensures found { IfOk result (λ image. IsSaved image × (bytes.now ≡ image_bytes image)) }
     // What is saved so is read, unless memory runs out.
-    ensures only { (s : Saved B M) → IsSaved s → bytes.now ≡ image_bytes s → Gives (λ image. image) result (Ok s) }
+    ensures only { (s : Saved B M) → IsSaved s → bytes.now ≡ image_bytes s
+        → Gives (λ image. image) result (Ok s) }
     // Which field fails, and where it begins.
     ensures exact { Gives (λ image. image) result (image_of B M bytes.now) }
 {

@@ -36,7 +36,8 @@ fn line_of(slots: u32, replaced: &[u32], slot: u32) -> u32
 // Lays what the entries of a line give over its bytes, the last one on top.
 fn lay_entries<const B: usize>(entries: &[EntryImage<B>], line: u32, bytes: &mut [u8; B])
     requires { AllMasked (map entry_of entries.now) }
-    ensures { bytes.new ≡ laid (layer_of (map entry_of entries.now) line).bytes (layer_of (map entry_of entries.now) line).given bytes.old }
+    ensures { bytes.new ≡ laid (layer_of (map entry_of entries.now) line).bytes
+        (layer_of (map entry_of entries.now) line).given bytes.old }
 {
     for entry in entries {
         if entry.line == line {
@@ -97,7 +98,8 @@ impl<const B: usize> BankImage<B> {
     fn lay(&self, head: HeadImage, own: u32, bytes: &mut [u8; B])
         requires few { B ≤ 128 }
         requires saved { IsSavedBank (head_view head) self.now }
-        ensures { bytes.new ≡ laid (layer_of (map entry_of self.now.entries) own).bytes (layer_of (map entry_of self.now.entries) own).given bytes.old }
+        ensures { bytes.new ≡ laid (layer_of (map entry_of self.now.entries) own).bytes
+            (layer_of (map entry_of self.now.entries) own).given bytes.old }
     {
         lay_entries(&self.entries, own, bytes);
     }
@@ -120,7 +122,8 @@ impl<const B: usize> BankImage<B> {
         requires head { IsHead (head_view head) }
         requires saved { IsSavedBank (head_view head) self.now }
         requires within { own < lines_in (head_view head) }
-        ensures is { result ≡ line_by (table_of (head_view head) self.now) (slot_of (head_view head) self.now own) }
+        ensures is { result ≡ line_by (table_of (head_view head) self.now)
+            (slot_of (head_view head) self.now own) }
         ensures within { result < slots_in (head_view head) + head.spares }
     {
         let slots = head.regions as u32 * (head.lines as u32 + 1);

@@ -86,7 +86,8 @@ impl Sink for MemSink {
         ensures never_falls { self.old.calls.faults ≤ self.new.calls.faults }
 
         // Which call fails, and what is there afterwards, is told exactly.
-        ensures answer { MatchBool (refuses self.old (length piece.now)) (IsErr result) (result ≡ Ok (length piece.now)) }
+        ensures answer { MatchBool (refuses self.old (length piece.now)) (IsErr result)
+            (result ≡ Ok (length piece.now)) }
         ensures after { self.new ≡ after_write self.old piece.now }
     {
         if self.calls.next_fails() || self.text.room() < piece.len() {

@@ -29,7 +29,8 @@ pub trait Source {
         requires { 0 < length buf.old }
         ensures bound { ReadsAtMost result buf.new }
         ensures next { ReadConsumes (left self.old) (left self.new) result buf.new }
-        ensures counted { MatchResult result (λ n. taken self.new ≡ raised_by (taken self.old) n) (λ _. taken self.new ≡ taken self.old) }
+        ensures counted { MatchResult result (λ n. taken self.new ≡ raised_by (taken self.old) n)
+            (λ _. taken self.new ≡ taken self.old) }
         ensures fault { OnErr result (Rose (faults self.old) (faults self.new)) }
         ensures no_fault { OnOk result (faults self.new ≡ faults self.old) }
         ensures never_falls { faults self.old ≤ faults self.new };

@@ -256,12 +256,5 @@ pub record IsCutting {n m e : ℕ} (row tick reached : ℕ) (raw : RawShape) (se
   pub same : record { shape = raw; seed = seed; banks = old.banks; tick = now; rows_below = rows; finished = finished } ≡ old
   pub cuts : CutsUpTo (record { row = row; tick = tick; asks = Cuts }) old before results reached banks after recorded
 
--- the banks that the cut's loop goes over are those of the module
-pub all_reached : (at end here banks : ℕ) → at ≤ end → end ≤ at → end ≡ here → here ≡ banks → at ≡ banks
-all_reached at end here banks below above is same = omega arith
-
-pub in_reach : (at end here banks : ℕ) → at < end → end ≡ here → here ≡ banks → at < banks
-in_reach at end here banks below is same = omega arith
-
 pub in_list : (at banks raw items : ℕ) → at < banks → raw ≡ banks → items ≡ raw → at < items
 in_list at banks raw items below same counted = omega arith

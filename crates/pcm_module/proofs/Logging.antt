@@ -7,7 +7,7 @@ use Rattle.std.proofs.lemmas.List.Elements.{All-head, All-tail, filter-append}
 use Rattle.pcm_cells.specs.declared.array.Sense.{Sense}
 use Rattle.pcm_cells.specs.Device.{ArrayState}
 use Rattle.bank_shape.specs.declared.BankShape.{BankShape}
-use Rattle.bank_shape.specs.Shape.{lines_in}
+use Rattle.bank_shape.specs.Shape.{lines_in, IsIn}
 use Rattle.bank_model.specs.Timing.{TimedEvent}
 use Rattle.bank_model.specs.Adding.{Adds, senses_of}
 use Rattle.bank_laws.specs.Laws.{log_of}
@@ -15,10 +15,6 @@ use Rattle.clock_laws.specs.State.{ClockState}
 use Rattle.clock_laws.specs.Leads.{Leads}
 use Rattle.log_laws.proofs.Within.{within_law}
 use Rattle.pcm_module.specs.Replaying.{IsLogged}
-
--- a line of a bank
-abbrev pub IsIn : BankShape → ℕ → Type 0
-IsIn shape line = (shape.base ≤ line) × (line < shape.base + lines_in shape)
 
 -- no line of another bank is one of this
 abbrev pub AreOff : BankShape → BankShape → Type 0

@@ -11,6 +11,7 @@ ghost use Rattle.bank_timing.specs.Extending.{AreOpen, IsOpen, last_tick};
 ghost use Rattle.pcm_module.specs.Stepping.{IsAt, IsStep};
 
 use bank_timing::clocked::ClockedBank;
+use masked_bytes::entry::Entry;
 use pcm_cells::CellArray;
 use result_rows::Results;
 
@@ -34,7 +35,9 @@ pub fn read_at<const B: usize, const M: usize, const E: usize, A: CellArray<B, M
     requires fresh { IsOpen results.old row }
     ensures at { IsAt tick (row + 1) timed.new results.new }
     ensures step { (xs : List (TimedEvent B M)) → Leads xs timed.old (A.state array.old)
-        → (added : List (TimedEvent B M)) × IsStep xs added (record { row = row; tick = tick; asks = Reads line }) timed.old timed.new (A.state array.old) (A.state array.new) results.old results.new }
+        → (added : List (TimedEvent B M))
+        × IsStep xs added (record { row = row; tick = tick; asks = Reads line }) timed.old timed.new
+        (A.state array.old) (A.state array.new) results.old results.new }
 {
     timed.advance(array, tick, results);
     timed.arrive_read(array, row, line, results);
@@ -45,10 +48,7 @@ pub fn write_at<const B: usize, const M: usize, const E: usize, A: CellArray<B, 
     timed: &mut ClockedBank<B, M, E>,
     array: &mut A,
     tick: u64,
-    row: u32,
-    line: u32,
-    bytes: [u8; B],
-    given: [bool; B],
+    entry: Entry<B>,
     results: &mut Results<B>,
 )
     requires layout { IsLayout B M E }
@@ -56,17 +56,24 @@ pub fn write_at<const B: usize, const M: usize, const E: usize, A: CellArray<B, 
     requires led { (xs : List (TimedEvent B M)) × Leads xs timed.old (A.state array.old) }
     requires forward { timed.old.tick ≤ tick }
     requires within { tick ≤ last_tick }
-    requires exists { line < bank_lines timed.old.bank.kept.shape }
-    requires rises { timed.old.bank.rows_below ≤ row }
-    requires masked { IsMasked B bytes given }
+    requires exists { entry.line < bank_lines timed.old.bank.kept.shape }
+    requires rises { timed.old.bank.rows_below ≤ entry.row }
+    requires masked { IsMasked B entry.bytes entry.given }
     requires open { AreOpen timed.old.bank results.old }
-    requires fresh { IsOpen results.old row }
-    ensures at { IsAt tick (row + 1) timed.new results.new }
+    requires fresh { IsOpen results.old entry.row }
+    ensures at { IsAt tick (entry.entry.row + 1) timed.new results.new }
     ensures step { (xs : List (TimedEvent B M)) → Leads xs timed.old (A.state array.old)
-        → (added : List (TimedEvent B M)) × IsStep xs added (record { row = row; tick = tick; asks = Writes line bytes.entry given.entry }) timed.old timed.new (A.state array.old) (A.state array.new) results.old results.new }
+        → (added : List (TimedEvent B M))
+        × IsStep xs added
+        (record {
+          row = entry.entry.row;
+          tick = tick;
+          asks = Writes entry.entry.line entry.entry.bytes entry.entry.given;
+        })
+        timed.old timed.new (A.state array.old) (A.state array.new) results.old results.new }
 {
     timed.advance(array, tick, results);
-    timed.arrive_write(row, line, bytes, given, results);
+    timed.arrive_write(entry, results);
 }
 
 /// The power is cut at a tick; the cut's row has a number of which no bank hears.
@@ -84,7 +91,9 @@ pub fn cut_at<const B: usize, const M: usize, const E: usize, A: CellArray<B, M>
     requires open { AreOpen timed.old.bank results.old }
     ensures at { IsAt tick timed.old.bank.rows_below timed.new results.new }
     ensures step { (row : ℕ) (xs : List (TimedEvent B M)) → Leads xs timed.old (A.state array.old)
-        → (added : List (TimedEvent B M)) × IsStep xs added (record { row = row; tick = tick; asks = Cuts }) timed.old timed.new (A.state array.old) (A.state array.new) results.old results.new }
+        → (added : List (TimedEvent B M))
+        × IsStep xs added (record { row = row; tick = tick; asks = Cuts }) timed.old timed.new
+        (A.state array.old) (A.state array.new) results.old results.new }
 {
     timed.advance(array, tick, results);
     timed.power_cut(array, results);

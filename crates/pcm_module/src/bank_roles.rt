@@ -19,7 +19,8 @@ pub fn role_in<const B: usize>(kept: &Kept<B>, array_line: u32) -> Role
     requires exists { array_line < kept.now.shape.base + lines_in kept.now.shape }
 
     // By every number of moves that the registers stand for.
-    ensures { (end : BankEnd) → IsEndOf kept.now end → IsRole kept.now.shape (λ own. own) end array_line result }
+    ensures { (end : BankEnd) → IsEndOf kept.now end
+        → IsRole kept.now.shape (λ own. own) end array_line result }
 {
     let shape = kept.shape();
     if array_line >= shape.first_control() {
@@ -35,7 +36,8 @@ pub fn role_in<const B: usize>(kept: &Kept<B>, array_line: u32) -> Role
 // What the array line of a slot is used for: the slot is a line's, or the gap of its region.
 fn role_of_slot<const B: usize>(kept: &Kept<B>, slot: u32) -> Role
     requires { slot < slots_of kept.now.shape }
-    ensures { (end : BankEnd) → IsEndOf kept.now end → IsRole kept.now.shape (λ own. own) end (array_line kept.now slot) result }
+    ensures { (end : BankEnd) → IsEndOf kept.now end
+        → IsRole kept.now.shape (λ own. own) end (array_line kept.now slot) result }
 {
     let shape = kept.shape();
     let region = slot / (shape.lines + 1);

@@ -17,7 +17,8 @@ impl<const B: usize, const M: usize, const E: usize> Module<B, M, E> {
     pub fn role(&self, array_line: u32) -> Role
         requires exists { array_line < self.now.shape.banks * array_lines_of (module_of self.now.shape) }
         ensures { (ends : ℕ → BankEnd) → AreEndsOf self.now ends
-            → IsRole (bank_shape (module_of self.now.shape) (array_line / array_lines_of (module_of self.now.shape)))
+            → IsRole (bank_shape (module_of self.now.shape)
+            (array_line / array_lines_of (module_of self.now.shape)))
             (line_named self.now.shape self.now.seed (array_line / array_lines_of (module_of self.now.shape)))
             (ends (array_line / array_lines_of (module_of self.now.shape))) array_line result }
     {
@@ -56,7 +57,8 @@ fn bank_of(shape: &Shape, array_line: u32) -> u32
     ensures number { result ≡ array_line / array_lines_of (module_of shape.now) }
     ensures exists { result < shape.now.banks }
     ensures begins { result * array_lines_of (module_of shape.now) ≤ array_line }
-    ensures ends { array_line < result * array_lines_of (module_of shape.now) + array_lines_of (module_of shape.now) }
+    ensures ends { array_line < result * array_lines_of (module_of shape.now)
+        + array_lines_of (module_of shape.now) }
 {
     array_line / bank_lines(shape)
 }

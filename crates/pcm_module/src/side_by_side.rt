@@ -53,9 +53,11 @@ impl<const B: usize, const M: usize, const E: usize> Module<B, M, E> {
     pub fn new(alloc: Global, shape: Shape, seed: u64) -> Result<Module<B, M, E>, AllocError>
         requires layout { IsLayout B M E }
         requires wide { shape.home ≡ Array → 16 ≤ B }
-        ensures shape { IfOk result (λ m. (m.shape ≡ shape) × (m.seed ≡ seed) × (m.tick ≡ 0) × (m.rows_below ≡ 0) × (m.finished ≡ false)) }
+        ensures shape { IfOk result (λ m. (m.shape ≡ shape) × (m.seed ≡ seed) × (m.tick ≡ 0)
+            × (m.rows_below ≡ 0) × (m.finished ≡ false)) }
         ensures banks { IfOk result (λ m. m.banks ≡ banks_from shape shape.banks 0) }
-        ensures begins { IfOk result (λ m. (array : ArrayState B M) (wear : Wear) (results : List (Outcome B)) → IsFresh (shape.banks * array_lines_of (module_of shape)) wear array
+        ensures begins { IfOk result (λ m. (array : ArrayState B M) (wear : Wear) (results : List (Outcome B))
+            → IsFresh (shape.banks * array_lines_of (module_of shape)) wear array
             → Replays (λ bank. []) [] m array results) }
     {
         let feistel = Feistel::new(shape.address_bits(), seed);
@@ -99,11 +101,14 @@ impl<const B: usize, const M: usize, const E: usize> Module<B, M, E> {
     pub fn translate(&self, line: u32) -> u32
         requires { line < total_of self.now.shape }
         ensures stands { result ≡ stands_in self.now line }
-        ensures bank { bank_of_line self.now.shape self.now.seed line * array_lines_of (module_of self.now.shape) ≤ result }
-        ensures exists { result < bank_of_line self.now.shape self.now.seed line * array_lines_of (module_of self.now.shape) + array_lines_of (module_of self.now.shape) }
+        ensures bank { bank_of_line self.now.shape self.now.seed line * array_lines_of
+            (module_of self.now.shape) ≤ result }
+        ensures exists { result < bank_of_line self.now.shape self.now.seed line * array_lines_of
+            (module_of self.now.shape) + array_lines_of (module_of self.now.shape) }
 
         // no other line stands there
-        ensures apart { (other : ℕ) → other < total_of self.now.shape → stands_in self.now other ≡ result → other ≡ line }
+        ensures apart { (other : ℕ) → other < total_of self.now.shape → stands_in self.now other ≡ result
+            → other ≡ line }
     {
         // A field that is read makes known what is true of every module.
         let _ = &self.shape;

@@ -16,6 +16,7 @@ ghost use Rattle.pcm_module.specs.Taking.{Takes, StaysBeyond};
 
 use crate::bank::{cut_at, read_at, write_at};
 use crate::side_by_side::Module;
+use masked_bytes::entry::Entry;
 use pcm_cells::CellArray;
 use result_rows::{Outcome, Results};
 use trace_reader::{Event, EventOp};
@@ -31,7 +32,8 @@ impl<const B: usize, const M: usize, const E: usize> Module<B, M, E> {
         results: &mut Results<B>,
     )
         requires going { self.old.finished ≡ false }
-        requires replays { (h : ℕ → List (TimedEvent B M)) × (asked : List (Asked B)) × Replays h asked self.old (A.state array.old) results.old }
+        requires replays { (h : ℕ → List (TimedEvent B M)) × (asked : List (Asked B))
+            × Replays h asked self.old (A.state array.old) results.old }
         requires event { IsEventFor (total_of self.old.shape) self.old.tick event.now }
         requires rises { self.old.rows_below ≤ row }
         requires open { IsOpen results.old row }
@@ -43,21 +45,39 @@ impl<const B: usize, const M: usize, const E: usize> Module<B, M, E> {
         ensures table { length results.new ≡ length results.old }
 
         // each bank's history goes on, and leads on with this row
-        ensures replays { (h : ℕ → List (TimedEvent B M)) (asked : List (Asked B)) → Replays h asked self.old (A.state array.old) results.old
-            → (added : ℕ → List (TimedEvent B M)) × Replays (λ bank. added bank ++ h bank) (asked_by row event.now ∷ asked) self.new (A.state array.new) results.new }
+        ensures replays { (h : ℕ → List (TimedEvent B M)) (asked : List (Asked B))
+            → Replays h asked self.old (A.state array.old) results.old
+            → (added : ℕ → List (TimedEvent B M))
+            × Replays (λ bank. added bank ++ h bank) (asked_by row event.now ∷ asked) self.new
+            (A.state array.new) results.new }
         ensures open { (other : ℕ) → row < other → IsOpen results.old other → IsOpen results.new other }
-        ensures others { (other : ℕ) → HasRow results.old other → other ≢ row → StandsNowhere self.old other → outcome_in results.new other ≡ outcome_in results.old other }
-        ensures stays { StaysBeyond (self.old.shape.banks * array_lines_of (module_of self.old.shape)) (A.state array.old) (A.state array.new) }
+        ensures others { (other : ℕ) → HasRow results.old other → other ≢ row → StandsNowhere self.old other
+            → outcome_in results.new other ≡ outcome_in results.old other }
+        ensures stays { StaysBeyond (self.old.shape.banks * array_lines_of (module_of self.old.shape))
+            (A.state array.old) (A.state array.new) }
     {
         // A field that is read makes known what is true of every module.
         let _ = &self.shape;
         match event.op {
             EventOp::Read(line) => self.read(array, event.tick, row, line, results),
             EventOp::Write(line, bytes) => {
-                self.write(array, event.tick, row, line, bytes, [true; B], results);
+                let given = [true; B];
+                let entry = Entry {
+                    row,
+                    line,
+                    bytes,
+                    given,
+                };
+                self.write(array, event.tick, entry, results);
             }
             EventOp::Mask(line, bytes, given) => {
-                self.write(array, event.tick, row, line, bytes, given, results);
+                let entry = Entry {
+                    row,
+                    line,
+                    bytes,
+                    given,
+                };
+                self.write(array, event.tick, entry, results);
             }
             EventOp::Cut => self.cut(array, event.tick, row, results),
         }
@@ -78,7 +98,8 @@ impl<const B: usize, const M: usize, const E: usize> Module<B, M, E> {
         requires exists { line < total_of self.old.shape }
         requires rises { self.old.rows_below ≤ row }
         requires fresh { IsOpen results.old row }
-        ensures takes { Takes (record { row = row; tick = tick; asks = Reads line }) self.old self.new (A.state array.old) (A.state array.new) results.old results.new }
+        ensures takes { Takes (record { row = row; tick = tick; asks = Reads line }) self.old self.new
+            (A.state array.old) (A.state array.new) results.old results.new }
     {
         let place = self.place(line);
         let timed = &mut self.banks[place.bank as usize];
@@ -87,31 +108,36 @@ impl<const B: usize, const M: usize, const E: usize> Module<B, M, E> {
         self.rows_below = row as u64 + 1;
     }
 
-    // A write of a line arrives at its bank.
+    // A write of a line of the module arrives at its bank, where the line has another number.
     fn write<A: CellArray<B, M>>(
         &mut self,
         array: &mut A,
         tick: u64,
-        row: u32,
-        line: u32,
-        bytes: [u8; B],
-        given: [bool; B],
+        entry: Entry<B>,
         results: &mut Results<B>,
     )
         requires led { IsReplayed self.old (A.state array.old) results.old }
         requires forward { self.old.tick ≤ tick }
         requires within { tick ≤ last_tick }
-        requires exists { line < total_of self.old.shape }
-        requires masked { IsMasked B bytes given }
-        requires rises { self.old.rows_below ≤ row }
-        requires fresh { IsOpen results.old row }
-        ensures takes { Takes (record { row = row; tick = tick; asks = Writes line bytes.entry given.entry }) self.old self.new (A.state array.old) (A.state array.new) results.old results.new }
+        requires exists { entry.line < total_of self.old.shape }
+        requires masked { IsMasked B entry.bytes entry.given }
+        requires rises { self.old.rows_below ≤ entry.row }
+        requires fresh { IsOpen results.old entry.row }
+        ensures takes { Takes
+            (record {
+              row = entry.entry.row;
+              tick = tick;
+              asks = Writes entry.entry.line entry.entry.bytes entry.entry.given;
+            })
+            self.old self.new (A.state array.old) (A.state array.new) results.old results.new }
     {
-        let place = self.place(line);
+        let place = self.place(entry.line);
+        let mut here = entry;
+        here.line = place.line;
         let timed = &mut self.banks[place.bank as usize];
-        write_at(timed, array, tick, row, place.line, bytes, given, results);
+        write_at(timed, array, tick, here, results);
         self.tick = tick;
-        self.rows_below = row as u64 + 1;
+        self.rows_below = entry.row as u64 + 1;
     }
 
     // The power is cut: each bank is brought to the tick and cut, in order. The outcome of the cut's own row is known at once.
@@ -127,7 +153,8 @@ impl<const B: usize, const M: usize, const E: usize> Module<B, M, E> {
         requires within { tick ≤ last_tick }
         requires rises { self.old.rows_below ≤ row }
         requires fresh { IsOpen results.old row }
-        ensures takes { Takes (record { row = row; tick = tick; asks = Cuts }) self.old self.new (A.state array.old) (A.state array.new) results.old results.new }
+        ensures takes { Takes (record { row = row; tick = tick; asks = Cuts }) self.old self.new
+            (A.state array.old) (A.state array.new) results.old results.new }
     {
         let banks = self.shape.banks();
         results.set(row, Outcome::Cut { tick });

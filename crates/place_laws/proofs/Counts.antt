@@ -4,7 +4,7 @@ use Rattle.std.proofs.lemmas.Bool.{ne_eqb}
 use Rattle.bank_shape.specs.declared.answer.Step.TheVariants as did
 use Rattle.bank_model.specs.Events.{Event, Write, Read, Serve, Begin, Iterate, Cut, RowsBelow, line_of_row}
 use Rattle.bank_laws.proofs.Settling.{rows_below-more}
-use Rattle.place_laws.proofs.Asked.{Wrote, wrote-asked, asked-below}
+use Rattle.bank_laws.proofs.Asked.{Wrote, wrote-asked, asked-below}
 
 -- one, where a test holds
 abbrev pub one_if : Bool → ℕ

@@ -1,4 +1,3 @@
-pub mod Asked
 pub mod Counts
 pub mod Working
 pub mod Moves

@@ -1,5 +1,5 @@
 -- All pulses of a bank, by its rows.
-use Rattle.std.proofs.Common.{◌≡◌, ℕ, zero, suc, ◌+◌, ◌*◌, ◌<◌, ◌≤◌, ◌&&◌, not, Bool, true, false, List, [], ◌∷◌, ◌++◌, Option, Some, None, refl, sym, ap, ◌∙◌, subst, arith, sum_by, length, cond}
+use Rattle.std.proofs.Common.{◌≡◌, ℕ, zero, suc, ◌+◌, ◌*◌, ◌<◌, ◌≤◌, ◌&&◌, not, Bool, true, false, List, [], ◌∷◌, ◌++◌, Option, Some, None, refl, sym, ap, ◌∙◌, subst, arith, sum_by, length}
 use Rattle.std.proofs.Math.Nat.{mul-le-mul_left}
 use Rattle.row_rules.specs.declared.Asks.TheVariants.{Reads, Writes, Cuts}
 use Rattle.row_rules.specs.declared.Row.{Row}
@@ -18,7 +18,7 @@ use Rattle.bank_shape.specs.declared.Home.TheVariants as home
 use Rattle.std.specs.Prelude.{nat_lt}
 use Rattle.std.proofs.lemmas.Bool.{lt-ltb}
 use Rattle.bank_model.specs.Events.{Write, Read, Serve, Begin, Iterate, Cut}
-use Rattle.bank_model.specs.History.{has_exhausted, retired, waits, iterated, due_after}
+use Rattle.bank_model.specs.History.{has_exhausted, retired, waits, due_after}
 use Rattle.bank_shape.specs.Pausing.{gives_way}
 use Rattle.bank_model.specs.Running.{over_by, busy_after, made_after, is_over, choice_after, cancels_after}
 use Rattle.bank_model.specs.Changes.{change_after, halted_after}
@@ -27,6 +27,7 @@ use Rattle.bank_model.specs.Sensing.{most_steps, pulses_of}
 use Rattle.bank_shape.specs.declared.pace.Pace.{Pace}
 use Rattle.bank_model.specs.Timing.{Happens, Core, Regs, TimedEvent, core, is_empty}
 use Rattle.bank_model.specs.Lawful.{Lawful, IsIdle}
+use Rattle.bank_model.specs.After.{due_moves}
 use Rattle.bank_laws.specs.Laws.{IsSized, rules_of}
 use Rattle.bank_laws.specs.Outcomes.{outcome_of, ended, row_with, rows_from, table_of}
 use Rattle.bank_laws.specs.Places.{pulses_among, most_pulses}
@@ -38,7 +39,7 @@ use Rattle.place_laws.proofs.Tables.{all-counted}
 use Rattle.place_laws.proofs.Slots.{retired-few}
 use Rattle.place_laws.proofs.WornOut.{none-ready}
 use Rattle.place_laws.proofs.Pulsing.{ends_in, cancels_in, pulses_in, pulses-kept, held_by, held-idle}
-use Rattle.place_laws.proofs.Trying.{all_stores, all_moves, cuts_power, cuts_in, due_one, moves-few, causes, unwritten, each, ends-few}
+use Rattle.place_laws.proofs.Trying.{all_stores, all_moves, cuts_power, cuts_in, moves-few, causes, unwritten, each, ends-few}
 use Rattle.place_laws.proofs.Moves.{next_product}
 use Rattle.place_laws.proofs.Cancels.{cancels-kept}
 
@@ -114,7 +115,7 @@ module _ {n m : ℕ} (shape : BankShape) (pace : Pace) (e : ℕ) (all : List (Ti
       stores : stores_by_rows ≡ all_stores (core all)
       stores = all-counted shape all ∙ stored-counted shape pace e (λ line. true) all l
 
-      moves : all_moves (core all) + due_one (due_after shape (core all)) ≤ all_stores (core all)
+      moves : all_moves (core all) + due_moves (due_after shape (core all)) ≤ all_stores (core all)
       moves = moves-few shape (most_steps e) (core all) sized.psi may
 
       spares : length (retired (core all)) ≤ shape.spares

@@ -1,7 +1,6 @@
 -- One event pulses one line or none, and a line write takes no more pulses than it may.
-use Rattle.std.proofs.Common.{◌≡◌, ℕ, zero, suc, ◌+◌, ◌*◌, ◌<◌, ◌≤◌, ◌==◌, ◌&&◌, ◌||◌, ◌⊎◌, inl, inr, sym, not, Bool, true, false, List, [], ◌∷◌, Option, Some, None, refl, ap, ◌∙◌, subst, arith, cond}
+use Rattle.std.proofs.Common.{◌≡◌, ℕ, zero, suc, ◌+◌, ◌*◌, ◌<◌, ◌≤◌, ◌==◌, ◌&&◌, ◌⊎◌, inl, inr, sym, not, Bool, true, false, List, [], ◌∷◌, Option, Some, None, refl, ap, ◌∙◌, subst, arith, cond}
 use Rattle.std.specs.Prelude.{is_some}
-use Rattle.std.proofs.Math.Nat.{min-le_left}
 use Rattle.pcm_cells.specs.Device.{counted}
 use Rattle.bank_shape.specs.declared.BankShape.{BankShape}
 use Rattle.bank_shape.specs.declared.answer.Step.{Step}
@@ -9,7 +8,7 @@ use Rattle.bank_shape.specs.declared.answer.Step.TheVariants as did
 use Rattle.bank_model.specs.Events.{Event, Write, Read, Serve, Begin, Iterate, Cut}
 use Rattle.bank_model.specs.History.{goes_on, in_progress, iterated, waits}
 use Rattle.bank_model.specs.After.{work_after, is_ready, may_begin_after}
-use Rattle.bank_model.specs.Sensing.{is_at, most_steps, pulses_of, pulsed_by, torn_control, kept_pulsed}
+use Rattle.bank_model.specs.Sensing.{is_at, most_steps, pulses_of, pulsed_by, torn_control}
 use Rattle.bank_shape.specs.declared.pace.Pace.{Pace}
 use Rattle.bank_model.specs.Timing.{Happens, Core, Regs, KeepBegin, KeepIterate, KeepCut, TimedEvent, is_doing, core, core_of}
 use Rattle.bank_shape.specs.declared.clock.Action.{Action}
@@ -21,12 +20,10 @@ use Rattle.bank_model.specs.Changes.{change_after, change_by, keeping_after, kee
 use Rattle.bank_model.specs.Running.{busy_by, made_by, busy_after, made_after, running_at, tears_bank}
 use Rattle.bank_model.specs.Lawful.{Lawful, MayCome}
 use Rattle.bank_laws.specs.Places.{pulses_among}
+use Rattle.bank_laws.proofs.Works.{counted-few, tearing-going}
 use Rattle.place_laws.proofs.Counts.{one_if}
 use Rattle.place_laws.proofs.Moves.{next_product}
 use Rattle.place_laws.proofs.Owners.{once, once-few}
-
-counted-few : (k : ℕ) → counted k ≤ k + 1
-counted-few k = min-le_left (k + 1) _
 
 -- one, where a line was pulsed
 abbrev pub pulse_of : Option ℕ → ℕ
@@ -103,10 +100,6 @@ held-going : (busy : Bool) (made : ℕ) → busy ≡ true → held_by busy made 
 held-going true made is = refl
 held-going false made is = absurd (cc)
 
-tearing-going : (tearing busy : Bool) → (not tearing || busy) ≡ true → tearing ≡ true → busy ≡ true
-tearing-going true busy may is = may
-tearing-going false busy may is = absurd (cc)
-
 -- what a line write in progress may still have
 going_room : (busy : Bool) (k w : ℕ) → (busy ≡ true → k + 1 ≤ w) → cond busy k 0 ≤ w
 going_room true k w room = omega (arith, room refl)
@@ -120,13 +113,6 @@ more_cancels w ends cancels = ap (λ k. w * k) (omega arith) ∙ next_product w 
 
 no_ends : (w ends cancels : ℕ) → w * (0 + ends + (0 + cancels)) ≡ w * (ends + cancels)
 no_ends w ends cancels = ap (λ k. w * k) (omega arith)
-
-more-goes_on : (answer : Step) → goes_on answer ≡ true → answer ≡ did.More
-more-goes_on did.More is = refl
-more-goes_on (did.Stored row place) is = absurd (cc)
-more-goes_on (did.Moved step) is = absurd (cc)
-more-goes_on (did.Retired slot line) is = absurd (cc)
-more-goes_on did.Exhausted is = absurd (cc)
 
 -- the pulses so far, where so many line writes ended or were cancelled: each had at most w, and that in progress one for each iteration
 pub record KeepsPulses (w : ℕ) (busy : Bool) (made pulses tries : ℕ) : Type 0 where

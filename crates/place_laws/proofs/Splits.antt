@@ -18,7 +18,7 @@ use Rattle.bank_model.specs.Lawful.{Lawful, MayCome}
 use Rattle.bank_laws.specs.Standing.{has_wait}
 use Rattle.bank_laws.specs.Outcomes.{on_row, outcome_with, outcome_of}
 use Rattle.bank_laws.specs.Ticks.{ends_action}
-use Rattle.place_laws.proofs.Asked.{WaitsFor}
+use Rattle.bank_laws.proofs.Asked.{WaitsFor}
 use Rattle.place_laws.proofs.Working.{IsStoreOf, done-store}
 
 module _ {n : ℕ} where

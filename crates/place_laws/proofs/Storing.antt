@@ -26,7 +26,7 @@ use Rattle.bank_laws.proofs.Ending.{own_row}
 use Rattle.bank_laws.proofs.Lines.{stands-row}
 use Rattle.bank_laws.proofs.Wears.{stored_by, stored_up_to}
 use Rattle.bank_laws.proofs.Waiting.{may_all}
-use Rattle.place_laws.proofs.Asked.{queue-wrote, wrote-line}
+use Rattle.bank_laws.proofs.Asked.{queue-wrote, wrote-line}
 use Rattle.place_laws.proofs.Counts.{one_if, writes_with, stores_with, writes-same, writes-more}
 use Rattle.place_laws.proofs.Working.{IsStoreOf, done-store}
 

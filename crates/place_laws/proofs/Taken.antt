@@ -1,6 +1,6 @@
 -- What refused and queued writes say of worn lines, and when a write is taken.
 use Rattle.std.proofs.Common.{◌≡◌, ℕ, ◌<◌, ◌==◌, ◌&&◌, ◌||◌, not, inl, inr, Bool, true, false, List, [], ◌∷◌, ◌++◌, Option, Some, None, length, refl, sym, ap, ◌∙◌, subst, append_assoc, arith}
-use Rattle.masked_bytes.proofs.Truth.{and_first, and_second}
+use Rattle.masked_bytes.proofs.Truth.{and_first, and_second, implied}
 use Rattle.std.specs.Prelude.{nat_lt, IfSome}
 use Rattle.std.proofs.lemmas.Bool.{ltb-true, lt-ltb, eqb-true, or_left, or_right, and_from}
 use Rattle.result_rows.specs.declared.Outcome.{Outcome}
@@ -38,10 +38,6 @@ use Rattle.bank_laws.proofs.Wears.{worn_outcome, refused-exhausted, exhausted_la
 use Rattle.bank_laws.proofs.Pending.{queue_law}
 use Rattle.place_laws.specs.PlaceLaws.{WornLaw, TakenLaw}
 use Rattle.place_laws.proofs.WornOut.{worn_out, worn_control, change-within, idle-queued}
-
-implied : (a b : Bool) → (a ≡ true → b ≡ true) → (not a || b) ≡ true
-implied true b h = h refl
-implied false b h = refl
 
 taken_if : (writes count : ℕ) (left fine : Bool) → (left ≡ false → count < writes → fine ≡ true) → (not (nat_lt count writes && not left) || fine) ≡ true
 taken_if writes count left fine h = by (nat_lt count writes) left refl refl

@@ -11,17 +11,18 @@ use Rattle.bank_shape.specs.declared.clock.Doing.TheVariants as doing
 use Rattle.bank_shape.specs.declared.clock.Action.{Action}
 use Rattle.bank_model.specs.Events.{Event, Write, Read, Serve, Begin, Iterate, Cut}
 use Rattle.bank_model.specs.History.{moved_in, stored_in, retired, has_exhausted, due_after, queue, waits, in_progress}
-use Rattle.bank_model.specs.After.{due_work, work_after, is_ready, is_store_of, may_begin_after}
+use Rattle.bank_model.specs.After.{due_work, work_after, is_ready, may_begin_after, due_moves}
 use Rattle.bank_model.specs.Answers.{MayAll}
 use Rattle.bank_shape.specs.Pausing.{gives_way}
 use Rattle.bank_shape.specs.Acting.{choice, chosen_by}
 use Rattle.bank_model.specs.Running.{busy_by, ready_by, over_by, busy_after, ready_after, is_over, drops_begin, started, left_by, running, running_at, chosen_after}
 use Rattle.bank_model.specs.Sensing.{most_steps}
 use Rattle.bank_shape.specs.declared.pace.Pace.{Pace}
-use Rattle.bank_model.specs.Timing.{Happens, Core, Regs, KeepBegin, KeepIterate, KeepCut, TimedEvent, is_doing, is_writing, is_empty, core, core_of, last_tick}
+use Rattle.bank_model.specs.Timing.{Happens, Core, Regs, KeepBegin, KeepIterate, KeepCut, TimedEvent, is_writing, is_empty, core, core_of, last_tick}
 use Rattle.bank_model.specs.Lawful.{Lawful, MayCome}
 use Rattle.bank_shape.specs.declared.answer.Keep.TheVariants as keep
 use Rattle.bank_model.specs.Changes.{item_if, change_after, change_by, keeping_after, halted_after, halted_by}
+use Rattle.bank_model.proofs.Within.{due_moves-few}
 use Rattle.bank_shape.specs.declared.Home.{Home}
 use Rattle.bank_shape.specs.declared.Home.TheVariants as home
 use Rattle.bank_shape.specs.Shape.{is_array}
@@ -56,15 +57,6 @@ abbrev pub cuts_in : {n m : ℕ} → List (TimedEvent n m) → ℕ
 cuts_in [] = 0
 cuts_in (x ∷ xs) = one_if (cuts_power x.happens x.cancels) + cuts_in xs
 
--- one, where a move is due
-abbrev pub due_one : Option ℕ → ℕ
-due_one None = 0
-due_one (Some region) = 1
-
-due_one-few : (due : Option ℕ) → due_one due ≤ 1
-due_one-few None = omega arith
-due_one-few (Some region) = omega arith
-
 module _ {n : ℕ} (shape : BankShape) where
   -- an exhausted bank begins nothing
   pub exhausted-begins_none : (h : List (Event n)) → has_exhausted h ≡ true → may_begin_after shape h ≡ false
@@ -98,7 +90,7 @@ module _ {n : ℕ} (shape : BankShape) where
 
   -- after a move none is due
   moved-none_due : 1 ≤ shape.psi → (h : List (Event n)) → KeepsMoves shape h
-      → due_one (cond (nat_le (shape.psi * (one_if (last_region shape h == last_region shape h) + moved_in shape.lines h (last_region shape h) + 1)) (stored_in shape.lines h (last_region shape h))) (Some (last_region shape h)) None) ≡ 0
+      → due_moves (cond (nat_le (shape.psi * (one_if (last_region shape h == last_region shape h) + moved_in shape.lines h (last_region shape h) + 1)) (stored_in shape.lines h (last_region shape h))) (Some (last_region shape h)) None) ≡ 0
   moved-none_due some h k =
       let own : ℕ = last_region shape h in
       let one : one_if (last_region shape h == last_region shape h) + moved_in shape.lines h (last_region shape h) + 1 ≡ moved_in shape.lines h (last_region shape h) + 1 + 1 =
@@ -108,32 +100,32 @@ module _ {n : ℕ} (shape : BankShape) where
       next_product shape.psi (moved_in shape.lines h (last_region shape h) + 1) in
       let whole : shape.psi * (one_if (last_region shape h == last_region shape h) + moved_in shape.lines h (last_region shape h) + 1) ≡ shape.psi * (moved_in shape.lines h (last_region shape h) + 1 + 1) =
       ap (λ k. shape.psi * k) one in
-      ap (λ b. due_one (cond b (Some (last_region shape h)) None)) (lt-leb _ _ (omega (arith, near, next, whole, some)))
+      ap (λ b. due_moves (cond b (Some (last_region shape h)) None)) (lt-leb _ _ (omega (arith, near, next, whole, some)))
 
   -- no more moves than stores, with the one that is due
-  pub moves-few : (most : ℕ) (h : List (Event n)) → 1 ≤ shape.psi → MayAll shape most h → all_moves h + due_one (due_after shape h) ≤ all_stores h
+  pub moves-few : (most : ℕ) (h : List (Event n)) → 1 ≤ shape.psi → MayAll shape most h → all_moves h + due_moves (due_after shape h) ≤ all_stores h
   moves-few most [] some may = omega (arith, none_at_first)
     where
-      none_at_first : due_one (due_after {n = n} shape []) ≡ 0
-      none_at_first = ap (λ b. due_one (cond b (Some (last_region {n = n} shape [])) None)) (lt-leb (shape.psi * (0 + 1)) 0 (omega (arith, next_product shape.psi 0, some)))
+      none_at_first : due_moves (due_after {n = n} shape []) ≡ 0
+      none_at_first = ap (λ b. due_moves (cond b (Some (last_region {n = n} shape [])) None)) (lt-leb (shape.psi * (0 + 1)) 0 (omega (arith, next_product shape.psi 0, some)))
   moves-few most (Write row line bytes given answer ∷ h) some may = moves-few most h some may.1
   moves-few most (Read row line answer ∷ h) some may = moves-few most h some may.1
   moves-few most (Serve answer ∷ h) some may = moves-few most h some may.1
   moves-few most (Cut tearing ∷ h) some may = moves-few most h some may.1
   moves-few most (Begin did.More ∷ h) some may = moves-few most h some may.1
   moves-few most (Begin (did.Stored row place) ∷ h) some may =
-      omega (arith, moves-few most h some may.1, due_one-few (due_after shape (Begin (did.Stored row place) ∷ h)))
+      omega (arith, moves-few most h some may.1, due_moves-few (due_after shape (Begin (did.Stored row place) ∷ h)))
   moves-few most (Begin (did.Moved step) ∷ h) some may =
       let m = done-move shape h step may.0.1 in
-      omega (arith, moves-few most h some may.1, ap due_one m.due, moved-none_due some h (keeps shape most h some may.1))
+      omega (arith, moves-few most h some may.1, ap due_moves m.due, moved-none_due some h (keeps shape most h some may.1))
   moves-few most (Begin (did.Retired slot line) ∷ h) some may = moves-few most h some may.1
   moves-few most (Begin did.Exhausted ∷ h) some may = moves-few most h some may.1
   moves-few most (Iterate did.More ∷ h) some may = moves-few most h some may.1
   moves-few most (Iterate (did.Stored row place) ∷ h) some may =
-      omega (arith, moves-few most h some may.1, due_one-few (due_after shape (Iterate (did.Stored row place) ∷ h)))
+      omega (arith, moves-few most h some may.1, due_moves-few (due_after shape (Iterate (did.Stored row place) ∷ h)))
   moves-few most (Iterate (did.Moved step) ∷ h) some may =
       let m = done-move shape h step may.0.1 in
-      omega (arith, moves-few most h some may.1, ap due_one m.due, moved-none_due some h (keeps shape most h some may.1))
+      omega (arith, moves-few most h some may.1, ap due_moves m.due, moved-none_due some h (keeps shape most h some may.1))
   moves-few most (Iterate (did.Retired slot line) ∷ h) some may = moves-few most h some may.1
   moves-few most (Iterate did.Exhausted ∷ h) some may = moves-few most h some may.1
 

@@ -21,9 +21,10 @@ use Rattle.protected_queue.specs.Queue.{accepted_by}
 use Rattle.bank_shape.specs.declared.BankShape.{BankShape}
 use Rattle.bank_shape.specs.declared.Work.TheVariants.{Nothing}
 use Rattle.bank_shape.specs.Shape.{slots_of, IsBankShape}
+use Rattle.bank_shape.specs.Kinds.{is_store, is_copy}
 use Rattle.power_recovery.specs.Slots.{bank_lines}
 use Rattle.power_recovery.specs.Kept.{KeptState, no_region, AllBelow, IsRegionOf, region_at, due_region, next_work, due_work, IsKept}
-use Rattle.power_recovery.specs.Events.{is_store, is_copy, first_kept, with_entries, with_regions, accepted_kept, completed_kept, stored_kept, regions_moved, moved_kept, retired_kept, exhausted_kept}
+use Rattle.power_recovery.specs.Events.{first_kept, with_entries, with_regions, accepted_kept, completed_kept, stored_kept, regions_moved, moved_kept, retired_kept, exhausted_kept}
 use Rattle.power_recovery.proofs.Placing.{region-exists}
 
 -- Entries

@@ -8,19 +8,6 @@ use Rattle.protected_queue.specs.Queue.{accepted}
 use Rattle.bank_shape.specs.declared.BankShape.{BankShape}
 use Rattle.bank_shape.specs.Shape.{slots_of}
 use Rattle.power_recovery.specs.Kept.{KeptState, region_at, due_region}
-use Rattle.bank_shape.specs.declared.Work.{Work}
-use Rattle.bank_shape.specs.declared.Work.TheVariants.{Nothing, Store, Copy}
-
--- whether a work is the store of a write, or a gap move
-abbrev pub is_store : Work → Bool
-is_store Nothing = false
-is_store (Store line slot) = true
-is_store (Copy region step) = false
-
-abbrev pub is_copy : Work → Bool
-is_copy Nothing = false
-is_copy (Store line slot) = false
-is_copy (Copy region step) = true
 
 -- at the beginning
 abbrev pub first_kept : {n : ℕ} → BankShape → KeptState n

@@ -8,7 +8,8 @@ ghost use Rattle.spare_pool.specs.Table.{used_by, line_by};
 ghost use Rattle.bank_shape.specs.Shape.{IsBankShape, slots_of, lines_in, slot_at};
 ghost use Rattle.power_recovery.specs.Slots.{bank_lines};
 ghost use Rattle.power_recovery.specs.Kept.{IsKept, region_at, slot_of, array_line, next_work, due_region};
-ghost use Rattle.power_recovery.specs.Events.{is_store, is_copy, first_kept, accepted_kept, completed_kept, stored_kept, moved_kept, retired_kept, exhausted_kept};
+ghost use Rattle.bank_shape.specs.Kinds.{is_store, is_copy};
+ghost use Rattle.power_recovery.specs.Events.{first_kept, accepted_kept, completed_kept, stored_kept, moved_kept, retired_kept, exhausted_kept};
 ghost use Rattle.power_recovery.specs.Restoring.{IsOneDue, stripped_kept, region_restored};
 ghost use Rattle.region_regs.specs.Region.{first_region};
 
@@ -81,7 +82,8 @@ impl<const B: usize> Kept<B> {
         requires masked { IsMasked B entry.bytes entry.given }
         requires exists { entry.line < bank_lines self.old.shape }
         requires going { self.old.exhausted ≡ false }
-        ensures answer { result ≡ accept_answer self.old.shape.writes head_busy self.old.entries entry.entry.line }
+        ensures answer { result
+            ≡ accept_answer self.old.shape.writes head_busy self.old.entries entry.entry.line }
         ensures kept { self.new ≡ accepted_kept head_busy entry.entry self.old }
         ensures in_range { IsKept self.new }
     {
@@ -143,8 +145,10 @@ impl<const B: usize> Kept<B> {
 
         // by how often the gap of its region moved, and no other line has it
         ensures after { (t : ℕ) → StandsFor (region_at self.now (line / self.now.shape.lines)).rotation t
-            → result ≡ slot_at self.now.shape (line / self.now.shape.lines) (place_after self.now.shape.lines (line % self.now.shape.lines) t) }
-        ensures apart { (other : ℕ) → other < bank_lines self.now.shape → slot_of self.now other ≡ result → other ≡ line }
+            → result ≡ slot_at self.now.shape (line / self.now.shape.lines)
+            (place_after self.now.shape.lines (line % self.now.shape.lines) t) }
+        ensures apart { (other : ℕ) → other < bank_lines self.now.shape → slot_of self.now other ≡ result
+            → other ≡ line }
     {
         let region = line / self.shape.lines;
         let place = self
@@ -158,8 +162,10 @@ impl<const B: usize> Kept<B> {
     pub fn array_line(&self, slot: u32) -> u32
         requires { slot < slots_of self.now.shape }
         ensures line { result ≡ array_line self.now slot }
-        ensures exists { (self.now.shape.base ≤ result) × (result < self.now.shape.base + lines_in self.now.shape) }
-        ensures apart { (other : ℕ) → other < slots_of self.now.shape → array_line self.now other ≡ result → other ≡ slot }
+        ensures exists { (self.now.shape.base ≤ result)
+            × (result < self.now.shape.base + lines_in self.now.shape) }
+        ensures apart { (other : ℕ) → other < slots_of self.now.shape → array_line self.now other ≡ result
+            → other ≡ slot }
     {
         self.shape.base + self.remap.line_of(slot)
     }

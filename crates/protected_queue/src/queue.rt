@@ -45,7 +45,8 @@ impl<const B: usize> Queue<B> {
     pub fn accept(&mut self, entry: Entry<B>, head_busy: bool) -> Accept
         requires { IsMasked B entry.bytes entry.given }
         ensures answer { result ≡ accept_answer self.old.cap head_busy self.old.entries entry.entry.line }
-        ensures entries { self.new ≡ record self.old { entries = accepted self.old.cap head_busy entry.entry self.old.entries } }
+        ensures entries { self.new
+            ≡ record self.old { entries = accepted self.old.cap head_busy entry.entry self.old.entries } }
     {
         match self.candidate(entry.line, head_busy) {
             Some(place) => Accept::Merged(self.merge(place, &entry)),
@@ -61,7 +62,9 @@ impl<const B: usize> Queue<B> {
         requires masked { IsMasked B newer.now.bytes newer.now.given }
         requires within { place < length self.old.entries }
         ensures row { result ≡ row_at self.old.entries place }
-        ensures entries { self.new ≡ record self.old { entries = merged_at place newer.now.row newer.now.bytes newer.now.given self.old.entries } }
+        ensures entries { self.new ≡ record self.old {
+          entries = merged_at place newer.now.row newer.now.bytes newer.now.given self.old.entries;
+        } }
     {
         let Some(slot) = self.ring.get_mut(place) else {
             unreachable!()

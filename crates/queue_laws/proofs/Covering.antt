@@ -1,5 +1,5 @@
 -- Over a lawful history the queue gives of each line what its accepted writes behind the last stored one give, and a completed head more.
-use Rattle.std.proofs.Common.{◌≡◌, ℕ, ◌<◌, ◌≤◌, ◌==◌, ◌⊎◌, inl, inr, Bool, true, false, suc, List, [], ◌∷◌, ◌++◌, Option, Some, None, drop, refl, sym, ap, ◌∙◌, subst, arith, cond, eqb, eqb-true}
+use Rattle.std.proofs.Common.{◌≡◌, ℕ, ◌<◌, ◌≤◌, ◌==◌, ◌⊎◌, inl, inr, Bool, true, false, suc, List, [], ◌∷◌, ◌++◌, Some, None, drop, refl, sym, ap, ◌∙◌, subst, arith, cond, eqb, eqb-true}
 use Rattle.masked_bytes.proofs.Truth.{and_first, and_second}
 use Rattle.std.specs.Prelude.{unwrap_or}
 use Rattle.std.proofs.lemmas.Bool.{eq-eqb, ne_eqb}
@@ -34,19 +34,15 @@ use Rattle.bank_laws.proofs.Pairs.{AllLong, HeadFull, KeepsPairs, keeps_pairs, b
 use Rattle.bank_laws.proofs.Ending.{accepting}
 use Rattle.bank_laws.proofs.Wears.{not_stored, lost_not_stored}
 use Rattle.bank_laws.proofs.Lines.{Stands, stands-one, merged-candidate, merges-stands}
+use Rattle.bank_laws.proofs.Asked.{Wrote, wrote-one, pushed-stands, merged-stands, begun-stands}
 use Rattle.bank_laws.proofs.Waiting.{may_all}
 use Rattle.bank_laws.proofs.Pending.{queue-asked, writes_in, writes-fall}
-use Rattle.queue_laws.proofs.Order.{Leads, InOrder, in_order, stands-pushed, stands-was, below_among}
+use Rattle.queue_laws.proofs.Order.{Leads, InOrder, in_order, below_among}
 use Rattle.masked_bytes.proofs.Queueing.{candidate-newest}
 use Rattle.queue_laws.proofs.Showing.{Front, Tails, front-same, tails-same, front-push, tails-push, front-merged, tails-merged, front-push_other, tails-push_other, front-merged_other, tails-merged_other, front-begun, tails-begun, front-stored, front-stored_other}
-use Rattle.queue_laws.proofs.Floors.{since, floor_of, Asked, asked-one, since-none, since-joins, since-other, floor-bound, floor-agree, floor-above, floor-own, floor-new, stored-agree}
+use Rattle.queue_laws.proofs.Floors.{since, floor_of, since-none, since-joins, since-other, floor-bound, floor-agree, floor-above, floor-own, floor-new, stored-agree}
 
 module _ {n : ℕ} where
-  pub stands-was_begun : (due : Option ℕ) (fill : ℕ → List ℕ) (es : List (Entry n)) (row line : ℕ) → Stands (begun due fill es) row line → Stands es row line
-  stands-was_begun (Some region) fill es row line s = s
-  stands-was_begun None fill [] row line s = s
-  stands-was_begun None fill (e ∷ es) row line s = s
-
   -- an event stores nothing
   abbrev pub Storeless : Happens n → Type 0
   Storeless (Core (Begin (did.Stored row place))) = ⊥
@@ -59,13 +55,13 @@ module _ {n m : ℕ} (shape : BankShape) where
     pub front : (line : ℕ) → Front (λ f. since (core zs) line f) (floor_of (outcome_of shape zs) (core zs) line) line (queue shape (core zs))
     pub tails : (line : ℕ) → Tails (λ f. since (core zs) line f) line (queue shape (core zs))
     pub above : (row line : ℕ) → Stands (queue shape (core zs)) row line → floor_of (outcome_of shape zs) (core zs) line ≤ row
-    pub asked : (row line : ℕ) → Stands (queue shape (core zs)) row line → Asked (core zs) row line
+    pub asked : (row line : ℕ) → Stands (queue shape (core zs)) row line → Wrote (core zs) row line
 
   record CoveredBy (zs : List (TimedEvent n m)) (tick : ℕ) (h : Happens n) : Type 0 where
     front : (line : ℕ) → Front (λ f. since (core_of h (core zs)) line f) (floor_of (λ row. unwrap_or (outcome_with shape zs h tick row) (outcome_of shape zs row)) (core_of h (core zs)) line) line (queue shape (core_of h (core zs)))
     tails : (line : ℕ) → Tails (λ f. since (core_of h (core zs)) line f) line (queue shape (core_of h (core zs)))
     above : (row line : ℕ) → Stands (queue shape (core_of h (core zs))) row line → floor_of (λ row. unwrap_or (outcome_with shape zs h tick row) (outcome_of shape zs row)) (core_of h (core zs)) line ≤ row
-    asked : (row line : ℕ) → Stands (queue shape (core_of h (core zs))) row line → Asked (core_of h (core zs)) row line
+    asked : (row line : ℕ) → Stands (queue shape (core_of h (core zs))) row line → Wrote (core_of h (core zs)) row line
 
 module _ {n m : ℕ} (shape : BankShape) (pace : Pace) (e : ℕ) where
   pub none_new : (zs : List (TimedEvent n m)) (x : TimedEvent n m) (h : Happens n) (row u p : ℕ) → Storeless h → unwrap_or (outcome_with shape zs h x.tick row) (outcome_of shape zs row) ≡ out.Stored u p → outcome_of shape zs row ≡ out.Stored u p
@@ -119,7 +115,7 @@ module _ {n m : ℕ} (shape : BankShape) (pace : Pace) (e : ℕ) where
     quiet : (h : Happens n) → MayCome shape pace e zs x h → Storeless h
         → ((line f : ℕ) → since (core_of h (core zs)) line f ≡ since (core zs) line f)
         → ((line : ℕ) → floor_of (λ row. unwrap_or (outcome_with shape zs h x.tick row) (outcome_of shape zs row)) (core_of h (core zs)) line ≡ floor_of (outcome_of shape zs) (core zs) line)
-        → ((row line : ℕ) → Asked (core zs) row line → Asked (core_of h (core zs)) row line) → queue shape (core_of h (core zs)) ≡ queue shape (core zs) → CoveredBy shape zs x.tick h
+        → ((row line : ℕ) → Wrote (core zs) row line → Wrote (core_of h (core zs)) row line) → queue shape (core_of h (core zs)) ≡ queue shape (core zs) → CoveredBy shape zs x.tick h
     quiet h may less gives floors asks same = record {
       front = λ line. subst (λ (es : List (Entry n)). Front (λ f. since (core_of h (core zs)) line f) (floor_of (λ row. unwrap_or (outcome_with shape zs h x.tick row) (outcome_of shape zs row)) (core_of h (core zs)) line) line es) (sym same)
           (front-same (λ f. since (core zs) line f) (λ f. since (core_of h (core zs)) line f) (floor_of (outcome_of shape zs) (core zs) line)
@@ -165,8 +161,8 @@ module _ {n m : ℕ} (shape : BankShape) (pace : Pace) (e : ℕ) where
       front = λ line. front-same (λ f. since (Write at k bytes given wrote.Accepted ∷ core zs) line f) (λ f. since (Write at k bytes given wrote.Accepted ∷ core zs) line f) (floor_of (outcome_of shape zs) (core zs) line) _ line
           (queue shape (core zs) ++ own ∷ []) (ap (λ f. since (Write at k bytes given wrote.Accepted ∷ core zs) line f) (new_floor at k bytes given wrote.Accepted line may tt)) (fronts line (eqb k line) refl);
       tails = λ line. tailed line (eqb k line) refl;
-      above = λ row line s. subst (λ f. f ≤ row) (sym (new_floor at k bytes given wrote.Accepted line may tt)) (up row line (stands-pushed (queue shape (core zs)) own row line s));
-      asked = λ row line s. ask row line (stands-pushed (queue shape (core zs)) own row line s);
+      above = λ row line s. subst (λ f. f ≤ row) (sym (new_floor at k bytes given wrote.Accepted line may tt)) (up row line (pushed-stands (queue shape (core zs)) own row line s));
+      asked = λ row line s. ask row line (pushed-stands (queue shape (core zs)) own row line s);
     }
       where
         own : Entry n
@@ -194,7 +190,7 @@ module _ {n m : ℕ} (shape : BankShape) (pace : Pace) (e : ℕ) where
         up row line (inl s) = c.above row line s
         up row line (inr s) = let le : floor_of (outcome_of shape zs) (core zs) line ≤ at = low at k bytes given wrote.Accepted may refl line in omega (arith, le, s.0)
 
-        ask : (row line : ℕ) → Stands (queue shape (core zs)) row line ⊎ ((at ≡ row) × (k ≡ line)) → Asked (Write at k bytes given wrote.Accepted ∷ core zs) row line
+        ask : (row line : ℕ) → Stands (queue shape (core zs)) row line ⊎ ((at ≡ row) × (k ≡ line)) → Wrote (Write at k bytes given wrote.Accepted ∷ core zs) row line
         ask row line (inl s) = inr (c.asked row line s)
         ask row line (inr s) = inl s
 
@@ -203,8 +199,8 @@ module _ {n m : ℕ} (shape : BankShape) (pace : Pace) (e : ℕ) where
       front = λ line. front-same (λ f. since (Write at k bytes given (wrote.Merged old) ∷ core zs) line f) (λ f. since (Write at k bytes given (wrote.Merged old) ∷ core zs) line f) (floor_of (outcome_of shape zs) (core zs) line) _ line
           (merged old at bytes given (queue shape (core zs))) (ap (λ f. since (Write at k bytes given (wrote.Merged old) ∷ core zs) line f) (new_floor at k bytes given (wrote.Merged old) line may tt)) (fronts line (eqb k line) refl);
       tails = λ line. tailed line (eqb k line) refl;
-      above = λ row line s. subst (λ f. f ≤ row) (sym (new_floor at k bytes given (wrote.Merged old) line may tt)) (up row line (stands-was old at bytes given (queue shape (core zs)) row line s));
-      asked = λ row line s. ask row line (stands-was old at bytes given (queue shape (core zs)) row line s);
+      above = λ row line s. subst (λ f. f ≤ row) (sym (new_floor at k bytes given (wrote.Merged old) line may tt)) (up row line (merged-stands old at bytes given (queue shape (core zs)) row line s));
+      asked = λ row line s. ask row line (merged-stands old at bytes given (queue shape (core zs)) row line s);
     }
       where
         into : candidate (head_busy_after shape (core zs)) (queue shape (core zs)) k ≡ Some old
@@ -240,7 +236,7 @@ module _ {n m : ℕ} (shape : BankShape) (pace : Pace) (e : ℕ) where
         up row line (inl s) = c.above row line s
         up row line (inr s) = let le : floor_of (outcome_of shape zs) (core zs) line ≤ at = low at k bytes given (wrote.Merged old) may refl line in omega (arith, le, s.0)
 
-        ask : (row line : ℕ) → Stands (queue shape (core zs)) row line ⊎ ((at ≡ row) × Stands (queue shape (core zs)) old line) → Asked (Write at k bytes given (wrote.Merged old) ∷ core zs) row line
+        ask : (row line : ℕ) → Stands (queue shape (core zs)) row line ⊎ ((at ≡ row) × Stands (queue shape (core zs)) old line) → Wrote (Write at k bytes given (wrote.Merged old) ∷ core zs) row line
         ask row line (inl s) = inr (c.asked row line s)
         ask row line (inr s) = inl (s.0, stands-one (queue shape (core zs)) old k line apart there s.1)
 
@@ -255,8 +251,8 @@ module _ {n m : ℕ} (shape : BankShape) (pace : Pace) (e : ℕ) where
           (front-begun (λ f. since (core zs) line f) line (floor_of (outcome_of shape zs) (core zs) line) (due_after shape (core zs)) (newest (core zs)) (queue shape (core zs)) (c.front line)));
       tails = λ line. subst (λ (es : List (Entry n)). Tails (λ f. since (core zs) line f) line es) (sym same) (tails-begun (λ f. since (core zs) line f) line (due_after shape (core zs)) (newest (core zs)) (queue shape (core zs)) (c.tails line));
       above = λ row line s. subst (λ f. f ≤ row) (sym (same_floor (Core (Begin answer)) line may less))
-          (c.above row line (stands-was_begun (due_after shape (core zs)) (newest (core zs)) (queue shape (core zs)) row line (subst (λ (es : List (Entry n)). Stands es row line) same s)));
-      asked = λ row line s. c.asked row line (stands-was_begun (due_after shape (core zs)) (newest (core zs)) (queue shape (core zs)) row line (subst (λ (es : List (Entry n)). Stands es row line) same s));
+          (c.above row line (begun-stands (due_after shape (core zs)) (newest (core zs)) (queue shape (core zs)) row line (subst (λ (es : List (Entry n)). Stands es row line) same s)));
+      asked = λ row line s. c.asked row line (begun-stands (due_after shape (core zs)) (newest (core zs)) (queue shape (core zs)) row line (subst (λ (es : List (Entry n)). Stands es row line) same s));
     }
 
     module _ (at place : ℕ) (f : Entry n) (rest : List (Entry n)) (is : queue shape (core zs) ≡ f ∷ rest) (head : at ≡ f.row) where
@@ -274,7 +270,7 @@ module _ {n m : ℕ} (shape : BankShape) (pace : Pace) (e : ℕ) where
           floor-own (λ row. unwrap_or (on_row at row (out.Stored x.tick place)) (outcome_of shape zs row)) (core zs) bound.0 f.row line bound.1 (c.asked f.row line (stands_front line (eqb-true f.line line own)))
           (ap (λ b. is_stored (unwrap_or (cond b (Some (out.Stored x.tick place)) None) (outcome_of shape zs f.row))) (eq-eqb at f.row head)) none
         where
-          none : (q : ℕ) → Asked (core zs) q line → f.row < q → is_stored (unwrap_or (on_row at q (out.Stored x.tick place)) (outcome_of shape zs q)) ≡ false
+          none : (q : ℕ) → Wrote (core zs) q line → f.row < q → is_stored (unwrap_or (on_row at q (out.Stored x.tick place)) (outcome_of shape zs q)) ≡ false
           none q a lt =
               ap is_stored (unlike q (differ at q (omega (arith, head, lt))))
               ∙ either (is_stored (outcome_of shape zs q))
@@ -289,10 +285,10 @@ module _ {n m : ℕ} (shape : BankShape) (pace : Pace) (e : ℕ) where
           floor-agree (outcome_of shape zs) (λ row. unwrap_or (on_row at row (out.Stored x.tick place)) (outcome_of shape zs row)) (core zs) line
           (λ row k a own. ap is_stored (unlike row (ne_eqb at row (λ same. clash row k a own same))))
         where
-          clash : (row k : ℕ) → Asked (core zs) row k → (k == line) ≡ true → at ≡ row → ⊥
+          clash : (row k : ℕ) → Wrote (core zs) row k → (k == line) ≡ true → at ≡ row → ⊥
           clash row k a own same =
-              let mine : Asked (core zs) row f.line = subst (λ q. Asked (core zs) q f.line) (sym head ∙ same) (c.asked f.row f.line (stands_front f.line refl)) in
-              let one : f.line ≡ k = asked-one (core zs) bound.0 row f.line k bound.1 mine a in
+              let mine : Wrote (core zs) row f.line = subst (λ q. Wrote (core zs) q f.line) (sym head ∙ same) (c.asked f.row f.line (stands_front f.line refl)) in
+              let one : f.line ≡ k = wrote-one (core zs) bound.0 row f.line k bound.1 mine a in
               let his : (f.line == line) ≡ true = eq-eqb f.line line (one ∙ eqb-true k line own) in
               absurd (cc)
 
@@ -331,7 +327,7 @@ module _ {n m : ℕ} (shape : BankShape) (pace : Pace) (e : ℕ) where
               let le : floor_of (outcome_of shape zs) (core zs) line ≤ row = c.above row line (subst (λ (es : List (Entry n)). Stands es row line) (sym is) (inr s)) in
               omega (arith, other_floor line ne, le)
 
-      stored_asked : (row line : ℕ) → Stands rest row line → Asked (core zs) row line
+      stored_asked : (row line : ℕ) → Stands rest row line → Wrote (core zs) row line
       stored_asked row line s = c.asked row line (subst (λ (es : List (Entry n)). Stands es row line) (sym is) (inr s))
 
     -- the head is stored
@@ -339,7 +335,7 @@ module _ {n m : ℕ} (shape : BankShape) (pace : Pace) (e : ℕ) where
       front : (line : ℕ) → Front (λ g. since (core zs) line g) (floor_of (λ row. unwrap_or (on_row at row (out.Stored x.tick place)) (outcome_of shape zs row)) (core zs) line) line (drop 1 (queue shape (core zs)))
       tails : (line : ℕ) → Tails (λ g. since (core zs) line g) line (drop 1 (queue shape (core zs)))
       above : (row line : ℕ) → Stands (drop 1 (queue shape (core zs))) row line → floor_of (λ row. unwrap_or (on_row at row (out.Stored x.tick place)) (outcome_of shape zs row)) (core zs) line ≤ row
-      asked : (row line : ℕ) → Stands (drop 1 (queue shape (core zs))) row line → Asked (core zs) row line
+      asked : (row line : ℕ) → Stands (drop 1 (queue shape (core zs))) row line → Wrote (core zs) row line
 
     stored : (at place : ℕ) → IsHead (queue shape (core zs)) at → StoredBy at place
     stored at place head = by (queue shape (core zs)) refl head

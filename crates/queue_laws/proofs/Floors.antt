@@ -8,6 +8,7 @@ use Rattle.masked_bytes.specs.Masked.{joined, none_given}
 use Rattle.row_rules.specs.Answers.{is_stored}
 use Rattle.bank_model.specs.Events.{Event, Write, Read, Serve, Begin, Iterate, Cut, RowsBelow}
 use Rattle.bank_laws.proofs.Ending.{accepting}
+use Rattle.bank_laws.proofs.Asked.{Wrote, wrote-below}
 
 since-skip : (b : Bool) (given rest : List Bool) → b ≡ false → cond b (joined given rest) rest ≡ rest
 since-skip true given rest h = absurd (cc)
@@ -44,34 +45,6 @@ module _ {n : ℕ} where
   floor_of o (Write row at bytes given answer ∷ h) line = cond (at == line && is_stored (o row)) (suc row) (floor_of o h line)
   floor_of o (_ ∷ h) line = floor_of o h line
 
-  -- a write of this row had this line
-  abbrev pub Asked : List (Event n) → ℕ → ℕ → Type 0
-  Asked [] row line = ⊥
-  Asked (Write at l bytes given answer ∷ h) row line = ((at ≡ row) × (l ≡ line)) ⊎ Asked h row line
-  Asked (_ ∷ h) row line = Asked h row line
-
-  pub asked-below : (h : List (Event n)) (bound row line : ℕ) → RowsBelow h bound → Asked h row line → row < bound
-  asked-below [] bound row line b a = absurd a
-  asked-below (Write at l bytes given answer ∷ h) bound row line b (inl a) = omega (arith, a.0, b.0)
-  asked-below (Write at l bytes given answer ∷ h) bound row line b (inr a) = let less : row < at = asked-below h at row line b.1 a in omega (arith, less, b.0)
-  asked-below (Read at l answer ∷ h) bound row line b a = let less : row < at = asked-below h at row line b.1 a in omega (arith, less, b.0)
-  asked-below (Serve answer ∷ h) bound row line b a = asked-below h bound row line b a
-  asked-below (Begin answer ∷ h) bound row line b a = asked-below h bound row line b a
-  asked-below (Iterate answer ∷ h) bound row line b a = asked-below h bound row line b a
-  asked-below (Cut tearing ∷ h) bound row line b a = asked-below h bound row line b a
-
-  pub asked-one : (h : List (Event n)) (bound row a b : ℕ) → RowsBelow h bound → Asked h row a → Asked h row b → a ≡ b
-  asked-one [] bound row a b r s t = absurd s
-  asked-one (Write at l bytes given answer ∷ h) bound row a b r (inl s) (inl t) = sym s.1 ∙ t.1
-  asked-one (Write at l bytes given answer ∷ h) bound row a b r (inl s) (inr t) = let less : row < at = asked-below h at row b r.1 t in absurd (omega (arith, less, s.0))
-  asked-one (Write at l bytes given answer ∷ h) bound row a b r (inr s) (inl t) = let less : row < at = asked-below h at row a r.1 s in absurd (omega (arith, less, t.0))
-  asked-one (Write at l bytes given answer ∷ h) bound row a b r (inr s) (inr t) = asked-one h at row a b r.1 s t
-  asked-one (Read at l answer ∷ h) bound row a b r s t = asked-one h at row a b r.1 s t
-  asked-one (Serve answer ∷ h) bound row a b r s t = asked-one h bound row a b r s t
-  asked-one (Begin answer ∷ h) bound row a b r s t = asked-one h bound row a b r s t
-  asked-one (Iterate answer ∷ h) bound row a b r s t = asked-one h bound row a b r s t
-  asked-one (Cut tearing ∷ h) bound row a b r s t = asked-one h bound row a b r s t
-
   -- What the writes give
 
   -- from a number above all rows on nothing is given
@@ -102,7 +75,7 @@ module _ {n : ℕ} where
   floor-bound o (Cut tearing ∷ h) bound line r = floor-bound o h bound line r
 
   -- outcomes that agree on which rows of the line are stored leave one floor
-  pub floor-agree : (o p : ℕ → Outcome n) (h : List (Event n)) (line : ℕ) → ((row l : ℕ) → Asked h row l → (l == line) ≡ true → is_stored (p row) ≡ is_stored (o row)) → floor_of p h line ≡ floor_of o h line
+  pub floor-agree : (o p : ℕ → Outcome n) (h : List (Event n)) (line : ℕ) → ((row l : ℕ) → Wrote h row l → (l == line) ≡ true → is_stored (p row) ≡ is_stored (o row)) → floor_of p h line ≡ floor_of o h line
   floor-agree o p [] line same = refl
   floor-agree o p (Write at l bytes given answer ∷ h) line same = by (eqb l line) (same at l (inl (refl, refl))) (floor-agree o p h line (λ row k a is. same row k (inr a) is))
     where
@@ -116,7 +89,7 @@ module _ {n : ℕ} where
   floor-agree o p (Cut tearing ∷ h) line same = floor-agree o p h line same
 
   -- a stored row of the line is below the floor
-  pub floor-above : (o : ℕ → Outcome n) (h : List (Event n)) (bound row line : ℕ) → RowsBelow h bound → Asked h row line → is_stored (o row) ≡ true → row < floor_of o h line
+  pub floor-above : (o : ℕ → Outcome n) (h : List (Event n)) (bound row line : ℕ) → RowsBelow h bound → Wrote h row line → is_stored (o row) ≡ true → row < floor_of o h line
   floor-above o [] bound row line r a s = absurd a
   floor-above o (Write at l bytes given answer ∷ h) bound row line r a s = by (l == line && is_stored (o at)) refl a (λ a. floor-above o h at row line r.1 a s)
     where
@@ -124,9 +97,9 @@ module _ {n : ℕ} where
       both true b h k = k
       both false b h k = h
 
-      by : (b : Bool) → (l == line && is_stored (o at)) ≡ b → ((at ≡ row) × (l ≡ line)) ⊎ Asked h row line → (Asked h row line → row < floor_of o h line) → row < cond b (suc at) (floor_of o h line)
+      by : (b : Bool) → (l == line && is_stored (o at)) ≡ b → ((at ≡ row) × (l ≡ line)) ⊎ Wrote h row line → (Wrote h row line → row < floor_of o h line) → row < cond b (suc at) (floor_of o h line)
       by true is (inl k) go = omega (arith, k.0)
-      by true is (inr k) go = let less : row < at = asked-below h at row line r.1 k in omega (arith, less)
+      by true is (inr k) go = let less : row < at = wrote-below h at row line r.1 k in omega (arith, less)
       by false is (inl k) go = absurd (cc (is, both (l == line) (is_stored (o at)) (eq-eqb l line k.1) (subst (λ r. is_stored (o r) ≡ true) (sym k.0) s)))
       by false is (inr k) go = go k
   floor-above o (Read at l answer ∷ h) bound row line r a s = floor-above o h at row line r.1 a s
@@ -136,15 +109,15 @@ module _ {n : ℕ} where
   floor-above o (Cut tearing ∷ h) bound row line r a s = floor-above o h bound row line r a s
 
   -- where no later row of the line is stored, the floor is behind a stored row
-  pub floor-own : (o : ℕ → Outcome n) (h : List (Event n)) (bound row line : ℕ) → RowsBelow h bound → Asked h row line → is_stored (o row) ≡ true
-      → ((at : ℕ) → Asked h at line → row < at → is_stored (o at) ≡ false) → floor_of o h line ≡ suc row
+  pub floor-own : (o : ℕ → Outcome n) (h : List (Event n)) (bound row line : ℕ) → RowsBelow h bound → Wrote h row line → is_stored (o row) ≡ true
+      → ((at : ℕ) → Wrote h at line → row < at → is_stored (o at) ≡ false) → floor_of o h line ≡ suc row
   floor-own o [] bound row line r a s none = absurd a
   floor-own o (Write at l bytes given answer ∷ h) bound row line r a s none = by (eqb l line) refl a (λ k. floor-own o h at row line r.1 k s (λ q j lt. none q (inr j) lt))
     where
-      by : (b : Bool) → eqb l line ≡ b → ((at ≡ row) × (l ≡ line)) ⊎ Asked h row line → (Asked h row line → floor_of o h line ≡ suc row) → cond (b && is_stored (o at)) (suc at) (floor_of o h line) ≡ suc row
+      by : (b : Bool) → eqb l line ≡ b → ((at ≡ row) × (l ≡ line)) ⊎ Wrote h row line → (Wrote h row line → floor_of o h line ≡ suc row) → cond (b && is_stored (o at)) (suc at) (floor_of o h line) ≡ suc row
       by true is (inl k) go = ap (λ b. cond b (suc at) (floor_of o h line)) (subst (λ r. is_stored (o r) ≡ true) (sym k.0) s) ∙ ap suc k.0
       by true is (inr k) go =
-          ap (λ b. cond b (suc at) (floor_of o h line)) (none at (inl (refl, eqb-true l line is)) (asked-below h at row line r.1 k)) ∙ go k
+          ap (λ b. cond b (suc at) (floor_of o h line)) (none at (inl (refl, eqb-true l line is)) (wrote-below h at row line r.1 k)) ∙ go k
       by false is (inl k) go = absurd (cc (is, eq-eqb l line k.1))
       by false is (inr k) go = go k
   floor-own o (Read at l answer ∷ h) bound row line r a s none = floor-own o h at row line r.1 a s none

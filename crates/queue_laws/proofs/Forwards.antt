@@ -32,14 +32,15 @@ use Rattle.bank_laws.proofs.Walking.{Passes, walk, rows_after}
 use Rattle.bank_laws.proofs.Ending.{Onwards, own_answer}
 use Rattle.bank_laws.proofs.Serves.{may_at, onwards_at, idle-waits}
 use Rattle.bank_laws.proofs.Lines.{Stands, stands-row}
+use Rattle.bank_laws.proofs.Asked.{Wrote}
 use Rattle.bank_laws.proofs.Waiting.{may_all, read_room, fits_busy, fits_waiting, settled_all}
 use Rattle.queue_laws.specs.QueueLaws.{is_forward_fair, ForwardLaw}
 use Rattle.queue_laws.proofs.Written.{items, standing, written}
 use Rattle.queue_laws.proofs.Stood.{EndsAbove, stood_each, pending_is}
 use Rattle.queue_laws.proofs.Awaiting.{awaiting_length}
-use Rattle.queue_laws.proofs.Spread.{spread-layer}
+use Rattle.bank_laws.proofs.Given.{given-layer}
 use Rattle.queue_laws.proofs.Showing.{HasHead, front-covers, front-head}
-use Rattle.queue_laws.proofs.Floors.{since, floor_of, Asked}
+use Rattle.queue_laws.proofs.Floors.{since, floor_of}
 use Rattle.queue_laws.proofs.Covering.{is_covered}
 use Rattle.queue_laws.proofs.Covers.{cover_is}
 use Rattle.queue_laws.proofs.Heads.{HasStore, store-left, store-right, store-from, store-after, LineFirst, IsStoredFirst, line_first, line_is_first, any_entry}
@@ -140,17 +141,17 @@ module _ {n m : ℕ} (shape : BankShape) (pace : Pace) (e : ℕ) (all later : Li
   -- where the rows show all bytes as given, the queue gives them
   pub covers : (line : ℕ) → gives_all (cover x.tick line (rows_from shape all ys) (rows_after shape all later)) ≡ true → gives_all ((layer_of (queue shape (core ys)) line).given) ≡ true
   covers line c =
-      ap gives_all (spread-layer (queue shape (core ys)) line)
+      ap gives_all (given-layer (queue shape (core ys)) line)
       ∙ front-covers (λ f. since (core ys) line f) line (floor_of (outcome_of shape ys) (core ys) line) (queue shape (core ys)) long ((is_covered shape pace e ys r i there.1).front line) (ap gives_all (sym (shown line)) ∙ c)
 
   -- where the queue gives more, the line has the head
   has_head : (line : ℕ) → gives_all (cover x.tick line (rows_from shape all ys) (rows_after shape all later)) ≡ false → gives_all ((layer_of (queue shape (core ys)) line).given) ≡ true → HasHead line (queue shape (core ys))
   has_head line c g =
       front-head (λ f. since (core ys) line f) line (floor_of (outcome_of shape ys) (core ys) line) (queue shape (core ys)) ((is_covered shape pace e ys r i there.1).front line)
-      (ap gives_all (sym (shown line)) ∙ c) (ap gives_all (sym (spread-layer (queue shape (core ys)) line)) ∙ g)
+      (ap gives_all (sym (shown line)) ∙ c) (ap gives_all (sym (given-layer (queue shape (core ys)) line)) ∙ g)
 
   -- a line that has the head is at the head by the rows
-  pub at_head : (line : ℕ) → ((row : ℕ) → Asked (core (x ∷ ys)) row line → Asked (core ys) row line) → HasHead line (queue shape (core ys))
+  pub at_head : (line : ℕ) → ((row : ℕ) → Wrote (core (x ∷ ys)) row line → Wrote (core ys) row line) → HasHead line (queue shape (core ys))
       → is_at_head x.tick line (pending x.tick [] (rows_from shape all ys)) (rows_from shape all ys) (rows_after shape all later) ≡ true
   at_head line asks head =
       subst (λ (rows : List (Row n)). is_at_head x.tick line rows (rows_from shape all ys) (rows_after shape all later) ≡ true) (sym (pending_is shape pace e all (later ++ x ∷ []) ys x.tick r i l split up ends))
@@ -167,14 +168,14 @@ module _ {n m : ℕ} (shape : BankShape) (pace : Pace) (e : ℕ) (all later : Li
       entry = head-stands (queue shape (core ys)) line head
 
       has : (s : IsStoredFirst shape ys x.tick line all) → HasStore line s.at (rows_from shape all ys ++ rows_after shape all later)
-      has s = by (store-after shape all s.row line s.at s.place s.stored later (x ∷ ys) (subst (λ (xs : List (TimedEvent n m)). Asked (core xs) s.row line) same s.asked))
+      has s = by (store-after shape all s.row line s.at s.place s.stored later (x ∷ ys) (subst (λ (xs : List (TimedEvent n m)). Wrote (core xs) s.row line) same s.asked))
         where
-          by : HasStore line s.at (rows_after shape all later) ⊎ Asked (core (x ∷ ys)) s.row line → HasStore line s.at (rows_from shape all ys ++ rows_after shape all later)
+          by : HasStore line s.at (rows_after shape all later) ⊎ Wrote (core (x ∷ ys)) s.row line → HasStore line s.at (rows_from shape all ys ++ rows_after shape all later)
           by (inl k) = store-right line s.at (rows_from shape all ys) (rows_after shape all later) k
           by (inr a) = store-left line s.at (rows_from shape all ys) (rows_after shape all later) (store-from shape all s.row line s.at s.place s.stored ys (asks s.row a))
 
   -- what a read finds
-  pub forwards : (line : ℕ) → ((row : ℕ) → Asked (core (x ∷ ys)) row line → Asked (core ys) row line) → gives_all ((layer_of (queue shape (core ys)) line).given) ≡ true
+  pub forwards : (line : ℕ) → ((row : ℕ) → Wrote (core (x ∷ ys)) row line → Wrote (core ys) row line) → gives_all ((layer_of (queue shape (core ys)) line).given) ≡ true
       → gives_all (cover x.tick line (rows_from shape all ys) (rows_after shape all later)) ≡ false
       → is_at_head x.tick line (pending x.tick [] (rows_from shape all ys)) (rows_from shape all ys) (rows_after shape all later) ≡ true
   forwards line asks g c = at_head line asks (has_head line c g)
@@ -189,7 +190,7 @@ module _ {n m : ℕ} (shape : BankShape) (pace : Pace) (e : ℕ) (all later : Li
 module _ {n m : ℕ} (shape : BankShape) (pace : Pace) (e : ℕ) (all : List (TimedEvent n m)) where
   -- what a read finds, by what the queue gives
   record Finds (later : List (TimedEvent n m)) (x : TimedEvent n m) (ys : List (TimedEvent n m)) (h : Happens n) : Type 0 where
-    forwards : (line : ℕ) → ((row : ℕ) → Asked (core_of h (core ys)) row line → Asked (core ys) row line) → gives_all ((layer_of (queue shape (core ys)) line).given) ≡ true
+    forwards : (line : ℕ) → ((row : ℕ) → Wrote (core_of h (core ys)) row line → Wrote (core ys) row line) → gives_all ((layer_of (queue shape (core ys)) line).given) ≡ true
         → gives_all (cover x.tick line (rows_from shape all ys) (rows_after shape all later)) ≡ false
         → is_at_head x.tick line (pending x.tick [] (rows_from shape all ys)) (rows_from shape all ys) (rows_after shape all later) ≡ true
     not_covered : (line : ℕ) → gives_all ((layer_of (queue shape (core ys)) line).given) ≡ false → gives_all (cover x.tick line (rows_from shape all ys) (rows_after shape all later)) ≡ false

@@ -28,12 +28,12 @@ use Rattle.bank_laws.proofs.Pairs.{eqb-same}
 use Rattle.bank_laws.proofs.Walking.{rows_after}
 use Rattle.bank_laws.proofs.Wears.{stored_by, stored_tick}
 use Rattle.bank_laws.proofs.Lines.{Stands}
+use Rattle.bank_laws.proofs.Asked.{Wrote}
 use Rattle.queue_laws.proofs.First.{NoneStored, NoneBelow}
 use Rattle.queue_laws.proofs.Written.{Written, items, standing, Each, written_by, written, IsEntry}
 use Rattle.queue_laws.proofs.Stood.{EndsAbove}
 use Rattle.queue_laws.proofs.Few.{StandsWell, entry_unset, not_stored_ended, not_before_ended}
 use Rattle.queue_laws.proofs.Showing.{HasHead}
-use Rattle.queue_laws.proofs.Floors.{Asked}
 use Rattle.queue_laws.proofs.Covering.{is_covered, Storeless, none_new}
 
 -- a next store by a tick
@@ -112,11 +112,11 @@ module _ {n m : ℕ} (shape : BankShape) (all : List (TimedEvent n m)) (row line
   store-own : (tick at k : ℕ) → at ≡ row → k ≡ line → ((k == line) ≡ true) × (q : ℕ) × (ended tick (outcome_of shape all at) ≡ out.Stored u q)
   store-own tick at k a b = (eq-eqb k line b, p, ap (λ r. ended tick (outcome_of shape all r)) a ∙ ap (ended tick) stored)
 
-  pub store-from : (ys : List (TimedEvent n m)) → Asked (core ys) row line → HasStore line u (rows_from shape all ys)
+  pub store-from : (ys : List (TimedEvent n m)) → Wrote (core ys) row line → HasStore line u (rows_from shape all ys)
   store-from [] a = absurd a
   store-from (y ∷ ys) a = by y.happens y.cancels (λ k. store-from ys k) a
     where
-      by : (h : Happens n) (cancels : Bool) → (Asked (core ys) row line → HasStore line u (rows_from shape all ys)) → Asked (core_of h (core ys)) row line → HasStore line u (row_with shape all h y.tick cancels ++ rows_from shape all ys)
+      by : (h : Happens n) (cancels : Bool) → (Wrote (core ys) row line → HasStore line u (rows_from shape all ys)) → Wrote (core_of h (core ys)) row line → HasStore line u (row_with shape all h y.tick cancels ++ rows_from shape all ys)
       by (Core (Write at k bytes given answer)) cancels go (inl own) = inl (store-own y.tick at k own.0 own.1)
       by (Core (Write at k bytes given answer)) cancels go (inr rest) = inr (go rest)
       by (Core (Read at k answer)) cancels go a = inr (go a)
@@ -127,16 +127,16 @@ module _ {n m : ℕ} (shape : BankShape) (all : List (TimedEvent n m)) (row line
       by (Core (Cut tearing)) true go a = go a
       by (Core (Cut tearing)) false go a = inr (go a)
 
-  pub store-after : (mid zs : List (TimedEvent n m)) → Asked (core (mid ++ zs)) row line → HasStore line u (rows_after shape all mid) ⊎ Asked (core zs) row line
+  pub store-after : (mid zs : List (TimedEvent n m)) → Wrote (core (mid ++ zs)) row line → HasStore line u (rows_after shape all mid) ⊎ Wrote (core zs) row line
   store-after [] zs a = inr a
   store-after (x ∷ mid) zs a = by x.happens x.cancels (λ k. store-after mid zs k) a
     where
-      more : (h : Happens n) (cancels : Bool) → HasStore line u (rows_after shape all mid) ⊎ Asked (core zs) row line → HasStore line u (rows_after shape all mid ++ row_with shape all h x.tick cancels) ⊎ Asked (core zs) row line
+      more : (h : Happens n) (cancels : Bool) → HasStore line u (rows_after shape all mid) ⊎ Wrote (core zs) row line → HasStore line u (rows_after shape all mid ++ row_with shape all h x.tick cancels) ⊎ Wrote (core zs) row line
       more h cancels (inl s) = inl (store-left line u (rows_after shape all mid) (row_with shape all h x.tick cancels) s)
       more h cancels (inr a) = inr a
 
-      by : (h : Happens n) (cancels : Bool) → (Asked (core (mid ++ zs)) row line → HasStore line u (rows_after shape all mid) ⊎ Asked (core zs) row line) → Asked (core_of h (core (mid ++ zs))) row line
-          → HasStore line u (rows_after shape all mid ++ row_with shape all h x.tick cancels) ⊎ Asked (core zs) row line
+      by : (h : Happens n) (cancels : Bool) → (Wrote (core (mid ++ zs)) row line → HasStore line u (rows_after shape all mid) ⊎ Wrote (core zs) row line) → Wrote (core_of h (core (mid ++ zs))) row line
+          → HasStore line u (rows_after shape all mid ++ row_with shape all h x.tick cancels) ⊎ Wrote (core zs) row line
       by (Core (Write at k bytes given answer)) cancels go (inl own) =
           inl (store-right line u (rows_after shape all mid) (row_with shape all (Core (Write at k bytes given answer)) x.tick cancels) (inl (store-own x.tick at k own.0 own.1)))
       by (Core (Write at k bytes given answer)) cancels go (inr rest) = more (Core (Write at k bytes given answer)) cancels (go rest)
@@ -153,7 +153,7 @@ module _ {n m : ℕ} (shape : BankShape) (now : List (TimedEvent n m)) (t line :
     pub row : ℕ
     pub at : ℕ
     pub place : ℕ
-    pub asked : Asked (core zs) row line
+    pub asked : Wrote (core zs) row line
     pub stored : outcome_of shape zs row ≡ out.Stored at place
     pub after : t < at
     pub by_now : at ≤ last_tick zs
@@ -167,7 +167,7 @@ module _ {n m : ℕ} (shape : BankShape) (now : List (TimedEvent n m)) (t line :
     row : ℕ
     at : ℕ
     place : ℕ
-    asked : Asked (core_of h (core zs)) row line
+    asked : Wrote (core_of h (core zs)) row line
     stored : unwrap_or (outcome_with shape zs h tick row) (outcome_of shape zs row) ≡ out.Stored at place
     after : t < at
     by_now : at ≤ tick
@@ -178,7 +178,7 @@ module _ {n m : ℕ} (shape : BankShape) (now : List (TimedEvent n m)) (t line :
       (HasHead line (queue shape (core_of h (core zs))) × NoneStored shape now (λ row. unwrap_or (outcome_with shape zs h tick row) (outcome_of shape zs row))) ⊎ IsStoredFirstBy zs tick h
 
 module _ {n m : ℕ} (shape : BankShape) (pace : Pace) (e : ℕ) (now : List (TimedEvent n m)) (t line : ℕ) where
-  asked_more : (zs : List (TimedEvent n m)) (h : Happens n) (row : ℕ) → Asked (core zs) row line → Asked (core_of h (core zs)) row line
+  asked_more : (zs : List (TimedEvent n m)) (h : Happens n) (row : ℕ) → Wrote (core zs) row line → Wrote (core_of h (core zs)) row line
   asked_more zs (Core (Write at k bytes given answer)) row a = inr a
   asked_more zs (Core (Read at k answer)) row a = a
   asked_more zs (Core (Serve answer)) row a = a
@@ -191,7 +191,7 @@ module _ {n m : ℕ} (shape : BankShape) (pace : Pace) (e : ℕ) (now : List (Ti
     on : (h : Happens n) → Storeless h → NoneStored shape now (outcome_of shape zs) → HasHead line (queue shape (core_of h (core zs))) → LineFirstBy shape now t line zs x.tick h
     on h less none head = inl (head, λ row u p unset s. none row u p unset (none_new shape pace e zs x h row u p less s))
 
-    store : (at place : ℕ) (es : List (Entry n)) → es ≡ queue shape (core zs) → IsHead es at → HasHead line es → Asked (core zs) at line
+    store : (at place : ℕ) (es : List (Entry n)) → es ≡ queue shape (core zs) → IsHead es at → HasHead line es → Wrote (core zs) at line
     store at place es is head has = (is_covered shape pace e zs r i l).asked at line (subst (λ (es : List (Entry n)). Stands es at line) is (line-stands es at line head has))
 
     none_at : (at place : ℕ) → NoneStored shape now (outcome_of shape zs) → NoneBelow shape now x.tick (λ row. unwrap_or (on_row at row (out.Stored x.tick place)) (outcome_of shape zs row))
@@ -304,7 +304,7 @@ module _ {n m : ℕ} (shape : BankShape) (all now : List (TimedEvent n m)) (k : 
       ap (λ found. is_first line found (items ws)) f.1 ∙ line_until f.0 s.at ws each f.2 s.none
 
 -- an entry of the queue is among the writes that stand
-pub any_entry : {n m : ℕ} (shape : BankShape) (all : List (TimedEvent n m)) (p : ℕ → Bool) (row line : ℕ) (ys : List (TimedEvent n m)) → p row ≡ true → Asked (core ys) row line → list_any (write_of line) (items (standing p (written shape all ys))) ≡ true
+pub any_entry : {n m : ℕ} (shape : BankShape) (all : List (TimedEvent n m)) (p : ℕ → Bool) (row line : ℕ) (ys : List (TimedEvent n m)) → p row ≡ true → Wrote (core ys) row line → list_any (write_of line) (items (standing p (written shape all ys))) ≡ true
 any_entry shape all p row line [] hit a = absurd a
 any_entry {n} {m} shape all p row line (y ∷ ys) hit a = by y.happens (λ k. any_entry shape all p row line ys hit k) a
   where
@@ -316,7 +316,7 @@ any_entry {n} {m} shape all p row line (y ∷ ys) hit a = by y.happens (λ k. an
     own true w ws h is = or_left (w.line == line) _ is
     own false w ws h is = absurd (cc)
 
-    by : (h : Happens n) → (Asked (core ys) row line → list_any (write_of line) (items (standing p (written shape all ys))) ≡ true) → Asked (core_of h (core ys)) row line
+    by : (h : Happens n) → (Wrote (core ys) row line → list_any (write_of line) (items (standing p (written shape all ys))) ≡ true) → Wrote (core_of h (core ys)) row line
         → list_any (write_of line) (items (standing p (written_by shape all h y.tick ++ written shape all ys))) ≡ true
     by (Core (Write at k bytes given answer)) go (inl is) = own (p at) _ (standing p (written shape all ys)) (subst (λ r. p r ≡ true) (sym is.0) hit) (eq-eqb k line is.1)
     by (Core (Write at k bytes given answer)) go (inr rest) = more (p at) _ (standing p (written shape all ys)) (go rest)

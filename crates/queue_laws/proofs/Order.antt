@@ -1,7 +1,7 @@
 -- Entries of one line stand in the order of their rows and of their ticks, and a busy head came before the last tick.
-use Rattle.std.proofs.Common.{◌≡◌, ℕ, ◌<◌, ◌≤◌, ◌==◌, ◌&&◌, ◌||◌, ◌⊎◌, inl, inr, not, Bool, true, false, List, [], ◌∷◌, ◌++◌, Option, Some, None, drop, refl, sym, ap, ◌∙◌, subst, arith, cond, eqb, eqb-true}
+use Rattle.std.proofs.Common.{◌≡◌, ℕ, ◌<◌, ◌≤◌, ◌==◌, ◌&&◌, ◌⊎◌, inl, inr, not, Bool, true, false, List, [], ◌∷◌, ◌++◌, Option, Some, None, drop, refl, sym, ap, ◌∙◌, subst, arith, cond, eqb, eqb-true}
 use Rattle.std.proofs.lemmas.Bool.{or_left, or_right}
-use Rattle.masked_bytes.proofs.Truth.{and_first, and_second}
+use Rattle.masked_bytes.proofs.Truth.{and_first, and_second, or_rest}
 use Rattle.masked_bytes.specs.declared.entry.Entry.{Entry}
 use Rattle.masked_bytes.specs.Entries.{has_row, RowsApart, merged, laid_on, newest_row, candidate, or_this}
 use Rattle.bank_shape.specs.declared.BankShape.{BankShape}
@@ -11,9 +11,10 @@ use Rattle.bank_shape.specs.declared.answer.WriteAnswer.TheVariants as wrote
 use Rattle.bank_shape.specs.declared.answer.Step.TheVariants as did
 use Rattle.bank_model.specs.Events.{Event, Write, Read, Serve, Begin, Iterate, Cut, newest}
 use Rattle.bank_model.specs.History.{begun, queue, due_after, has_exhausted, in_progress}
-use Rattle.bank_model.specs.After.{is_store, due_work}
+use Rattle.bank_model.specs.After.{due_work}
 use Rattle.bank_model.specs.Answers.{head_busy_after}
 use Rattle.bank_shape.specs.declared.pace.Pace.{Pace}
+use Rattle.bank_shape.specs.Kinds.{is_store}
 use Rattle.bank_model.specs.Timing.{Happens, Core, Regs, KeepBegin, KeepIterate, KeepCut, TimedEvent, core, core_of, last_tick}
 use Rattle.bank_model.specs.Told.{tick_by, tick_of_row}
 use Rattle.bank_model.specs.Sensing.{most_steps}
@@ -26,13 +27,10 @@ use Rattle.bank_laws.proofs.Ticks.{last_tick-rises, last-below}
 use Rattle.bank_laws.proofs.Answering.{newest_row-there, merged-there}
 use Rattle.bank_laws.proofs.Pairs.{HeadFull, HasWork, KeepsPairs, keeps_pairs, busy-full, no_candidate-head, accepted-none, eqb-same}
 use Rattle.bank_laws.proofs.Lines.{Stands, stands-row, stands-line, newest-line, merged-candidate}
+use Rattle.bank_laws.proofs.Asked.{pushed-stands, merged-stands}
 use Rattle.bank_laws.proofs.Counting.{among, Falling}
 use Rattle.bank_laws.proofs.Waiting.{may_all}
 use Rattle.bank_laws.proofs.Pending.{write_rows, writes_in, writes-fall, queue-asked}
-
-or_rest : (a b : Bool) → a ≡ false → (a || b) ≡ true → b ≡ true
-or_rest true b h k = absurd (cc)
-or_rest false b h k = k
 
 pub below_among : (xs : List ℕ) (bound row : ℕ) → Falling xs bound → among xs row ≡ true → row < bound
 below_among [] bound row f there = absurd (cc)
@@ -68,36 +66,11 @@ module _ {n : ℕ} where
       let other : f row ≡ g row = same row (or_right (e.row == row) _ (stands-row es row e.line s)) in
       (k.0, omega (arith, k.1, own, other))
 
-  pub stands-pushed : (es : List (Entry n)) (x : Entry n) (row line : ℕ) → Stands (es ++ x ∷ []) row line → Stands es row line ⊎ ((x.row ≡ row) × (x.line ≡ line))
-  stands-pushed [] x row line (inl s) = inr s
-  stands-pushed [] x row line (inr s) = absurd s
-  stands-pushed (e ∷ es) x row line (inl s) = inl (inl s)
-  stands-pushed (e ∷ es) x row line (inr s) = by (stands-pushed es x row line s)
-    where
-      by : Stands es row line ⊎ ((x.row ≡ row) × (x.line ≡ line)) → Stands (e ∷ es) row line ⊎ ((x.row ≡ row) × (x.line ≡ line))
-      by (inl s) = inl (inr s)
-      by (inr s) = inr s
-
-  pub stands-was : (old new : ℕ) (bytes : List ℕ) (given : List Bool) (es : List (Entry n)) (row line : ℕ) → Stands (merged old new bytes given es) row line → Stands es row line ⊎ ((new ≡ row) × Stands es old line)
-  stands-was old new bytes given [] row line s = absurd s
-  stands-was old new bytes given (e ∷ es) row line s = by (eqb e.row old) refl (λ t. stands-was old new bytes given es row line t) s
-    where
-      more : Stands es row line ⊎ ((new ≡ row) × Stands es old line) → Stands (e ∷ es) row line ⊎ ((new ≡ row) × Stands (e ∷ es) old line)
-      more (inl s) = inl (inr s)
-      more (inr s) = inr (s.0, inr s.1)
-
-      by : (b : Bool) → eqb e.row old ≡ b → (Stands (merged old new bytes given es) row line → Stands es row line ⊎ ((new ≡ row) × Stands es old line))
-          → Stands (cond b (laid_on new bytes given e ∷ es) (e ∷ merged old new bytes given es)) row line → Stands (e ∷ es) row line ⊎ ((new ≡ row) × Stands (e ∷ es) old line)
-      by true is go (inl s) = inr (s.0, inl (eqb-true e.row old is, s.1))
-      by true is go (inr s) = inl (inr s)
-      by false is go (inl s) = inl (inl s)
-      by false is go (inr s) = more (go s)
-
   -- New entries
 
   leads-push : (f : ℕ → ℕ) (es : List (Entry n)) (x : Entry n) → Leads f es → ((e : Entry n) (rest : List (Entry n)) → es ≡ e ∷ rest → x.line ≡ e.line → (e.row < x.row) × (f e.row < f x.row)) → Leads f (es ++ x ∷ [])
   leads-push f [] x l new = λ row s. absurd s
-  leads-push f (e ∷ es) x l new = λ row s. by row (stands-pushed es x row e.line s)
+  leads-push f (e ∷ es) x l new = λ row s. by row (pushed-stands es x row e.line s)
     where
       by : (row : ℕ) → Stands es row e.line ⊎ ((x.row ≡ row) × (x.line ≡ e.line)) → (e.row < row) × (f e.row < f row)
       by row (inl s) = l row s
@@ -140,7 +113,7 @@ module _ {n : ℕ} where
       by : MergesInto busy e es line old → Leads f (merged old new bytes given (e ∷ es))
       by (inl new_is) =
           subst (λ b. Leads f (cond b (laid_on new bytes given e ∷ es) (e ∷ merged old new bytes given es))) (sym (behind e es line old apart new_is))
-          (λ row s. rest row (stands-was old new bytes given es row e.line s))
+          (λ row s. rest row (merged-stands old new bytes given es row e.line s))
       by (inr own) =
           subst (λ b. Leads f (cond b (laid_on new bytes given e ∷ es) (e ∷ merged old new bytes given es))) (sym (subst (λ r. (e.row == r) ≡ true) own.1 (eqb-same e.row)))
           (λ row s. absurd (cc (stands-line es row e.line s, subst (λ k. has_line es k ≡ false) (sym own.2) (newest-line es line own.0))))

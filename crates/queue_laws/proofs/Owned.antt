@@ -1,6 +1,6 @@
 -- Each entry of a history's queue has the line of its own write, and the bytes of its own writes.
 use Rattle.std.proofs.Common.{◌≡◌, ℕ, zero, suc, ◌==◌, ◌||◌, ◌&&◌, inl, inr, not, Bool, true, false, List, [], ◌∷◌, ◌++◌, length, drop, slice_get, Option, Some, None, refl, sym, ap, subst, ◌∙◌, arith, cond, eqb, eqb-true}
-use Rattle.masked_bytes.proofs.Truth.{neither_first, neither_second, and_second}
+use Rattle.masked_bytes.proofs.Truth.{neither_first, neither_second, and_second, differ_sym}
 use Rattle.std.specs.Prelude.{is_none}
 use Rattle.std.proofs.lemmas.Bool.{eq-eqb, ne_eqb}
 use Rattle.std.proofs.lemmas.List.{length-replicate}
@@ -17,7 +17,6 @@ use Rattle.bank_model.proofs.Newest.{length-newest}
 use Rattle.bank_model.specs.History.{Awaited, begun, queue, waits, due_after, has_exhausted, in_progress}
 use Rattle.bank_model.specs.After.{is_ready, due_work}
 use Rattle.bank_model.specs.Answers.{MayAll}
-use Rattle.bank_laws.proofs.Entries.{differ_sym}
 use Rattle.bank_laws.proofs.Lines.{Stands, stands-row, merges-stands}
 use Rattle.bank_laws.proofs.Pairs.{gives_all-joined}
 use Rattle.bank_laws.proofs.Standing.{stand_apart}

@@ -11,18 +11,18 @@ use Rattle.bank_laws.specs.Pairs.{has_line, LinesApart, ArePaired}
 use Rattle.bank_laws.proofs.Pairs.{AllLong, gives_all-joined, eqb-same}
 use Rattle.bank_laws.proofs.Lines.{Stands, stands-row, stands-line, newest-line, newest-stands}
 use Rattle.queue_laws.proofs.Order.{MergesInto, merges_into, behind}
-use Rattle.queue_laws.proofs.Spread.{spread, spread-length, spread-lacks, spread-other, spread-alone, spread-push, spread-push_other, spread-merged, spread-merged_other}
+use Rattle.bank_laws.proofs.Given.{given_of, length-given, given-lacks, given-other, given-alone, given-push, given-push_other, given-merged, given-merged_other}
 
 module _ {n : ℕ} where
   -- behind a head of another line stands what the writes from the floor on give; a head of the line gives that, or all
   abbrev pub Front : (ℕ → List Bool) → ℕ → ℕ → List (Entry n) → Type 0
   Front s floor line [] = s floor ≡ none_given n
-  Front s floor line (e ∷ es) = ((e.line == line) ≡ false → spread es line ≡ s floor) × ((e.line == line) ≡ true → (e.given ≡ s floor) ⊎ (gives_all e.given ≡ true))
+  Front s floor line (e ∷ es) = ((e.line == line) ≡ false → given_of es line ≡ s floor) × ((e.line == line) ≡ true → (e.given ≡ s floor) ⊎ (gives_all e.given ≡ true))
 
   -- behind an entry of the line stands what the writes behind its row give
   abbrev pub Tails : (ℕ → List Bool) → ℕ → List (Entry n) → Type 0
   Tails s line [] = Unit {0}
-  Tails s line (e ∷ es) = ((e.line == line) ≡ true → spread es line ≡ s (suc e.row)) × Tails s line es
+  Tails s line (e ∷ es) = ((e.line == line) ≡ true → given_of es line ≡ s (suc e.row)) × Tails s line es
 
   -- the head has a line
   abbrev pub HasHead : ℕ → List (Entry n) → Type 0
@@ -53,7 +53,7 @@ module _ {n : ℕ} where
         → ((e : Entry n) (rest : List (Entry n)) → es ≡ e ∷ rest → (e.line == line) ≡ true → gives_all e.given ≡ true) → Front s floor line es → Front t floor line (es ++ x ∷ [])
     front-push floor [] x l g is le busy f = ((λ ne. absurd (cc (ne, is))), λ own. inl (g ∙ sym (joins floor le ∙ ap (λ k. joined given k) f ∙ joined-none_right n given long)))
     front-push floor (e ∷ es) x l g is le busy f = (
-      (λ ne. spread-push es x line l.1 (ap length g ∙ long) is ∙ ap (λ k. joined x.given k) (f.0 ne) ∙ ap (λ k. joined k (s floor)) g ∙ sym (joins floor le)),
+      (λ ne. given-push es x line l.1 (ap length g ∙ long) is ∙ ap (λ k. joined x.given k) (f.0 ne) ∙ ap (λ k. joined k (s floor)) g ∙ sym (joins floor le)),
       λ own. inr (busy e es refl own),
     )
 
@@ -62,7 +62,7 @@ module _ {n : ℕ} where
     tails-push (e ∷ es) x l r g is below f = (
       (λ own.
           let lt : e.row < at = below e.row (or_left (e.row == e.row) _ (eqb-same e.row)) in
-          spread-push es x line l.1 (ap length g ∙ long) is ∙ ap (λ k. joined x.given k) (f.0 own) ∙ ap (λ k. joined k (s (suc e.row))) g ∙ sym (joins (suc e.row) (omega (arith, lt)))),
+          given-push es x line l.1 (ap length g ∙ long) is ∙ ap (λ k. joined x.given k) (f.0 own) ∙ ap (λ k. joined k (s (suc e.row))) g ∙ sym (joins (suc e.row) (omega (arith, lt)))),
       tails-push es x l.1 r g is (λ row there. below row (or_right (e.row == row) _ there)) f.1,
     )
 
@@ -78,7 +78,7 @@ module _ {n : ℕ} where
         by : MergesInto busy e es line old → Front t floor line (merged old at bytes given (e ∷ es))
         by (inl new) =
             subst (λ b. Front t floor line (cond b (laid_on at bytes given e ∷ es) (e ∷ merged old at bytes given es))) (sym (behind e es line old apart new)) (
-              (λ ne. spread-merged old at bytes given es line apart.1 l.1 long new ∙ ap (λ k. joined given k) (f.0 ne) ∙ sym (joins floor le)),
+              (λ ne. given-merged old at bytes given es line l.1 long apart.1 new ∙ ap (λ k. joined given k) (f.0 ne) ∙ sym (joins floor le)),
               λ is. inr (p.1 (subst (λ k. has_line es k ≡ true) (sym (eqb-true e.line line is)) (stands-line es old line (newest-stands es line old new)))),
             )
         by (inr is) =
@@ -101,14 +101,14 @@ module _ {n : ℕ} where
             let same : e.row ≡ old = cc in
             let there : has_line es line ≡ false = newest-line es line none in
             subst (λ b. Tails t line (cond b (laid_on at bytes given e ∷ es) (e ∷ merged old at bytes given es))) (sym (eq-eqb e.row old same))
-            ((λ k. spread-lacks es line there ∙ sym last), tails-lacks t line es there)
+            ((λ k. given-lacks es line there ∙ sym last), tails-lacks t line es there)
         own false is none h = absurd (cc)
 
         by : (r : Option ℕ) → newest_row es line ≡ r → (newest_row es line ≡ Some old → Tails t line (merged old at bytes given es)) → or_this r (cond (eqb e.line line) (Some e.row) None) ≡ Some old
             → Tails t line (merged old at bytes given (e ∷ es))
         by (Some r) is go h =
             subst (λ b. Tails t line (cond b (laid_on at bytes given e ∷ es) (e ∷ merged old at bytes given es))) (sym (behind e es line old apart (is ∙ h)))
-            ((λ k. spread-merged old at bytes given es line apart.1 l.1 long (is ∙ h) ∙ ap (λ k. joined given k) (f.0 k) ∙ sym (joins (suc e.row) (omega (arith, lt)))), go (is ∙ h))
+            ((λ k. given-merged old at bytes given es line l.1 long apart.1 (is ∙ h) ∙ ap (λ k. joined given k) (f.0 k) ∙ sym (joins (suc e.row) (omega (arith, lt)))), go (is ∙ h))
         by None is go h = own (eqb e.line line) refl is h
 
   -- A write of another line
@@ -116,11 +116,11 @@ module _ {n : ℕ} where
   module _ (s : ℕ → List Bool) (line : ℕ) where
     pub front-push_other : (floor : ℕ) (es : List (Entry n)) (x : Entry n) → (x.line == line) ≡ false → Front s floor line es → Front s floor line (es ++ x ∷ [])
     front-push_other floor [] x ne f = ((λ k. sym f), λ is. absurd (cc (ne, is)))
-    front-push_other floor (e ∷ es) x ne f = ((λ k. spread-push_other es x line ne ∙ f.0 k), f.1)
+    front-push_other floor (e ∷ es) x ne f = ((λ k. given-push_other es x line ne ∙ f.0 k), f.1)
 
     pub tails-push_other : (es : List (Entry n)) (x : Entry n) → (x.line == line) ≡ false → Tails s line es → Tails s line (es ++ x ∷ [])
     tails-push_other [] x ne f = ((λ is. absurd (cc (ne, is))), tt)
-    tails-push_other (e ∷ es) x ne f = ((λ is. spread-push_other es x line ne ∙ f.0 is), tails-push_other es x ne f.1)
+    tails-push_other (e ∷ es) x ne f = ((λ is. given-push_other es x line ne ∙ f.0 is), tails-push_other es x ne f.1)
 
     pub front-merged_other : (floor old at : ℕ) (bytes : List ℕ) (given : List Bool) (es : List (Entry n)) (into : ℕ) → RowsApart es → Stands es old into → (into == line) ≡ false → Front s floor line es
         → Front s floor line (merged old at bytes given es)
@@ -131,7 +131,7 @@ module _ {n : ℕ} where
         by true is (inl k) = let other : (e.line == line) ≡ false = subst (λ k. (k == line) ≡ false) (sym k.1) ne in ((λ j. f.0 other), λ own. absurd (cc (other, own)))
         by true is (inr k) = absurd (cc (subst (λ r. has_row es r ≡ false) (eqb-true e.row old is) apart.0, stands-row es old into k))
         by false is (inl k) = absurd (cc (is, eq-eqb e.row old k.0))
-        by false is (inr k) = ((λ j. spread-merged_other old at bytes given es into line apart.1 k ne ∙ f.0 j), f.1)
+        by false is (inr k) = ((λ j. given-merged_other old at bytes given es into line apart.1 k ne ∙ f.0 j), f.1)
 
     pub tails-merged_other : (old at : ℕ) (bytes : List ℕ) (given : List Bool) (es : List (Entry n)) (into : ℕ) → RowsApart es → Stands es old into → (into == line) ≡ false → Tails s line es
         → Tails s line (merged old at bytes given es)
@@ -142,7 +142,7 @@ module _ {n : ℕ} where
         by true is (inl k) go = let other : (e.line == line) ≡ false = subst (λ k. (k == line) ≡ false) (sym k.1) ne in ((λ own. absurd (cc (other, own))), f.1)
         by true is (inr k) go = absurd (cc (subst (λ r. has_row es r ≡ false) (eqb-true e.row old is) apart.0, stands-row es old into k))
         by false is (inl k) go = absurd (cc (is, eq-eqb e.row old k.0))
-        by false is (inr k) go = ((λ own. spread-merged_other old at bytes given es into line apart.1 k ne ∙ f.0 own), go k)
+        by false is (inr k) go = ((λ own. given-merged_other old at bytes given es into line apart.1 k ne ∙ f.0 own), go k)
 
     -- A begun head, and a stored one
 
@@ -156,11 +156,11 @@ module _ {n : ℕ} where
     tails-begun None fill [] f = f
     tails-begun None fill (e ∷ es) f = f
 
-    front-of : (floor : ℕ) (es : List (Entry n)) → AllLong es → LinesApart es → spread es line ≡ s floor → Front s floor line es
+    front-of : (floor : ℕ) (es : List (Entry n)) → AllLong es → LinesApart es → given_of es line ≡ s floor → Front s floor line es
     front-of floor [] l apart is = sym is
     front-of floor (e ∷ es) l apart is = (
-      (λ ne. sym (spread-other e es line ne) ∙ is),
-      λ own. inl (sym (spread-alone e es line l own (subst (λ k. has_line es k ≡ false) (eqb-true e.line line own) apart.0)) ∙ is),
+      (λ ne. sym (given-other e es line ne) ∙ is),
+      λ own. inl (sym (given-alone e es line l own (subst (λ k. has_line es k ≡ false) (eqb-true e.line line own) apart.0)) ∙ is),
     )
 
     -- a head of the line raises the floor to behind its row
@@ -172,7 +172,7 @@ module _ {n : ℕ} where
 
     -- What follows: where the writes from the floor on give all bytes the queue does, and else only a head of the line does
 
-    pub front-covers : (floor : ℕ) (es : List (Entry n)) → AllLong es → Front s floor line es → gives_all (s floor) ≡ true → gives_all (spread es line) ≡ true
+    pub front-covers : (floor : ℕ) (es : List (Entry n)) → AllLong es → Front s floor line es → gives_all (s floor) ≡ true → gives_all (given_of es line) ≡ true
     front-covers floor [] l f all = subst (λ k. gives_all k ≡ true) f all
     front-covers floor (e ∷ es) l f all = by (eqb e.line line) refl
       where
@@ -180,14 +180,14 @@ module _ {n : ℕ} where
         own (inl is) = subst (λ k. gives_all k ≡ true) (sym is) all
         own (inr full) = full
 
-        by : (b : Bool) → eqb e.line line ≡ b → gives_all (cond b (joined (spread es line) e.given) (spread es line)) ≡ true
-        by true is = gives_all-joined (spread es line) e.given (spread-length es line l.1 ∙ sym l.0) (own (f.1 is))
+        by : (b : Bool) → eqb e.line line ≡ b → gives_all (cond b (joined (given_of es line) e.given) (given_of es line)) ≡ true
+        by true is = gives_all-joined (given_of es line) e.given (length-given es line l.1 ∙ sym l.0) (own (f.1 is))
         by false is = subst (λ k. gives_all k ≡ true) (sym (f.0 is)) all
 
-    pub front-head : (floor : ℕ) (es : List (Entry n)) → Front s floor line es → gives_all (s floor) ≡ false → gives_all (spread es line) ≡ true → HasHead line es
+    pub front-head : (floor : ℕ) (es : List (Entry n)) → Front s floor line es → gives_all (s floor) ≡ false → gives_all (given_of es line) ≡ true → HasHead line es
     front-head floor [] f not_all all = absurd (cc (subst (λ k. gives_all k ≡ false) f not_all, all))
     front-head floor (e ∷ es) f not_all all = by (eqb e.line line) refl all
       where
-        by : (b : Bool) → eqb e.line line ≡ b → gives_all (cond b (joined (spread es line) e.given) (spread es line)) ≡ true → e.line ≡ line
+        by : (b : Bool) → eqb e.line line ≡ b → gives_all (cond b (joined (given_of es line) e.given) (given_of es line)) ≡ true → e.line ≡ line
         by true is all = eqb-true e.line line is
         by false is all = absurd (cc (subst (λ k. gives_all k ≡ false) (sym (f.0 is)) not_all, all))

@@ -1,10 +1,8 @@
 -- That the calls keep what ties the control lines to the array.
 use Rattle.std.proofs.Common.{◌≡◌, ◌≢◌, ℕ, ◌+◌, ◌<◌, ◌≤◌, refl, sym, ap, subst, ◌∙◌, arith, Bool, true, false, Option, Some, None, eqb, eqb-true, eq-eqb}
 use Rattle.std.specs.Prelude.{IfSome, IsSomeAnd, IsTrue, is_some}
-use Rattle.pcm_cells.specs.Rows.{cell}
 use Rattle.pcm_cells.specs.Device.{ArrayState, LineState}
-use Rattle.ecp_line.specs.Layout.{Sound}
-use Rattle.ecp_line.specs.Reading.{decode, is_worn_line}
+use Rattle.ecp_line.specs.Reading.{decode, IsSoundLine, IsWornLine}
 use Rattle.line_writer.specs.declared.writer.LineWriter.{LineWriter}
 use Rattle.line_writer.specs.declared.writer.Progress.{Progress}
 use Rattle.line_writer.specs.declared.writer.Progress.TheVariants as progress
@@ -21,13 +19,6 @@ use Rattle.reg_lines.specs.Keeping.{keep_from, kept_on, broken_off}
 -- what contracts see of control lines, by their fields
 abbrev pub view_of : {n m e : ℕ} → Inside n m e → RegsState n m e
 view_of inside = record { base = inside.base; items = inside.items; change = inside.change; halted = inside.halted; writer = inside.writer }
-
--- the line is sound, or worn
-abbrev pub IsSoundLine : {n m : ℕ} → ℕ → LineState n m → Type 0
-IsSoundLine {n} {m} e line = Sound n m e (cell line.held) line.stuck
-
-abbrev IsWornLine : {n m : ℕ} → ℕ → LineState n m → Type 0
-IsWornLine e line = IsTrue (is_worn_line e line.held line.stuck)
 
 -- a line write that has just begun is not at a worn line
 pub begun-goes : (p : Progress) → HasBegun p → keep_from p ≢ keep.Halted

@@ -1,2 +1,1 @@
-pub mod Touched
 pub mod Held

@@ -91,8 +91,12 @@ impl<const B: usize, const M: usize, const E: usize> RegLines<B, M, E> {
         requires held { AreHeld self.old (A.state array.old) }
         ensures keeps { IsKeep self.old self.new result }
         ensures goes { result ≢ keep.Halted }
-        ensures touches { Touches tick (line_of self.old self.old.change) None false (A.state array.old) (A.state array.new) }
-        ensures done { result ≡ keep.Done → IfSome self.old.change (λ change. decode E ((A.state array.new).line (self.old.base + change.item)).held ≡ encoded B change.values) }
+        ensures touches { Touches tick (line_of self.old self.old.change) None false
+            (A.state array.old) (A.state array.new) }
+        ensures done { result ≡ keep.Done
+            → IfSome self.old.change
+            (λ change. decode E ((A.state array.new).line (self.old.base + change.item)).held
+            ≡ encoded B change.values) }
         ensures held { AreHeld self.new (A.state array.new) }
     {
         let Some(change) = self.change else {
@@ -108,8 +112,12 @@ impl<const B: usize, const M: usize, const E: usize> RegLines<B, M, E> {
         requires runs { IsTrue (is_some self.old.writer) }
         requires held { AreHeld self.old (A.state array.old) }
         ensures keeps { IsKeep self.old self.new result }
-        ensures touches { Touches tick (line_of self.old self.old.change) (target_of self.old self.old.change) false (A.state array.old) (A.state array.new) }
-        ensures done { result ≡ keep.Done → IfSome self.old.change (λ change. decode E ((A.state array.new).line (self.old.base + change.item)).held ≡ encoded B change.values) }
+        ensures touches { Touches tick (line_of self.old self.old.change) (target_of self.old self.old.change)
+            false (A.state array.old) (A.state array.new) }
+        ensures done { result ≡ keep.Done
+            → IfSome self.old.change
+            (λ change. decode E ((A.state array.new).line (self.old.base + change.item)).held
+            ≡ encoded B change.values) }
         ensures held { AreHeld self.new (A.state array.new) }
     {
         let Some(change) = self.change else {
@@ -129,7 +137,8 @@ impl<const B: usize, const M: usize, const E: usize> RegLines<B, M, E> {
         requires runs { IsTrue tearing → IsTrue (is_some self.old.writer) }
         requires held { AreHeld self.old (A.state array.old) }
         ensures regs { self.new ≡ broken_off self.old }
-        ensures touches { Touches tick [] (torn_line tearing self.old) tearing (A.state array.old) (A.state array.new) }
+        ensures touches { Touches tick [] (torn_line tearing self.old) tearing
+            (A.state array.old) (A.state array.new) }
         ensures held { AreHeld self.new (A.state array.new) }
     {
         if let Some(writer) = self.writer.take() {
@@ -146,7 +155,8 @@ impl<const B: usize, const M: usize, const E: usize> RegLines<B, M, E> {
         requires exists { item < self.now.items }
         requires held { self.now.base + self.now.items ≤ (A.state array.old).lines }
         ensures values { result ≡ values_held self.now (A.state array.old) item }
-        ensures touches { Touches tick ((self.now.base + item) ∷ []) None false (A.state array.old) (A.state array.new) }
+        ensures touches { Touches tick ((self.now.base + item) ∷ []) None false
+            (A.state array.old) (A.state array.new) }
     {
         let cells = array.sense(self.base + item, tick);
         match self.change {

@@ -1,10 +1,9 @@
--- One sense after another, and what a sense of a control line reads.
-use Rattle.std.proofs.Common.{◌≡◌, ℕ, ◌+◌, ◌<◌, false, List, [], ◌∷◌, ◌++◌, zero, suc, None, refl, sym, ap, subst, ◌∙◌, arith, append_assoc}
-use Rattle.std.proofs.lemmas.List.{append-nil}
-use Rattle.pcm_cells.specs.declared.array.Sense.{Sense}
-use Rattle.pcm_cells.specs.Device.{ArrayState, LineState, sense_of}
+-- That all control lines are sensed, one after another, and what a sense of one reads.
+use Rattle.std.proofs.Common.{◌≡◌, ℕ, ◌+◌, ◌<◌, false, List, [], ◌∷◌, ◌++◌, zero, suc, None, refl, sym, ap, subst, ◌∙◌, arith}
+use Rattle.pcm_cells.specs.Device.{ArrayState}
 use Rattle.bank_shape.specs.Shape.{controls_of}
-use Rattle.bank_model.specs.Touching.{Touches, shown}
+use Rattle.bank_model.specs.Touching.{Touches}
+use Rattle.bank_model.proofs.Touched.{touches-both}
 use Rattle.bank_model.specs.Changes.{numbers_from, all_controls}
 use Rattle.power_recovery.specs.Kept.{KeptState}
 use Rattle.reg_lines.specs.Regs.{RegsState, values_held}
@@ -31,42 +30,6 @@ numbers-both from (suc a) b =
     let same : from + suc a ≡ (from + 1) + a = omega arith in
     let more : suc a + b ≡ suc (a + b) = omega arith in
     ap (λ (x : ℕ). from ∷ (numbers_from (from + 1) a ++ numbers_from x b)) same ∙ ap (λ (xs : List ℕ). from ∷ xs) (numbers-both (from + 1) a b) ∙ ap (λ (k : ℕ). numbers_from from k) (sym more)
-
-module _ {n m : ℕ} where
-  -- what lines show that stay as they are
-  shown-both : (tick : ℕ) (xs ys : List ℕ) (mid new : ArrayState n m) → ((line : ℕ) → new.line line ≡ mid.line line)
-      → shown tick xs mid ++ shown tick ys new ≡ shown tick (xs ++ ys) new
-  shown-both tick [] ys mid new same = refl
-  shown-both tick (x ∷ xs) ys mid new same =
-      ap (λ (l : LineState n m). sense_of x tick l ∷ (shown tick xs mid ++ shown tick ys new)) (sym (same x))
-      ∙ ap (λ (s : List (Sense n m)). sense_of x tick (new.line x) ∷ s) (shown-both tick xs ys mid new same)
-
-  -- no line was sensed yet
-  pub touches-none : (tick : ℕ) (array : ArrayState n m) → Touches tick [] None false array array
-  touches-none tick array = record { lines = refl; others = λ at off. refl; pulses = λ at on. cc; sticks = λ at on. cc; tears = refl; log = λ after is. (after, is, sym (append-nil after)); wear = refl; bounds = refl }
-
-  -- senses after senses
-  pub touches-both : (tick : ℕ) (xs ys : List ℕ) (old mid new : ArrayState n m) → Touches tick xs None false old mid → Touches tick ys None false mid new
-      → Touches tick (xs ++ ys) None false old new
-  touches-both tick xs ys old mid new first second = record {
-    lines = second.lines ∙ first.lines;
-    others = λ at off. second.others at refl ∙ first.others at refl;
-    pulses = λ at on. cc;
-    sticks = λ at on. cc;
-    tears = second.tears ∙ first.tears;
-    wear = second.wear ∙ first.wear;
-    bounds = second.bounds ∙ first.bounds;
-    log = λ after is.
-        let late = second.log after is in
-        let early = first.log late.0 late.1 in (
-          early.0,
-          early.1,
-          late.2
-              ∙ ap (λ (s : List (Sense n m)). s ++ shown tick ys new) early.2
-              ∙ append_assoc early.0 (shown tick xs mid) (shown tick ys new)
-              ∙ ap (λ (s : List (Sense n m)). early.0 ++ s) (shown-both tick xs ys mid new (λ line. second.others line refl)),
-        );
-  }
 
 module _ {n m e : ℕ} where
   -- what can be read back is on the lines

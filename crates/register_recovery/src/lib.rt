@@ -28,8 +28,10 @@ pub fn recover<A: CellArray<B, M>, const B: usize, const M: usize, const E: usiz
     requires served { bank.old.waiting ≡ [] }
     requires taken { bank.old.lost ≡ [] }
     requires readable { (kept : KeptState B) × IsReadable kept bank.old.kept regs.now (A.state array.old) }
-    ensures kept { (kept : KeptState B) → IsReadable kept bank.old.kept regs.now (A.state array.old) → bank.new ≡ with_kept bank.old kept }
-    ensures touches { Touches tick (all_controls bank.old.kept.shape) None false (A.state array.old) (A.state array.new) }
+    ensures kept { (kept : KeptState B) → IsReadable kept bank.old.kept regs.now (A.state array.old)
+        → bank.new ≡ with_kept bank.old kept }
+    ensures touches { Touches tick (all_controls bank.old.kept.shape) None false
+        (A.state array.old) (A.state array.new) }
     ensures tied { (kept : KeptState B) → IsReadable kept bank.old.kept regs.now (A.state array.old)
         → IsTied (with_kept bank.old kept) (A.state array.old) → IsTied bank.new (A.state array.new) }
 {
@@ -47,8 +49,10 @@ fn recover_regions<A: CellArray<B, M>, const B: usize, const M: usize, const E: 
 )
     requires layout { IsLayout B M E }
     requires readable { (kept : KeptState B) × IsReadable kept bank.old.kept regs.now (A.state array.old) }
-    ensures kept { (kept : KeptState B) → IsReadable kept bank.old.kept regs.now (A.state array.old) → bank.new ≡ with_kept bank.old (spares_back 0 kept) }
-    ensures touches { Touches tick (numbers_from regs.now.base bank.old.kept.shape.regions) None false (A.state array.old) (A.state array.new) }
+    ensures kept { (kept : KeptState B) → IsReadable kept bank.old.kept regs.now (A.state array.old)
+        → bank.new ≡ with_kept bank.old (spares_back 0 kept) }
+    ensures touches { Touches tick (numbers_from regs.now.base bank.old.kept.shape.regions) None false
+        (A.state array.old) (A.state array.new) }
 {
     let shape = *bank.kept().shape();
     for i in 0..shape.regions {
@@ -65,9 +69,12 @@ fn recover_spares<A: CellArray<B, M>, const B: usize, const M: usize, const E: u
     tick: u64,
 )
     requires layout { IsLayout B M E }
-    requires readable { (kept : KeptState B) × (bank.old.kept ≡ spares_back 0 kept) × IsOnLines kept regs.now (A.state array.old) }
-    ensures kept { (kept : KeptState B) → bank.old.kept ≡ spares_back 0 kept → IsOnLines kept regs.now (A.state array.old) → bank.new ≡ with_kept bank.old (mark_back kept) }
-    ensures touches { Touches tick (numbers_from (regs.now.base + bank.old.kept.shape.regions) bank.old.kept.shape.spares) None false (A.state array.old) (A.state array.new) }
+    requires readable { (kept : KeptState B) × (bank.old.kept ≡ spares_back 0 kept)
+        × IsOnLines kept regs.now (A.state array.old) }
+    ensures kept { (kept : KeptState B) → bank.old.kept ≡ spares_back 0 kept
+        → IsOnLines kept regs.now (A.state array.old) → bank.new ≡ with_kept bank.old (mark_back kept) }
+    ensures touches { Touches tick (numbers_from (regs.now.base + bank.old.kept.shape.regions)
+        bank.old.kept.shape.spares) None false (A.state array.old) (A.state array.new) }
 {
     let shape = *bank.kept().shape();
     for j in 0..shape.spares {
@@ -86,8 +93,10 @@ fn recover_mark<A: CellArray<B, M>, const B: usize, const M: usize, const E: usi
     tick: u64,
 )
     requires layout { IsLayout B M E }
-    requires readable { (kept : KeptState B) × (bank.old.kept ≡ mark_back kept) × IsOnLines kept regs.now (A.state array.old) }
-    ensures kept { (kept : KeptState B) → bank.old.kept ≡ mark_back kept → IsOnLines kept regs.now (A.state array.old) → bank.new ≡ with_kept bank.old kept }
+    requires readable { (kept : KeptState B) × (bank.old.kept ≡ mark_back kept)
+        × IsOnLines kept regs.now (A.state array.old) }
+    ensures kept { (kept : KeptState B) → bank.old.kept ≡ mark_back kept
+        → IsOnLines kept regs.now (A.state array.old) → bank.new ≡ with_kept bank.old kept }
     ensures touches { Touches tick ((regs.now.base + (bank.old.kept.shape.regions + bank.old.kept.shape.spares)) ∷ []) None false (A.state array.old) (A.state array.new) }
 {
     let shape = *bank.kept().shape();

@@ -41,7 +41,8 @@ pub fn read_digits<const B: usize>(digits: &[u8]) -> Option<Option<[u8; B]>>
     requires some_size { 1 ≤ B }
     requires size { B ≤ 128 }
     ensures some { IfSome result (λ bytes. ForSome bytes (AreBytes B) × (digits.now ≡ hex_or_empty bytes)) }
-    ensures none { IfNone result ((bytes : Option (List ℕ)) → ForSome bytes (AreBytes B) → digits.now ≢ hex_or_empty bytes) }
+    ensures none { IfNone result ((bytes : Option (List ℕ)) → ForSome bytes (AreBytes B)
+        → digits.now ≢ hex_or_empty bytes) }
 {
     if digits.is_empty() {
         return Some(None);

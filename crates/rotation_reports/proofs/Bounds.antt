@@ -1,8 +1,6 @@
 -- How large the numbers of a row are.
-use Rattle.std.proofs.Common.{◌≡◌, ℕ, zero, suc, ◌+◌, ◌*◌, ◌^◌, ◌<◌, ◌≤◌, List, [], ◌∷◌, inl, inr, lit<, append_assoc, refl, arith}
+use Rattle.std.proofs.Common.{◌≡◌, ℕ, ◌+◌, ◌*◌, ◌<◌, ◌≤◌, List, [], ◌∷◌, append_assoc, refl, arith}
 use Rattle.std.specs.Prelude.{codes, decimal}
-use Rattle.std.proofs.lemmas.Bool.{cases_lt}
-use Rattle.std.proofs.Math.Nat.{pow-le-pow_right}
 use Rattle.pcm_io.specs.Reserved.{Reserved, appended}
 use Rattle.start_gap.specs.declared.Move.{Move}
 use Rattle.start_gap.specs.Rotation.{place_after, move_after}
@@ -23,23 +21,6 @@ region_few region lines p q = mul-le region (lines + 1) 15 4097 (omega arith) (o
 
 pub bank_few : (bank array_lines : ℕ) → bank < 16 → array_lines ≤ 67617 → bank * array_lines ≤ 1014255
 bank_few bank array_lines p q = mul-le bank array_lines 15 67617 (omega arith) q
-
--- the bits of the numbers of a module's lines
-pub bits_some : (r n : ℕ) → 4 ≤ n → n < 2 * 2 ^ r → 2 ≤ r
-bits_some zero n some high = absurd (omega arith)
-bits_some (suc zero) n some high = absurd (omega arith)
-bits_some (suc (suc r)) n some high = omega arith
-
-pub bits_few : (r n : ℕ) → n ≤ 65536 → 2 ^ r ≤ n → r ≤ 16
-bits_few r n few low =
-    elim (cases_lt 16 r) [
-      | inl more ↦ absurd (omega (arith, pow-le-pow_right {n = 2} (lit< tt) {i = 17} {j = r} more))
-      | inr less ↦ less
-    ]
-
--- a module has at least four lines
-pub lines_some : (banks regions lines : ℕ) → 1 ≤ banks → 1 ≤ regions → 4 ≤ lines → 4 ≤ banks * regions * lines
-lines_some banks regions lines p q r = mul-le 1 4 (banks * regions) lines (mul-le 1 1 banks regions p q) r
 
 -- the fields of a row, put behind a text one by one
 pub six_fields : (t : Reserved) (a b c d e f : List ℕ) →

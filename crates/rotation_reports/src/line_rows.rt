@@ -132,7 +132,8 @@ fn array_line(options: &MapOptions, address: Address, place: u32) -> u32
     requires bank { address.bank < options.now.banks }
     requires region { address.region < options.now.regions }
     requires place { place ≤ options.now.lines }
-    ensures { result ≡ address.bank * array_lines_of options.now + slot_at options.now.lines address.region place }
+    ensures { result ≡ address.bank * array_lines_of options.now
+        + slot_at options.now.lines address.region place }
 {
     address.bank * array_lines(options) + (address.region * (options.lines + 1) + place)
 }

@@ -7,6 +7,7 @@ use Rattle.result_rows.specs.declared.Outcome.{Outcome}
 use Rattle.result_rows.specs.declared.Outcome.TheVariants as out
 use Rattle.row_rules.specs.declared.Row.{Row}
 use Rattle.row_rules.specs.Ticking.{apart}
+use Rattle.masked_bytes.proofs.Truth.{and_true}
 use Rattle.row_judging.specs.Distances.{later_of, is_far_below, end_above, ends_above, wait_above, waits_above, end_to, last_end, read_to, last_read, is_apart, ends_behind, ApartLaw}
 
 and_turn : (a b c : Bool) → (a && (b && c)) ≡ (b && (a && c))
@@ -22,10 +23,6 @@ and_group false b c = refl
 or_false : (a b : Bool) → a ≡ false → (a || b) ≡ b
 or_false true b h = absurd (cc)
 or_false false b h = refl
-
-and_true : (a : Bool) → (a && true) ≡ a
-and_true true = refl
-and_true false = refl
 
 -- behind the greater of two is behind both
 pub far_later : (read u v : ℕ) (found : Option ℕ) → is_far_below read u (later_of v found) ≡ (nat_le (v + read) u && is_far_below read u found)

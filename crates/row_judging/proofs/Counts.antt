@@ -3,23 +3,23 @@ use Rattle.std.proofs.Common.{◌≡◌, ℕ, ◌+◌, ◌<◌, ◌≤◌, ◌==
 use Rattle.std.specs.Prelude.{nat_le, nat_lt, not, min, max, reverse, filter, count_by}
 use Rattle.std.specs.List.{list_all}
 use Rattle.std.specs.List.Sorted.{IsPermutation}
-use Rattle.std.proofs.lemmas.Bool.{le-leb, leb-true, lt-leb, lt-ltb, ltb-true, le-ltb, cases_lt, eq-eqb, ne_eqb}
+use Rattle.std.proofs.lemmas.Bool.{le-leb, lt-leb, lt-ltb, le-ltb, cases_lt, ne_eqb}
 use Rattle.std.proofs.lemmas.List.Sorted.{sum_by-IsPermutation, IsPermutation-reverse, IsPermutation-append_left}
 use Rattle.std.proofs.lemmas.List.Sums.{sum_by-append}
 use Rattle.result_rows.specs.declared.Outcome.{Outcome}
 use Rattle.result_rows.specs.declared.Outcome.TheVariants as out
-use Rattle.row_rules.specs.declared.Asks.{Asks}
 use Rattle.row_rules.specs.declared.Row.{Row}
 use Rattle.row_rules.specs.Answers.{is_stored, stored_after, stored_by, stored_before}
 use Rattle.row_rules.specs.Rows.{asks_write, write_of}
 use Rattle.row_rules.specs.Queueing.{least, store_of, next_store, is_first}
 use Rattle.row_rules.specs.Ticking.{store_up_to, last_store, stores_in}
+use Rattle.masked_bytes.proofs.Truth.{or_false}
 use Rattle.row_judging.specs.Standing.{at_end}
 use Rattle.row_judging.specs.Counting.{line_stores, FirstByCountLaw, LastByCountLaw}
 use Rattle.row_judging.proofs.Cuts.{count-cons}
 
 -- one where the test holds
-abbrev one_if : Bool → ℕ
+abbrev pub one_if : Bool → ℕ
 one_if b = cond b 1 0
 
 pub count-same : {A : Type 0} (p q : A → Bool) → ((x : A) → p x ≡ q x) → (xs : List A) → count_by p xs ≡ count_by q xs
@@ -66,10 +66,6 @@ either_least u v e = by (cases_lt e u) (cases_lt e v)
     by (inl a) (inr b) = le-leb (min u v) e (omega (arith, b)) ∙ sym (ap (λ c. c || nat_le v e) (lt-leb u e a) ∙ le-leb v e b)
     by (inl a) (inl b) = lt-leb (min u v) e (omega (arith, a, b)) ∙ sym (ap (λ c. c || nat_le v e) (lt-leb u e a) ∙ lt-leb v e b)
 
-or_false : (a : Bool) → a ≡ (a || false)
-or_false true = refl
-or_false false = refl
-
 by_least : (e v : ℕ) (found : Option ℕ) → comes_by e (least found v) ≡ (comes_by e found || nat_le v e)
 by_least e v None = refl
 by_least e v (Some u) = either_least u v e
@@ -81,7 +77,7 @@ some_more true c j k is number = or_true c ∙ sym (lt-ltb 0 j (omega (arith, nu
     or_true : (c : Bool) → (c || true) ≡ true
     or_true true = refl
     or_true false = refl
-some_more false c j k is number = sym (or_false c) ∙ is ∙ ap (nat_lt 0) (let e : k ≡ j = omega (arith, number) in e)
+some_more false c j k is number = or_false c ∙ is ∙ ap (nat_lt 0) (let e : k ≡ j = omega (arith, number) in e)
 
 module _ {n : ℕ} (t line e : ℕ) where
   next_is : (rows : List (Row n)) → comes_by e (next_store t line rows) ≡ nat_lt 0 (line_stores line t e rows)
@@ -117,7 +113,7 @@ module _ {n : ℕ} (t line e : ℕ) where
       by own (out.Lost v) is k number ih = none own k number ih
       by own (out.Cut v) is k number ih = none own k number ih
 
-before_next : (u v : ℕ) → not (nat_lt v u) ≡ nat_le u v
+pub before_next : (u v : ℕ) → not (nat_lt v u) ≡ nat_le u v
 before_next u v = by (cases_lt v u)
   where
     by : (v < u) ⊎ (u ≤ v) → not (nat_lt v u) ≡ nat_le u v

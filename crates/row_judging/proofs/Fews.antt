@@ -1,11 +1,12 @@
 -- At most one element of a kind, told by their number and by a test of each.
-use Rattle.std.proofs.Common.{◌≡◌, ℕ, ◌+◌, ◌≤◌, ◌&&◌, ◌||◌, Bool, true, false, List, [], ◌∷◌, length, refl, sym, ap, ◌∙◌, cond, arith}
+use Rattle.std.proofs.Common.{◌≡◌, ℕ, ◌+◌, ◌&&◌, ◌||◌, Bool, true, false, List, [], ◌∷◌, length, refl, sym, ap, ◌∙◌, cond, arith}
 use Rattle.std.specs.Prelude.{nat_le, nat_lt, not, filter, count_by}
 use Rattle.std.specs.List.{list_all}
 use Rattle.std.proofs.lemmas.Bool.{le-leb, lt-leb}
 use Rattle.std.proofs.lemmas.List.Sums.{length-filter}
 use Rattle.row_rules.specs.declared.Row.{Row}
 use Rattle.row_rules.specs.Queueing.{none_before, is_older, has_few, is_refused}
+use Rattle.masked_bytes.proofs.Truth.{and_true}
 use Rattle.row_judging.specs.Few.{few_by}
 use Rattle.row_judging.proofs.Cuts.{count-cons}
 
@@ -18,10 +19,6 @@ none_own {A} own one (x ∷ xs) h = by (own x) h (none_own own one xs)
         → ((not b || one x) && list_all (λ x. not (own x) || one x) xs) ≡ true
     by true h ih = absurd (cc)
     by false h ih = ih h
-
-and_true : (a : Bool) → a ≡ (a && true)
-and_true true = refl
-and_true false = refl
 
 -- a function of the own ones that is true of none, a test of one and false of more
 pub few_filter : {A : Type 0} (own one : A → Bool) (few : List A → Bool) → few [] ≡ true → ((x : A) → few (x ∷ []) ≡ one x)
@@ -36,7 +33,7 @@ few_filter {A} own one few e0 e1 e2 (x ∷ xs) =
         let c : length (filter own xs) ≡ count_by own xs = length-filter own xs in
         let z : length (filter own xs) ≡ 0 = ap length is in
         e1 x
-        ∙ and_true (one x)
+        ∙ sym (and_true (one x))
         ∙ ap (λ b. one x && b) (sym (none_own own one xs is))
         ∙ ap (λ b. b && (one x && list_all (λ x. not (own x) || one x) xs)) (sym (le-leb k 1 (omega (arith, c, z, number))))
     rest (y ∷ ys) k is number =

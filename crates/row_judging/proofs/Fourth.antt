@@ -10,10 +10,7 @@ use Rattle.row_rules.specs.Ticking.{came_since}
 use Rattle.row_judging.specs.Rising.{falling}
 use Rattle.row_judging.specs.Coming.{came, fourth_from, FourthLaw}
 use Rattle.row_judging.proofs.Cuts.{count-cons}
-
--- one where the test holds
-abbrev one_if : Bool → ℕ
-one_if b = cond b 1 0
+use Rattle.row_judging.proofs.Counts.{one_if}
 
 -- these are at most t and don't rise
 abbrev sinking : ℕ → List ℕ → Bool

@@ -1,9 +1,9 @@
 -- Whether a write is first to leave the queue, by the least tick at which one is stored.
-use Rattle.std.proofs.Common.{◌≡◌, ℕ, ◌<◌, ◌≤◌, ◌&&◌, ◌||◌, ◌⊎◌, inl, inr, Bool, true, false, List, [], ◌∷◌, Option, Some, None, refl, sym, ap, ◌∙◌, cond, arith}
+use Rattle.std.proofs.Common.{◌≡◌, ℕ, ◌<◌, ◌≤◌, ◌&&◌, ◌||◌, ◌⊎◌, inl, inr, Bool, true, false, List, [], ◌∷◌, Option, Some, None, sym, ap, ◌∙◌, cond, arith}
 use Rattle.masked_bytes.proofs.Truth.{and_first, and_second}
-use Rattle.std.specs.Prelude.{nat_le, nat_lt, not, min}
+use Rattle.std.specs.Prelude.{nat_le, not, min}
 use Rattle.std.specs.List.{list_all}
-use Rattle.std.proofs.lemmas.Bool.{le-leb, lt-leb, lt-ltb, ltb-true, le-ltb, cases_lt}
+use Rattle.std.proofs.lemmas.Bool.{le-leb, lt-leb, ltb-true, cases_lt}
 use Rattle.result_rows.specs.declared.Outcome.{Outcome}
 use Rattle.result_rows.specs.declared.Outcome.TheVariants as out
 use Rattle.row_rules.specs.declared.Row.{Row}
@@ -11,6 +11,7 @@ use Rattle.row_rules.specs.Answers.{is_stored, stored_before}
 use Rattle.row_rules.specs.Rows.{write_of}
 use Rattle.row_rules.specs.Queueing.{none_before, is_first}
 use Rattle.row_judging.specs.Heads.{end_of, leave_of, least_end, least_other, next_of, stored_below, all_stored_below, NoneBeforeLaw, FirstLaw}
+use Rattle.row_judging.proofs.Counts.{before_next}
 
 -- at most the lesser of two is at most both
 under_both : (u v w : ℕ) → nat_le u (min v w) ≡ (nat_le u v && nat_le u w)
@@ -21,17 +22,10 @@ under_both u v w = by (cases_lt v u) (cases_lt w u)
     by (inr a) (inl b) = lt-leb u (min v w) (omega (arith, b)) ∙ sym (ap (λ c. c && nat_le u w) (le-leb u v a) ∙ lt-leb u w b)
     by (inr a) (inr b) = le-leb u (min v w) (omega (arith, a, b)) ∙ sym (ap (λ c. c && nat_le u w) (le-leb u v a) ∙ le-leb u w b)
 
-not_before : (u v : ℕ) → not (nat_lt v u) ≡ nat_le u v
-not_before u v = by (cases_lt v u)
-  where
-    by : (v < u) ⊎ (u ≤ v) → not (nat_lt v u) ≡ nat_le u v
-    by (inl a) = ap not (lt-ltb v u a) ∙ sym (lt-leb u v a)
-    by (inr a) = ap not (le-ltb v u a) ∙ sym (le-leb u v a)
-
 module _ {n : ℕ} (never : ℕ) where
   -- a tick up to never
   before_one : (u : ℕ) → u ≤ never → (o : Outcome n) → not (stored_before u o) ≡ nat_le u (end_of never o)
-  before_one u le (out.Stored v place) = not_before u v
+  before_one u le (out.Stored v place) = before_next u v
   before_one u le out.Unset = sym (le-leb u never le)
   before_one u le (out.Merged v) = sym (le-leb u never le)
   before_one u le (out.Queued v) = sym (le-leb u never le)

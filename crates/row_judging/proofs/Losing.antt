@@ -13,10 +13,6 @@ use Rattle.row_judging.specs.Distances.{wait_above, waits_above}
 use Rattle.row_judging.specs.Standing.{is_own}
 use Rattle.row_judging.specs.Lost.{lost_since, WaitingLaw}
 
-and_false : (b : Bool) → (b && false) ≡ false
-and_false true = refl
-and_false false = refl
-
 module _ {n : ℕ} (t : ℕ) where
   -- no read that waits, and none that is lost
   none : (w : Bool) (q : Row n) (waits : List ℕ) (ps : List (Row n)) (k : ℕ) → length ps ≡ length waits + k

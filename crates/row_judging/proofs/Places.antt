@@ -1,6 +1,6 @@
 -- Counts of a bank's rows by sorted keys.
 use Rattle.std.proofs.Common.{◌≡◌, ℕ, zero, suc, ◌+◌, ◌<◌, ◌≤◌, ◌==◌, ◌&&◌, ◌⊎◌, inl, inr, Bool, true, false, List, [], ◌∷◌, length, refl, ap, ◌∙◌, cond, arith}
-use Rattle.masked_bytes.proofs.Truth.{and_first, and_second}
+use Rattle.masked_bytes.proofs.Truth.{and_first, and_second, and_false}
 use Rattle.std.specs.Prelude.{nat_le, nat_lt, count_by, slice_index_or}
 use Rattle.std.proofs.lemmas.Bool.{le-leb, lt-leb, lt-ltb, ltb-true, le-ltb, cases_lt, cases_order, eq-eqb, ne_eqb}
 use Rattle.std.proofs.lemmas.List.Sorted.{sum_by-IsPermutation}
@@ -15,10 +15,7 @@ use Rattle.row_rules.specs.Table.{is_of, of_bank}
 use Rattle.row_rules.specs.Ticking.{stores_in, reads_in}
 use Rattle.row_judging.specs.Keys.{reach, key, up_to, is_short, all_short, store_key, store_keys, read_key, read_keys, PlaceLaw, CountLaw}
 use Rattle.row_judging.proofs.Cuts.{count-cons}
-
--- one where the test holds
-abbrev one_if : Bool → ℕ
-one_if b = cond b 1 0
+use Rattle.row_judging.proofs.Counts.{one_if}
 
 -- behind the first place that fails, none passes
 none_passes : (p : ℕ → Bool) (keys : List ℕ) → ((k d : ℕ) → k < length keys → p (slice_index_or keys k d) ≡ false) → count_by p keys ≡ 0
@@ -64,10 +61,6 @@ up_to-more j k (x ∷ keys) le =
         let i : one_if (nat_le x j) ≡ 1 = ap one_if (le-leb x j l) in
         let h : one_if (nat_le x k) ≡ 1 = ap one_if (le-leb x k (omega (arith, l, le))) in
         omega (arith, a, b, r, i, h)
-
-and_false : (b : Bool) → (b && false) ≡ false
-and_false true = refl
-and_false false = refl
 
 -- what a key adds to the count up to u over that up to a, of its own bank and of another
 step : (bank other a u v : ℕ) → a ≤ u → u < reach → v < reach

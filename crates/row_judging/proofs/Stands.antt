@@ -12,10 +12,6 @@ use Rattle.row_rules.specs.Queueing.{pending, waiting}
 use Rattle.row_judging.specs.Distances.{end_above, ends_above, wait_above, waits_above}
 use Rattle.row_judging.specs.Standing.{is_own, at_end, at_read, StandLaw}
 
-or_false : (a : Bool) → (a || false) ≡ a
-or_false true = refl
-or_false false = refl
-
 module _ {n : ℕ} (t : ℕ) (test : ℕ → Bool) where
   -- what passes anyway adds nothing
   skip : (s : Bool) (q : Row n) (f : Row n → Bool) (ps : List (Row n)) (k : Bool) → f q ≡ true → k ≡ list_all f ps → k ≡ list_all f (cond s (q ∷ ps) ps)

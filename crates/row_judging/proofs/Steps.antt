@@ -9,6 +9,7 @@ use Rattle.row_rules.specs.declared.Row.{Row}
 use Rattle.row_rules.specs.Answers.{stored_after, stored_by, read_after, read_by, is_queued, is_merged, is_lost}
 use Rattle.row_rules.specs.Rows.{accepted, accepted_of, asks_read, is_cut, line_of}
 use Rattle.row_rules.specs.Queueing.{stands, pending, awaits, waiting}
+use Rattle.masked_bytes.proofs.Truth.{or_false, and_true}
 use Rattle.row_judging.specs.Steps.{stays, stays_behind, waits_on, waits_behind, SettleLaw, StepLaw}
 
 -- a list that is kept by a sharper test, one element more
@@ -28,14 +29,6 @@ over t u v le = by (cases_lt u v)
         and_false true = refl
         and_false false = refl
 
-or_false : (a : Bool) → (a || false) ≡ a
-or_false true = refl
-or_false false = refl
-
-and_true : (a : Bool) → a ≡ (a && true)
-and_true true = refl
-and_true false = refl
-
 or_group : (a b c m : Bool) → m ≡ (b || c) → (a || m) ≡ ((a || b) || c)
 or_group true b c m is = refl
 or_group false b c m is = is
@@ -46,7 +39,7 @@ module _ {n : ℕ} where
   stands_later t u le false m o = refl
   stands_later t u le true m (out.Stored v place) = or_false (nat_lt u v) ∙ over t u v le ∙ ap (λ b. b && not (nat_le v u)) (sym (or_false (nat_lt t v)))
   stands_later t u le true m out.Unset = refl
-  stands_later t u le true m (out.Merged v) = and_true m
+  stands_later t u le true m (out.Merged v) = sym (and_true m)
   stands_later t u le true m (out.Queued v) = refl
   stands_later t u le true m (out.Full v) = refl
   stands_later t u le true m (out.Worn v) = refl
@@ -68,7 +61,7 @@ module _ {n : ℕ} where
   awaits_later t u le true m (out.Worn v) = refl
   awaits_later t u le true m (out.Forwarded v bytes) = refl
   awaits_later t u le true m (out.Busy v) = refl
-  awaits_later t u le true m (out.Lost v) = and_true m
+  awaits_later t u le true m (out.Lost v) = sym (and_true m)
   awaits_later t u le true m (out.Cut v) = refl
 
   writes_later : (t u : ℕ) → t ≤ u → (between rows : List (Row n)) → pending u between rows ≡ filter (stays u) (pending t between rows)
@@ -94,7 +87,7 @@ module _ {n : ℕ} where
       by : (l r : Bool) → not (l || r) ≡ (not l && not r)
       by true r = refl
       by false r = refl
-  stands_behind t true m l r (out.Stored v place) is = and_true (nat_lt t v || false)
+  stands_behind t true m l r (out.Stored v place) is = sym (and_true (nat_lt t v || false))
   stands_behind t true m l r out.Unset is = refl
   stands_behind t true m l r (out.Queued v) is = refl
   stands_behind t true m l r (out.Full v) is = refl
@@ -113,7 +106,7 @@ module _ {n : ℕ} where
       by : (l r : Bool) → not (l || r) ≡ (not l && not r)
       by true r = refl
       by false r = refl
-  awaits_behind t true m l r (out.Read v place bytes) is = and_true (nat_lt t v || false)
+  awaits_behind t true m l r (out.Read v place bytes) is = sym (and_true (nat_lt t v || false))
   awaits_behind t true m l r out.Unset is = refl
   awaits_behind t true m l r (out.Stored v place) is = refl
   awaits_behind t true m l r (out.Merged v) is = refl

@@ -1,9 +1,9 @@
 -- What the laws of a bank's table say of a row, by its outcome.
-use Rattle.std.proofs.Common.{◌≡◌, ℕ, ◌+◌, ◌-◌, ◌*◌, ◌/◌, ◌%◌, ◌<◌, ◌≤◌, ◌==◌, ◌&&◌, ◌||◌, not, Bool, true, false, List, [], ◌∷◌, length, Some, inl, inr, ◌⊎◌, refl, sym, ap, ◌∙◌, subst, arith, cond, eqb-true}
+use Rattle.std.proofs.Common.{◌≡◌, ℕ, ◌+◌, ◌-◌, ◌*◌, ◌/◌, ◌%◌, ◌<◌, ◌≤◌, ◌==◌, ◌&&◌, ◌||◌, not, Bool, true, false, List, [], ◌∷◌, length, Some, inl, inr, refl, sym, ap, ◌∙◌, subst, arith, cond, eqb-true}
 use Rattle.masked_bytes.proofs.Truth.{and_first, and_second}
 use Rattle.std.specs.Prelude.{nat_le, All, map}
 use Rattle.std.specs.Option.{ForSome}
-use Rattle.std.proofs.lemmas.Bool.{ltb-true, leb-true}
+use Rattle.std.proofs.lemmas.Bool.{ltb-true, leb-true, or_cases}
 use Rattle.std.proofs.lemmas.List.Elements.{All-nil, All-cons, All-head, All-tail}
 use Rattle.result_rows.specs.declared.Op.{Op}
 use Rattle.result_rows.specs.declared.Op.TheVariants as op
@@ -29,10 +29,6 @@ use Rattle.bank_laws.specs.Places.{is_place_after, is_place_about, outcome_place
 use Rattle.place_laws.proofs.Slots.{slot_moved-within}
 use Rattle.run_laws.specs.RowsOfRuns.{op_asked}
 use Rattle.run_laws.proofs.Lifting.{Each}
-
-one_of : (a b : Bool) → (a || b) ≡ true → (a ≡ true) ⊎ (b ≡ true)
-one_of true b h = inl refl
-one_of false b h = inr h
 
 -- an outcome that a row may have is of its operation
 pub own_outcome : {n : ℕ} (tick : ℕ) (asks : Asks n) (newest : List ℕ) (o : Outcome n) → may_have tick asks newest o ≡ true → op_of o ≡ Some (op_asked asks)
@@ -94,7 +90,7 @@ pub record IsOfBank (shape : BankShape) (place : ℕ) : Type 0 where
 module _ (shape : BankShape) (worn : ℕ → Bool) (line place : ℕ) (some : 1 ≤ shape.lines) (of : line < shape.regions * shape.lines) where
   after-of_bank : (moves : ℕ) → is_place_after shape worn line place moves ≡ true → IsOfBank shape place
   after-of_bank moves h =
-      elim (one_of (place == shape.base + slot_moved shape line moves) _ h) [
+      elim (or_cases (place == shape.base + slot_moved shape line moves) _ h) [
         | inl home ↦
             let within = slot_moved-within shape line moves some of in
             let at : place ≡ shape.base + slot_moved shape line moves = eqb-true place (shape.base + slot_moved shape line moves) home in
@@ -108,7 +104,7 @@ module _ (shape : BankShape) (worn : ℕ → Bool) (line place : ℕ) (some : 1 
 
   about-of_bank : (count : ℕ) → is_place_about shape worn line place count ≡ true → IsOfBank shape place
   about-of_bank count h =
-      elim (one_of (is_place_after shape worn line place (count / shape.psi)) _ h) [
+      elim (or_cases (is_place_after shape worn line place (count / shape.psi)) _ h) [
         | inl now ↦ after-of_bank (count / shape.psi) now
         | inr due ↦ after-of_bank (count / shape.psi - 1) (and_second (not (count == 0)) _ (and_second (count % shape.psi == 0) _ due))
       ]

@@ -22,7 +22,7 @@ use Rattle.bank_laws.specs.Outcomes.{table_of}
 use Rattle.module_shape.specs.declared.raw.RawShape.{RawShape}
 use Rattle.module_shape.specs.Limits.{IsShape, total_of}
 use Rattle.module_shape.specs.Addresses.{module_of, array_lines_of, bank_shape}
-use Rattle.table_laws.specs.Whole.{WholeTableLaw, WholePlaceLaw, WholeLogLaw, WholeRoomLaw}
+use Rattle.bank_laws.specs.Whole.{WholeTableLaw, WholePlaceLaw, WholeLogLaw, WholeRoomLaw}
 use Rattle.module_laws.specs.Asking.{Asked, row_with}
 use Rattle.module_laws.specs.Serves.{BankTableLaw, ServedByBanksLaw, RoomByBankLaw, IsOfLines}
 use Rattle.bank_invariant.specs.Tied.{decoded}

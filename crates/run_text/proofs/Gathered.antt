@@ -1,6 +1,6 @@
 -- What a sink got and what a text holds: how both together grow, and what is written in the end.
 use Rattle.std.proofs.Common.{◌≡◌, ℕ, ◌+◌, List, [], ◌∷◌, ◌++◌, length, Option, refl, sym, ap, subst, ◌∙◌, arith, append_assoc}
-use Rattle.std.specs.Prelude.{Result, Ok, Err, OnErr}
+use Rattle.std.specs.Prelude.{Result, Ok, Err, OnOk, OnErr}
 use Rattle.std.proofs.lemmas.List.{append-nil}
 use Rattle.std.specs.Io.KnownBytes.{Appends}
 use Rattle.pcm_io.specs.Giving.{AppendsPrefix}
@@ -94,3 +94,12 @@ wear_text-part a b rows later part =
 pub on_err_any : {T E : Type 0} (r : Result T E) (P : Type 0) → P → OnErr r P
 on_err_any (Ok x) P h = tt
 on_err_any (Err e) P h = h
+
+-- a fact that follows from what holds of an answer holds of it
+pub on_ok : {T E : Type 0} (r : Result T E) (P Q : Type 0) → OnOk r P → (P → Q) → OnOk r Q
+on_ok (Ok x) P Q h f = f h
+on_ok (Err e) P Q h f = tt
+
+pub on_err : {T E : Type 0} (r : Result T E) (P Q : Type 0) → OnErr r P → (P → Q) → OnErr r Q
+on_err (Ok x) P Q h f = tt
+on_err (Err e) P Q h f = f h

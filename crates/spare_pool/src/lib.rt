@@ -66,7 +66,8 @@ impl Remap {
         requires { slot < self.now.slots }
         ensures line { result ≡ line_by self.now slot }
         ensures within { result < self.now.slots + used_by self.now }
-        ensures apart { (other : ℕ) → other < self.now.slots → line_by self.now other ≡ result → other ≡ slot }
+        ensures apart { (other : ℕ) → other < self.now.slots → line_by self.now other ≡ result
+            → other ≡ slot }
         ensures in_range { IsTable self.now }
     {
         self.lines[slot as usize]
@@ -150,8 +151,10 @@ impl Remap {
     fn only_taker(&self, line: u32) -> Option<u32>
         requires { line < self.now.slots + self.now.spares }
         ensures free { IfNone result (self.now.slots + used_by self.now ≤ line) }
-        ensures given { IfSome result (λ slot. (slot < self.now.slots) × (line < self.now.slots + used_by self.now)) }
-        ensures only { IfSome result (λ slot. (other : ℕ) → other < self.now.slots → line_by self.now other ≡ line → other ≡ slot) }
+        ensures given { IfSome result (λ slot. (slot < self.now.slots)
+            × (line < self.now.slots + used_by self.now)) }
+        ensures only { IfSome result (λ slot. (other : ℕ) → other < self.now.slots
+            → line_by self.now other ≡ line → other ≡ slot) }
     {
         let slots = self.lines.len() as u32;
         if line < slots {

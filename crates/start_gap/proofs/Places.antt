@@ -1,5 +1,5 @@
 -- One move takes one line into the gap and leaves all others; the same in closed form, for every number of moves.
-use Rattle.std.proofs.Common.{◌≡◌, ◌≢◌, ℕ, true, false, ◌+◌, ◌-◌, ◌*◌, ◌/◌, ◌%◌, ◌<◌, ◌≤◌, ◌==◌, if◌then◌else◌, nat_lt, inl, inr, sym, ◌∙◌, ap, arith}
+use Rattle.std.proofs.Common.{◌≡◌, ◌≢◌, ℕ, Bool, true, false, cond, ◌+◌, ◌-◌, ◌*◌, ◌/◌, ◌%◌, ◌<◌, ◌≤◌, ◌==◌, if◌then◌else◌, nat_lt, inl, inr, sym, ◌∙◌, ap, arith}
 use Rattle.std.proofs.lemmas.Bool.{cases_eq}
 use Rattle.std.proofs.lemmas.Bool.Decides.{nat_tests}
 use Rattle.std.proofs.lemmas.Nat.{mod_below, div_below}
@@ -31,6 +31,14 @@ end_places n p q h e = grind (arith, nat_tests)
 further_places : (gap p : ℕ) → gap ≢ 0
     → (if nat_lt p (gap - 1) then p else p + 1) ≡ (if (if nat_lt p gap then p else p + 1) == gap - 1 then gap else (if nat_lt p gap then p else p + 1))
 further_places gap p h = grind (arith, nat_tests)
+
+-- the place below a gap is one of the region's
+pub below_gap-within : (n gap : ℕ) → gap ≤ n → below_gap n gap ≤ n
+below_gap-within n gap few = by (gap == 0)
+  where
+    by : (b : Bool) → cond b n (gap - 1) ≤ n
+    by true = omega arith
+    by false = omega (arith, few)
 
 below_further : (n gap : ℕ) → gap ≢ 0 → below_gap n gap ≡ gap - 1
 below_further n gap h = grind (arith, nat_tests)

@@ -93,7 +93,8 @@ impl Registers {
 
         // No line has the gap, and no other line has this place.
         ensures off_gap { result ≢ self.now.gap }
-        ensures apart { (other : ℕ) → other < self.now.lines → place_by self.now other ≡ result → other ≡ line }
+        ensures apart { (other : ℕ) → other < self.now.lines → place_by self.now other ≡ result
+            → other ≡ line }
     {
         let turned = (line + self.start) % self.lines;
         if turned < self.gap {
@@ -108,7 +109,8 @@ impl Registers {
         requires { place ≤ self.now.lines }
         ensures none { IsNone result ↔ (place ≡ self.now.gap) }
         ensures some { IfSome result (λ line. (line < self.now.lines) × (place_by self.now line ≡ place)) }
-        ensures after { (t : ℕ) → StandsFor self.now t → MatchOption result (place ≡ gap_after self.now.lines t)
+        ensures after { (t : ℕ) → StandsFor self.now t
+            → MatchOption result (place ≡ gap_after self.now.lines t)
             (λ line. place_after self.now.lines line t ≡ place) }
     {
         if place == self.gap {

@@ -2,7 +2,7 @@
 //! log. A law is what a function here ensures; the functions do nothing when they run.
 #![tactic(auto)]
 
-ghost use Rattle.table_laws.specs.Whole.{WholeTableLaw, WholePlaceLaw, WholeLogLaw, WholeRoomLaw};
+ghost use Rattle.bank_laws.specs.Whole.{WholeTableLaw, WholePlaceLaw, WholeLogLaw, WholeRoomLaw};
 
 use bank_laws::rows::{reads_are_served, wearing_out_is_final};
 use log_laws::logs_are_fair;

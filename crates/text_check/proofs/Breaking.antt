@@ -1,16 +1,16 @@
 -- Behind the end of a line of a trace a record begins.
-use Rattle.std.proofs.Common.{◌≡◌, ℕ, zero, suc, ◌+◌, ◌≤◌, ◌==◌, ◌&&◌, ◌||◌, Bool, true, false, inl, inr, List, [], ◌∷◌, ◌++◌, length, Option, Some, None, refl, sym, ap, ◌∙◌, subst, cond, arith}
-use Rattle.std.proofs.lemmas.Bool.{or_left, or_right}
-use Rattle.std.specs.Prelude.{◌⊎◌, codes}
+use Rattle.std.proofs.Common.{◌≡◌, ℕ, zero, suc, ◌+◌, ◌≤◌, ◌==◌, ◌||◌, Bool, true, false, inl, inr, List, [], ◌∷◌, ◌++◌, length, Some, refl, sym, ap, ◌∙◌, subst, cond, arith}
+use Rattle.std.proofs.lemmas.Bool.{or_left, or_right, or_cases}
+use Rattle.std.specs.Prelude.{◌⊎◌}
 use Rattle.std.specs.List.{list_any}
-use Rattle.std.proofs.lemmas.List.{length-append}
-use Rattle.csv.specs.Machine.{Read, ends_at_end, field_after, fields_after, is_end, next_record, step}
+use Rattle.csv.specs.Machine.{field_after, fields_after, is_end, next_record, step}
 use Rattle.csv.specs.Reading.{default_config, records, records_from, records_next}
 use Rattle.csv.specs.declared.parser.Action.{Action}
 use Rattle.csv.specs.declared.parser.Action.TheVariants as act
 use Rattle.csv.specs.declared.parser.State.{State}
 use Rattle.csv.specs.declared.parser.State.TheVariants as st
 use Rattle.result_reader.specs.Splitting.{header_line}
+use Rattle.masked_bytes.proofs.Truth.{or_false}
 use Rattle.text_check.proofs.Plain.{IsPlain, ArePlain, any_broken, is_break, is_broken}
 
 -- between records, and within one; the other states are never met
@@ -124,17 +124,9 @@ any-append test (x ∷ xs) ys = ap (λ (b : Bool). test x || b) (any-append test
     turn true b c = refl
     turn false b c = refl
 
-or-cases : (a b : Bool) → (a || b) ≡ true → (a ≡ true) ⊎ (b ≡ true)
-or-cases true b h = inl refl
-or-cases false b h = inr h
-
-or-none : (a : Bool) → (a || false) ≡ a
-or-none true = refl
-or-none false = refl
-
 -- in the record that is ended
 ended-breaks : (fields : List (List ℕ)) (field : List ℕ) → breaks fields field ≡ true → any_broken (fields ++ field ∷ []) ≡ true
-ended-breaks fields field h = any-append is_broken fields (field ∷ []) ∙ ap (λ (b : Bool). any_broken fields || b) (or-none (is_broken field)) ∙ h
+ended-breaks fields field h = any-append is_broken fields (field ∷ []) ∙ ap (λ (b : Bool). any_broken fields || b) (or_false (is_broken field)) ∙ h
 
 still-breaks : (a : Action) (c : ℕ) (fields : List (List ℕ)) (field : List ℕ) → is_end a ≡ false → breaks fields field ≡ true
     → breaks (fields_after a fields field) (field_after a c field) ≡ true
@@ -142,7 +134,7 @@ still-breaks act.EndRecord c fields field on h = cc on
 still-breaks act.Skip c fields field on h = h
 still-breaks act.EndField c fields field on h = or_left (any_broken (fields ++ field ∷ [])) false (ended-breaks fields field h)
 still-breaks act.Copy c fields field on h =
-    elim (or-cases (any_broken fields) (is_broken field) h) [
+    elim (or_cases (any_broken fields) (is_broken field) h) [
       | inl one ↦ or_left (any_broken fields) (is_broken (field ++ c ∷ [])) one
       | inr here ↦ or_right (any_broken fields) (is_broken (field ++ c ∷ [])) (any-append is_break field (c ∷ []) ∙ or_left (is_broken field) (is_broken (c ∷ [])) here)
     ]

@@ -9,21 +9,13 @@ use Rattle.bank_shape.specs.declared.Work.TheVariants.{Nothing}
 use Rattle.bank_shape.specs.declared.answer.Step.TheVariants as did
 use Rattle.bank_model.specs.Events.{Event, Write, Read, Serve, Begin, Iterate, Cut, line_of_row}
 use Rattle.bank_model.specs.History.{first_or, stores, stored_in, moved_in, due_after, retired, queue, has_exhausted}
-use Rattle.bank_model.specs.After.{work_after, due_work}
+use Rattle.bank_model.specs.After.{work_after, due_work, due_moves}
 use Rattle.bank_model.specs.Answers.{IsDone}
 use Rattle.bank_shape.specs.declared.pace.Pace.{Pace}
 use Rattle.bank_model.specs.Timing.{Happens, Core, Regs, TimedEvent, core, core_of}
 use Rattle.bank_model.specs.Lawful.{Lawful, MayCome}
+use Rattle.bank_model.proofs.Within.{due_moves-few}
 use Rattle.tick_laws.proofs.Tallies.{stores_by, moves_by, retires_by, tally}
-
--- whether a move is due
-abbrev pub flag : Option ℕ → ℕ
-flag None = 0
-flag (Some region) = 1
-
-pub flag-most : (due : Option ℕ) → flag due ≤ 1
-flag-most None = omega arith
-flag-most (Some region) = omega arith
 
 module _ {n : ℕ} (shape : BankShape) (h : List (Event n)) where
   -- a store is done where no move is due, and a move where one is
@@ -36,10 +28,10 @@ module _ {n : ℕ} (shape : BankShape) (h : List (Event n)) where
       by false None [] d = absurd d
       by false None (e ∷ es) d = refl
 
-  done_move : (move : _) → IsDone shape h (work_after shape h) (did.Moved move) → flag (due_after shape h) ≡ 1
+  done_move : (move : _) → IsDone shape h (work_after shape h) (did.Moved move) → due_moves (due_after shape h) ≡ 1
   done_move move d = by (has_exhausted h) (due_after shape h) (queue shape h) d
     where
-      by : (b : Bool) (due : Option ℕ) (q : List (Entry n)) → IsDone shape h (cond b Nothing (due_work shape h due q)) (did.Moved move) → flag due ≡ 1
+      by : (b : Bool) (due : Option ℕ) (q : List (Entry n)) → IsDone shape h (cond b Nothing (due_work shape h due q)) (did.Moved move) → due_moves due ≡ 1
       by true due q d = absurd d
       by false (Some region) q d = refl
       by false None [] d = absurd d
@@ -102,9 +94,9 @@ module _ {n : ℕ} (shape : BankShape) where
   free h is = none_flag _ (first_or 0 (stores h) / shape.lines) is
 
   moved_flag : (h : List (Event n)) → 1 ≤ shape.psi → Balanced h
-      → flag (cond (nat_le (shape.psi * ((cond ((first_or 0 (stores h) / shape.lines) == (first_or 0 (stores h) / shape.lines)) 1 0 + moved_in shape.lines h (first_or 0 (stores h) / shape.lines)) + 1))
+      → due_moves (cond (nat_le (shape.psi * ((cond ((first_or 0 (stores h) / shape.lines) == (first_or 0 (stores h) / shape.lines)) 1 0 + moved_in shape.lines h (first_or 0 (stores h) / shape.lines)) + 1))
       (stored_in shape.lines h (first_or 0 (stores h) / shape.lines))) (Some (first_or 0 (stores h) / shape.lines)) None) ≡ 0
-  moved_flag h some b = ap (λ c. flag (cond c (Some (first_or 0 (stores h) / shape.lines)) None)) (not-due _ _ _ _ b some)
+  moved_flag h some b = ap (λ c. due_moves (cond c (Some (first_or 0 (stores h) / shape.lines)) None)) (not-due _ _ _ _ b some)
 
 module _ {n m : ℕ} (shape : BankShape) (pace : Pace) (e : ℕ) where
   balanced : (xs : List (TimedEvent n m)) → 1 ≤ shape.psi → Lawful shape pace e xs → Balanced shape (core xs)
@@ -132,33 +124,33 @@ module _ {n m : ℕ} (shape : BankShape) (pace : Pace) (e : ℕ) where
 
   -- a move takes away what was due, and only a store brings it
   moves_step : (xs : List (TimedEvent n m)) (x : TimedEvent n m) (h : Happens n) → 1 ≤ shape.psi → Balanced shape (core xs) → MayCome shape pace e xs x h
-      → moves_by h + flag (due_after shape (core_of h (core xs))) ≤ stores_by h + flag (due_after shape (core xs))
+      → moves_by h + due_moves (due_after shape (core_of h (core xs))) ≤ stores_by h + due_moves (due_after shape (core xs))
   moves_step xs x (Core (Write row line bytes given answer)) some b may = omega arith
   moves_step xs x (Core (Read row line answer)) some b may = omega arith
   moves_step xs x (Core (Serve answer)) some b may = omega arith
   moves_step xs x (Regs event) some b may = omega arith
-  moves_step xs x (Core (Begin (did.Stored row place))) some b may = let k : flag (due_after shape (core_of (Core (Begin (did.Stored row place))) (core xs))) ≤ 1 = flag-most _ in omega (arith, k)
+  moves_step xs x (Core (Begin (did.Stored row place))) some b may = let k : due_moves (due_after shape (core_of (Core (Begin (did.Stored row place))) (core xs))) ≤ 1 = due_moves-few _ in omega (arith, k)
   moves_step xs x (Core (Begin did.More)) some b may = omega arith
   moves_step xs x (Core (Begin (did.Moved move))) some b may =
-      let was : flag (due_after shape (core xs)) ≡ 1 = done_move shape (core xs) move may.may.1 in let is = moved_flag shape (core xs) some b in omega (arith, was, is)
+      let was : due_moves (due_after shape (core xs)) ≡ 1 = done_move shape (core xs) move may.may.1 in let is = moved_flag shape (core xs) some b in omega (arith, was, is)
   moves_step xs x (Core (Begin (did.Retired slot line))) some b may = omega arith
   moves_step xs x (Core (Begin did.Exhausted)) some b may = omega arith
-  moves_step xs x (Core (Iterate (did.Stored row place))) some b may = let k : flag (due_after shape (core_of (Core (Iterate (did.Stored row place))) (core xs))) ≤ 1 = flag-most _ in omega (arith, k)
+  moves_step xs x (Core (Iterate (did.Stored row place))) some b may = let k : due_moves (due_after shape (core_of (Core (Iterate (did.Stored row place))) (core xs))) ≤ 1 = due_moves-few _ in omega (arith, k)
   moves_step xs x (Core (Iterate did.More)) some b may = omega arith
   moves_step xs x (Core (Iterate (did.Moved move))) some b may =
-      let was : flag (due_after shape (core xs)) ≡ 1 = done_move shape (core xs) move may.may.1 in let is = moved_flag shape (core xs) some b in omega (arith, was, is)
+      let was : due_moves (due_after shape (core xs)) ≡ 1 = done_move shape (core xs) move may.may.1 in let is = moved_flag shape (core xs) some b in omega (arith, was, is)
   moves_step xs x (Core (Iterate (did.Retired slot line))) some b may = omega arith
   moves_step xs x (Core (Iterate did.Exhausted)) some b may = omega arith
   moves_step xs x (Core (Cut tearing)) some b may = omega arith
 
   pub moves_few : (mid zs : List (TimedEvent n m)) → 1 ≤ shape.psi → Lawful shape pace e (mid ++ zs)
-      → tally moves_by mid + flag (due_after shape (core (mid ++ zs))) ≤ tally stores_by mid + flag (due_after shape (core zs))
+      → tally moves_by mid + due_moves (due_after shape (core (mid ++ zs))) ≤ tally stores_by mid + due_moves (due_after shape (core zs))
   moves_few [] zs some l = omega arith
   moves_few (y ∷ mid) zs some l =
-      let before : tally moves_by mid + flag (due_after shape (core (mid ++ zs))) ≤ tally stores_by mid + flag (due_after shape (core zs)) = moves_few mid zs some l.1 in
-      let step : moves_by y.happens + flag (due_after shape (core_of y.happens (core (mid ++ zs)))) ≤ stores_by y.happens + flag (due_after shape (core (mid ++ zs))) =
+      let before : tally moves_by mid + due_moves (due_after shape (core (mid ++ zs))) ≤ tally stores_by mid + due_moves (due_after shape (core zs)) = moves_few mid zs some l.1 in
+      let step : moves_by y.happens + due_moves (due_after shape (core_of y.happens (core (mid ++ zs)))) ≤ stores_by y.happens + due_moves (due_after shape (core (mid ++ zs))) =
       moves_step (mid ++ zs) y y.happens some (balanced (mid ++ zs) some l.1) l.0 in
-      sums (moves_by y.happens) (tally moves_by mid) (flag (due_after shape (core (y ∷ mid ++ zs)))) (stores_by y.happens) (tally stores_by mid) (flag (due_after shape (core zs))) (flag (due_after shape (core (mid ++ zs)))) before step
+      sums (moves_by y.happens) (tally moves_by mid) (due_moves (due_after shape (core (y ∷ mid ++ zs)))) (stores_by y.happens) (tally stores_by mid) (due_moves (due_after shape (core zs))) (due_moves (due_after shape (core (mid ++ zs)))) before step
     where
       sums : (a b c d e f g : ℕ) → b + g ≤ e + f → a + c ≤ d + g → (a + b) + c ≤ (d + e) + f
       sums a b c d e f g h k = omega arith

@@ -17,13 +17,14 @@ use Rattle.bank_shape.specs.declared.answer.ReadAnswer.TheVariants as came
 use Rattle.bank_shape.specs.declared.answer.Step.TheVariants as did
 use Rattle.bank_model.specs.Events.{Write, Read, Serve, Begin, Iterate, Cut}
 use Rattle.bank_model.specs.History.{queue, waits, due_after, has_exhausted}
-use Rattle.bank_model.specs.After.{work_after}
+use Rattle.bank_model.specs.After.{work_after, due_moves}
 use Rattle.bank_model.specs.Answers.{IsDone}
 use Rattle.bank_shape.specs.declared.pace.Pace.{Pace}
 use Rattle.bank_model.specs.Timing.{Happens, Core, Regs, TimedEvent, core, core_of, last_tick}
 use Rattle.bank_model.specs.Running.{cancels_with, cancels_after}
 use Rattle.bank_model.specs.Changes.{change_after, halted_after, halted_by}
 use Rattle.bank_model.specs.Lawful.{Lawful, MayCome}
+use Rattle.bank_model.proofs.Within.{due_moves-few}
 use Rattle.bank_laws.specs.Laws.{rules_of}
 use Rattle.bank_laws.specs.Outcomes.{on_row, outcome_with, outcome_of, ended, row_with, rows_from}
 use Rattle.bank_laws.specs.Ticks.{ends_action}
@@ -45,7 +46,7 @@ use Rattle.tick_laws.proofs.Cancels.{fine_before, runs_before, tried_few}
 use Rattle.tick_laws.proofs.Causes.{stands, brought, others_few, stood, ends_few, written-runs}
 use Rattle.tick_laws.proofs.Afterwards.{rows_after-append}
 use Rattle.tick_laws.proofs.Tallies.{stores_by, moves_by, retires_by, others_by, serves_by, cuts_by, cancelled_by, tally, tally_cuts}
-use Rattle.tick_laws.proofs.Moves.{flag, flag-most, moves_few, retires_few}
+use Rattle.tick_laws.proofs.Moves.{moves_few, retires_few}
 use Rattle.tick_laws.proofs.Delays.{gain, Delay, delay_at, step, store_tick}
 use Rattle.tick_laws.proofs.Counts.{Sets, tallied_all, writes-counted, reads-counted, rows-counted, cuts-counted, count-append, among-later}
 
@@ -343,8 +344,8 @@ module _ {n m : ℕ} (shape : BankShape) (pace : Pace) (e : ℕ) (all : List (Ti
           table-counted _ later x ys same ∙ writes-counted shape all (stored_within x.tick u) (ended-within x.tick u) all in
           let v : reads_in x.tick u (Table later x ys x.happens) ≡ hits (λ row. read_within x.tick u (outcome_of shape all row)) (waiting.reads_in all) =
           table-counted _ later x ys same ∙ reads-counted shape all (read_within x.tick u) all in
-          let moves : tally moves_by at.mid + flag (due_after shape (core (at.mid ++ x ∷ ys))) ≤ tally stores_by at.mid + flag (due_after shape (core (x ∷ ys))) = moves_few shape pace e at.mid (x ∷ ys) some here.1 in
-          let most : flag (due_after shape (core (x ∷ ys))) ≤ 1 = flag-most (due_after shape (core (x ∷ ys))) in
+          let moves : tally moves_by at.mid + due_moves (due_after shape (core (at.mid ++ x ∷ ys))) ≤ tally stores_by at.mid + due_moves (due_after shape (core (x ∷ ys))) = moves_few shape pace e at.mid (x ∷ ys) some here.1 in
+          let most : due_moves (due_after shape (core (x ∷ ys))) ≤ 1 = due_moves-few (due_after shape (core (x ∷ ys))) in
           let one : stores_by at.event.happens ≡ 1 = event.one in
           let none_moved : moves_by at.event.happens ≡ 0 = event.moves in
           let retires : tally retires_by (at.event ∷ at.mid) ≤ shape.spares = retires_few shape pace e (at.event ∷ at.mid) (x ∷ ys) here in

@@ -54,7 +54,8 @@ impl<const B: usize> Generator<B> {
 
     /// Draws the next event, if one is still to come.
     pub fn next_event(&mut self) -> Option<Event<B>>
-        ensures { MatchOption result ((self.old ≡ []) × (self.new ≡ [])) (λ event. self.old ≡ event ∷ self.new) }
+        ensures { MatchOption result ((self.old ≡ []) × (self.new ≡ []))
+            (λ event. self.old ≡ event ∷ self.new) }
     {
         if self.done == self.mix.rows {
             return None;

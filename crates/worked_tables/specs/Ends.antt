@@ -16,5 +16,6 @@ half_stored_rows = M 100 3 0xee (out.Queued 100) ∷ stored_rows
 abbrev pub slot_3_has : ℕ → ℕ → ℕ
 slot_3_has line slot = if slot == 3 then line else slot
 
+-- array line 3 is worn, and no other
 abbrev pub worn_3 : ℕ → Bool
 worn_3 line = line == 3

@@ -1,5 +1,5 @@
 -- Worked tables of a bank of one region of two lines, with a gap move after each store. The newest row is first.
-use Rattle.std.specs.Prelude.{ℕ, zero, suc, ◌+◌, ◌*◌, ◌==◌, Bool, false, if◌then◌else◌, List, [], ◌∷◌, count_by}
+use Rattle.std.specs.Prelude.{ℕ, zero, suc, ◌+◌, ◌*◌, ◌==◌, if◌then◌else◌, List, [], ◌∷◌, count_by}
 use Rattle.result_rows.specs.declared.Outcome.TheVariants as out
 use Rattle.row_rules.specs.declared.Row.{Row}
 use Rattle.row_rules.specs.Rows.{asks_write_of}
@@ -10,10 +10,6 @@ use Rattle.bank_shape.specs.Shape.{slot_moved}
 
 abbrev pub two_lines : BankShape
 two_lines = record { base = 0; regions = 1; lines = 2; spares = 0; writes = 4; reads = 4; psi = 1; home = home.Guarded }
-
--- no line is worn
-abbrev pub none_worn : ℕ → Bool
-none_worn line = false
 
 -- so many stores, one every 100 ticks, the k-th of the line that a rule gives; each lies where its line stands
 abbrev pub storing : (ℕ → ℕ) → ℕ → List (Row 2)

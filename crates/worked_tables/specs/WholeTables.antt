@@ -1,5 +1,5 @@
 -- Two worked tables of a bank, as its laws look at them.
-use Rattle.std.specs.Prelude.{ℕ, Bool, false, ◌==◌, List, [], length, reverse, take}
+use Rattle.std.specs.Prelude.{ℕ, List, [], length, reverse, take}
 use Rattle.bank_shape.specs.declared.BankShape.{BankShape}
 use Rattle.bank_shape.specs.declared.Home.TheVariants as home
 use Rattle.row_rules.specs.declared.Row.{Row}
@@ -16,9 +16,3 @@ without_spares = record { base = 0; regions = 1; lines = 4; spares = 0; writes =
 
 abbrev pub worn_out : List (Row 2)
 worn_out = reverse no_spare
-
-abbrev pub third_is_worn : ℕ → Bool
-third_is_worn line = line == 3
-
-abbrev pub none_is_worn : ℕ → Bool
-none_is_worn line = false

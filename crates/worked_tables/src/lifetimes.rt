@@ -8,9 +8,10 @@ ghost use Rattle.row_rules.specs.Ticking.{is_in_time};
 ghost use Rattle.row_rules.specs.Worked.{small};
 ghost use Rattle.bank_shape.specs.declared.pace.Policy.TheVariants.{Pause};
 ghost use Rattle.bank_laws.specs.Places.{is_placed, region_stores};
+ghost use Rattle.bank_laws.specs.Worked.{none_worn};
 ghost use Rattle.lifetime_laws.specs.Spread.{most_at, most_moves, stores_on};
 ghost use Rattle.lifetime_laws.specs.Works.{stores_at};
-ghost use Rattle.worked_tables.specs.Lifetimes.{two_lines, none_worn, storing, always, waiting_for_slot_0, stores_of};
+ghost use Rattle.worked_tables.specs.Lifetimes.{two_lines, storing, always, waiting_for_slot_0, stores_of};
 
 /// Sixteen lines, a gap move for each ten stores: of 20,000 and of 50,000 stores of one line at most 1,280 and 3,040 are on one
 /// array line, and 118 and 295 moves go into one place. Without moves all 50,000 are.

@@ -5,7 +5,9 @@ ghost use Rattle.row_rules.specs.Rows.{each_row};
 ghost use Rattle.bank_model.specs.Worked.{pace};
 ghost use Rattle.bank_laws.specs.Laws.{rules_of};
 ghost use Rattle.bank_laws.specs.Places.{is_wear_true, is_taken, most_pulses, worn_among};
-ghost use Rattle.worked_tables.specs.WholeTables.{found, without_spares, worn_out, third_is_worn, none_is_worn};
+ghost use Rattle.bank_laws.specs.Worked.{none_worn};
+ghost use Rattle.worked_tables.specs.Ends.{worn_3};
+ghost use Rattle.worked_tables.specs.WholeTables.{found, without_spares, worn_out};
 
 /// The second and the fourth row each find one write in the queue.
 pub fn a_queue_of_one_write_is_full()
@@ -15,10 +17,10 @@ pub fn a_queue_of_one_write_is_full()
 
 /// One worn line and no spare are what a worn and a queued row tell of; over lines of which none is worn they are refused.
 pub fn a_worn_row_tells_of_a_worn_line()
-    ensures one { worn_among third_is_worn 0 5 ≡ 1 }
-    ensures fair { each_row (is_wear_true without_spares third_is_worn) worn_out [] ≡ true }
-    ensures untrue { each_row (is_wear_true without_spares none_is_worn) worn_out [] ≡ false }
-    ensures left { each_row (is_taken (rules_of 1 without_spares (pace Pause)) without_spares third_is_worn) worn_out [] ≡ true }
-    ensures refused { each_row (is_taken (rules_of 1 without_spares (pace Pause)) without_spares none_is_worn) worn_out [] ≡ false }
+    ensures one { worn_among worn_3 0 5 ≡ 1 }
+    ensures fair { each_row (is_wear_true without_spares worn_3) worn_out [] ≡ true }
+    ensures untrue { each_row (is_wear_true without_spares none_worn) worn_out [] ≡ false }
+    ensures left { each_row (is_taken (rules_of 1 without_spares (pace Pause)) without_spares worn_3) worn_out [] ≡ true }
+    ensures refused { each_row (is_taken (rules_of 1 without_spares (pace Pause)) without_spares none_worn) worn_out [] ≡ false }
     ensures pulses { most_pulses (rules_of 1 without_spares (pace Pause)) worn_out ≡ 40 }
 {}

@@ -2,6 +2,7 @@ use Rattle.std.proofs.Common.{◌≡◌, ℕ, ◌+◌, ◌<◌, ◌∷◌, ◌++
 use Rattle.bank_shape.specs.declared.BankShape.{BankShape}
 use Rattle.bank_model.specs.Touching.{Touches}
 use Rattle.bank_model.specs.Changes.{numbers_from}
+use Rattle.bank_model.proofs.Touched.{touches-both}
 use Rattle.power_recovery.specs.Kept.{KeptState}
 use Rattle.bank_invariant.specs.State.{BankState}
 use Rattle.bank_core.specs.Stepping.{with_kept}
@@ -9,7 +10,7 @@ use Rattle.register_laws.specs.Recovering.{IsReadable}
 use Rattle.register_laws.proofs.Items.{item-region}
 use Rattle.register_recovery.specs.Reading.{regions_back}
 use Rattle.register_recovery.proofs.Sizes.{bank_fits, kept_fits}
-use Rattle.register_recovery.proofs.Sensing.{on-lines, item-read, numbers-more, touches-both}
+use Rattle.register_recovery.proofs.Sensing.{on-lines, item-read, numbers-more}
 use Rattle.register_recovery.proofs.Restoring.{RestoresRegion, restores-region, regions-all}
 use Rattle.register_recovery.proofs.recover_regions.Given.{Over}
 use Rattle.register_recovery.proofs.recover_regions.Goals.{After-read_item-values}

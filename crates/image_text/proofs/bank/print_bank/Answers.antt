@@ -1,9 +1,10 @@
-use Rattle.std.proofs.Common.{◌≡◌, ◌++◌, ◌∙◌, length, refl, sym, ap}
+use Rattle.std.proofs.Common.{◌++◌, length, refl}
 use Rattle.std.specs.Prelude.{map}
 use Rattle.std.specs.List.{flat_map}
 use Rattle.pcm_image.specs.Spelling.{bank_bytes, entry_bytes, region_bytes, u8, u16, u32}
 use Rattle.image_laws.specs.Saving.{saved_bank, saved_entry, saved_region}
-use Rattle.image_text.proofs.Prints.{on_err, on_err_any, part-of-1, part-of-2, part-of-3, part-of-4, part-of-5, whole-bank}
+use Rattle.run_text.proofs.Gathered.{on_err, on_err_any}
+use Rattle.image_text.proofs.Prints.{part-of-1, part-of-2, part-of-3, part-of-4, part-of-5, whole-bank}
 use Rattle.image_text.proofs.bank.print_bank.Goals as goal
 
 pub returns-in_err-print_mark-clause-part : goal.returns-in_err-print_mark-clause-part

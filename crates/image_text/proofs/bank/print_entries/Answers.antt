@@ -1,11 +1,12 @@
-use Rattle.std.proofs.Common.{◌≡◌, ◌+◌, ◌∙◌, length, get_or, map, refl, sym, ap, arith}
+use Rattle.std.proofs.Common.{◌∙◌, map, refl, sym, ap, arith}
 use Rattle.std.proofs.lemmas.List.{length-map}
 use Rattle.std.proofs.Math.ListN.{get_or-map}
 use Rattle.std.specs.Prelude.{option_copied}
 use Rattle.std.proofs.lemmas.Option.{get_or_from_slice_get}
 use Rattle.pcm_image.specs.Spelling.{entry_bytes}
 use Rattle.image_laws.specs.Saving.{saved_entry}
-use Rattle.image_text.proofs.Prints.{more-all, more-next, more-none, on_err_any, part-next}
+use Rattle.run_text.proofs.Gathered.{on_err_any}
+use Rattle.image_text.proofs.Prints.{more-all, more-next, more-none, part-next}
 use Rattle.image_text.proofs.bank.print_entries.Goals as goal
 
 pub loop-place-init : goal.loop-place-init

@@ -1,6 +1,7 @@
-use Rattle.std.proofs.Common.{◌≡◌, ◌+◌, ◌∙◌, length, refl, ap, arith}
+use Rattle.std.proofs.Common.{◌∙◌, refl, ap, arith}
 use Rattle.pcm_image.specs.Spelling.{u32}
-use Rattle.image_text.proofs.Prints.{more-all, more-next, more-none, on_err_any, part-next}
+use Rattle.run_text.proofs.Gathered.{on_err_any}
+use Rattle.image_text.proofs.Prints.{more-all, more-next, more-none, part-next}
 use Rattle.image_text.proofs.bank.print_slots.Goals as goal
 
 pub loop-spare-init : goal.loop-spare-init

@@ -1,12 +1,13 @@
-use Rattle.std.proofs.Common.{◌≡◌, ◌+◌, ◌<◌, ◌∙◌, length, get_or, refl, sym, ap, arith}
+use Rattle.std.proofs.Common.{◌∙◌, refl, sym, ap, arith}
 use Rattle.std.proofs.lemmas.List.FromFn.{get_or-map-range_with_len, length-map-range_with_len}
 use Rattle.module_shape.specs.declared.raw.RawShape.{RawShape}
 use Rattle.bank_timing.proofs.Sizes.{timed_fits, bank_fits}
 use Rattle.pcm_image.specs.Spelling.{bank_bytes}
 use Rattle.image_laws.specs.Saving.{saved_bank, saved_banks}
+use Rattle.run_text.proofs.Gathered.{on_err_any}
 use Rattle.image_text.specs.Printing.{kept_in}
 use Rattle.image_text.proofs.Clocks.{clock-is}
-use Rattle.image_text.proofs.Prints.{more-all, more-next, more-none, on_err_any, part-next}
+use Rattle.image_text.proofs.Prints.{more-all, more-next, more-none, part-next}
 use Rattle.image_text.proofs.image.print_banks.Goals as goal
 
 pub loop-bank-init : goal.loop-bank-init

@@ -1,12 +1,10 @@
-use Rattle.std.proofs.Common.{◌≡◌, ℕ, ◌+◌, ◌<◌, ◌∙◌, inl, inr, length, get_or, refl, sym, ap, subst, arith, rules}
-use Rattle.std.proofs.lemmas.Bool.{cases_eq}
+use Rattle.std.proofs.Common.{◌∙◌, refl, sym, ap, arith, rules}
 use Rattle.std.proofs.lemmas.List.FromFn.{get_or-map-range_with_len, length-map-range_with_len}
-use Rattle.pcm_image.specs.Saved.{IsSavedRow}
 use Rattle.pcm_image.specs.Spelling.{cells_bytes}
 use Rattle.image_laws.specs.Saving.{saved_cells}
-use Rattle.image_laws.specs.SavedRuns.{SensedSince}
+use Rattle.run_text.proofs.Gathered.{on_err_any}
 use Rattle.image_text.proofs.Sensing.{row-more, rows-all, sensed-more, sensed-none}
-use Rattle.image_text.proofs.Prints.{more-all, more-next, more-none, on_err_any, part-next}
+use Rattle.image_text.proofs.Prints.{more-all, more-next, more-none, part-next}
 use Rattle.image_text.proofs.image.print_rows.Goals as goal
 
 pub loop-line-init : goal.loop-line-init

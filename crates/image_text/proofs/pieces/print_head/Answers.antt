@@ -1,6 +1,7 @@
 use Rattle.pcm_image.specs.Spelling.{head_bytes}
 use Rattle.image_laws.specs.Saving.{head_of}
-use Rattle.image_text.proofs.Prints.{on_err_any, piece-part, piece-printed}
+use Rattle.run_text.proofs.Gathered.{on_err_any}
+use Rattle.image_text.proofs.Prints.{piece-part, piece-printed}
 use Rattle.image_text.proofs.pieces.print_head.Goals as goal
 
 pub returns-in_err-make_room-clause-part : goal.returns-in_err-make_room-clause-part

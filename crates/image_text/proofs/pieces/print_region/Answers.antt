@@ -1,5 +1,6 @@
 use Rattle.pcm_image.specs.Spelling.{region_bytes}
-use Rattle.image_text.proofs.Prints.{on_err_any, piece-part, piece-printed}
+use Rattle.run_text.proofs.Gathered.{on_err_any}
+use Rattle.image_text.proofs.Prints.{piece-part, piece-printed}
 use Rattle.image_text.proofs.pieces.print_region.Goals as goal
 
 pub returns-in_err-make_room-clause-part : goal.returns-in_err-make_room-clause-part

@@ -8,7 +8,7 @@ use Rattle.bank_core.specs.Steps.{write_from}
 use Rattle.power_recovery.specs.Slots.{bank_lines}
 use Rattle.clock_laws.specs.Arriving.{arrival}
 use Rattle.module_laws.specs.Asking.{Asked}
-use Rattle.bank_timing.proofs.Sizes.{timed_fits, row_fits, bytes_fits}
+use Rattle.bank_timing.proofs.Sizes.{timed_fits, row_fits, entry_fits}
 use Rattle.pcm_module.proofs.Arriving.{open_on, step_on}
 use Rattle.pcm_module.proofs.bank.write_at.Goals as goal
 
@@ -17,25 +17,22 @@ arrive_write-requires g c =
     let run = c.advance.ensures.extends c.requires.led.0 c.requires.led.1 in
     let before = g.A.CellArray.state c.args.array.now in
     let after = g.A.CellArray.state c.advance.new.array in
-    let stays = subst (λ (s : BankShape). c.args.line < bank_lines s) (sym run.1.shape) c.requires.exists in
-    let still = open_on c.requires.led.0 run.0 c.args.timed.now c.advance.new.self c.advance.new.self before after after c.args.results.now c.advance.new.results c.advance.new.results c.requires.led.1 run.2 run.1 c.args.row c.requires.rises c.requires.fresh in (
+    let stays = subst (λ (s : BankShape). c.args.entry.line < bank_lines s) (sym run.1.shape) c.requires.exists in
+    let still = open_on c.requires.led.0 run.0 c.args.timed.now c.advance.new.self c.advance.new.self before after after c.args.results.now c.advance.new.results c.advance.new.results c.requires.led.1 run.2 run.1 c.args.entry.row c.requires.rises c.requires.fresh in (
       timed_fits g.row.B g.row.M g.row.E c.requires.layout,
       (
-        bytes_fits g.row.B g.row.M g.row.E c.requires.layout,
+        entry_fits g.row.B c.requires.layout.shape.1,
         (
-          bytes_fits g.row.B g.row.M g.row.E c.requires.layout,
+          row_fits,
           (
-            row_fits,
+            c.advance.ensures.going,
             (
-              c.advance.ensures.going,
+              (run.0 ++ c.requires.led.0, after, run.1.leads),
               (
-                (run.0 ++ c.requires.led.0, after, run.1.leads),
+                stays,
                 (
-                  stays,
-                  (
-                    omega (arith, c.advance.ensures.rows, c.requires.rises),
-                    (c.requires.masked, (c.advance.ensures.unset, still)),
-                  ),
+                  omega (arith, c.advance.ensures.rows, c.requires.rises),
+                  (c.requires.masked, (c.advance.ensures.unset, still)),
                 ),
               ),
             ),
@@ -58,10 +55,10 @@ returns-clause-step g c xs leads =
     let before = g.A.CellArray.state c.args.array.now in
     let after = g.A.CellArray.state c.advance.new.array in
     let next = c.arrive_write.ensures.extends (run.0 ++ xs) after run.1.leads in
-    let event : TimedEvent g.row.B g.row.M = arrival c.advance.new.self.tick (Write c.args.row c.args.line c.args.bytes c.args.given (write_from c.advance.new.self.bank c.args.line)) in
-    let a : Asked g.row.B = record { row = c.args.row; tick = c.args.tick; asks = Writes c.args.line c.args.bytes c.args.given } in (
+    let event : TimedEvent g.row.B g.row.M = arrival c.advance.new.self.tick (Write c.args.entry.row c.args.entry.line c.args.entry.bytes c.args.entry.given (write_from c.advance.new.self.bank c.args.entry.line)) in
+    let a : Asked g.row.B = record { row = c.args.entry.row; tick = c.args.tick; asks = Writes c.args.entry.line c.args.entry.bytes c.args.entry.given } in (
       event ∷ run.0,
       step_on xs run.0 c.args.timed.now c.advance.new.self c.arrive_write.new.self before after after c.args.results.now c.advance.new.results c.arrive_write.new.results leads run.2 run.1 (event ∷ []) a next
-          (λ asked is. (ap (λ (t : ℕ). let b : Asked g.row.B = record { row = c.args.row; tick = t; asks = Writes c.args.line c.args.bytes c.args.given } in b) (sym c.advance.ensures.now), is))
-          (λ other off. or_from (c.args.row == other) _ (ne_eqb c.args.row other (λ e. off (sym e))) refl),
+          (λ asked is. (ap (λ (t : ℕ). let b : Asked g.row.B = record { row = c.args.entry.row; tick = t; asks = Writes c.args.entry.line c.args.entry.bytes c.args.entry.given } in b) (sym c.advance.ensures.now), is))
+          (λ other off. or_from (c.args.entry.row == other) _ (ne_eqb c.args.entry.row other (λ e. off (sym e))) refl),
     )

@@ -1,5 +1,4 @@
-use Rattle.feistel_map.proofs.Powers.{log2-between}
-use Rattle.rotation_reports.proofs.Bounds.{bits_some, bits_few}
+use Rattle.feistel_map.proofs.Powers.{log2-between, bits_some, bits_few}
 use Rattle.rotation_reports.proofs.line_rows.bits_of.Goals as goal
 use Rattle.std.proofs.Common.{sym}
 

@@ -5,11 +5,11 @@ use Rattle.bank_shape.specs.Shape.{slots_of, slot_at}
 use Rattle.power_recovery.specs.Kept.{array_line}
 use Rattle.bank_model.specs.Touching.{Touches}
 use Rattle.bank_invariant.specs.State.{BankState}
-use Rattle.bank_invariant.specs.Tied.{IsSoundLine}
+use Rattle.ecp_line.specs.Reading.{IsSoundLine}
 use Rattle.bank_core.specs.Running.{operation_of}
 use Rattle.bank_core.specs.Beginning.{IsOfSoundLine}
 use Rattle.bank_core.proofs.Begun.{copy-within, place-so, slot-sound}
-use Rattle.bank_core.proofs.Touched.{touches-senses}
+use Rattle.bank_model.proofs.Touched.{touches-sense, touches-both}
 use Rattle.bank_core.proofs.bank.Bank.begin_copy.Goals as goal
 
 pub start_copy-requires : goal.start_copy-requires
@@ -92,11 +92,13 @@ returns-clause-touches g c =
     let to : c.array_line-target.result ≡ array_line c.args.self.now.kept (slot_at c.args.self.now.kept.shape c.args.region c.args.step.to) =
     rw (← c.self.view_is) target in
     let old : ArrayState g.row.B g.row.M = g.A.CellArray.state c.args.array.now in
+    let mid : ArrayState g.row.B g.row.M = g.A.CellArray.state c.sense-copied.new.self in
     let new : ArrayState g.row.B g.row.M = g.A.CellArray.state c.sense-seen.new.self in
     subst (λ (at : ℕ). Touches c.args.tick (array_line c.args.self.now.kept (slot_at c.args.self.now.kept.shape c.args.region c.args.step.from) ∷ at ∷ []) None false old new) to
     (subst (λ (at : ℕ). Touches c.args.tick (at ∷ c.array_line-target.result ∷ []) None false old new) from
-    (touches-senses c.args.tick c.array_line-source.result c.array_line-target.result old (g.A.CellArray.state c.sense-copied.new.self) new
-    c.sense-copied.ensures.step c.sense-seen.ensures.step))
+    (touches-both c.args.tick (c.array_line-source.result ∷ []) (c.array_line-target.result ∷ []) old mid new
+    (touches-sense c.args.tick c.array_line-source.result old mid c.sense-copied.ensures.step)
+    (touches-sense c.args.tick c.array_line-target.result mid new c.sense-seen.ensures.step)))
 
 pub shape-requires : goal.shape-requires
 shape-requires g c = grind arith

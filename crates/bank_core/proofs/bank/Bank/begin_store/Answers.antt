@@ -2,11 +2,11 @@ use Rattle.std.proofs.Common.{arith, rules, ◌≡◌, ℕ, ◌∷◌, [], ◌�
 use Rattle.power_recovery.specs.Kept.{array_line}
 use Rattle.bank_model.specs.Touching.{Touches}
 use Rattle.bank_invariant.specs.State.{BankState}
-use Rattle.bank_invariant.specs.Tied.{IsSoundLine}
+use Rattle.ecp_line.specs.Reading.{IsSoundLine}
 use Rattle.bank_core.specs.Running.{operation_of}
 use Rattle.bank_core.specs.Beginning.{IsOfSoundLine}
 use Rattle.bank_core.proofs.Begun.{store-slot, store-sound}
-use Rattle.bank_core.proofs.Touched.{touches-sense}
+use Rattle.bank_model.proofs.Touched.{touches-sense}
 use Rattle.bank_core.proofs.bank.Bank.begin_store.Goals as goal
 
 pub array_line-target-requires : goal.array_line-target-requires

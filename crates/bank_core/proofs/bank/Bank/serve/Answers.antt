@@ -8,7 +8,7 @@ use Rattle.bank_invariant.specs.State.{BankState}
 use Rattle.bank_invariant.proofs.Awaiting.{StandsAs-sensed}
 use Rattle.bank_core.specs.Running.{operation_of}
 use Rattle.bank_core.proofs.Answering.{IsBank-drop, serve_tied, serve_law, first_of, answers}
-use Rattle.bank_core.proofs.Touched.{touches-sense}
+use Rattle.bank_model.proofs.Touched.{touches-sense}
 use Rattle.bank_core.proofs.bank.Bank.serve.Goals as goal
 
 pub invariant_of-self : goal.invariant_of-self

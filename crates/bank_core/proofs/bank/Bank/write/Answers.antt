@@ -21,7 +21,7 @@ returns-then-exhausted-clause-holds g c =
     let yes = c.if-exhausted.true in
     let worn : c.self.inside.kept.exhausted ≡ true = cc in
     rw (← c.self.view_is)
-    (λ h array holds. write_law c.args.row c.args.line c.args.bytes c.args.given h bank array wrote.Exhausted (write_worn bank c.args.line worn) exists rises c.requires.masked holds)
+    (λ h array holds. write_law c.args.entry.row c.args.entry.line c.args.entry.bytes c.args.entry.given h bank array wrote.Exhausted (write_worn bank c.args.entry.line worn) exists rises c.requires.masked holds)
 
 pub returns-clause-bank : goal.returns-clause-bank
 returns-clause-bank g c =
@@ -32,7 +32,7 @@ returns-clause-bank g c =
       lost = c.self.inside.lost.items;
       rows_below = c.self.inside.rows_below;
     } in
-    let entry : Entry g.row.B = record { row = c.args.row; line = c.args.line; bytes = c.args.bytes; given = c.args.given } in
+    let entry : Entry g.row.B = c.args.entry in
     rw (← c.self.view_is, c.answer_to.ensures, c.accept.ensures.answer, c.accept.ensures.kept, c.storing-busy.ensures) (taken_law bank entry)
 
 pub returns-clause-tied : goal.returns-clause-tied
@@ -44,7 +44,7 @@ returns-clause-tied g c =
       lost = c.self.inside.lost.items;
       rows_below = c.self.inside.rows_below;
     } in
-    let entry : Entry g.row.B = record { row = c.args.row; line = c.args.line; bytes = c.args.bytes; given = c.args.given } in
+    let entry : Entry g.row.B = c.args.entry in
     let is = c.exhausted.ensures.mark in
     let no = c.if-exhausted.false in
     let going : c.self.inside.kept.exhausted ≡ false = cc in
@@ -59,7 +59,7 @@ returns-clause-holds g c =
       lost = c.self.inside.lost.items;
       rows_below = c.self.inside.rows_below;
     } in
-    let entry : Entry g.row.B = record { row = c.args.row; line = c.args.line; bytes = c.args.bytes; given = c.args.given } in
+    let entry : Entry g.row.B = c.args.entry in
     let exists = rw (← c.self.view_is) at c.requires.exists in
     let rises = rw (← c.self.view_is) at c.requires.rises in
     let is = c.exhausted.ensures.mark in

@@ -1,7 +1,7 @@
 use Rattle.std.proofs.Common.{arith, ◌≡◌, sym, ◌∙◌}
 use Rattle.bank_shape.specs.declared.answer.WriteAnswer.{WriteAnswer}
 use Rattle.bank_shape.specs.declared.answer.WriteAnswer.TheVariants as wrote
-use Rattle.bank_timing.proofs.Sizes.{bank_fits, timed_fits, outcome_fits, bytes_fits, row_fits}
+use Rattle.bank_timing.proofs.Sizes.{bank_fits, timed_fits, outcome_fits, entry_fits, row_fits}
 use Rattle.bank_timing.proofs.Views.{clock_of}
 use Rattle.bank_timing.proofs.WriteArrivals.{TakesWrite, write-extends, write-unset, write-others, write-clock, write-bound, merge-unset, merge-there, accept-room}
 use Rattle.bank_timing.proofs.clocked.ClockedBank.arrive_write.Given.{Over}
@@ -13,12 +13,12 @@ write-requires g c =
     let exists = rw (← c.self.view_is) at c.requires.exists in
     let rises = rw (← c.self.view_is) at c.requires.rises in (
       bank_fits g.row.B g.row.M g.row.E c.self.invariant.layout,
-      (bytes_fits g.row.B g.row.M g.row.E c.self.invariant.layout, (bytes_fits g.row.B g.row.M g.row.E c.self.invariant.layout, (exists, (rises, c.requires.masked)))),
+      (entry_fits g.row.B c.self.invariant.layout.shape.1, (exists, (rises, c.requires.masked))),
     )
 
 -- the bank takes the write, with the answer that it gives
 taken : (g : Over) (c : After-write g) (answer : WriteAnswer) → c.write.result ≡ answer
-    → TakesWrite c.args.row c.args.line c.args.bytes c.args.given (clock_of c.self.inside) c.args.results.now answer c.write.new.self
+    → TakesWrite c.args.entry.row c.args.entry.line c.args.entry.bytes c.args.entry.given (clock_of c.self.inside) c.args.results.now answer c.write.new.self
 taken g c answer is = record {
   led = rw (← c.self.view_is) at c.requires.led;
   rises = rw (← c.self.view_is) at c.requires.rises;

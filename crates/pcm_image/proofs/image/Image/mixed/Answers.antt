@@ -1,7 +1,7 @@
 use Rattle.std.proofs.Common.{◌^◌, ap, refl, ◌∙◌}
 use Rattle.feistel_map.specs.Network.{network_of, feistel}
+use Rattle.feistel_map.proofs.Powers.{bits_some, bits_few}
 use Rattle.pcm_image.specs.Saved.{total_in}
-use Rattle.pcm_image.proofs.Powers.{bits_some, bits_few}
 use Rattle.pcm_image.proofs.Heads.{head-fits, is_log}
 use Rattle.pcm_image.proofs.image.Image.mixed.Goals as goal
 

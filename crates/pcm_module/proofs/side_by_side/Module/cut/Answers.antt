@@ -5,7 +5,8 @@ use Rattle.bank_timing.proofs.Sizes.{timed_fits, row_fits, outcome_fits}
 use Rattle.pcm_module.specs.State.{ModuleState}
 use Rattle.pcm_module.specs.Taking.{Takes}
 use Rattle.pcm_module.proofs.Serving.{get_is, module_kept, module_at, at_above}
-use Rattle.pcm_module.proofs.Cuts.{cut_none, cut_replays, cut_one, cut_every, all_reached, in_reach, in_list}
+use Rattle.pcm_module.proofs.Draining.{reached_all, reached_bank}
+use Rattle.pcm_module.proofs.Cuts.{cut_none, cut_replays, cut_one, cut_every, in_list}
 use Rattle.pcm_module.proofs.side_by_side.Module.cut.Goals as goal
 
 pub set-requires : goal.set-requires
@@ -31,7 +32,7 @@ cut_at-requires g c =
     let items = c.loop-bank.self-inside.banks.items in
     let ends : c.self.inside.shape.banks ≡ old.shape.banks = ap (λ (o : ModuleState g.row.B g.row.M g.row.E). o.shape.banks) c.self.view_is in
     let banks : c.loop-bank.self-inside.shape.banks ≡ old.shape.banks = ap (λ (o : ModuleState g.row.B g.row.M g.row.E). o.shape.banks) inv.same in
-    let exists : c.loop-bank.bank < old.shape.banks = in_reach c.loop-bank.bank c.banks-banks.result c.self.inside.shape.banks old.shape.banks c.loop-bank-test.true c.banks-banks.ensures.number ends in
+    let exists : c.loop-bank.bank < old.shape.banks = reached_bank c.loop-bank.bank c.banks-banks.result c.self.inside.shape.banks old.shape.banks c.loop-bank-test.true c.banks-banks.ensures.number ends in
     let within : c.loop-bank.bank < length items = in_list c.loop-bank.bank old.shape.banks c.loop-bank.self-inside.shape.banks (length items) exists banks inv.is.count in
     let is : slice_get items c.loop-bank.bank ≡ Some c.index_mut.result.now = get_is items c.loop-bank.bank c.index_mut.result.now within c.index_mut.ensures.value in
     let led = c.requires.led in
@@ -63,7 +64,7 @@ loop-bank-preserved g c =
     let items = c.loop-bank.self-inside.banks.items in
     let ends : c.self.inside.shape.banks ≡ old.shape.banks = ap (λ (o : ModuleState g.row.B g.row.M g.row.E). o.shape.banks) c.self.view_is in
     let banks : c.loop-bank.self-inside.shape.banks ≡ old.shape.banks = ap (λ (o : ModuleState g.row.B g.row.M g.row.E). o.shape.banks) inv.same in
-    let exists : c.loop-bank.bank < old.shape.banks = in_reach c.loop-bank.bank c.banks-banks.result c.self.inside.shape.banks old.shape.banks c.loop-bank-test.true c.banks-banks.ensures.number ends in
+    let exists : c.loop-bank.bank < old.shape.banks = reached_bank c.loop-bank.bank c.banks-banks.result c.self.inside.shape.banks old.shape.banks c.loop-bank-test.true c.banks-banks.ensures.number ends in
     let within : c.loop-bank.bank < length items = in_list c.loop-bank.bank old.shape.banks c.loop-bank.self-inside.shape.banks (length items) exists banks inv.is.count in
     let is : slice_get items c.loop-bank.bank ≡ Some c.index_mut.result.now = get_is items c.loop-bank.bank c.index_mut.result.now within c.index_mut.ensures.value in
     let led = c.requires.led in
@@ -92,7 +93,7 @@ returns g c =
     let ends : c.self.inside.shape.banks ≡ old.shape.banks = ap (λ (o : ModuleState g.row.B g.row.M g.row.E). o.shape.banks) c.self.view_is in
     let banks : s.shape.banks ≡ old.shape.banks = ap (λ (o : ModuleState g.row.B g.row.M g.row.E). o.shape.banks) inv.same in
     let all : c.loop-bank.bank ≡ old.shape.banks =
-    all_reached c.loop-bank.bank c.banks-banks.result c.self.inside.shape.banks old.shape.banks c.loop-bank.auto.bank-end c.loop-bank-test.false c.banks-banks.ensures.number ends in
+    reached_all c.loop-bank.bank c.banks-banks.result c.self.inside.shape.banks old.shape.banks c.loop-bank.auto.bank-end c.loop-bank-test.false c.banks-banks.ensures.number ends in
     let taken = cut_every c.args.row c.args.tick old (g.A.CellArray.state c.args.array.now) c.args.results.now c.requires.forward c.requires.rises c.requires.fresh.exists c.loop-bank.bank items (g.A.CellArray.state c.loop-bank.array) c.loop-bank.results all inv.cuts in
     record {
       takes =

@@ -2,7 +2,7 @@ use Rattle.std.proofs.Common.{◌<◌, arith}
 use Rattle.trace_reader.specs.declared.event.EventOp.TheVariants.{Read, Write, Mask, Cut}
 use Rattle.masked_bytes.proofs.Layering.{IsMasked-all_given}
 use Rattle.module_shape.specs.Limits.{total_of}
-use Rattle.bank_timing.proofs.Sizes.{row_fits, bytes_fits}
+use Rattle.bank_timing.proofs.Sizes.{row_fits, entry_fits}
 use Rattle.pcm_module.proofs.Sizes.{module_fits}
 use Rattle.pcm_module.proofs.Events.{replays_event, op_for}
 use Rattle.pcm_module.proofs.side_by_side.Module.event.Goals as goal
@@ -14,23 +14,20 @@ write-requires g c =
     let some : 0 < g.row.B = omega (arith, layout.shape.0) in (
       module_fits,
       (
-        bytes_fits g.row.B g.row.M g.row.E layout,
+        entry_fits g.row.B layout.shape.1,
         (
-          bytes_fits g.row.B g.row.M g.row.E layout,
+          row_fits,
           (
-            row_fits,
+            c.requires.replays,
             (
-              c.requires.replays,
+              c.requires.event.rises,
               (
-                c.requires.event.rises,
+                c.requires.event.in_time,
                 (
-                  c.requires.event.in_time,
+                  op.0,
                   (
-                    op.0,
-                    (
-                      IsMasked-all_given g.row.B c.in-Write.bytes some op.1,
-                      (c.requires.rises, c.requires.open),
-                    ),
+                    IsMasked-all_given g.row.B c.in-Write.bytes some op.1,
+                    (c.requires.rises, c.requires.open),
                   ),
                 ),
               ),

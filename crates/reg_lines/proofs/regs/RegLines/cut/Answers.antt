@@ -4,7 +4,7 @@ use Rattle.line_writer.proofs.Untouched.{untouched-tear}
 use Rattle.reg_lines.specs.Regs.{RegsState, AreHeld}
 use Rattle.reg_lines.specs.Keeping.{broken_off, torn_line}
 use Rattle.reg_lines.proofs.Held.{held-broken, held-stopped, running-going, quiet-cut, written-stands, view_of}
-use Rattle.reg_lines.proofs.Touched.{touches-nothing, touches-tear}
+use Rattle.bank_model.proofs.Touched.{touches-nothing, touches-tear}
 use Rattle.reg_lines.proofs.regs.RegLines.cut.Goals.{in-Some+in-Some-change+then-tearing, in-Some+in-Some-change+else-tearing, in-Some+in_default-change, in_default}
 use Rattle.reg_lines.proofs.regs.RegLines.cut.Goals as goal
 

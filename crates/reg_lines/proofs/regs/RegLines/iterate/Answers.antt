@@ -3,7 +3,7 @@ use Rattle.line_writer.specs.Writing.{IsWorn}
 use Rattle.line_writer.proofs.Untouched.{untouched-round, AreUntouched-beside}
 use Rattle.reg_lines.specs.Regs.{RegsState}
 use Rattle.bank_model.specs.Touching.{Touches}
-use Rattle.reg_lines.proofs.Touched.{touches-round}
+use Rattle.bank_model.proofs.Touched.{touches-round}
 use Rattle.reg_lines.proofs.Held.{HasStepped, held-stepped, sound-beside, writing-of, running-going}
 use Rattle.reg_lines.proofs.regs.RegLines.iterate.Given.{Over}
 use Rattle.reg_lines.proofs.regs.RegLines.iterate.Goals.{After-keep}

@@ -64,13 +64,19 @@ module _ {n : ℕ} where
   asked-one (Iterate answer ∷ h) next row one other b p q = asked-one h next row one other b p q
   asked-one (Cut tearing ∷ h) next row one other b p q = asked-one h next row one other b p q
 
+  pub wrote-below : (h : List (Event n)) (next row line : ℕ) → RowsBelow h next → Wrote h row line → row < next
+  wrote-below h next row line b w = asked-below h next row line b (wrote-asked h row line w)
+
+  pub wrote-one : (h : List (Event n)) (next row one other : ℕ) → RowsBelow h next → Wrote h row one → Wrote h row other → one ≡ other
+  wrote-one h next row one other b p q = asked-one h next row one other b (wrote-asked h row one p) (wrote-asked h row other q)
+
   pub wrote-line : (h : List (Event n)) (next row line : ℕ) → RowsBelow h next → Wrote h row line → line_of_row row h ≡ line
   wrote-line [] next row line b w = absurd w
   wrote-line (Write at of bytes given answer ∷ h) next row line b w = by (eqb at row) refl (λ w. wrote-line h at row line b.1 w) w
     where
       by : (same : Bool) → eqb at row ≡ same → (Wrote h row line → line_of_row row h ≡ line) → ((at ≡ row) × (of ≡ line)) ⊎ Wrote h row line → cond same of (line_of_row row h) ≡ line
       by true is go (inl w) = w.1
-      by true is go (inr w) = absurd (omega (arith, eqb-true at row is, asked-below h at row line b.1 (wrote-asked h row line w)))
+      by true is go (inr w) = absurd (omega (arith, eqb-true at row is, wrote-below h at row line b.1 w))
       by false is go (inl w) = absurd (cc (eq-eqb at row w.0))
       by false is go (inr w) = go w
   wrote-line (Read at of answer ∷ h) next row line b w = wrote-line h at row line b.1 w
@@ -93,7 +99,7 @@ module _ {n : ℕ} where
 
   -- What stands in the queue
 
-  pushed-stands : (es : List (Entry n)) (x : Entry n) (row line : ℕ) → Stands (es ++ x ∷ []) row line → Stands es row line ⊎ ((x.row ≡ row) × (x.line ≡ line))
+  pub pushed-stands : (es : List (Entry n)) (x : Entry n) (row line : ℕ) → Stands (es ++ x ∷ []) row line → Stands es row line ⊎ ((x.row ≡ row) × (x.line ≡ line))
   pushed-stands [] x row line (inl s) = inr s
   pushed-stands [] x row line (inr s) = absurd s
   pushed-stands (e ∷ es) x row line (inl s) = inl (inl s)
@@ -103,7 +109,7 @@ module _ {n : ℕ} where
       more (inl s) = inl (inr s)
       more (inr new) = inr new
 
-  merged-stands : (old new : ℕ) (bytes : List ℕ) (given : List Bool) (es : List (Entry n)) (row line : ℕ) → Stands (merged old new bytes given es) row line
+  pub merged-stands : (old new : ℕ) (bytes : List ℕ) (given : List Bool) (es : List (Entry n)) (row line : ℕ) → Stands (merged old new bytes given es) row line
       → Stands es row line ⊎ ((new ≡ row) × Stands es old line)
   merged-stands old new bytes given [] row line s = absurd s
   merged-stands old new bytes given (e ∷ es) row line s = by (eqb e.row old) refl (λ t. merged-stands old new bytes given es row line t) s
@@ -123,7 +129,7 @@ module _ {n : ℕ} where
   dropped-stands [] row line s = s
   dropped-stands (e ∷ es) row line s = inr s
 
-  begun-stands : (due : Option ℕ) (f : ℕ → List ℕ) (es : List (Entry n)) (row line : ℕ) → Stands (begun due f es) row line → Stands es row line
+  pub begun-stands : (due : Option ℕ) (f : ℕ → List ℕ) (es : List (Entry n)) (row line : ℕ) → Stands (begun due f es) row line → Stands es row line
   begun-stands (Some region) f es row line s = s
   begun-stands None f [] row line s = s
   begun-stands None f (e ∷ es) row line s = s

@@ -1,14 +1,13 @@
--- What a pulse or a tear of a control line does to its array.
-use Rattle.std.proofs.Common.{◌≡◌, ◌≢◌, ℕ, ◌==◌, refl, sym, ap, subst, ◌∙◌, true, false, [], ◌∷◌, Some, None, eq-eqb, eqb-true}
+-- What senses, a pulse or a tear of one line do to an array.
+use Rattle.std.proofs.Common.{◌≡◌, ℕ, refl, sym, ap, subst, ◌∙◌, true, false, List, [], ◌∷◌, ◌++◌, append_assoc, Some, None}
+use Rattle.std.proofs.lemmas.Bool.{eqb-true, eqb-false}
 use Rattle.std.proofs.lemmas.List.{append-nil}
-use Rattle.pcm_cells.specs.Device.{ArrayState, LineState, counted}
+use Rattle.pcm_cells.specs.declared.array.Sense.{Sense}
+use Rattle.pcm_cells.specs.Device.{ArrayState, LineState, Senses, counted, sense_of}
 use Rattle.program_verify.specs.declared.prog.Prog.{Prog}
 use Rattle.program_verify.specs.Programming.{IsRound, IsTear}
-use Rattle.bank_model.specs.Touching.{Sticks, Touches}
+use Rattle.bank_model.specs.Touching.{Sticks, Touches, shown}
 use Rattle.bank_model.proofs.Sticking.{sticks-pulsed, sticks-torn}
-
-pub differs : (a b : ℕ) → (a == b) ≡ false → b ≢ a
-differs a b off same = let yes : (a == b) ≡ true = eq-eqb a b (sym same) in cc
 
 module _ {n m : ℕ} where
   -- nothing
@@ -17,12 +16,58 @@ module _ {n m : ℕ} where
       subst (λ (a : ArrayState n m). Touches tick [] None false old a) (sym same)
       (record { lines = refl; others = λ at off. refl; pulses = λ at on. cc; sticks = λ at on. cc; tears = refl; log = λ after is. (after, is, sym (append-nil after)); wear = refl; bounds = refl })
 
+  -- one sense
+  pub touches-sense : (tick line : ℕ) (old new : ArrayState n m) → Senses (sense_of line tick (old.line line)) old new → Touches tick (line ∷ []) None false old new
+  touches-sense tick line old new sense = record {
+    lines = sense.lines;
+    others = λ at off. sense.line at;
+    pulses = λ at on. cc;
+    sticks = λ at on. cc;
+    tears = sense.tears;
+    wear = sense.wear;
+    bounds = sense.bounds;
+    log = λ after is.
+        let was = sense.log after is in
+        (was.0, was.1, was.2 ∙ ap (λ (l : LineState n m). was.0 ++ sense_of line tick l ∷ []) (sym (sense.line line)));
+  }
+
+  -- what lines show that stay as they are
+  shown-both : (tick : ℕ) (xs ys : List ℕ) (mid new : ArrayState n m) → ((line : ℕ) → new.line line ≡ mid.line line)
+      → shown tick xs mid ++ shown tick ys new ≡ shown tick (xs ++ ys) new
+  shown-both tick [] ys mid new same = refl
+  shown-both tick (x ∷ xs) ys mid new same =
+      ap (λ (l : LineState n m). sense_of x tick l ∷ (shown tick xs mid ++ shown tick ys new)) (sym (same x))
+      ∙ ap (λ (s : List (Sense n m)). sense_of x tick (new.line x) ∷ s) (shown-both tick xs ys mid new same)
+
+  -- senses after senses
+  pub touches-both : (tick : ℕ) (xs ys : List ℕ) (old mid new : ArrayState n m) → Touches tick xs None false old mid
+      → Touches tick ys None false mid new → Touches tick (xs ++ ys) None false old new
+  touches-both tick xs ys old mid new first second = record {
+    lines = second.lines ∙ first.lines;
+    others = λ at off. second.others at refl ∙ first.others at refl;
+    pulses = λ at on. cc;
+    sticks = λ at on. cc;
+    tears = second.tears ∙ first.tears;
+    wear = second.wear ∙ first.wear;
+    bounds = second.bounds ∙ first.bounds;
+    log = λ after is.
+        let late = second.log after is in
+        let early = first.log late.0 late.1 in (
+          early.0,
+          early.1,
+          late.2
+              ∙ ap (λ (s : List (Sense n m)). s ++ shown tick ys new) early.2
+              ∙ append_assoc early.0 (shown tick xs mid) (shown tick ys new)
+              ∙ ap (λ (s : List (Sense n m)). early.0 ++ s) (shown-both tick xs ys mid new (λ line. second.others line refl)),
+        );
+  }
+
   -- a pulse and a sense
   pub touches-round : (tick line : ℕ) (before after : Prog n m) (old new : ArrayState n m) → IsRound line tick before after old new
       → (new.line line).held ≡ after.seen → Touches tick (line ∷ []) (Some line) false old new
   touches-round tick line before after old new round held = record {
     lines = round.sense.lines ∙ round.others.lines;
-    others = λ at off. round.sense.line at ∙ round.others.others at (differs line at off);
+    others = λ at off. round.sense.line at ∙ round.others.others at (λ same. eqb-false line at off (sym same));
     pulses = λ at on.
         let P : ℕ → Type 0 = λ at. (new.line at).pulses ≡ counted (old.line at).pulses in
         subst P (eqb-true line at on) (ap (λ (l : LineState n m). l.pulses) (round.sense.line line) ∙ round.pulse.pulses);
@@ -44,7 +89,7 @@ module _ {n m : ℕ} where
   pub touches-tear : (tick line : ℕ) (prog : Prog n m) (old new : ArrayState n m) → IsTear line prog old new → Touches tick [] (Some line) true old new
   touches-tear tick line prog old new tear = record {
     lines = tear.others.lines;
-    others = λ at off. tear.others.others at (differs line at off);
+    others = λ at off. tear.others.others at (λ same. eqb-false line at off (sym same));
     pulses = λ at on.
         let P : ℕ → Type 0 = λ at. (new.line at).pulses ≡ counted (old.line at).pulses in
         subst P (eqb-true line at on) tear.tear.pulses;

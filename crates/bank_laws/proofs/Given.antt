@@ -9,7 +9,7 @@ use Rattle.masked_bytes.proofs.Layering.{length-joined, joined-none_given, joine
 use Rattle.bank_laws.specs.Pairs.{has_line}
 use Rattle.bank_laws.proofs.Pairs.{AllLong}
 use Rattle.bank_laws.proofs.Answering.{newest_row-there}
-use Rattle.bank_laws.proofs.Lines.{newest-line}
+use Rattle.bank_laws.proofs.Lines.{Stands, stands-row, newest-line}
 
 module _ {n : ℕ} where
   -- the bytes that the entries of a line give
@@ -37,6 +37,17 @@ module _ {n : ℕ} where
   given-lacks [] line lacks = refl
   given-lacks (e ∷ es) line lacks =
       ap (λ b. cond b (joined (given_of es line) e.given) (given_of es line)) (neither_first (e.line == line) _ lacks) ∙ given-lacks es line (neither_second (e.line == line) _ lacks)
+
+  -- by whether the first entry has the line
+  pub given-own : (e : Entry n) (es : List (Entry n)) (line : ℕ) → (e.line == line) ≡ true → given_of (e ∷ es) line ≡ joined (given_of es line) e.given
+  given-own e es line is = ap (λ b. cond b (joined (given_of es line) e.given) (given_of es line)) is
+
+  pub given-other : (e : Entry n) (es : List (Entry n)) (line : ℕ) → (e.line == line) ≡ false → given_of (e ∷ es) line ≡ given_of es line
+  given-other e es line is = ap (λ b. cond b (joined (given_of es line) e.given) (given_of es line)) is
+
+  -- one entry alone
+  pub given-alone : (e : Entry n) (es : List (Entry n)) (line : ℕ) → AllLong (e ∷ es) → (e.line == line) ≡ true → has_line es line ≡ false → given_of (e ∷ es) line ≡ e.given
+  given-alone e es line l is none = given-own e es line is ∙ ap (λ g. joined g e.given) (given-lacks es line none) ∙ joined-none_given n e.given l.0
 
   -- more over an entry's bytes, or over those behind it
   more_under : (b : Bool) (given top below : List Bool) (e : Entry n) → length given ≡ n → length below ≡ n → length e.given ≡ n → top ≡ joined given below
@@ -99,19 +110,14 @@ module _ {n : ℕ} where
           ap (λ b. given_of (cond b (laid_on row bytes given e ∷ es) (e ∷ merged old row bytes given es)) line) is.0
           ∙ more_under (e.line == line) given (given_of (merged old row bytes given es) line) (given_of es line) e len (length-given es line long.1) long.0 (rest is.1)
 
-  pub given-merged_other : (old row : ℕ) (bytes : List ℕ) (given : List Bool) (es : List (Entry n)) (at line : ℕ) → RowsApart es → newest_row es at ≡ Some old → (at == line) ≡ false
+  pub given-merged_other : (old row : ℕ) (bytes : List ℕ) (given : List Bool) (es : List (Entry n)) (into line : ℕ) → RowsApart es → Stands es old into → (into == line) ≡ false
       → given_of (merged old row bytes given es) line ≡ given_of es line
-  given-merged_other old row bytes given [] at line apart is other = absurd (cc)
-  given-merged_other old row bytes given (e ∷ es) at line apart is other =
-      by (newest-of e es at old apart is) (λ there. given-merged_other old row bytes given es at line apart.1 there other)
+  given-merged_other old row bytes given [] into line apart s ne = absurd s
+  given-merged_other old row bytes given (e ∷ es) into line apart s ne = by (eqb e.row old) refl s (λ t. given-merged_other old row bytes given es into line apart.1 t ne)
     where
-      by : NewestOf e es at old → (newest_row es at ≡ Some old → given_of (merged old row bytes given es) line ≡ given_of es line)
-          → given_of (cond (eqb e.row old) (laid_on row bytes given e ∷ es) (e ∷ merged old row bytes given es)) line ≡ given_of (e ∷ es) line
-      by (inl is) rest =
-          let elsewhere : (e.line == line) ≡ false = subst (λ l. (l == line) ≡ false) (sym (eqb-true e.line at is.1)) other in
-          ap (λ b. given_of (cond b (laid_on row bytes given e ∷ es) (e ∷ merged old row bytes given es)) line) is.0
-          ∙ ap (λ b. cond b (joined (given_of es line) (joined given e.given)) (given_of es line)) elsewhere
-          ∙ sym (ap (λ b. cond b (joined (given_of es line) e.given) (given_of es line)) elsewhere)
-      by (inr is) rest =
-          ap (λ b. given_of (cond b (laid_on row bytes given e ∷ es) (e ∷ merged old row bytes given es)) line) is.0
-          ∙ ap (λ given. cond (e.line == line) (joined given e.given) given) (rest is.1)
+      by : (b : Bool) → eqb e.row old ≡ b → Stands (e ∷ es) old into → (Stands es old into → given_of (merged old row bytes given es) line ≡ given_of es line)
+          → given_of (cond b (laid_on row bytes given e ∷ es) (e ∷ merged old row bytes given es)) line ≡ given_of (e ∷ es) line
+      by true is (inl s) go = let other : (e.line == line) ≡ false = subst (λ k. (k == line) ≡ false) (sym s.1) ne in given-other (laid_on row bytes given e) es line other ∙ sym (given-other e es line other)
+      by true is (inr s) go = absurd (cc (subst (λ r. has_row es r ≡ false) (eqb-true e.row old is) apart.0, stands-row es old into s))
+      by false is (inl s) go = absurd (cc (is, eq-eqb e.row old s.0))
+      by false is (inr s) go = ap (λ k. cond (e.line == line) (joined k e.given) k) (go s)
