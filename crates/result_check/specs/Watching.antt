@@ -1,7 +1,11 @@
 -- What ends next in a bank.
-use Rattle.std.specs.Prelude.{ℕ, List, [], ◌∷◌, IsTrue, nat_le, min}
+use Rattle.std.specs.Prelude.{ℕ, List, [], ◌∷◌, Option, IsTrue, nat_le, min}
 use Rattle.std.specs.List.{list_all}
+use Rattle.result_rows.specs.declared.Outcome.{Outcome}
+use Rattle.result_rows.specs.declared.Outcome.TheVariants as out
 use Rattle.row_verdict.specs.declared.members.Member.{Member}
+use Rattle.row_verdict.specs.Fitting.{IsOnlyPair}
+use Rattle.row_verdict.specs.Members.{never}
 use Rattle.row_verdict.specs.States.{Facts}
 
 -- the least of a tick and those at which these are stored
@@ -18,3 +22,13 @@ least_of first (v ∷ vs) = least_of (min first v) vs
 pub record NoneEndsBelow (tick : ℕ) (f : Facts) : Type 0 where
   pub stores : IsTrue (list_all (λ m. nat_le tick m.end) f.members)
   pub reads : IsTrue (list_all (λ v. nat_le tick v) f.waits)
+
+-- this is such a tick, and at most this line has two members, if that is known
+pub record IsWatched (next : ℕ) (paired : Option ℕ) (f : Facts) : Type 0 where
+  pub ends : NoneEndsBelow next f
+  pub pairs : IsOnlyPair paired f.members
+
+-- when a read is read, or never
+abbrev pub read_at : {n : ℕ} → Outcome n → ℕ
+read_at (out.Read u place bytes) = u
+read_at _ = never
