@@ -8,7 +8,9 @@ use Rattle.std.proofs.lemmas.List.Folds.{list_any-append}
 use Rattle.row_judging.specs.Few.{few_by}
 use Rattle.row_judging.proofs.Cuts.{count-cons}
 use Rattle.row_verdict.specs.declared.members.Member.{Member}
-use Rattle.row_verdict.specs.Fitting.{is_of, has_twins, pairs_only, IsOnlyPair}
+use Rattle.row_verdict.specs.declared.members.Twins.{Twins}
+use Rattle.row_verdict.specs.declared.members.Twins.TheVariants.{Nowhere, Only, Anywhere}
+use Rattle.row_verdict.specs.Fitting.{is_of, has_twins, pairs_only, IsKnown}
 use Rattle.row_verdict.specs.Joined.{stays_beside}
 
 pub denied : (b : Bool) → not b ≡ true → b ≡ false
@@ -187,10 +189,55 @@ module _ (pair line : ℕ) (ms : List Member) (new : Member) (of : new.line ≡ 
 pub stays-anew : (pair line : ℕ) (ms : List Member) → count_by (is_of pair) ms ≤ 1 → pairs_only pair ms ≡ true → pairs_only line ms ≡ true
 stays-anew pair line ms few h = no_twins line ms (twins-counted pair ms h ∙ lt-leb 2 (count_by (is_of pair) ms) (omega (arith, few)))
 
-pub only_pair-filter : (p : Member → Bool) (paired : Option ℕ) (ms : List Member) → IsOnlyPair paired ms → IsOnlyPair paired (filter p ms)
-only_pair-filter p None ms h = h
-only_pair-filter p (Some line) ms h = pairs_only-filter p line ms h
+-- What is known where no two are of one line
 
-pub only_pair-take : (paired : Option ℕ) (k : ℕ) (ms : List Member) → IsOnlyPair paired ms → IsOnlyPair paired (take k ms)
-only_pair-take None k ms h = h
-only_pair-take (Some line) k ms h = pairs_only-take line k ms h
+twins-filter : (p : Member → Bool) (ms : List Member) → has_twins ms ≡ false → has_twins (filter p ms) ≡ false
+twins-filter p [] h = refl
+twins-filter p (m ∷ ms) h = by (p m) (twins-filter p ms (neither_second _ _ h))
+  where
+    by : (b : Bool) → has_twins (filter p ms) ≡ false → has_twins (cond b (m ∷ filter p ms) (filter p ms)) ≡ false
+    by true ih = ap (λ b. b || has_twins (filter p ms)) (none-filter (is_of m.line) p ms (neither_first _ _ h)) ∙ ih
+    by false ih = ih
+
+twins-take : (k : ℕ) (ms : List Member) → has_twins ms ≡ false → has_twins (take k ms) ≡ false
+twins-take zero ms h = refl
+twins-take (suc k) [] h = refl
+twins-take (suc k) (m ∷ ms) h =
+    ap (λ b. b || has_twins (take k ms)) (none-take (is_of m.line) k ms (neither_first _ _ h)) ∙ twins-take k ms (neither_second _ _ h)
+
+twins-last : (ms : List Member) (new : Member) → has_twins ms ≡ false → list_any (is_of new.line) ms ≡ false → has_twins (ms ++ new ∷ []) ≡ false
+twins-last [] new h none = refl
+twins-last (m ∷ ms) new h none =
+    ap (λ b. b || has_twins (ms ++ new ∷ []))
+    (list_any-append (is_of m.line) ms (new ∷ [])
+    ∙ ap (λ b. b || ((new.line == m.line) || false)) (neither_first _ _ h)
+    ∙ ap (λ b. b || false) (turned (cases_eq new.line m.line)))
+    ∙ twins-last ms new (neither_second _ _ h) (neither_second _ _ none)
+  where
+    turned : (new.line ≡ m.line) ⊎ (new.line ≡ m.line → ⊥) → (new.line == m.line) ≡ false
+    turned (inr ne) = ne_eqb new.line m.line ne
+    turned (inl e) =
+        let f : (m.line == new.line) ≡ false = neither_first _ _ none in
+        let t : (m.line == new.line) ≡ true = eq-eqb m.line new.line (sym e) in
+        absurd (cc)
+
+pub twins_joined : (line : ℕ) (ms : List Member) (new : Member) → new.line ≡ line → list_any (λ m. is_of line m && stays_beside line m) ms ≡ false → has_twins ms ≡ false
+    → has_twins (filter (stays_beside line) ms ++ new ∷ []) ≡ false
+twins_joined line ms new of none h =
+    twins-last (filter (stays_beside line) ms) new (twins-filter (stays_beside line) ms h)
+    (ap (λ l. list_any (is_of l) (filter (stays_beside line) ms)) of ∙ sym (any-filter (is_of line) (stays_beside line) ms) ∙ none)
+
+pub twins_paired : (line : ℕ) (ms : List Member) (new : Member) → new.line ≡ line → has_twins ms ≡ false → pairs_only line (filter (stays_beside line) ms ++ new ∷ []) ≡ true
+twins_paired line ms new of h = joined-own line line ms new of refl (no_twins line ms h)
+
+-- What is known stays so of some of these, and of the first of them
+
+pub known-filter : (p : Member → Bool) (twins : Twins) (ms : List Member) → IsKnown twins ms → IsKnown twins (filter p ms)
+known-filter p Nowhere ms h = twins-filter p ms h
+known-filter p (Only line) ms h = pairs_only-filter p line ms h
+known-filter p Anywhere ms h = h
+
+pub known-take : (twins : Twins) (k : ℕ) (ms : List Member) → IsKnown twins ms → IsKnown twins (take k ms)
+known-take Nowhere k ms h = twins-take k ms h
+known-take (Only line) k ms h = pairs_only-take line k ms h
+known-take Anywhere k ms h = h

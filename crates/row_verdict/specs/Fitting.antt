@@ -1,5 +1,5 @@
 -- The queue's rule in the words of what is kept of a bank.
-use Rattle.std.specs.Prelude.{ℕ, ◌+◌, ◌==◌, ◌&&◌, ◌||◌, Bool, true, false, IsTrue, not, List, [], ◌∷◌, Option, Some, None, length, reverse, map, nat_le, nat_lt}
+use Rattle.std.specs.Prelude.{◌≡◌, ℕ, ◌+◌, ◌==◌, ◌&&◌, ◌||◌, Bool, true, false, IsTrue, not, List, [], ◌∷◌, Option, Some, None, length, reverse, map, nat_le, nat_lt}
 use Rattle.std.specs.List.{list_all, list_any}
 use Rattle.result_rows.specs.declared.Outcome.{Outcome}
 use Rattle.result_rows.specs.declared.Outcome.TheVariants as out
@@ -8,6 +8,8 @@ use Rattle.row_judging.specs.Few.{few_by}
 use Rattle.row_rules.specs.Answers.{is_full}
 use Rattle.row_judging.specs.Keys.{reach, key, up_to}
 use Rattle.row_verdict.specs.declared.members.Member.{Member}
+use Rattle.row_verdict.specs.declared.members.Twins.{Twins}
+use Rattle.row_verdict.specs.declared.members.Twins.TheVariants.{Nowhere, Only, Anywhere}
 use Rattle.row_verdict.specs.Covering.{comes_by}
 use Rattle.row_verdict.specs.Members.{never}
 
@@ -28,15 +30,16 @@ abbrev pub has_twins : List Member → Bool
 has_twins [] = false
 has_twins (m ∷ ms) = list_any (is_of m.line) ms || has_twins ms
 
--- of no two of these is one line, unless it is this one
+-- no two of these have one line, unless it is this one
 abbrev pub pairs_only : ℕ → List Member → Bool
 pairs_only line [] = true
 pairs_only line (m ∷ ms) = (m.line == line || not (list_any (is_of m.line) ms)) && pairs_only line ms
 
--- at most this line has two of these members, if that is known
-abbrev pub IsOnlyPair : Option ℕ → List Member → Type 0
-IsOnlyPair None members = Unit {0}
-IsOnlyPair (Some line) members = IsTrue (pairs_only line members)
+-- no two of these members have one line but where they may
+abbrev pub IsKnown : Twins → List Member → Type 0
+IsKnown Nowhere members = has_twins members ≡ false
+IsKnown (Only line) members = IsTrue (pairs_only line members)
+IsKnown Anywhere members = Unit {0}
 
 -- a member isn't stored before all of these
 abbrev pub follows : Member → List Member → Bool

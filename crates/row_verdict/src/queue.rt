@@ -7,12 +7,13 @@ ghost use Rattle.row_judging.specs.Few.{few_by};
 ghost use Rattle.row_judging.specs.Keys as keys_spec;
 ghost use Rattle.row_verdict.specs.Covering.{comes_by};
 ghost use Rattle.row_verdict.specs.Fitting as spec;
-ghost use Rattle.row_verdict.specs.Fitting.{IsOnlyPair};
+ghost use Rattle.row_verdict.specs.Fitting.{IsKnown};
+ghost use Rattle.row_verdict.specs.declared.members.Twins.TheVariants as twin;
 ghost use Rattle.row_verdict.specs.Joined.{stays_beside};
 ghost use Rattle.row_verdict.specs.Members.{never};
 ghost use Rattle.row_verdict.specs.declared.members.Member.{Member};
 
-use crate::members::{Member, NEVER};
+use crate::members::{Member, NEVER, Twins};
 use result_rows::Outcome;
 
 /// Whether a member is of this line.
@@ -90,22 +91,16 @@ fn has_twins(members: &[Member]) -> bool
     }
 }
 
-/// Whether two of these have one line, where at most this line has two, if that is known.
-fn finds_twins(members: &[Member], paired: Option<u32>) -> bool
-    requires { IsOnlyPair paired members.now }
+/// Whether two of these have one line, where this is known of them.
+fn finds_twins(members: &[Member], twins: Twins) -> bool
+    requires { IsKnown twins members.now }
     ensures { result ≡ spec.has_twins members.now }
 {
-    match paired {
-        Some(line) => count_of(members, line) >= 2,
-        None => has_twins(members),
+    match twins {
+        Twins::Nowhere => false,
+        Twins::Only(line) => count_of(members, line) >= 2,
+        Twins::Anywhere => has_twins(members),
     }
-}
-
-/// Whether one of these is of a line, and isn't merged into a later write of it.
-fn has_staying(members: &[Member], line: u32) -> bool
-    ensures { result ≡ list_any (λ m. spec.is_of line m && stays_beside line m) members.now }
-{
-    members.iter().any(|member| is_staying(member, line))
 }
 
 /// Whether a member is of a line, and isn't merged into a later write of it.
@@ -115,30 +110,51 @@ fn is_staying(member: &Member, line: u32) -> bool
     member.line == line && !(member.merged && line == member.line)
 }
 
-/// The only line that may have two members once a write of this line joins, where until then it was this one.
-fn paired_anew(pair: u32, members: &[Member], line: u32) -> Option<u32>
-    requires { IsOnlyPair (Some pair) members.now }
-    ensures joins { (m : Member) → m.line ≡ line → IsOnlyPair result (filter (stays_beside line) members.now ++ m ∷ []) }
-    ensures stays { IsOnlyPair result members.now }
+/// Whether one of these is of a line, and isn't merged into a later write of it.
+fn has_staying(members: &[Member], line: u32) -> bool
+    ensures { result ≡ list_any (λ m. spec.is_of line m && stays_beside line m) members.now }
+{
+    members.iter().any(|member| is_staying(member, line))
+}
+
+/// What is known once a write of a line joins, where two were of this one alone.
+fn only_with(pair: u32, members: &[Member], line: u32) -> Twins
+    requires { IsKnown (twin.Only pair) members.now }
+    ensures joins { (m : Member) → m.line ≡ line → IsKnown result (filter (stays_beside line) members.now ++ m ∷ []) }
+    ensures stays { IsKnown result members.now }
 {
     if pair == line || !has_staying(members, line) {
-        Some(pair)
+        Twins::Only(pair)
     } else if count_of(members, pair) <= 1 {
-        Some(line)
+        Twins::Only(line)
     } else {
-        None
+        Twins::Anywhere
     }
 }
 
-/// The only line that may have two members once a write of this line joins, if that is known.
-pub fn paired_with(paired: Option<u32>, members: &[Member], line: u32) -> Option<u32>
-    requires { IsOnlyPair paired members.now }
-    ensures joins { (m : Member) → m.line ≡ line → IsOnlyPair result (filter (stays_beside line) members.now ++ m ∷ []) }
-    ensures stays { IsOnlyPair result members.now }
+/// What is known once a write of a line joins, where two were of none.
+fn first_with(members: &[Member], line: u32) -> Twins
+    requires { IsKnown twin.Nowhere members.now }
+    ensures joins { (m : Member) → m.line ≡ line → IsKnown result (filter (stays_beside line) members.now ++ m ∷ []) }
+    ensures stays { IsKnown result members.now }
 {
-    match paired {
-        Some(pair) => paired_anew(pair, members, line),
-        None => None,
+    if has_staying(members, line) {
+        Twins::Only(line)
+    } else {
+        Twins::Nowhere
+    }
+}
+
+/// What is known once a write of a line joins. It holds too where the write doesn't.
+pub fn twins_with(twins: Twins, members: &[Member], line: u32) -> Twins
+    requires { IsKnown twins members.now }
+    ensures joins { (m : Member) → m.line ≡ line → IsKnown result (filter (stays_beside line) members.now ++ m ∷ []) }
+    ensures stays { IsKnown result members.now }
+{
+    match twins {
+        Twins::Nowhere => first_with(members, line),
+        Twins::Only(pair) => only_with(pair, members, line),
+        Twins::Anywhere => Twins::Anywhere,
     }
 }
 
@@ -170,44 +186,51 @@ fn follows(newest: &Member, others: &[Member]) -> bool
     is_never(newest.end) || some_end_by(others, newest.end)
 }
 
+/// Whether the newest member isn't stored first where two of a line stand.
+fn passes_none(newest: &Member, others: &[Member], twins: Twins) -> bool
+    requires { IsKnown twins others.now }
+    ensures { result ≡ (spec.follows newest.now others.now || not (spec.has_twins others.now)) }
+{
+    !finds_twins(others, twins) || follows(newest, others)
+}
+
 /// Whether the newest member finds few of its line among the others, and isn't stored first where two of a line stand.
-fn joins_well(all: &[Member], newest: &Member, others: &[Member], paired: Option<u32>) -> bool
-    requires { IsOnlyPair paired others.now }
+fn joins_well(all: &[Member], newest: &Member, others: &[Member], twins: Twins) -> bool
+    requires { IsKnown twins others.now }
     ensures { result ≡ spec.joins_well all.now newest.now others.now }
 {
-    finds_few(all, newest, others) && (follows(newest, others) || !finds_twins(others, paired))
+    finds_few(all, newest, others) && passes_none(newest, others, twins)
 }
 
 /// Whether these members are in order, where all but the newest are.
-fn in_order(members: &[Member], paired: Option<u32>) -> bool
-    requires { IsOnlyPair paired members.now }
+fn in_order(members: &[Member], twins: Twins) -> bool
+    requires { IsKnown twins members.now }
     ensures { result ≡ spec.in_order members.now }
 {
     match members.last() {
         None => true,
         Some(newest) => {
             let others = &members[..members.len() - 1];
-            joins_well(members, newest, others, paired)
+            joins_well(members, newest, others, twins)
         }
     }
 }
 
-/// Whether a bank holds no more than it may, where its pairs are in order but for the newest member, and at most this line has two
-/// members, if that is known.
+/// Whether a bank holds no more than it may, where its pairs are in order but for the newest member, and this is known of them.
 pub fn has_room(
     writes: u32,
     reads: u32,
     members: &[Member],
     waits: &[u64],
     lost: u32,
-    paired: Option<u32>,
+    twins: Twins,
 ) -> bool
-    requires { IsOnlyPair paired members.now }
+    requires { IsKnown twins members.now }
     ensures { result ≡ spec.room_kept writes reads members.now waits.now lost }
 {
     members.len() <= writes as usize
         && (reads >= lost && waits.len() <= (reads - lost) as usize)
-        && in_order(members, paired)
+        && in_order(members, twins)
 }
 
 /// Whether a member is of another line than a refused write, or came before it and leaves first.

@@ -1,7 +1,7 @@
 use Rattle.std.proofs.Common.{◌≡◌, ◌≤◌, ◌∙◌, false, ap, sym, arith}
 use Rattle.row_verdict.proofs.Pairs.{denied, joined-alone, joined-own, joined-anew, stays-anew}
-use Rattle.row_verdict.proofs.queue.paired_anew.Goals as goal
-use Rattle.row_verdict.proofs.queue.paired_anew.Goals.{then-pair-line, else-pair-line}
+use Rattle.row_verdict.proofs.queue.only_with.Goals as goal
+use Rattle.row_verdict.proofs.queue.only_with.Goals.{then-pair-line, else-pair-line}
 
 pub returns-then-not-has_staying-clause-joins : goal.returns-then-not-has_staying-clause-joins
 returns-then-not-has_staying-clause-joins c = λ m of.
