@@ -1,5 +1,5 @@
 -- What ends next in a bank.
-use Rattle.std.proofs.Common.{◌≡◌, ℕ, ◌<◌, ◌≤◌, ◌&&◌, Bool, true, false, List, [], ◌∷◌, ◌++◌, Option, Some, None, refl, sym, ap, ◌∙◌, cond, subst, arith}
+use Rattle.std.proofs.Common.{◌≡◌, ℕ, ◌<◌, ◌≤◌, ◌&&◌, Bool, true, false, List, [], ◌∷◌, ◌++◌, Option, refl, sym, ap, ◌∙◌, cond, subst, arith}
 use Rattle.masked_bytes.proofs.Truth.{and_first, and_second}
 use Rattle.std.specs.Prelude.{filter, nat_le, nat_lt, not, min}
 use Rattle.std.specs.List.{list_all}
@@ -10,12 +10,13 @@ use Rattle.result_rows.specs.declared.Outcome.{Outcome}
 use Rattle.result_rows.specs.declared.Outcome.TheVariants as out
 use Rattle.row_judging.specs.Distances.{later_of}
 use Rattle.row_verdict.specs.declared.members.Member.{Member}
+use Rattle.row_verdict.specs.declared.members.Twins.{Twins}
+use Rattle.row_verdict.specs.declared.members.Twins.TheVariants.{Anywhere}
 use Rattle.row_verdict.specs.Kept.{ended}
-use Rattle.row_verdict.specs.Fitting.{IsOnlyPair}
+use Rattle.row_verdict.specs.Fitting.{IsKnown}
 use Rattle.row_verdict.specs.Joined.{stays_beside}
 use Rattle.row_verdict.specs.States.{Facts, settled, after_write, after_read}
 use Rattle.row_verdict.specs.Members.{never}
-use Rattle.row_verdict.proofs.Pairs.{only_pair-filter}
 use Rattle.result_check.specs.Watching.{NoneEndsBelow, IsWatched, least_end, least_of, read_at}
 
 -- a bound on some numbers
@@ -155,10 +156,10 @@ module _ {n : ℕ} (next : ℕ) (f : Facts) (none : NoneEndsBelow next f) where
   none_read tick (out.Busy u) = sooner_none next never f none
   none_read tick (out.Cut u) = sooner_none next never f none
 
-module _ {n : ℕ} (paired : Option ℕ) (f : Facts) where
+module _ {n : ℕ} (twins : Twins) (f : Facts) where
   -- the only line that may have two, behind a write and a read
-  pairs_written : (line : ℕ) (m : Member) (o : Outcome n) → IsOnlyPair paired (filter (stays_beside line) f.members ++ m ∷ []) → IsOnlyPair paired f.members
-      → IsOnlyPair paired (after_write line m o f).members
+  pairs_written : (line : ℕ) (m : Member) (o : Outcome n) → IsKnown twins (filter (stays_beside line) f.members ++ m ∷ []) → IsKnown twins f.members
+      → IsKnown twins (after_write line m o f).members
   pairs_written line m (out.Stored u place) joins stays = joins
   pairs_written line m (out.Merged u) joins stays = joins
   pairs_written line m (out.Queued u) joins stays = joins
@@ -171,7 +172,7 @@ module _ {n : ℕ} (paired : Option ℕ) (f : Facts) where
   pairs_written line m (out.Lost u) joins stays = stays
   pairs_written line m (out.Cut u) joins stays = stays
 
-  pairs_read : (tick : ℕ) (o : Outcome n) → IsOnlyPair paired f.members → IsOnlyPair paired (after_read tick o f).members
+  pairs_read : (tick : ℕ) (o : Outcome n) → IsKnown twins f.members → IsKnown twins (after_read tick o f).members
   pairs_read tick (out.Read u place bytes) h = h
   pairs_read tick (out.Lost u) h = h
   pairs_read tick out.Unset h = h
@@ -185,16 +186,16 @@ module _ {n : ℕ} (paired : Option ℕ) (f : Facts) where
   pairs_read tick (out.Cut u) h = h
 
 -- nothing is known beside a bank
-pub watched_none : (f : Facts) → IsWatched 0 None f
+pub watched_none : (f : Facts) → IsWatched 0 Anywhere f
 watched_none f = record { ends = none_below_zero f; pairs = tt }
 
 -- behind a write and a read
-pub watched_written : {n : ℕ} (next line : ℕ) (paired : Option ℕ) (m : Member) (o : Outcome n) (f g : Facts) → NoneEndsBelow next f
-    → IsOnlyPair paired (filter (stays_beside line) f.members ++ m ∷ []) → IsOnlyPair paired f.members → g ≡ after_write line m o f → IsWatched (min next m.end) paired g
-watched_written next line paired m o f g none joins stays is =
-    subst (λ f'. IsWatched (min next m.end) paired f') (sym is) (record { ends = none_written next f none line m o; pairs = pairs_written paired f line m o joins stays })
+pub watched_written : {n : ℕ} (next line : ℕ) (twins : Twins) (m : Member) (o : Outcome n) (f g : Facts) → NoneEndsBelow next f
+    → IsKnown twins (filter (stays_beside line) f.members ++ m ∷ []) → IsKnown twins f.members → g ≡ after_write line m o f → IsWatched (min next m.end) twins g
+watched_written next line twins m o f g none joins stays is =
+    subst (λ f'. IsWatched (min next m.end) twins f') (sym is) (record { ends = none_written next f none line m o; pairs = pairs_written twins f line m o joins stays })
 
-pub watched_read : {n : ℕ} (next tick : ℕ) (paired : Option ℕ) (o : Outcome n) (f g : Facts) → IsWatched next paired f → g ≡ after_read tick o f
-    → IsWatched (min next (read_at o)) paired g
-watched_read next tick paired o f g had is =
-    subst (λ f'. IsWatched (min next (read_at o)) paired f') (sym is) (record { ends = none_read next f had.ends tick o; pairs = pairs_read paired f tick o had.pairs })
+pub watched_read : {n : ℕ} (next tick : ℕ) (twins : Twins) (o : Outcome n) (f g : Facts) → IsWatched next twins f → g ≡ after_read tick o f
+    → IsWatched (min next (read_at o)) twins g
+watched_read next tick twins o f g had is =
+    subst (λ f'. IsWatched (min next (read_at o)) twins f') (sym is) (record { ends = none_read next f had.ends tick o; pairs = pairs_read twins f tick o had.pairs })

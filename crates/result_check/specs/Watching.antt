@@ -1,10 +1,11 @@
 -- What ends next in a bank.
-use Rattle.std.specs.Prelude.{ℕ, List, [], ◌∷◌, Option, IsTrue, nat_le, min}
+use Rattle.std.specs.Prelude.{ℕ, List, [], ◌∷◌, IsTrue, nat_le, min}
 use Rattle.std.specs.List.{list_all}
 use Rattle.result_rows.specs.declared.Outcome.{Outcome}
 use Rattle.result_rows.specs.declared.Outcome.TheVariants as out
 use Rattle.row_verdict.specs.declared.members.Member.{Member}
-use Rattle.row_verdict.specs.Fitting.{IsOnlyPair}
+use Rattle.row_verdict.specs.declared.members.Twins.{Twins}
+use Rattle.row_verdict.specs.Fitting.{IsKnown}
 use Rattle.row_verdict.specs.Members.{never}
 use Rattle.row_verdict.specs.States.{Facts}
 
@@ -23,10 +24,10 @@ pub record NoneEndsBelow (tick : ℕ) (f : Facts) : Type 0 where
   pub stores : IsTrue (list_all (λ m. nat_le tick m.end) f.members)
   pub reads : IsTrue (list_all (λ v. nat_le tick v) f.waits)
 
--- this is such a tick, and at most this line has two members, if that is known
-pub record IsWatched (next : ℕ) (paired : Option ℕ) (f : Facts) : Type 0 where
+-- nothing of a bank ends below a tick, and no two of its members have one line but where they may
+pub record IsWatched (next : ℕ) (twins : Twins) (f : Facts) : Type 0 where
   pub ends : NoneEndsBelow next f
-  pub pairs : IsOnlyPair paired f.members
+  pub pairs : IsKnown twins f.members
 
 -- when a read is read, or never
 abbrev pub read_at : {n : ℕ} → Outcome n → ℕ

@@ -1,5 +1,5 @@
 //! What is kept of a bank, with a tick below which nothing of it ends, so that a bank that nothing leaves is settled at once, and
-//! the only line that may have two members, so that no two of another line are sought.
+//! with the lines that may have two members, so that no others are sought for two.
 
 ghost use Rattle.std.specs.Prelude.{◌≡◌, ◌<◌, ◌^◌, ◌-◌, min, IfOk};
 ghost use Rattle.row_verdict.specs.Banks.{facts_of};
@@ -11,8 +11,8 @@ ghost use Rattle.result_check.specs.Watching.{least_end, least_of};
 
 use result_rows::Outcome;
 use row_verdict::bank::Bank;
-use row_verdict::members::{Member, NEVER};
-use row_verdict::queue::{has_room, paired_with};
+use row_verdict::members::{Member, NEVER, Twins};
+use row_verdict::queue::{has_room, twins_with};
 use std::alloc::{AllocError, Global};
 use std::marker::Model;
 
@@ -22,8 +22,8 @@ pub struct Watched {
     bank: Bank,
     // No write is stored below this tick, and no read that waits is read.
     next: u64,
-    // At most this line has two members, if that is known.
-    paired: Option<u32>,
+    // Which lines may have two members.
+    twins: Twins,
 }
 
 impl Model for Watched {
@@ -35,7 +35,7 @@ impl Model for Watched {
 
     ghost view = { λ w. facts_of w.bank };
 
-    ghost invariant = { λ w. IsWatched w.next w.paired (facts_of w.bank) };
+    ghost invariant = { λ w. IsWatched w.next w.twins (facts_of w.bank) };
 }
 
 /// The lesser of two ticks.
@@ -85,7 +85,7 @@ impl Watched {
         Watched {
             bank: Bank::new(alloc),
             next: 0,
-            paired: Some(0),
+            twins: Twins::Nowhere,
         }
     }
 
@@ -106,7 +106,7 @@ impl Watched {
             &self.bank.members,
             &self.bank.waits,
             self.bank.lost,
-            self.paired,
+            self.twins,
         )
     }
 
@@ -129,12 +129,12 @@ impl Watched {
         ensures { IfOk result (λ _. self.new ≡ spec.after_write member.line member outcome.now self.old) }
     {
         let next = earlier(self.next, member.end);
-        let paired = paired_with(self.paired, &self.bank.members, member.line);
+        let twins = twins_with(self.twins, &self.bank.members, member.line);
         self.next = 0;
-        self.paired = None;
+        self.twins = Twins::Anywhere;
         self.bank.pass_write(member, outcome)?;
         self.next = next;
-        self.paired = paired;
+        self.twins = twins;
         Ok(())
     }
 
@@ -148,12 +148,12 @@ impl Watched {
         ensures { IfOk result (λ _. self.new ≡ spec.after_read tick outcome.now self.old) }
     {
         let next = earlier(self.next, read_at(outcome));
-        let paired = self.paired;
+        let twins = self.twins;
         self.next = 0;
-        self.paired = None;
+        self.twins = Twins::Anywhere;
         self.bank.pass_read(tick, outcome)?;
         self.next = next;
-        self.paired = paired;
+        self.twins = twins;
         Ok(())
     }
 

@@ -1,8 +1,8 @@
 use Rattle.std.proofs.Common.{◌≡◌, ◌∙◌, sym, subst, ap}
 use Rattle.std.specs.Prelude.{nat_le, not}
 use Rattle.row_verdict.specs.Banks.{facts_of}
-use Rattle.row_verdict.specs.Fitting.{IsOnlyPair}
-use Rattle.row_verdict.proofs.Pairs.{only_pair-filter}
+use Rattle.row_verdict.specs.Fitting.{IsKnown}
+use Rattle.row_verdict.proofs.Pairs.{known-filter}
 use Rattle.row_verdict.specs.States.{Facts, settled}
 use Rattle.row_verdict.specs.Members.{never}
 use Rattle.result_check.specs.Watching.{NoneEndsBelow, least_end, least_of}
@@ -16,8 +16,8 @@ invariant_of-self c = record {
       (none_below_least (facts_of c.settle.new.self) c.first_end.result c.first_of.result
       (c.first_end.ensures ∙ ap (least_end never) c.deref.ensures.value) (c.first_of.ensures ∙ ap (least_of never) c.deref-then-self-tick.ensures.value));
   pairs =
-      subst (λ (f : Facts). IsOnlyPair c.self.inside.paired f.members) (sym c.settle.ensures)
-      (only_pair-filter (λ m. not (nat_le m.end c.args.tick)) c.self.inside.paired (facts_of c.self.inside.bank).members c.self.invariant.pairs);
+      subst (λ (f : Facts). IsKnown c.self.inside.twins f.members) (sym c.settle.ensures)
+      (known-filter (λ m. not (nat_le m.end c.args.tick)) c.self.inside.twins (facts_of c.self.inside.bank).members c.self.invariant.pairs);
 }
 
 pub returns-else-self-tick : goal.returns-else-self-tick
