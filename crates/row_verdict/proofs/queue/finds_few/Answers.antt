@@ -1,5 +1,4 @@
-use Rattle.std.proofs.Common.{◌≡◌, ◌&&◌, ◌∙◌, ap, sym}
-use Rattle.std.specs.Prelude.{nat_le}
+use Rattle.std.proofs.Common.{◌∙◌, sym}
 use Rattle.row_verdict.specs.Fitting.{is_of, precedes}
 use Rattle.row_verdict.proofs.Pairs.{few_of_none}
 use Rattle.row_verdict.proofs.queue.finds_few.Goals as goal

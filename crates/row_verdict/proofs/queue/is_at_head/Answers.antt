@@ -1,9 +1,8 @@
-use Rattle.std.proofs.Common.{◌≡◌, ◌∙◌, ◌==◌, ◌&&◌, ◌||◌, ap, sym}
+use Rattle.std.proofs.Common.{◌∙◌, ◌==◌, ◌&&◌, ◌||◌, ap, sym}
 use Rattle.std.specs.Prelude.{nat_lt}
 use Rattle.std.specs.List.{list_all}
 use Rattle.row_judging.specs.Keys.{key, up_to}
 use Rattle.row_verdict.specs.declared.members.Member.{Member}
-use Rattle.row_verdict.specs.Covering.{comes_by}
 use Rattle.row_verdict.specs.Fitting.{is_behind_next, is_behind_store}
 use Rattle.row_verdict.specs.Members.{never}
 use Rattle.row_verdict.proofs.Apart.{all-same}

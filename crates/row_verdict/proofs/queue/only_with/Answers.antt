@@ -1,4 +1,4 @@
-use Rattle.std.proofs.Common.{◌≡◌, ◌≤◌, ◌∙◌, false, ap, sym, arith}
+use Rattle.std.proofs.Common.{◌∙◌, sym, arith}
 use Rattle.row_verdict.proofs.Pairs.{denied, joined-alone, joined-own, joined-anew, stays-anew}
 use Rattle.row_verdict.proofs.queue.only_with.Goals as goal
 use Rattle.row_verdict.proofs.queue.only_with.Goals.{then-pair-line, else-pair-line}
