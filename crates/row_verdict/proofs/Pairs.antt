@@ -1,5 +1,5 @@
 -- The line of which two members may stand in a queue.
-use Rattle.std.proofs.Common.{◌≡◌, ℕ, zero, suc, ◌+◌, ◌≤◌, ◌==◌, ◌&&◌, ◌||◌, ◌⊎◌, inl, inr, Bool, true, false, List, [], ◌∷◌, ◌++◌, refl, sym, ap, ◌∙◌, cond, arith}
+use Rattle.std.proofs.Common.{◌≡◌, ℕ, zero, suc, ◌+◌, ◌<◌, ◌≤◌, ◌==◌, ◌&&◌, ◌||◌, ◌⊎◌, inl, inr, Bool, true, false, List, [], ◌∷◌, ◌++◌, refl, sym, ap, ◌∙◌, cond, arith}
 use Rattle.masked_bytes.proofs.Truth.{and_first, and_second, neither_first, neither_second}
 use Rattle.std.specs.Prelude.{nat_le, nat_lt, not, filter, take, count_by}
 use Rattle.std.specs.List.{list_all, list_any}
@@ -51,7 +51,7 @@ one_more zero = refl
 one_more (suc k) = ap (λ b. b || nat_le 2 (suc k)) (lt-ltb 0 (suc k) (omega arith)) ∙ sym (le-leb 2 (1 + suc k) (omega arith))
 
 -- twins are two of the only line that may have two
-pub twins-counted : (line : ℕ) (ms : List Member) → pairs_only line ms ≡ true → has_twins ms ≡ nat_le 2 (count_by (is_of line) ms)
+twins-counted : (line : ℕ) (ms : List Member) → pairs_only line ms ≡ true → has_twins ms ≡ nat_le 2 (count_by (is_of line) ms)
 twins-counted line [] h = refl
 twins-counted line (m ∷ ms) h =
     by (m.line == line) refl (and_first _ _ h) (twins-counted line ms (and_second _ _ h)) ∙ ap (nat_le 2) (sym (count-cons (is_of line) m ms))
@@ -64,6 +64,19 @@ twins-counted line (m ∷ ms) h =
         ∙ ap (λ b. nat_lt 0 (count_by (is_of line) ms) || b) ih
         ∙ one_more (count_by (is_of line) ms)
     by false is own ih = ap (λ b. b || has_twins ms) (denied (list_any (is_of m.line) ms) own) ∙ ih ∙ ap (nat_le 2) (omega arith)
+
+-- a member that may be stored first only where no two are of one line, by the number of these
+pub first_alone : (line : ℕ) (ms : List Member) (follows : Bool) → pairs_only line ms ≡ true → count_by (is_of line) ms ≤ 1 → true ≡ (follows || not (has_twins ms))
+first_alone line ms follows h few =
+    sym (either_right follows (not (has_twins ms)) (deny (has_twins ms) (twins-counted line ms h ∙ lt-leb 2 (count_by (is_of line) ms) (omega (arith, few)))))
+
+pub first_paired : (line : ℕ) (ms : List Member) (follows : Bool) → pairs_only line ms ≡ true → 1 < count_by (is_of line) ms → follows ≡ (follows || not (has_twins ms))
+first_paired line ms follows h two =
+    sym (ap (λ b. follows || not b) (twins-counted line ms h ∙ le-leb 2 (count_by (is_of line) ms) (omega (arith, two))) ∙ or_none follows)
+  where
+    or_none : (b : Bool) → (b || false) ≡ b
+    or_none true = refl
+    or_none false = refl
 
 -- where no two are of one line, any line may be the only one
 pub no_twins : (line : ℕ) (ms : List Member) → has_twins ms ≡ false → pairs_only line ms ≡ true

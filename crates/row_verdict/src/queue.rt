@@ -91,18 +91,6 @@ fn has_twins(members: &[Member]) -> bool
     }
 }
 
-/// Whether two of these have one line, where this is known of them.
-fn finds_twins(members: &[Member], twins: Twins) -> bool
-    requires { IsKnown twins members.now }
-    ensures { result ≡ spec.has_twins members.now }
-{
-    match twins {
-        Twins::Nowhere => false,
-        Twins::Only(line) => count_of(members, line) >= 2,
-        Twins::Anywhere => has_twins(members),
-    }
-}
-
 /// Whether a member is of a line, and isn't merged into a later write of it.
 fn is_staying(member: &Member, line: u32) -> bool
     ensures { result ≡ (spec.is_of line member.now && stays_beside line member.now) }
@@ -191,7 +179,11 @@ fn passes_none(newest: &Member, others: &[Member], twins: Twins) -> bool
     requires { IsKnown twins others.now }
     ensures { result ≡ (spec.follows newest.now others.now || not (spec.has_twins others.now)) }
 {
-    !finds_twins(others, twins) || follows(newest, others)
+    match twins {
+        Twins::Nowhere => true,
+        Twins::Only(line) => count_of(others, line) <= 1 || follows(newest, others),
+        Twins::Anywhere => follows(newest, others) || !has_twins(others),
+    }
 }
 
 /// Whether the newest member finds few of its line among the others, and isn't stored first where two of a line stand.
