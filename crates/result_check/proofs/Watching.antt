@@ -1,16 +1,23 @@
 -- What ends next in a bank.
-use Rattle.std.proofs.Common.{◌≡◌, ℕ, ◌<◌, ◌≤◌, ◌&&◌, Bool, true, false, List, [], ◌∷◌, Option, refl, sym, ap, ◌∙◌, cond, arith}
+use Rattle.std.proofs.Common.{◌≡◌, ℕ, ◌<◌, ◌≤◌, ◌&&◌, Bool, true, false, List, [], ◌∷◌, ◌++◌, Option, refl, sym, ap, ◌∙◌, cond, subst, arith}
 use Rattle.masked_bytes.proofs.Truth.{and_first, and_second}
 use Rattle.std.specs.Prelude.{filter, nat_le, nat_lt, not, min}
 use Rattle.std.specs.List.{list_all}
 use Rattle.std.proofs.lemmas.Bool.{leb-true, le-leb, lt-ltb, lt-leb}
 use Rattle.std.proofs.Math.Nat.{min-le_left, min-le_right}
+use Rattle.std.proofs.lemmas.List.Folds.{list_all-append}
+use Rattle.result_rows.specs.declared.Outcome.{Outcome}
+use Rattle.result_rows.specs.declared.Outcome.TheVariants as out
 use Rattle.row_judging.specs.Distances.{later_of}
 use Rattle.row_verdict.specs.declared.members.Member.{Member}
+use Rattle.row_verdict.specs.declared.members.Twins.{Twins}
+use Rattle.row_verdict.specs.declared.members.Twins.TheVariants.{Anywhere}
 use Rattle.row_verdict.specs.Kept.{ended}
-use Rattle.row_verdict.specs.States.{Facts, settled}
+use Rattle.row_verdict.specs.Fitting.{IsKnown}
+use Rattle.row_verdict.specs.Joined.{stays_beside}
+use Rattle.row_verdict.specs.States.{Facts, settled, after_write, after_read}
 use Rattle.row_verdict.specs.Members.{never}
-use Rattle.result_check.specs.Watching.{NoneEndsBelow, least_end, least_of}
+use Rattle.result_check.specs.Watching.{NoneEndsBelow, IsWatched, least_end, least_of, read_at}
 
 -- a bound on some numbers
 module _ {A : Type 0} (f : A → ℕ) where
@@ -87,3 +94,108 @@ module _ (tick next : ℕ) (lt : tick < next) where
       ap (λ ms. let g : Facts = record f { members = ms; waits = filter (λ v. nat_lt tick v) f.waits; last_store = ended tick f.members f.last_store } in g) (members_stay f.members none.stores)
       ∙ ap (λ vs. let g : Facts = record f { waits = vs; last_store = ended tick f.members f.last_store } in g) (waits_stay f.waits none.reads)
       ∙ ap (λ last. let g : Facts = record f { last_store = last } in g) (none_ended f.members f.last_store none.stores))
+
+-- As rows pass
+
+all-filter : {A : Type 0} (q p : A → Bool) (xs : List A) → list_all q xs ≡ true → list_all q (filter p xs) ≡ true
+all-filter q p [] h = refl
+all-filter q p (x ∷ xs) h = by (p x) (all-filter q p xs (and_second _ _ h))
+  where
+    by : (b : Bool) → list_all q (filter p xs) ≡ true → list_all q (cond b (x ∷ filter p xs) (filter p xs)) ≡ true
+    by true ih = ap (λ c. c && list_all q (filter p xs)) (and_first _ _ h) ∙ ih
+    by false ih = ih
+
+-- a bound on some numbers is one with another number that it is at most
+all-last : {A : Type 0} (q : A → Bool) (xs : List A) (y : A) → list_all q xs ≡ true → q y ≡ true → list_all q (xs ++ y ∷ []) ≡ true
+all-last q xs y h own = list_all-append q xs (y ∷ []) ∙ ap (λ b. b && (q y && true)) h ∙ ap (λ b. b && true) own
+
+-- nothing ends below an earlier tick
+sooner_none : (next other : ℕ) (f : Facts) → NoneEndsBelow next f → NoneEndsBelow (min next other) f
+sooner_none next other f none = record {
+  stores = bound_less (λ (m : Member). m.end) next (min next other) f.members (le-leb _ _ (min-le_left next other)) none.stores;
+  reads = bound_less (λ (v : ℕ). v) next (min next other) f.waits (le-leb _ _ (min-le_left next other)) none.reads;
+}
+
+module _ (next : ℕ) (f : Facts) (none : NoneEndsBelow next f) (line : ℕ) (m : Member) where
+  sooner : NoneEndsBelow (min next m.end) f
+  sooner = sooner_none next m.end f none
+
+  joined_none : list_all (λ o. nat_le (min next m.end) o.end) (filter (stays_beside line) f.members ++ m ∷ []) ≡ true
+  joined_none =
+      all-last (λ o. nat_le (min next m.end) o.end) (filter (stays_beside line) f.members) m
+      (all-filter (λ o. nat_le (min next m.end) o.end) (stays_beside line) f.members sooner.stores) (le-leb _ _ (min-le_right next m.end))
+
+  -- behind a write
+  none_written : {n : ℕ} (o : Outcome n) → NoneEndsBelow (min next m.end) (after_write line m o f)
+  none_written (out.Stored u place) = record { stores = joined_none; reads = sooner.reads }
+  none_written (out.Merged u) = record { stores = joined_none; reads = sooner.reads }
+  none_written (out.Queued u) = record { stores = joined_none; reads = sooner.reads }
+  none_written (out.Worn u) = record { stores = sooner.stores; reads = sooner.reads }
+  none_written out.Unset = sooner
+  none_written (out.Full u) = sooner
+  none_written (out.Read u place bytes) = sooner
+  none_written (out.Forwarded u bytes) = sooner
+  none_written (out.Busy u) = sooner
+  none_written (out.Lost u) = sooner
+  none_written (out.Cut u) = sooner
+
+module _ {n : ℕ} (next : ℕ) (f : Facts) (none : NoneEndsBelow next f) where
+  -- behind a read
+  none_read : (tick : ℕ) (o : Outcome n) → NoneEndsBelow (min next (read_at o)) (after_read tick o f)
+  none_read tick (out.Read u place bytes) =
+      let sooner = sooner_none next u f none in
+      record { stores = sooner.stores; reads = all-last (λ v. nat_le (min next u) v) f.waits u sooner.reads (le-leb _ _ (min-le_right next u)) }
+  none_read tick (out.Lost u) = let sooner = sooner_none next never f none in record { stores = sooner.stores; reads = sooner.reads }
+  none_read tick out.Unset = sooner_none next never f none
+  none_read tick (out.Stored u place) = sooner_none next never f none
+  none_read tick (out.Merged u) = sooner_none next never f none
+  none_read tick (out.Queued u) = sooner_none next never f none
+  none_read tick (out.Full u) = sooner_none next never f none
+  none_read tick (out.Worn u) = sooner_none next never f none
+  none_read tick (out.Forwarded u bytes) = sooner_none next never f none
+  none_read tick (out.Busy u) = sooner_none next never f none
+  none_read tick (out.Cut u) = sooner_none next never f none
+
+module _ {n : ℕ} (twins : Twins) (f : Facts) where
+  -- the only line that may have two, behind a write and a read
+  pairs_written : (line : ℕ) (m : Member) (o : Outcome n) → IsKnown twins (filter (stays_beside line) f.members ++ m ∷ []) → IsKnown twins f.members
+      → IsKnown twins (after_write line m o f).members
+  pairs_written line m (out.Stored u place) joins stays = joins
+  pairs_written line m (out.Merged u) joins stays = joins
+  pairs_written line m (out.Queued u) joins stays = joins
+  pairs_written line m (out.Worn u) joins stays = stays
+  pairs_written line m out.Unset joins stays = stays
+  pairs_written line m (out.Full u) joins stays = stays
+  pairs_written line m (out.Read u place bytes) joins stays = stays
+  pairs_written line m (out.Forwarded u bytes) joins stays = stays
+  pairs_written line m (out.Busy u) joins stays = stays
+  pairs_written line m (out.Lost u) joins stays = stays
+  pairs_written line m (out.Cut u) joins stays = stays
+
+  pairs_read : (tick : ℕ) (o : Outcome n) → IsKnown twins f.members → IsKnown twins (after_read tick o f).members
+  pairs_read tick (out.Read u place bytes) h = h
+  pairs_read tick (out.Lost u) h = h
+  pairs_read tick out.Unset h = h
+  pairs_read tick (out.Stored u place) h = h
+  pairs_read tick (out.Merged u) h = h
+  pairs_read tick (out.Queued u) h = h
+  pairs_read tick (out.Full u) h = h
+  pairs_read tick (out.Worn u) h = h
+  pairs_read tick (out.Forwarded u bytes) h = h
+  pairs_read tick (out.Busy u) h = h
+  pairs_read tick (out.Cut u) h = h
+
+-- nothing is known beside a bank
+pub watched_none : (f : Facts) → IsWatched 0 Anywhere f
+watched_none f = record { ends = none_below_zero f; pairs = tt }
+
+-- behind a write and a read
+pub watched_written : {n : ℕ} (next line : ℕ) (twins : Twins) (m : Member) (o : Outcome n) (f g : Facts) → NoneEndsBelow next f
+    → IsKnown twins (filter (stays_beside line) f.members ++ m ∷ []) → IsKnown twins f.members → g ≡ after_write line m o f → IsWatched (min next m.end) twins g
+watched_written next line twins m o f g none joins stays is =
+    subst (λ f'. IsWatched (min next m.end) twins f') (sym is) (record { ends = none_written next f none line m o; pairs = pairs_written twins f line m o joins stays })
+
+pub watched_read : {n : ℕ} (next tick : ℕ) (twins : Twins) (o : Outcome n) (f g : Facts) → IsWatched next twins f → g ≡ after_read tick o f
+    → IsWatched (min next (read_at o)) twins g
+watched_read next tick twins o f g had is =
+    subst (λ f'. IsWatched (min next (read_at o)) twins f') (sym is) (record { ends = none_read next f had.ends tick o; pairs = pairs_read twins f tick o had.pairs })

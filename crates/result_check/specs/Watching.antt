@@ -1,7 +1,12 @@
 -- What ends next in a bank.
 use Rattle.std.specs.Prelude.{ℕ, List, [], ◌∷◌, IsTrue, nat_le, min}
 use Rattle.std.specs.List.{list_all}
+use Rattle.result_rows.specs.declared.Outcome.{Outcome}
+use Rattle.result_rows.specs.declared.Outcome.TheVariants as out
 use Rattle.row_verdict.specs.declared.members.Member.{Member}
+use Rattle.row_verdict.specs.declared.members.Twins.{Twins}
+use Rattle.row_verdict.specs.Fitting.{IsKnown}
+use Rattle.row_verdict.specs.Members.{never}
 use Rattle.row_verdict.specs.States.{Facts}
 
 -- the least of a tick and those at which these are stored
@@ -18,3 +23,13 @@ least_of first (v ∷ vs) = least_of (min first v) vs
 pub record NoneEndsBelow (tick : ℕ) (f : Facts) : Type 0 where
   pub stores : IsTrue (list_all (λ m. nat_le tick m.end) f.members)
   pub reads : IsTrue (list_all (λ v. nat_le tick v) f.waits)
+
+-- nothing of a bank ends below a tick, and no two of its members have one line but where they may
+pub record IsWatched (next : ℕ) (twins : Twins) (f : Facts) : Type 0 where
+  pub ends : NoneEndsBelow next f
+  pub pairs : IsKnown twins f.members
+
+-- when a read is read, or never
+abbrev pub read_at : {n : ℕ} → Outcome n → ℕ
+read_at (out.Read u place bytes) = u
+read_at _ = never

@@ -41,7 +41,6 @@ use row_verdict::Rule;
 use row_verdict::judge::{Ahead, Keys, judge_read, judge_write};
 use row_verdict::lines::Line;
 use row_verdict::members::{Member, NEVER};
-use row_verdict::queue::has_room;
 use std::alloc::{AllocError, Global};
 use trace_reader::{Event, EventOp};
 
@@ -210,14 +209,7 @@ impl<const B: usize> Kept<B> {
         ensures { let f = facts_in self.now.banks.items (bank_in banks.now line) in
             result ≡ room_kept rules.now.writes rules.now.reads f.members f.waits f.lost }
     {
-        let bank = self.banks[bank_of(banks, line) as usize].bank();
-        has_room(
-            rules.writes,
-            rules.reads,
-            &bank.members,
-            &bank.waits,
-            bank.lost,
-        )
+        self.banks[bank_of(banks, line) as usize].has_room(rules.writes, rules.reads)
     }
 
     /// Lets time pass in the bank of the last row, and tells whether each bank has room.

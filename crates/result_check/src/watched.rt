@@ -1,14 +1,18 @@
-//! What is kept of a bank, with a tick below which nothing of it ends: so a bank that nothing leaves is settled at once.
+//! What is kept of a bank, with a tick below which nothing of it ends, so that a bank that nothing leaves is settled at once, and
+//! with the lines that may have two members, so that no others are sought for two.
 
 ghost use Rattle.std.specs.Prelude.{◌≡◌, ◌<◌, ◌^◌, ◌-◌, min, IfOk};
 ghost use Rattle.row_verdict.specs.Banks.{facts_of};
+ghost use Rattle.row_verdict.specs.Fitting.{room_kept};
 ghost use Rattle.row_verdict.specs.Members.{never};
 ghost use Rattle.row_verdict.specs.States as spec;
+ghost use Rattle.result_check.specs.Watching as watching;
 ghost use Rattle.result_check.specs.Watching.{least_end, least_of};
 
 use result_rows::Outcome;
 use row_verdict::bank::Bank;
-use row_verdict::members::{Member, NEVER};
+use row_verdict::members::{Member, NEVER, Twins};
+use row_verdict::queue::{has_room, twins_with};
 use std::alloc::{AllocError, Global};
 use std::marker::Model;
 
@@ -18,18 +22,20 @@ pub struct Watched {
     bank: Bank,
     // No write is stored below this tick, and no read that waits is read.
     next: u64,
+    // Which lines may have two members.
+    twins: Twins,
 }
 
 impl Model for Watched {
     ghost use Rattle.row_verdict.specs.States.{Facts};
     ghost use Rattle.row_verdict.specs.Banks.{facts_of};
-    ghost use Rattle.result_check.specs.Watching.{NoneEndsBelow};
+    ghost use Rattle.result_check.specs.Watching.{IsWatched};
 
     ghost Value = { Facts };
 
     ghost view = { λ w. facts_of w.bank };
 
-    ghost invariant = { λ w. NoneEndsBelow w.next (facts_of w.bank) };
+    ghost invariant = { λ w. IsWatched w.next w.twins (facts_of w.bank) };
 }
 
 /// The lesser of two ticks.
@@ -61,6 +67,16 @@ fn first_of(ticks: &[u64]) -> u64
     first
 }
 
+/// When a read is read, or never.
+fn read_at<const B: usize>(outcome: &Outcome<B>) -> u64
+    ensures { result ≡ watching.read_at outcome.now }
+{
+    match outcome {
+        Outcome::Read { tick, .. } => *tick,
+        _ => NEVER,
+    }
+}
+
 impl Watched {
     /// A bank of which no row has passed.
     pub fn new(alloc: Global) -> Watched
@@ -69,6 +85,7 @@ impl Watched {
         Watched {
             bank: Bank::new(alloc),
             next: 0,
+            twins: Twins::Nowhere,
         }
     }
 
@@ -77,6 +94,20 @@ impl Watched {
         ensures { facts_of result.now ≡ self.now }
     {
         &self.bank
+    }
+
+    /// Whether the bank holds no more than it may, where its pairs are in order but for the newest member.
+    pub fn has_room(&self, writes: u32, reads: u32) -> bool
+        ensures { result ≡ room_kept writes reads self.now.members self.now.waits self.now.lost }
+    {
+        has_room(
+            writes,
+            reads,
+            &self.bank.members,
+            &self.bank.waits,
+            self.bank.lost,
+            self.twins,
+        )
     }
 
     /// Lets time pass up to a tick.
@@ -97,8 +128,14 @@ impl Watched {
     ) -> Result<(), AllocError>
         ensures { IfOk result (λ _. self.new ≡ spec.after_write member.line member outcome.now self.old) }
     {
+        let next = earlier(self.next, member.end);
+        let twins = twins_with(self.twins, &self.bank.members, member.line);
         self.next = 0;
-        self.bank.pass_write(member, outcome)
+        self.twins = Twins::Anywhere;
+        self.bank.pass_write(member, outcome)?;
+        self.next = next;
+        self.twins = twins;
+        Ok(())
     }
 
     /// Lets a read pass that arrived at a tick.
@@ -110,8 +147,14 @@ impl Watched {
         requires { self.old.lost < 2 ^ 32 - 1 }
         ensures { IfOk result (λ _. self.new ≡ spec.after_read tick outcome.now self.old) }
     {
+        let next = earlier(self.next, read_at(outcome));
+        let twins = self.twins;
         self.next = 0;
-        self.bank.pass_read(tick, outcome)
+        self.twins = Twins::Anywhere;
+        self.bank.pass_read(tick, outcome)?;
+        self.next = next;
+        self.twins = twins;
+        Ok(())
     }
 
     /// Lets a cut pass.

@@ -1,5 +1,5 @@
 -- The queue's rule in the words of what is kept of a bank.
-use Rattle.std.specs.Prelude.{ℕ, ◌+◌, ◌==◌, ◌&&◌, ◌||◌, Bool, true, false, not, List, [], ◌∷◌, Option, Some, None, length, reverse, map, nat_le, nat_lt}
+use Rattle.std.specs.Prelude.{◌≡◌, ℕ, ◌+◌, ◌==◌, ◌&&◌, ◌||◌, Bool, true, false, IsTrue, not, List, [], ◌∷◌, Option, Some, None, length, reverse, map, nat_le, nat_lt}
 use Rattle.std.specs.List.{list_all, list_any}
 use Rattle.result_rows.specs.declared.Outcome.{Outcome}
 use Rattle.result_rows.specs.declared.Outcome.TheVariants as out
@@ -8,6 +8,9 @@ use Rattle.row_judging.specs.Few.{few_by}
 use Rattle.row_rules.specs.Answers.{is_full}
 use Rattle.row_judging.specs.Keys.{reach, key, up_to}
 use Rattle.row_verdict.specs.declared.members.Member.{Member}
+use Rattle.row_verdict.specs.declared.members.Twins.{Twins}
+use Rattle.row_verdict.specs.declared.members.Twins.TheVariants.{Nowhere, Only, Anywhere}
+use Rattle.row_verdict.specs.Covering.{comes_by}
 use Rattle.row_verdict.specs.Members.{never}
 
 -- a member is of this line
@@ -26,6 +29,17 @@ precedes all newer older = nat_lt older.arrived newer.arrived && (not older.merg
 abbrev pub has_twins : List Member → Bool
 has_twins [] = false
 has_twins (m ∷ ms) = list_any (is_of m.line) ms || has_twins ms
+
+-- no two of these have one line, unless it is this one
+abbrev pub pairs_only : ℕ → List Member → Bool
+pairs_only line [] = true
+pairs_only line (m ∷ ms) = (m.line == line || not (list_any (is_of m.line) ms)) && pairs_only line ms
+
+-- no two of these members have one line but where they may
+abbrev pub IsKnown : Twins → List Member → Type 0
+IsKnown Nowhere members = has_twins members ≡ false
+IsKnown (Only line) members = IsTrue (pairs_only line members)
+IsKnown Anywhere members = Unit {0}
 
 -- a member isn't stored before all of these
 abbrev pub follows : Member → List Member → Bool
@@ -64,6 +78,10 @@ stores_between keys line t e = nat_lt (up_to (key line t) keys) (up_to (key line
 -- a member is of this line, or is never stored, or is so no sooner than the line's next store above tick t
 abbrev pub is_behind_store : List ℕ → ℕ → ℕ → Member → Bool
 is_behind_store keys line t m = m.line == line || (m.end == never || stores_between keys line t m.end)
+
+-- a member is of this line, or is never stored, or is so no sooner than the line's next store, which has this key
+abbrev pub is_behind_next : Option ℕ → ℕ → Member → Bool
+is_behind_next next line m = m.line == line || (m.end == never || comes_by (key line m.end) next)
 
 -- a member has the line, and none of another line is stored before the line's next store
 abbrev pub at_head_kept : List ℕ → ℕ → ℕ → List Member → Bool

@@ -22,6 +22,17 @@ pub struct Member {
     pub merged: bool,
 }
 
+/// Which lines may have two members in a queue.
+#[derive(Clone, Copy, Debug)]
+pub enum Twins {
+    /// No line has two.
+    Nowhere,
+    /// No other line has two.
+    Only(u32),
+    /// Each line may have two.
+    Anywhere,
+}
+
 /// Whether a member is not stored at this tick.
 fn ends_elsewhere(member: &Member, tick: u64) -> bool
     ensures { result ≡ spec.ends_elsewhere tick member.now }

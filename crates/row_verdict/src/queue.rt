@@ -1,14 +1,19 @@
 //! What the queue holds, and what it says of a row's answer, by the members that are kept of a bank.
 
-ghost use Rattle.std.specs.Prelude.{◌≡◌, ◌==◌, ◌&&◌, ◌||◌, not, nat_le, nat_lt, count_by};
+ghost use Rattle.std.specs.Prelude.{◌≡◌, ◌==◌, ◌&&◌, ◌||◌, ◌++◌, [], ◌∷◌, ℕ, not, nat_le, nat_lt, count_by, filter, slice_get};
 ghost use Rattle.std.specs.List.{list_all, list_any};
 ghost use Rattle.std.specs.List.Sorted.{IsNonDecreasing};
 ghost use Rattle.row_judging.specs.Few.{few_by};
 ghost use Rattle.row_judging.specs.Keys as keys_spec;
+ghost use Rattle.row_verdict.specs.Covering.{comes_by};
 ghost use Rattle.row_verdict.specs.Fitting as spec;
+ghost use Rattle.row_verdict.specs.Fitting.{IsKnown};
+ghost use Rattle.row_verdict.specs.declared.members.Twins.TheVariants as twin;
+ghost use Rattle.row_verdict.specs.Joined.{stays_beside};
 ghost use Rattle.row_verdict.specs.Members.{never};
+ghost use Rattle.row_verdict.specs.declared.members.Member.{Member};
 
-use crate::members::{Member, NEVER};
+use crate::members::{Member, NEVER, Twins};
 use result_rows::Outcome;
 
 /// Whether a member is of this line.
@@ -66,7 +71,11 @@ fn all_precede(all: &[Member], newest: &Member, others: &[Member]) -> bool
 fn finds_few(all: &[Member], newest: &Member, others: &[Member]) -> bool
     ensures { result ≡ few_by (spec.is_of newest.now.line) (spec.precedes all.now newest.now) others.now }
 {
-    count_of(others, newest.line) <= 1 && all_precede(all, newest, others)
+    match count_of(others, newest.line) {
+        0 => true,
+        1 => all_precede(all, newest, others),
+        _ => false,
+    }
 }
 
 /// Whether two of these have one line.
@@ -79,6 +88,61 @@ fn has_twins(members: &[Member]) -> bool
             let rest = &members[1..];
             has_line(rest, first.line) || has_twins(rest)
         }
+    }
+}
+
+/// Whether a member is of a line, and isn't merged into a later write of it.
+fn is_staying(member: &Member, line: u32) -> bool
+    ensures { result ≡ (spec.is_of line member.now && stays_beside line member.now) }
+{
+    member.line == line && !(member.merged && line == member.line)
+}
+
+/// Whether one of these is of a line, and isn't merged into a later write of it.
+fn has_staying(members: &[Member], line: u32) -> bool
+    ensures { result ≡ list_any (λ m. spec.is_of line m && stays_beside line m) members.now }
+{
+    members.iter().any(|member| is_staying(member, line))
+}
+
+/// What is known once a write of a line joins, where two were of this one alone.
+fn only_with(pair: u32, members: &[Member], line: u32) -> Twins
+    requires { IsKnown (twin.Only pair) members.now }
+    ensures joins { (m : Member) → m.line ≡ line → IsKnown result (filter (stays_beside line) members.now ++ m ∷ []) }
+    ensures stays { IsKnown result members.now }
+{
+    if pair == line || !has_staying(members, line) {
+        Twins::Only(pair)
+    } else if count_of(members, pair) <= 1 {
+        Twins::Only(line)
+    } else {
+        Twins::Anywhere
+    }
+}
+
+/// What is known once a write of a line joins, where two were of none.
+fn first_with(members: &[Member], line: u32) -> Twins
+    requires { IsKnown twin.Nowhere members.now }
+    ensures joins { (m : Member) → m.line ≡ line → IsKnown result (filter (stays_beside line) members.now ++ m ∷ []) }
+    ensures stays { IsKnown result members.now }
+{
+    if has_staying(members, line) {
+        Twins::Only(line)
+    } else {
+        Twins::Nowhere
+    }
+}
+
+/// What is known once a write of a line joins. It holds too where the write doesn't.
+pub fn twins_with(twins: Twins, members: &[Member], line: u32) -> Twins
+    requires { IsKnown twins members.now }
+    ensures joins { (m : Member) → m.line ≡ line → IsKnown result (filter (stays_beside line) members.now ++ m ∷ []) }
+    ensures stays { IsKnown result members.now }
+{
+    match twins {
+        Twins::Nowhere => first_with(members, line),
+        Twins::Only(pair) => only_with(pair, members, line),
+        Twins::Anywhere => Twins::Anywhere,
     }
 }
 
@@ -110,33 +174,55 @@ fn follows(newest: &Member, others: &[Member]) -> bool
     is_never(newest.end) || some_end_by(others, newest.end)
 }
 
+/// Whether the newest member isn't stored first where two of a line stand.
+fn passes_none(newest: &Member, others: &[Member], twins: Twins) -> bool
+    requires { IsKnown twins others.now }
+    ensures { result ≡ (spec.follows newest.now others.now || not (spec.has_twins others.now)) }
+{
+    match twins {
+        Twins::Nowhere => true,
+        Twins::Only(line) => count_of(others, line) <= 1 || follows(newest, others),
+        Twins::Anywhere => follows(newest, others) || !has_twins(others),
+    }
+}
+
 /// Whether the newest member finds few of its line among the others, and isn't stored first where two of a line stand.
-fn joins_well(all: &[Member], newest: &Member, others: &[Member]) -> bool
+fn joins_well(all: &[Member], newest: &Member, others: &[Member], twins: Twins) -> bool
+    requires { IsKnown twins others.now }
     ensures { result ≡ spec.joins_well all.now newest.now others.now }
 {
-    finds_few(all, newest, others) && (follows(newest, others) || !has_twins(others))
+    finds_few(all, newest, others) && passes_none(newest, others, twins)
 }
 
 /// Whether these members are in order, where all but the newest are.
-fn in_order(members: &[Member]) -> bool
+fn in_order(members: &[Member], twins: Twins) -> bool
+    requires { IsKnown twins members.now }
     ensures { result ≡ spec.in_order members.now }
 {
     match members.last() {
         None => true,
         Some(newest) => {
             let others = &members[..members.len() - 1];
-            joins_well(members, newest, others)
+            joins_well(members, newest, others, twins)
         }
     }
 }
 
-/// Whether a bank holds no more than it may, where its pairs are in order but for the newest member.
-pub fn has_room(writes: u32, reads: u32, members: &[Member], waits: &[u64], lost: u32) -> bool
+/// Whether a bank holds no more than it may, where its pairs are in order but for the newest member, and this is known of them.
+pub fn has_room(
+    writes: u32,
+    reads: u32,
+    members: &[Member],
+    waits: &[u64],
+    lost: u32,
+    twins: Twins,
+) -> bool
+    requires { IsKnown twins members.now }
     ensures { result ≡ spec.room_kept writes reads members.now waits.now lost }
 {
     members.len() <= writes as usize
         && (reads >= lost && waits.len() <= (reads - lost) as usize)
-        && in_order(members)
+        && in_order(members, twins)
 }
 
 /// Whether a member is of another line than a refused write, or came before it and leaves first.
@@ -201,14 +287,36 @@ pub fn line_key(line: u32, tick: u64) -> u128
     line as u128 * 1_125_899_906_842_624 + tick as u128
 }
 
-/// Whether a member is of this line, or is never stored, or is so no sooner than the line's next store above this tick.
-fn is_behind_store(stores: &[u128], line: u32, tick: u64, member: &Member) -> bool
-    requires { IsNonDecreasing stores.now }
-    ensures { result ≡ spec.is_behind_store stores.now line tick member.now }
+/// The key at a place, if there is one.
+fn key_at(keys: &[u128], place: usize) -> Option<u128>
+    ensures { result ≡ slice_get keys.now place }
 {
-    member.line == line
-        || is_never(member.end)
-        || up_to(stores, line_key(line, tick)) < up_to(stores, line_key(line, member.end))
+    keys.get(place).copied()
+}
+
+/// The next of these keys, which don't fall, above this one: so it is at most another exactly where keys lie between the two.
+fn next_key(keys: &[u128], key: u128) -> Option<u128>
+    requires { IsNonDecreasing keys.now }
+    ensures { (other : ℕ) → nat_lt (keys_spec.up_to key keys.now) (keys_spec.up_to other keys.now) ≡ comes_by other result }
+{
+    key_at(keys, up_to(keys, key))
+}
+
+/// Whether a key, if there is one, is at most this one.
+fn comes_by(key: u128, next: Option<u128>) -> bool
+    ensures { result ≡ comes_by key next }
+{
+    match next {
+        Some(other) => other <= key,
+        None => false,
+    }
+}
+
+/// Whether a member is of this line, or is never stored, or is so no sooner than the line's next store, which has this key.
+fn is_behind_next(next: Option<u128>, line: u32, member: &Member) -> bool
+    ensures { result ≡ spec.is_behind_next next line member.now }
+{
+    member.line == line || is_never(member.end) || comes_by(line_key(line, member.end), next)
 }
 
 /// Whether one of these is of this line.
@@ -218,14 +326,13 @@ fn has_line(members: &[Member], line: u32) -> bool
     members.iter().any(|member| is_of(member, line))
 }
 
-/// Whether each of these is of this line, or is stored no sooner than the line's next store above this tick.
-fn all_behind_store(stores: &[u128], line: u32, tick: u64, members: &[Member]) -> bool
-    requires { IsNonDecreasing stores.now }
-    ensures { result ≡ list_all (spec.is_behind_store stores.now line tick) members.now }
+/// Whether each of these is of this line, or is stored no sooner than the line's next store, which has this key.
+fn all_behind_next(next: Option<u128>, line: u32, members: &[Member]) -> bool
+    ensures { result ≡ list_all (spec.is_behind_next next line) members.now }
 {
     members
         .iter()
-        .all(|member| is_behind_store(stores, line, tick, member))
+        .all(|member| is_behind_next(next, line, member))
 }
 
 /// Whether a member has the line, and none of another line is stored before the line's next store above this tick.
@@ -233,5 +340,6 @@ pub fn is_at_head(stores: &[u128], line: u32, tick: u64, members: &[Member]) -> 
     requires { IsNonDecreasing stores.now }
     ensures { result ≡ spec.at_head_kept stores.now line tick members.now }
 {
-    has_line(members, line) && all_behind_store(stores, line, tick, members)
+    let next = next_key(stores, line_key(line, tick));
+    has_line(members, line) && all_behind_next(next, line, members)
 }

@@ -2,7 +2,11 @@ use Rattle.std.proofs.Common.{◌≡◌, ◌-◌, ◌++◌, [], ◌∷◌, lengt
 use Rattle.std.specs.Prelude.{slice_get, take}
 use Rattle.row_verdict.specs.Fitting.{joins_well, in_order}
 use Rattle.row_verdict.proofs.Fits.{order_split, last_split}
+use Rattle.row_verdict.proofs.Pairs.{known-take}
 use Rattle.row_verdict.proofs.queue.in_order.Goals as goal
+
+pub joins_well-requires : goal.joins_well-requires
+joins_well-requires c = known-take c.args.twins (length c.args.members.now - 1) c.args.members.now c.requires
 
 pub returns-in-Some : goal.returns-in-Some
 returns-in-Some c =

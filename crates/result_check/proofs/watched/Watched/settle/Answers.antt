@@ -1,5 +1,8 @@
 use Rattle.std.proofs.Common.{◌≡◌, ◌∙◌, sym, subst, ap}
+use Rattle.std.specs.Prelude.{nat_le, not}
 use Rattle.row_verdict.specs.Banks.{facts_of}
+use Rattle.row_verdict.specs.Fitting.{IsKnown}
+use Rattle.row_verdict.proofs.Pairs.{known-filter}
 use Rattle.row_verdict.specs.States.{Facts, settled}
 use Rattle.row_verdict.specs.Members.{never}
 use Rattle.result_check.specs.Watching.{NoneEndsBelow, least_end, least_of}
@@ -7,12 +10,17 @@ use Rattle.result_check.proofs.Watching.{none_below_least, settled_already}
 use Rattle.result_check.proofs.watched.Watched.settle.Goals as goal
 
 pub invariant_of-self : goal.invariant_of-self
-invariant_of-self c =
-    subst (λ next. NoneEndsBelow next (facts_of c.settle.new.self)) (sym c.earlier-self-inside.ensures)
-    (none_below_least (facts_of c.settle.new.self) c.first_end.result c.first_of.result
-    (c.first_end.ensures ∙ ap (least_end never) c.deref.ensures.value) (c.first_of.ensures ∙ ap (least_of never) c.deref-then-self-tick.ensures.value))
+invariant_of-self c = record {
+  ends =
+      subst (λ next. NoneEndsBelow next (facts_of c.settle.new.self)) (sym c.earlier-self-inside.ensures)
+      (none_below_least (facts_of c.settle.new.self) c.first_end.result c.first_of.result
+      (c.first_end.ensures ∙ ap (least_end never) c.deref.ensures.value) (c.first_of.ensures ∙ ap (least_of never) c.deref-then-self-tick.ensures.value));
+  pairs =
+      subst (λ (f : Facts). IsKnown c.self.inside.twins f.members) (sym c.settle.ensures)
+      (known-filter (λ m. not (nat_le m.end c.args.tick)) c.self.inside.twins (facts_of c.self.inside.bank).members c.self.invariant.pairs);
+}
 
 pub returns-else-self-tick : goal.returns-else-self-tick
 returns-else-self-tick c =
     subst (λ (f : Facts). f ≡ settled c.args.tick f) c.self.view_is
-    (settled_already c.args.tick c.self.inside.next c.if-self-tick.false (facts_of c.self.inside.bank) c.self.invariant)
+    (settled_already c.args.tick c.self.inside.next c.if-self-tick.false (facts_of c.self.inside.bank) c.self.invariant.ends)
