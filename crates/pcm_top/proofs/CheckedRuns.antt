@@ -1,5 +1,5 @@
 -- What a run printed, checked behind its trace, is ok.
-use Rattle.std.proofs.Common.{◌≡◌, ℕ, zero, suc, ◌+◌, ◌-◌, ◌*◌, ◌<◌, ◌≤◌, inl, inr, List, [], ◌∷◌, ◌++◌, length, map, Option, Some, None, refl, sym, ap, ◌∙◌, subst, arith, append_assoc, append-nil, length-append}
+use Rattle.std.proofs.Common.{◌≡◌, ℕ, ◌+◌, ◌-◌, ◌*◌, ◌≤◌, inl, inr, List, [], ◌∷◌, ◌++◌, length, map, Option, Some, refl, sym, ap, ◌∙◌, subst, arith, append_assoc, append-nil, length-append}
 use Rattle.std.specs.Prelude.{◌⊎◌, codes, reverse, slice_get, slice_index, unwrap_or, Ok}
 use Rattle.std.specs.Io.KnownBytes.{Appends}
 use Rattle.std.specs.List.{join_with_byte}
@@ -9,7 +9,7 @@ use Rattle.pcm_cells.specs.Device.{ArrayState}
 use Rattle.trace_reader.specs.Trace.{most_rows, trace_of}
 use Rattle.trace_reader.specs.declared.event.Event.{Event}
 use Rattle.trace_reader.proofs.Lawful.{trace_of-lawful}
-use Rattle.trace_gen.specs.EventText.{event_fields, event_row, event_rows, trace_header, trace_text}
+use Rattle.trace_gen.specs.EventText.{event_fields, event_row, event_rows, trace_text}
 use Rattle.trace_gen.specs.Generated.{IsMix, generated}
 use Rattle.trace_gen.specs.Laws.{GeneratedSizeLaw, GeneratedTextLaw}
 use Rattle.trace_gen.specs.declared.mix.Mix.{Mix}
@@ -19,7 +19,7 @@ use Rattle.row_rules.specs.declared.Row.{Row}
 use Rattle.row_verdict.specs.Verdicts.{rows_with}
 use Rattle.row_verdict.specs.declared.Verdict.{Verdict}
 use Rattle.row_verdict.specs.declared.Verdict.TheVariants.{Yes}
-use Rattle.module_shape.specs.Limits.{IsShape, total_of}
+use Rattle.module_shape.specs.Limits.{total_of}
 use Rattle.module_laws.specs.Asking.{Asked, row_with}
 use Rattle.run_laws.specs.Runs.{RunsRight}
 use Rattle.run_text.specs.ResultText.{results_text}
@@ -32,7 +32,6 @@ use Rattle.text_check.specs.VerdictText.{verdict_text}
 use Rattle.text_check.specs.declared.fault.TextFault.{TextFault}
 use Rattle.text_check.specs.declared.fault.TextFault.TheVariants as text
 use Rattle.command_line.specs.Jobs.{IsInput, IsRun}
-use Rattle.command_line.specs.declared.job.CheckJob.{CheckJob}
 use Rattle.command_line.specs.declared.job.Input.{Input}
 use Rattle.command_line.specs.declared.job.Input.TheVariants.{Source, Drawn}
 use Rattle.command_line.specs.declared.job.LineSize.{LineSize}

@@ -201,6 +201,11 @@ told-decided asked s before now bytes status told calm tells =
     let For : ℕ → Type 0 = λ n. IsStatusFor asked bytes n ⊎ (n ≡ 7) in
     subst For (sym tells.answered) (tells-status asked s bytes tells.fault told calm tells.cause)
 
+-- what was done has status 0 or 1
+pub done-low : (done : Done) → status_done done ≤ 1
+done-low Whole = omega arith
+done-low Short = omega arith
+
 -- a fault is of writing, or not
 pub is_write : (fault : Fault) → (fault ≡ Write) ⊎ (fault ≢ Write)
 is_write Write = inl refl

@@ -1,6 +1,6 @@
 -- What is shown of the image of a run is its newest text.
-use Rattle.std.proofs.Common.{◌≡◌, ℕ, zero, suc, ◌+◌, ◌*◌, ◌<◌, List, ◌++◌, Option, refl, sym, ap, subst, ◌∙◌, arith}
-use Rattle.std.specs.Prelude.{Result, Ok}
+use Rattle.std.proofs.Common.{◌≡◌, ℕ, zero, suc, ◌+◌, ◌*◌, ◌<◌, List, ◌++◌, refl, ap, subst, ◌∙◌, arith}
+use Rattle.std.specs.Prelude.{Ok}
 use Rattle.pcm_cells.specs.Device.{ArrayState}
 use Rattle.row_rules.specs.declared.Row.{Row}
 use Rattle.row_rules.specs.Rows.{newest}
@@ -13,16 +13,11 @@ use Rattle.pcm_image.specs.Spelling.{image_bytes}
 use Rattle.pcm_image.specs.Standing.{stands_for}
 use Rattle.pcm_image.proofs.Whole.{image_again, size-is}
 use Rattle.image_laws.specs.SavedRuns.{AreRows, SavesRun}
-use Rattle.command_line.specs.declared.job.RunJob.{RunJob}
 use Rattle.command_line.specs.declared.job.Print.{Print}
-use Rattle.command_line.specs.declared.job.Print.TheVariants.{Image}
-use Rattle.pcm_top.specs.Reading.{SourceChange}
 use Rattle.pcm_top.specs.Rows.{rows_of}
 use Rattle.pcm_top.specs.RunText.{IsRunText}
-use Rattle.pcm_top.specs.Running.{RunIsWritten}
 use Rattle.pcm_top.specs.Showing.{shown_header, shown_of, shown_row, shown_text}
 use Rattle.pcm_top.specs.ShownRuns.{IsShown, ShownLaw, newest_text}
-use Rattle.pcm_top.specs.declared.run.Done.{Done}
 
 same-rows : (f g : ℕ → List ℕ) (n : ℕ) → ((l : ℕ) → l < n → f l ≡ g l) → rows_from (shown_row f) 0 n ≡ rows_from (shown_row g) 0 n
 same-rows f g zero same = refl

@@ -1,5 +1,5 @@
 -- The check of a trace and its results.
-use Rattle.std.specs.Prelude.{◌≡◌, ◌⊎◌, ℕ, ◌<◌, ◌≤◌, List, length, Option}
+use Rattle.std.specs.Prelude.{◌≡◌, ◌⊎◌, ℕ, List, Option}
 use Rattle.std.specs.Io.KnownBytes.{Appends}
 use Rattle.pcm_io.specs.Faults.{Rose}
 use Rattle.pcm_io.specs.Giving.{AppendsPrefix}
@@ -11,7 +11,7 @@ use Rattle.row_verdict.specs.declared.Verdict.TheVariants.{Yes, No}
 use Rattle.text_check.specs.Checked.{HasVerdict, IsTextFault}
 use Rattle.text_check.specs.VerdictText.{verdict_text}
 use Rattle.text_check.specs.declared.fault.TextFault.TheVariants as text
-use Rattle.pcm_top.specs.Reading.{ReadsWhole, NeverFails, SourceChange, TakesMore, TakesSome, trace_room}
+use Rattle.pcm_top.specs.Reading.{ReadsWhole, NeverFails, SourceChange, TakesMore, TakesSome}
 use Rattle.pcm_top.specs.declared.run.Done.{Done}
 use Rattle.pcm_top.specs.declared.run.Done.TheVariants.{Whole, Short}
 use Rattle.pcm_top.specs.declared.fault.Fault.{Fault}

@@ -10,6 +10,8 @@ pub mod RunText
 pub mod Showing
 pub mod Running
 pub mod Statuses
+pub mod Calls
+pub mod Promises
 pub mod Laws
 pub mod Lasting
 pub mod ShownRuns

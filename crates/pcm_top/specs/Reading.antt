@@ -1,5 +1,5 @@
 -- What a run read of its source.
-use Rattle.std.specs.Prelude.{◌≡◌, ℕ, ◌*◌, ◌<◌, ◌≤◌, ◌⊎◌, List, length, Option, Ok, Err}
+use Rattle.std.specs.Prelude.{◌≡◌, ℕ, ◌*◌, ◌-◌, ◌^◌, ◌<◌, ◌≤◌, ◌⊎◌, List, length, Option, Ok, Err}
 use Rattle.std.specs.Io.KnownBytes.{IsAtEnd}
 use Rattle.pcm_io.specs.Faults.{Rose}
 use Rattle.pcm_io.specs.Taking.{Takes}
@@ -31,6 +31,10 @@ source_change left taken faults old new = record {
 -- a trace over lines of n bytes has at most so many bytes: 67,108,864 for lines of 64 bytes, 134,217,728 for lines of 128
 abbrev pub trace_room : ℕ → ℕ
 trace_room n = n * 1048576
+
+-- the greatest count of taken bytes
+abbrev pub most_taken : ℕ
+most_taken = 2 ^ 64 - 1
 
 -- these bytes were taken
 abbrev pub TakesBytes : SourceChange → List ℕ → Type 0

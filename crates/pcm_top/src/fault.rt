@@ -31,18 +31,20 @@ pub enum Fault {
     NoMemory,
 }
 
-/// The status of the program for a fault.
-pub fn status(fault: Fault) -> u8
-    ensures { result ≡ status_of fault }
-{
-    match fault {
-        Fault::Usage => 2,
-        Fault::Trace(_) | Fault::Results(_) => 3,
-        Fault::Image(_) => 3,
-        Fault::Read => 4,
-        Fault::Write => 5,
-        Fault::TooLong => 6,
-        Fault::NoMemory => 7,
+impl Fault {
+    /// The status of the program for it.
+    pub fn status(self) -> u8
+        ensures { result ≡ status_of self }
+    {
+        match self {
+            Fault::Usage => 2,
+            Fault::Trace(_) | Fault::Results(_) => 3,
+            Fault::Image(_) => 3,
+            Fault::Read => 4,
+            Fault::Write => 5,
+            Fault::TooLong => 6,
+            Fault::NoMemory => 7,
+        }
     }
 }
 

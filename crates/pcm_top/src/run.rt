@@ -5,7 +5,7 @@ ghost use Rattle.ecp_line.specs.Layout.{IsLayout};
 ghost use Rattle.command_line.specs.Jobs.{IsRun};
 ghost use Rattle.pcm_top.specs.Reading.{source_change, trace_room};
 ghost use Rattle.pcm_top.specs.Inputs.{IsFaultOf, is_source};
-ghost use Rattle.pcm_top.specs.Running.{RunIsWritten, RunIsWrittenInPart, done_by};
+ghost use Rattle.pcm_top.specs.Running.{RunIsWritten, RunIsWrittenInPart, done_by, status_done};
 
 use crate::fault::Fault;
 use crate::input::events_of;
@@ -28,6 +28,18 @@ pub enum Done {
     Whole,
     /// A run was made in which some row was refused, lost or left in a queue, or a row of results breaks a rule.
     Short,
+}
+
+impl Done {
+    /// The status of the program for it.
+    pub fn status(self) -> u8
+        ensures { result ≡ status_done self }
+    {
+        match self {
+            Done::Whole => 0,
+            Done::Short => 1,
+        }
+    }
 }
 
 // How a run was done, by its rows.

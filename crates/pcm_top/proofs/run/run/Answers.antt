@@ -1,7 +1,6 @@
 use Rattle.std.proofs.Common.{◌≡◌, ◌≤◌, length, sym, ap, ◌∙◌, subst, arith}
 use Rattle.bank_timing.proofs.Sizes.{timed_fits}
 use Rattle.module_shape.specs.Limits.{IsShape}
-use Rattle.pcm_top.specs.Played.{IsPlayed}
 use Rattle.pcm_top.proofs.Making.{can-print, run-part, run-written}
 use Rattle.pcm_top.proofs.Saving.{right-now}
 use Rattle.trace_reader.proofs.Sizes.{event_fits}
