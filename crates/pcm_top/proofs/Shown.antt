@@ -49,13 +49,13 @@ shown-wide raw seed rows array ends s are saves =
     rw (size, read) (ap (λ t. Ok t) (shown-is 8 raw seed rows array ends s saves))
 
 narrow : IsShown 64 8 6
-narrow job s array before now done written is =
+narrow job s array out done written is =
     let Of : Print → Type 0 = λ p. IsRunText job.shape job.seed 6 written.run.events written.run.outcomes written.run.ends array p written.text in
     let image = subst Of is written.is_text in
     ap shown_of image.3 ∙ shown-narrow job.shape job.seed (rows_of written.run.events written.run.outcomes) array written.run.ends image.0 (written.rows is) image.2
 
 wide : IsShown 128 16 8
-wide job s array before now done written is =
+wide job s array out done written is =
     let Of : Print → Type 0 = λ p. IsRunText job.shape job.seed 8 written.run.events written.run.outcomes written.run.ends array p written.text in
     let image = subst Of is written.is_text in
     ap shown_of image.3 ∙ shown-wide job.shape job.seed (rows_of written.run.events written.run.outcomes) array written.run.ends image.0 (written.rows is) image.2

@@ -1,6 +1,7 @@
 pub mod Jobs
 pub mod FaultLines
 pub mod Reading
+pub mod Calls
 pub mod Inputs
 pub mod Checking
 pub mod Rows
@@ -10,7 +11,7 @@ pub mod RunText
 pub mod Showing
 pub mod Running
 pub mod Statuses
-pub mod Calls
+pub mod Ends
 pub mod Promises
 pub mod Laws
 pub mod Lasting

@@ -90,8 +90,10 @@ fn write_parts<F: Sink>(parts: &[&[u8]], err: &mut F) -> Result<(), WriteFault>
 }
 
 fn tell_trace<F: Sink>(fault: TraceFault, err: &mut F) -> Result<(), WriteFault>
-    ensures ok { OnOk result (Appends (F.written err.old) (F.written err.new) (fault_line (Fault.Trace fault))) }
-    ensures prefix { OnErr result (AppendsPrefix (F.written err.old) (F.written err.new) (fault_line (Fault.Trace fault))) }
+    ensures ok { OnOk result
+        (Appends (F.written err.old) (F.written err.new) (fault_line (Fault.Trace fault))) }
+    ensures prefix { OnErr result
+        (AppendsPrefix (F.written err.old) (F.written err.new) (fault_line (Fault.Trace fault))) }
     ensures fault { OnErr result (Rose (F.faults err.old) (F.faults err.new)) }
     ensures never_falls { F.faults err.old ≤ F.faults err.new }
 {
@@ -108,8 +110,10 @@ fn tell_trace<F: Sink>(fault: TraceFault, err: &mut F) -> Result<(), WriteFault>
 }
 
 fn tell_image<F: Sink>(fault: ImageFault, err: &mut F) -> Result<(), WriteFault>
-    ensures ok { OnOk result (Appends (F.written err.old) (F.written err.new) (fault_line (Fault.Image fault))) }
-    ensures prefix { OnErr result (AppendsPrefix (F.written err.old) (F.written err.new) (fault_line (Fault.Image fault))) }
+    ensures ok { OnOk result
+        (Appends (F.written err.old) (F.written err.new) (fault_line (Fault.Image fault))) }
+    ensures prefix { OnErr result
+        (AppendsPrefix (F.written err.old) (F.written err.new) (fault_line (Fault.Image fault))) }
     ensures fault { OnErr result (Rose (F.faults err.old) (F.faults err.new)) }
     ensures never_falls { F.faults err.old ≤ F.faults err.new }
 {
@@ -126,8 +130,10 @@ fn tell_image<F: Sink>(fault: ImageFault, err: &mut F) -> Result<(), WriteFault>
 }
 
 fn tell_results<F: Sink>(row: u32, err: &mut F) -> Result<(), WriteFault>
-    ensures ok { OnOk result (Appends (F.written err.old) (F.written err.new) (fault_line (Fault.Results row))) }
-    ensures prefix { OnErr result (AppendsPrefix (F.written err.old) (F.written err.new) (fault_line (Fault.Results row))) }
+    ensures ok { OnOk result
+        (Appends (F.written err.old) (F.written err.new) (fault_line (Fault.Results row))) }
+    ensures prefix { OnErr result
+        (AppendsPrefix (F.written err.old) (F.written err.new) (fault_line (Fault.Results row))) }
     ensures fault { OnErr result (Rose (F.faults err.old) (F.faults err.new)) }
     ensures never_falls { F.faults err.old ≤ F.faults err.new }
 {

@@ -7,7 +7,7 @@ pub returns-in-Ok : goal.returns-in-Ok
 returns-in-Ok g c =
     let low : c.status.result ≤ 1 = omega (arith, c.status.ensures, done-low c.in-Ok.done) in
     record {
-      done = λ _. (c.in-Ok.done, c.in-Ok.ensures.done, c.status.ensures);
+      done = λ _. (c.in-Ok.done, c.in-Ok.ensures.ends.ends.done, c.status.ensures);
       silent = λ _. refl;
       told = λ fault _. absurd (omega arith);
       unwritten = λ fault _. absurd (omega arith);
@@ -18,7 +18,7 @@ returns-in-Ok g c =
       wide = search rules;
       usage = search rules;
       too_long = search rules;
-      exact = λ bytes told calm writes tells. done-decided _ _ _ _ _ _ bytes c.in-Ok.done _ c.status.ensures told c.in-Ok.ensures.done;
+      exact = λ bytes told calm writes tells. done-decided _ _ bytes c.in-Ok.done _ c.status.ensures told c.in-Ok.ensures.ends.ends.done;
     }
 
 pub returns-in-Err : goal.returns-in-Err
@@ -33,13 +33,13 @@ returns-in-Err g c =
       broken =
           λ five. elim (is_write fault) [
             | inl write ↦
-                let r = c.in-Err.ensures.write (ap Err write) in
+                let r = c.in-Err.ensures.ends.ends.write (ap Err write) in
                 inl (r.0, r.1, rw write at c.give_up.ensures.tried)
             | inr other ↦ inr (
-              record { fault = fault; cause = c.in-Err.ensures.cause other; part = c.give_up.ensures.part },
+              record { fault = fault; cause = c.in-Err.ensures.ends.ends.cause other; part = c.give_up.ensures.part },
               c.give_up.ensures.broken five other,
-              c.in-Err.ensures.out other,
-              c.in-Err.ensures.arrays other,
+              c.in-Err.ensures.ends.ends.unwritten other,
+              c.in-Err.ensures.ends.untouched other,
             )
           ];
       unread = search rules;
@@ -51,15 +51,9 @@ returns-in-Err g c =
           λ bytes told calm writes tells.
           let whole : c.give_up.result ≢ 5 =
           λ five. elim (is_write fault) [
-            | inl write ↦ writes ((c.in-Err.ensures.write (ap Err write)).1)
+            | inl write ↦ writes ((c.in-Err.ensures.ends.ends.write (ap Err write)).1)
             | inr other ↦ tells (c.give_up.ensures.broken five other)
           ] in
           let other : fault ≢ Write = λ write. whole (c.give_up.ensures.write write) in
-          told-decided _ _ _ _ bytes c.give_up.result told calm
-          (record {
-            fault = fault;
-            cause = c.in-Err.ensures.cause other;
-            answered = (c.give_up.ensures.told whole).0;
-            line = (c.give_up.ensures.told whole).1;
-          });
+          told-decided _ _ bytes fault _ told calm (c.in-Err.ensures.ends.ends.cause other) (c.give_up.ensures.told whole).0;
     }
