@@ -1,15 +1,13 @@
 -- What a run printed, checked behind its trace, is ok.
-use Rattle.std.proofs.Common.{◌≡◌, ℕ, zero, suc, ◌+◌, ◌-◌, ◌*◌, ◌<◌, ◌≤◌, inl, inr, List, [], ◌∷◌, ◌++◌, length, map, Option, Some, None, refl, sym, ap, ◌∙◌, subst, arith, append_assoc, append-nil, length-append}
+use Rattle.std.proofs.Common.{◌≡◌, ℕ, ◌+◌, ◌-◌, ◌*◌, ◌≤◌, inl, inr, List, [], ◌∷◌, ◌++◌, length, map, Some, refl, sym, ap, ◌∙◌, subst, arith, append_assoc, append-nil, length-append}
 use Rattle.std.specs.Prelude.{◌⊎◌, codes, reverse, slice_get, slice_index, unwrap_or, Ok}
-use Rattle.std.specs.Io.KnownBytes.{Appends}
 use Rattle.std.specs.List.{join_with_byte}
 use Rattle.std.proofs.lemmas.List.{append_cancel_left, get_or_at, length_push, reverse-append}
-use Rattle.pcm_io.specs.Giving.{AppendsPrefix}
 use Rattle.pcm_cells.specs.Device.{ArrayState}
 use Rattle.trace_reader.specs.Trace.{most_rows, trace_of}
 use Rattle.trace_reader.specs.declared.event.Event.{Event}
 use Rattle.trace_reader.proofs.Lawful.{trace_of-lawful}
-use Rattle.trace_gen.specs.EventText.{event_fields, event_row, event_rows, trace_header, trace_text}
+use Rattle.trace_gen.specs.EventText.{event_fields, event_row, event_rows, trace_text}
 use Rattle.trace_gen.specs.Generated.{IsMix, generated}
 use Rattle.trace_gen.specs.Laws.{GeneratedSizeLaw, GeneratedTextLaw}
 use Rattle.trace_gen.specs.declared.mix.Mix.{Mix}
@@ -19,7 +17,7 @@ use Rattle.row_rules.specs.declared.Row.{Row}
 use Rattle.row_verdict.specs.Verdicts.{rows_with}
 use Rattle.row_verdict.specs.declared.Verdict.{Verdict}
 use Rattle.row_verdict.specs.declared.Verdict.TheVariants.{Yes}
-use Rattle.module_shape.specs.Limits.{IsShape, total_of}
+use Rattle.module_shape.specs.Limits.{total_of}
 use Rattle.module_laws.specs.Asking.{Asked, row_with}
 use Rattle.run_laws.specs.Runs.{RunsRight}
 use Rattle.run_text.specs.ResultText.{results_text}
@@ -32,7 +30,6 @@ use Rattle.text_check.specs.VerdictText.{verdict_text}
 use Rattle.text_check.specs.declared.fault.TextFault.{TextFault}
 use Rattle.text_check.specs.declared.fault.TextFault.TheVariants as text
 use Rattle.command_line.specs.Jobs.{IsInput, IsRun}
-use Rattle.command_line.specs.declared.job.CheckJob.{CheckJob}
 use Rattle.command_line.specs.declared.job.Input.{Input}
 use Rattle.command_line.specs.declared.job.Input.TheVariants.{Source, Drawn}
 use Rattle.command_line.specs.declared.job.LineSize.{LineSize}
@@ -41,6 +38,7 @@ use Rattle.command_line.specs.declared.job.Print.{Print}
 use Rattle.command_line.specs.declared.job.Print.TheVariants.{Results}
 use Rattle.command_line.specs.declared.job.RunJob.{RunJob}
 use Rattle.pcm_top.specs.CheckedRuns.{CheckedLaw, IsTraceOf, SaysOk, check_with}
+use Rattle.pcm_top.specs.Calls.{Deed, Gets, GetsPart}
 use Rattle.pcm_top.specs.Checking.{IsCheckFault, TellsVerdict, TellsVerdictInPart, done_on, pointers_in, room_line}
 use Rattle.pcm_top.specs.Inputs.{ComeFrom}
 use Rattle.pcm_top.specs.Jobs.{bytes_in}
@@ -194,17 +192,17 @@ says-ok job bytes ok = record { done = did; part = did_part; cause = caused; sta
     verdict-is : (s : SourceChange) (verdict : Verdict) (found : List ℕ) → found ≡ bytes → HasVerdict (bytes_in job.line) (pointers_in job.line) job.shape job.seed found verdict → verdict ≡ Yes
     verdict-is s verdict found same has = ok.judged.only verdict (subst (λ (text : List ℕ). HasVerdict (bytes_in job.line) (pointers_in job.line) job.shape job.seed text verdict) same has)
 
-    did : (s : SourceChange) (array : ArrayState 64 8) (wide : ArrayState 128 16) (before now : Option (List ℕ)) (done : Done)
-        → s.left_before ≡ Some bytes → TellsVerdict (bytes_in job.line) (pointers_in job.line) (check_with job) s before now done → Appends before now (codes "ok\n") × (done ≡ Whole)
-    did s array wide before now done told tells =
-        let yes = verdict-is s tells.verdict tells.reads.bytes (reads-told room_line s bytes tells.reads.bytes told tells.reads.whole) tells.reads.has in
-        (subst (λ (verdict : Verdict). Appends before now (verdict_text verdict)) yes tells.written, tells.ending ∙ ap done_on yes)
+    did : (deed : Deed) (done : Done) → deed.source.left_before ≡ Some bytes
+        → TellsVerdict (bytes_in job.line) (pointers_in job.line) (check_with job) deed.source deed.out done → Gets deed.out (codes "ok\n") × (done ≡ Whole)
+    did deed done told tells =
+        let yes = verdict-is deed.source tells.verdict tells.reads.bytes (reads-told room_line deed.source bytes tells.reads.bytes told tells.reads.whole) tells.reads.has in
+        (subst (λ (verdict : Verdict). Gets deed.out (verdict_text verdict)) yes tells.written, tells.ending ∙ ap done_on yes)
 
-    did_part : (s : SourceChange) (array : ArrayState 64 8) (wide : ArrayState 128 16) (before now : Option (List ℕ))
-        → s.left_before ≡ Some bytes → TellsVerdictInPart (bytes_in job.line) (pointers_in job.line) (check_with job) s before now → AppendsPrefix before now (codes "ok\n")
-    did_part s array wide before now told tells =
-        let yes = verdict-is s tells.verdict tells.reads.bytes (reads-told room_line s bytes tells.reads.bytes told tells.reads.whole) tells.reads.has in
-        subst (λ (verdict : Verdict). AppendsPrefix before now (verdict_text verdict)) yes tells.written
+    did_part : (deed : Deed) → deed.source.left_before ≡ Some bytes
+        → TellsVerdictInPart (bytes_in job.line) (pointers_in job.line) (check_with job) deed.source deed.out → GetsPart deed.out (codes "ok\n")
+    did_part deed told tells =
+        let yes = verdict-is deed.source tells.verdict tells.reads.bytes (reads-told room_line deed.source bytes tells.reads.bytes told tells.reads.whole) tells.reads.has in
+        subst (λ (verdict : Verdict). GetsPart deed.out (verdict_text verdict)) yes tells.written
 
     -- no fault of the text
     none : (found : List ℕ) (one : TextFault) → found ≡ bytes → IsTextFault (bytes_in job.line) job.shape found one → one ≡ text.NoMemory
@@ -232,9 +230,10 @@ says-ok job bytes ok = record { done = did; part = did_part; cause = caused; sta
         ]
 
 module _ (texts : GeneratedTextLaw) (sizes : GeneratedSizeLaw) (judges : JudgedRunsLaw) (short : ShortLaw) (job : RunJob) (run : IsRun job) (prints : job.print ≡ Results)
-    (s : SourceChange) (trace told results : List ℕ) (is : IsTraceOf job job.input s trace) where
+    (deed : Deed) (trace told results : List ℕ) (is : IsTraceOf job job.input deed.source trace)
+    (before : deed.out.written_before ≡ Some told) (now : deed.out.written_now ≡ Some (told ++ results)) where
   -- what a run over lines of n bytes wrote
-  ok-text : (n m e : ℕ) (array : ArrayState n m) (done : Done) (made : RunIsWritten n m e job s array (Some told) (Some (told ++ results)) done) → 1 ≤ n → e ≤ 8
+  ok-text : (n m e : ℕ) (array : ArrayState n m) (done : Done) (made : RunIsWritten n m e job deed.source array deed.out done) → 1 ≤ n → e ≤ 8
       → IsTrace n job made.run.events trace
       → ((rows : ℕ) → rows ≤ most_rows → trace_room n + (36 + rows * (64 + 2 * n)) ≤ trace_room room_line) → IsOkText n e job (trace ++ results)
   ok-text n m e array done made some few whole room =
@@ -249,7 +248,7 @@ module _ (texts : GeneratedTextLaw) (sizes : GeneratedSizeLaw) (judges : JudgedR
       } in
       let Of : Print → Type 0 = λ p. IsRunText job.shape job.seed e events outcomes made.run.ends array p made.text in
       let printed : made.text ≡ results_text events outcomes = subst Of prints made.is_text in
-      let same : results ≡ results_text events outcomes = append_cancel_left told results made.text made.written ∙ printed in
+      let same : results ≡ results_text events outcomes = append_cancel_left told results made.text (rw (before, now) at made.written) ∙ printed in
       let few_rows = (trace_of-lawful n (total_of job.shape) trace events (some-lines job run.shape) whole.reads).1 in
       let size = short n m e job.shape job.seed trace events outcomes array made.run.ends one in
       record {
@@ -257,13 +256,13 @@ module _ (texts : GeneratedTextLaw) (sizes : GeneratedSizeLaw) (judges : JudgedR
         fits = omega (arith, length-append trace results, ap length same, size, whole.short, room (length events) few_rows);
       }
 
-  ok-written : (size : LineSize) → size ≡ job.line → (array : ArrayState 64 8) (wide : ArrayState 128 16) (done : Done) → WritesRun s array wide (Some told) (Some (told ++ results)) job done size
+  ok-written : (size : LineSize) → size ≡ job.line → (done : Done) → WritesRun deed job done size
       → IsOkText (bytes_in size) (pointers_in size) job (trace ++ results)
-  ok-written Bytes64 of array wide done made =
-      ok-text 64 8 6 array done made (omega arith) (omega arith) (is-trace texts sizes job run Bytes64 of job.input run.input s made.run.events trace made.run.come is) (λ rows few. omega (arith, few))
-  ok-written Bytes128 of array wide done made =
-      ok-text 128 16 8 wide done made (omega arith) (omega arith) (is-trace texts sizes job run Bytes128 of job.input run.input s made.run.events trace made.run.come is) (λ rows few. omega (arith, few))
+  ok-written Bytes64 of done made =
+      ok-text 64 8 6 deed.array done made (omega arith) (omega arith) (is-trace texts sizes job run Bytes64 of job.input run.input deed.source made.run.events trace made.run.come is) (λ rows few. omega (arith, few))
+  ok-written Bytes128 of done made =
+      ok-text 128 16 8 deed.wide done made (omega arith) (omega arith) (is-trace texts sizes job run Bytes128 of job.input run.input deed.source made.run.events trace made.run.come is) (λ rows few. omega (arith, few))
 
 pub checked-law : GeneratedTextLaw → GeneratedSizeLaw → JudgedRunsLaw → ShortLaw → CheckedLaw
-checked-law texts sizes judges short job s array wide trace told results done run prints is does =
-    says-ok job (trace ++ results) (ok-written texts sizes judges short job run prints s trace told results is job.line refl array wide done does)
+checked-law texts sizes judges short job deed trace told results done run prints is before now does =
+    says-ok job (trace ++ results) (ok-written texts sizes judges short job run prints deed trace told results is before now job.line refl done does)

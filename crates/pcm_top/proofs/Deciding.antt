@@ -23,12 +23,13 @@ use Rattle.command_line.specs.declared.job.LineSize.TheVariants.{Bytes64, Bytes1
 use Rattle.command_line.specs.declared.job.Refusal.{Refusal}
 use Rattle.pcm_top.specs.Jobs.{bytes_in}
 use Rattle.pcm_top.specs.Reading.{IsReadFault, ReadsWhole, SourceChange, TakesNothing, TakesSome, trace_room}
+use Rattle.pcm_top.specs.Calls.{Deed, SinkChange}
 use Rattle.pcm_top.specs.Inputs.{ComeFrom, IsFaultOf, is_source}
 use Rattle.command_line.specs.declared.job.CheckJob.{CheckJob}
 use Rattle.text_check.specs.declared.fault.TextFault.TheVariants as text
 use Rattle.pcm_top.specs.Checking.{IsCheckFault, TellsVerdict, pointers_in, room_line}
 use Rattle.pcm_top.specs.FaultLines.{status_of}
-use Rattle.pcm_top.specs.Running.{Does, HasCause, IsRefused, Runs, Tells, WritesRun, reads_source, status_done}
+use Rattle.pcm_top.specs.Running.{Does, HasCause, IsRefused, Runs, WritesRun, reads_source, status_done}
 use Rattle.pcm_top.specs.Showing.{IsShowFault, shown_of}
 use Rattle.pcm_top.specs.Statuses.{IsImageStatus, IsInputStatus, IsRunStatus, IsShowStatus, IsSourceStatus, IsStatusFor, IsTraceStatus, IsCheckStatus, IsTextStatus}
 use Rattle.pcm_top.specs.declared.run.Done.{Done}
@@ -136,9 +137,9 @@ check-fault-status n e job TooLong s bytes is calm (inl more) =
 check-fault-status n e job TooLong s bytes is calm (inr many) =
     inl (by-text n e job bytes many.0 6 (reads-told room_line s bytes many.0 is many.1) many.1.within (inr (text.TooMany, many.2, refl)))
 
-told-verdict-status : (n e : ℕ) (job : CheckJob) (s : SourceChange) (before now : Option (List ℕ)) (bytes : List ℕ) (done : Done) → s.left_before ≡ Some bytes
-    → TellsVerdict n e job s before now done → IsCheckStatus n e job bytes (status_done done)
-told-verdict-status n e job s before now bytes done is tells =
+told-verdict-status : (n e : ℕ) (job : CheckJob) (s : SourceChange) (out : SinkChange) (bytes : List ℕ) (done : Done) → s.left_before ≡ Some bytes
+    → TellsVerdict n e job s out done → IsCheckStatus n e job bytes (status_done done)
+told-verdict-status n e job s out bytes done is tells =
     let reads = tells.reads in
     by-text n e job bytes reads.bytes (status_done done) (reads-told room_line s bytes reads.bytes is reads.whole) reads.whole.within
     (inl (tells.verdict, reads.has, ap status_done tells.ending))
@@ -167,39 +168,44 @@ come-status n job Source s events bytes done size told come =
     (by-trace n (total_of job.shape) bytes come.bytes (status_done done) (Ok events) (reads-told n s bytes come.bytes (told refl) come.whole) come.whole.within come.trace (run-status done))
 come-status n job (Drawn mix) s events bytes done size told come = run-status done
 
-written-status : (job : RunJob) (size : LineSize) (s : SourceChange) (array : ArrayState 64 8) (wide : ArrayState 128 16) (before now : Option (List ℕ)) (bytes : List ℕ) (done : Done)
-    → size ≡ job.line → (is_source job.input ≡ true → s.left_before ≡ Some bytes) → WritesRun s array wide before now job done size → IsInputStatus job bytes (status_done done) job.input
-written-status job Bytes64 s array wide before now bytes done of told run = come-status 64 job job.input s run.run.events bytes done (ap bytes_in of) told run.run.come
-written-status job Bytes128 s array wide before now bytes done of told run = come-status 128 job job.input s run.run.events bytes done (ap bytes_in of) told run.run.come
+written-status : (job : RunJob) (size : LineSize) (deed : Deed) (bytes : List ℕ) (done : Done)
+    → size ≡ job.line → (is_source job.input ≡ true → deed.source.left_before ≡ Some bytes) → WritesRun deed job done size → IsInputStatus job bytes (status_done done) job.input
+written-status job Bytes64 deed bytes done of told run = come-status 64 job job.input deed.source run.run.events bytes done (ap bytes_in of) told run.run.come
+written-status job Bytes128 deed bytes done of told run = come-status 128 job job.input deed.source run.run.events bytes done (ap bytes_in of) told run.run.come
 
 -- the status of a job that was done
-does-status : (asked : Result Job Refusal) (s : SourceChange) (array : ArrayState 64 8) (wide : ArrayState 128 16) (before now : Option (List ℕ)) (bytes : List ℕ) (done : Done)
-    → (reads_source asked ≡ true → s.left_before ≡ Some bytes) → Does s array wide before now asked done → IsStatusFor asked bytes (status_done done)
-does-status (Err e) s array wide before now bytes done told does = absurd does
-does-status (Ok (Run job)) s array wide before now bytes done told does = written-status job job.line s array wide before now bytes done refl told does
-does-status (Ok (Gen job)) s array wide before now bytes done told does = ap status_done does.1
-does-status (Ok (Map job)) s array wide before now bytes done told does = ap status_done does.1
-does-status (Ok (Moves job)) s array wide before now bytes done told does = ap status_done does.1
-does-status (Ok Show) s array wide before now bytes done told does =
+does-status : (asked : Result Job Refusal) (deed : Deed) (bytes : List ℕ) (done : Done)
+    → (reads_source asked ≡ true → deed.source.left_before ≡ Some bytes) → Does deed asked done → IsStatusFor asked bytes (status_done done)
+does-status (Err e) deed bytes done told does = absurd does
+does-status (Ok (Run job)) deed bytes done told does = written-status job job.line deed bytes done refl told does
+does-status (Ok (Gen job)) deed bytes done told does = ap status_done does.1
+does-status (Ok (Map job)) deed bytes done told does = ap status_done does.1
+does-status (Ok (Moves job)) deed bytes done told does = ap status_done does.1
+does-status (Ok Show) deed bytes done told does =
     let Has : ℕ → Type 0 = λ n. IsShowStatus bytes n in
     let read = does.0.1 in
     subst Has (sym (ap status_done does.1))
-    (by-image bytes read.bytes 0 (Ok does.0.0) (reads-told 64 s bytes read.bytes (told refl) read.whole) read.whole.within read.shown refl)
-does-status (Ok (Check job)) s array wide before now bytes done told does = told-verdict-status (bytes_in job.line) (pointers_in job.line) job s before now bytes done (told refl) does
+    (by-image bytes read.bytes 0 (Ok does.0.0) (reads-told 64 deed.source bytes read.bytes (told refl) read.whole) read.whole.within read.shown refl)
+does-status (Ok (Check job)) deed bytes done told does = told-verdict-status (bytes_in job.line) (pointers_in job.line) job deed.source deed.out bytes done (told refl) does
 
-pub done-decided : (asked : Result Job Refusal) (s : SourceChange) (array : ArrayState 64 8) (wide : ArrayState 128 16) (before now : Option (List ℕ)) (bytes : List ℕ) (done : Done) (status : ℕ)
-    → status ≡ status_done done → (reads_source asked ≡ true → s.left_before ≡ Some bytes) → Does s array wide before now asked done
+pub done-decided : (asked : Result Job Refusal) (deed : Deed) (bytes : List ℕ) (done : Done) (status : ℕ)
+    → status ≡ status_done done → (reads_source asked ≡ true → deed.source.left_before ≡ Some bytes) → Does deed asked done
     → IsStatusFor asked bytes status ⊎ (status ≡ 7)
-done-decided asked s array wide before now bytes done status is told does =
+done-decided asked deed bytes done status is told does =
     let For : ℕ → Type 0 = λ n. IsStatusFor asked bytes n in
-    inl (subst For (sym is) (does-status asked s array wide before now bytes done told does))
+    inl (subst For (sym is) (does-status asked deed bytes done told does))
 
-pub told-decided : (asked : Result Job Refusal) (s : SourceChange) (before now : Option (List ℕ)) (bytes : List ℕ) (status : ℕ)
-    → (reads_source asked ≡ true → s.left_before ≡ Some bytes) → ¬ Rose s.faults_before s.faults_now → Tells asked s before now status
-    → IsStatusFor asked bytes status ⊎ (status ≡ 7)
-told-decided asked s before now bytes status told calm tells =
+pub told-decided : (asked : Result Job Refusal) (s : SourceChange) (bytes : List ℕ) (fault : Fault) (status : ℕ)
+    → (reads_source asked ≡ true → s.left_before ≡ Some bytes) → ¬ Rose s.faults_before s.faults_now
+    → HasCause fault asked s → status ≡ status_of fault → IsStatusFor asked bytes status ⊎ (status ≡ 7)
+told-decided asked s bytes fault status told calm cause answered =
     let For : ℕ → Type 0 = λ n. IsStatusFor asked bytes n ⊎ (n ≡ 7) in
-    subst For (sym tells.answered) (tells-status asked s bytes tells.fault told calm tells.cause)
+    subst For (sym answered) (tells-status asked s bytes fault told calm cause)
+
+-- what was done has status 0 or 1
+pub done-low : (done : Done) → status_done done ≤ 1
+done-low Whole = omega arith
+done-low Short = omega arith
 
 -- a fault is of writing, or not
 pub is_write : (fault : Fault) → (fault ≡ Write) ⊎ (fault ≢ Write)
@@ -268,7 +274,7 @@ memory-after n job Source s events come calm = (calm, (come.bytes, come.whole.ta
 memory-after n job (Drawn mix) s events come calm = refl
 
 -- a source that was read to its end within its room, and one of which nothing was taken
-come-within : (n : ℕ) (job : RunJob) (input : Input) (s : SourceChange) (events : List (Event n)) → ComeFrom n job input s events → s.taken_before + trace_room n < 2 ^ 64 - 1 → s.taken_before + trace_room n < s.taken_now → ⊥
+pub come-within : (n : ℕ) (job : RunJob) (input : Input) (s : SourceChange) (events : List (Event n)) → ComeFrom n job input s events → s.taken_before + trace_room n < 2 ^ 64 - 1 → s.taken_before + trace_room n < s.taken_now → ⊥
 come-within n job Source s events come low over = within-count n s (come.bytes, come.whole.takes, come.whole.within) low over
 come-within n job (Drawn mix) s events come low over =
     let same = come.0.taken in

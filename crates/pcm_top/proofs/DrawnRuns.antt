@@ -1,5 +1,5 @@
 -- That a run of drawn events is a run of their text.
-use Rattle.std.proofs.Common.{◌≡◌, ℕ, ◌*◌, ◌≤◌, List, length, Option, refl, sym, subst, arith, rules}
+use Rattle.std.proofs.Common.{◌≡◌, ℕ, ◌*◌, ◌≤◌, List, length, refl, sym, subst, arith, rules}
 use Rattle.std.specs.Io.KnownBytes.{IsAtEnd}
 use Rattle.pcm_cells.specs.Device.{ArrayState}
 use Rattle.trace_reader.specs.declared.event.Event.{Event}
@@ -16,6 +16,7 @@ use Rattle.command_line.specs.declared.job.LineSize.{LineSize}
 use Rattle.command_line.specs.declared.job.LineSize.TheVariants.{Bytes64, Bytes128}
 use Rattle.pcm_top.specs.Jobs.{bytes_in}
 use Rattle.pcm_top.specs.Reading.{ReadsTrace, SourceChange, TakesBytes, trace_room}
+use Rattle.pcm_top.specs.Calls.{Deed, SinkChange}
 use Rattle.pcm_top.specs.Inputs.{ComeFrom}
 use Rattle.pcm_top.specs.Running.{RunIsWritten, RunIsWrittenInPart, Runs, WritesRun, WritesRunInPart}
 use Rattle.pcm_top.specs.Laws.{DrawnLaw, run_of_source}
@@ -76,10 +77,10 @@ module _ (texts : GeneratedTextLaw) (sizes : GeneratedSizeLaw) (job : RunJob) (m
     wear = made.wear;
   }
 
-  same-written : (n m e : ℕ) (drawn : SourceChange) (array : ArrayState n m) (before now : Option (List ℕ)) (done : Done) → TakesBytes read (text_of n) → length (text_of n) ≤ trace_room n
-      → RunIsWritten n m e job drawn array before now done → RunIsWritten n m e (run_of_source job) read array before now done
+  same-written : (n m e : ℕ) (drawn : SourceChange) (array : ArrayState n m) (out : SinkChange) (done : Done) → TakesBytes read (text_of n) → length (text_of n) ≤ trace_room n
+      → RunIsWritten n m e job drawn array out done → RunIsWritten n m e (run_of_source job) read array out done
   unfolding same-run
-  same-written n m e drawn array before now done takes fits is = record {
+  same-written n m e drawn array out done takes fits is = record {
     run = same-run n m e drawn array takes fits is.run;
     text = is.text;
     is_text = is.is_text;
@@ -88,10 +89,10 @@ module _ (texts : GeneratedTextLaw) (sizes : GeneratedSizeLaw) (job : RunJob) (m
     rows = is.rows;
   }
 
-  same-part : (n m e : ℕ) (drawn : SourceChange) (array : ArrayState n m) (before now : Option (List ℕ)) → TakesBytes read (text_of n) → length (text_of n) ≤ trace_room n
-      → RunIsWrittenInPart n m e job drawn array before now → RunIsWrittenInPart n m e (run_of_source job) read array before now
+  same-part : (n m e : ℕ) (drawn : SourceChange) (array : ArrayState n m) (out : SinkChange) → TakesBytes read (text_of n) → length (text_of n) ≤ trace_room n
+      → RunIsWrittenInPart n m e job drawn array out → RunIsWrittenInPart n m e (run_of_source job) read array out
   unfolding same-run
-  same-part n m e drawn array before now takes fits is = record {
+  same-part n m e drawn array out takes fits is = record {
     run = same-run n m e drawn array takes fits is.run;
     text = is.text;
     is_text = is.is_text;
@@ -104,20 +105,20 @@ module _ (texts : GeneratedTextLaw) (sizes : GeneratedSizeLaw) (job : RunJob) (m
       let Of : LineSize → Type 0 = λ l. TakesBytes read (text_of (bytes_in l)) in
       subst Of (sym of) takes
 
-  pub whole-run : (size : LineSize) (drawn : SourceChange) (array : ArrayState 64 8) (wide : ArrayState 128 16) (before now : Option (List ℕ)) (done : Done)
+  pub whole-run : (size : LineSize) (deed : Deed) (done : Done)
       → size ≡ job.line → TakesBytes read (text_of (bytes_in job.line))
-      → WritesRun drawn array wide before now job done size → WritesRun read array wide before now (run_of_source job) done size
-  whole-run Bytes64 drawn array wide before now done of takes is = same-written 64 8 6 drawn array before now done (takes-of Bytes64 of takes) short-64 is
-  whole-run Bytes128 drawn array wide before now done of takes is = same-written 128 16 8 drawn wide before now done (takes-of Bytes128 of takes) short-128 is
+      → WritesRun deed job done size → WritesRun (record deed { source = read }) (run_of_source job) done size
+  whole-run Bytes64 deed done of takes is = same-written 64 8 6 deed.source deed.array deed.out done (takes-of Bytes64 of takes) short-64 is
+  whole-run Bytes128 deed done of takes is = same-written 128 16 8 deed.source deed.wide deed.out done (takes-of Bytes128 of takes) short-128 is
 
-  pub part-run : (size : LineSize) (drawn : SourceChange) (array : ArrayState 64 8) (wide : ArrayState 128 16) (before now : Option (List ℕ))
+  pub part-run : (size : LineSize) (deed : Deed)
       → size ≡ job.line → TakesBytes read (text_of (bytes_in job.line))
-      → WritesRunInPart drawn array wide before now job size → WritesRunInPart read array wide before now (run_of_source job) size
-  part-run Bytes64 drawn array wide before now of takes is = same-part 64 8 6 drawn array before now (takes-of Bytes64 of takes) short-64 is
-  part-run Bytes128 drawn array wide before now of takes is = same-part 128 16 8 drawn wide before now (takes-of Bytes128 of takes) short-128 is
+      → WritesRunInPart deed job size → WritesRunInPart (record deed { source = read }) (run_of_source job) size
+  part-run Bytes64 deed of takes is = same-part 64 8 6 deed.source deed.array deed.out (takes-of Bytes64 of takes) short-64 is
+  part-run Bytes128 deed of takes is = same-part 128 16 8 deed.source deed.wide deed.out (takes-of Bytes128 of takes) short-128 is
 
 pub drawn-law : GeneratedTextLaw → GeneratedSizeLaw → DrawnLaw
-drawn-law texts sizes job mix drawn read array wide before now run draws takes ended = (
-  (λ done is. whole-run texts sizes job mix run draws read ended job.line drawn array wide before now done refl takes is),
-  (λ is. part-run texts sizes job mix run draws read ended job.line drawn array wide before now refl takes is),
+drawn-law texts sizes job mix deed read run draws takes ended = (
+  (λ done is. whole-run texts sizes job mix run draws read ended job.line deed done refl takes is),
+  (λ is. part-run texts sizes job mix run draws read ended job.line deed refl takes is),
 )

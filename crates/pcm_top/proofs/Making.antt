@@ -1,7 +1,5 @@
 -- What a run that was made is, and that what is written of it is its text.
-use Rattle.std.proofs.Common.{◌≡◌, ℕ, List, length, Option, Some, sym, subst}
-use Rattle.std.specs.Io.KnownBytes.{Appends}
-use Rattle.pcm_io.specs.Giving.{AppendsPrefix}
+use Rattle.std.proofs.Common.{◌≡◌, ℕ, List, length, Some, sym, subst}
 use Rattle.pcm_cells.specs.Device.{ArrayState}
 use Rattle.trace_reader.specs.Events.{AreEventsFor}
 use Rattle.trace_reader.specs.declared.event.Event.{Event}
@@ -15,6 +13,7 @@ use Rattle.pcm_module.specs.State.{AreEndsOf, ModuleState}
 use Rattle.command_line.specs.declared.job.Print.TheVariants.{Image}
 use Rattle.command_line.specs.declared.job.RunJob.{RunJob}
 use Rattle.pcm_top.specs.Reading.{SourceChange}
+use Rattle.pcm_top.specs.Calls.{Gets, GetsPart, SinkChange}
 use Rattle.pcm_top.specs.Inputs.{ComeFrom}
 use Rattle.pcm_top.specs.Rows.{rows_of}
 use Rattle.pcm_top.specs.RunText.{HaveRoles, IsRunText}
@@ -57,18 +56,18 @@ module _ {n m e : ℕ} (job : RunJob) (array : ArrayState n m) (events : List (E
         let Seeded : ℕ → Type 0 = λ seed. IsRunText job.shape seed e events outcomes left.0 array job.print whole in
         subst Seeded seeded (subst Shaped shape is)
 
-    pub run-written : (before now : Option (List ℕ)) (done : Done) → done ≡ done_by outcomes → (job.print ≡ Image → AreRows array) → HaveRoles pcm.shape pcm.seed left.0
+    pub run-written : (out : SinkChange) (done : Done) → done ≡ done_by outcomes → (job.print ≡ Image → AreRows array) → HaveRoles pcm.shape pcm.seed left.0
         → ((ends : ℕ → BankEnd) → AreEndsOf pcm ends → RunsRight e pcm.shape pcm.seed (rows_of events outcomes) array ends → HaveRoles pcm.shape pcm.seed ends
-        → (whole : List ℕ) × IsRunText pcm.shape pcm.seed e events outcomes ends array job.print whole × Appends before now whole)
-        → RunIsWritten n m e job s array before now done
-    run-written before now done is rows roles writes =
+        → (whole : List ℕ) × IsRunText pcm.shape pcm.seed e events outcomes ends array job.print whole × Gets out whole)
+        → RunIsWritten n m e job s array out done
+    run-written out done is rows roles writes =
         let text = writes left.0 left.1 left.2 roles in
         record { run = made; text = text.0; is_text = text-of-job text.0 text.1; written = text.2; ending = is; rows = rows }
 
-    pub run-part : (before now : Option (List ℕ)) → HaveRoles pcm.shape pcm.seed left.0
+    pub run-part : (out : SinkChange) → HaveRoles pcm.shape pcm.seed left.0
         → ((ends : ℕ → BankEnd) → AreEndsOf pcm ends → RunsRight e pcm.shape pcm.seed (rows_of events outcomes) array ends → HaveRoles pcm.shape pcm.seed ends
-        → (whole : List ℕ) × IsRunText pcm.shape pcm.seed e events outcomes ends array job.print whole × AppendsPrefix before now whole)
-        → RunIsWrittenInPart n m e job s array before now
-    run-part before now roles writes =
+        → (whole : List ℕ) × IsRunText pcm.shape pcm.seed e events outcomes ends array job.print whole × GetsPart out whole)
+        → RunIsWrittenInPart n m e job s array out
+    run-part out roles writes =
         let text = writes left.0 left.1 left.2 roles in
         record { run = made; text = text.0; is_text = text-of-job text.0 text.1; written = text.2 }

@@ -1,6 +1,6 @@
 -- What is shown of the image of a run is its newest text.
-use Rattle.std.proofs.Common.{◌≡◌, ℕ, zero, suc, ◌+◌, ◌*◌, ◌<◌, List, ◌++◌, Option, refl, sym, ap, subst, ◌∙◌, arith}
-use Rattle.std.specs.Prelude.{Result, Ok}
+use Rattle.std.proofs.Common.{◌≡◌, ℕ, zero, suc, ◌+◌, ◌*◌, ◌<◌, List, ◌++◌, refl, ap, subst, ◌∙◌, arith}
+use Rattle.std.specs.Prelude.{Ok}
 use Rattle.pcm_cells.specs.Device.{ArrayState}
 use Rattle.row_rules.specs.declared.Row.{Row}
 use Rattle.row_rules.specs.Rows.{newest}
@@ -13,16 +13,11 @@ use Rattle.pcm_image.specs.Spelling.{image_bytes}
 use Rattle.pcm_image.specs.Standing.{stands_for}
 use Rattle.pcm_image.proofs.Whole.{image_again, size-is}
 use Rattle.image_laws.specs.SavedRuns.{AreRows, SavesRun}
-use Rattle.command_line.specs.declared.job.RunJob.{RunJob}
 use Rattle.command_line.specs.declared.job.Print.{Print}
-use Rattle.command_line.specs.declared.job.Print.TheVariants.{Image}
-use Rattle.pcm_top.specs.Reading.{SourceChange}
 use Rattle.pcm_top.specs.Rows.{rows_of}
 use Rattle.pcm_top.specs.RunText.{IsRunText}
-use Rattle.pcm_top.specs.Running.{RunIsWritten}
 use Rattle.pcm_top.specs.Showing.{shown_header, shown_of, shown_row, shown_text}
 use Rattle.pcm_top.specs.ShownRuns.{IsShown, ShownLaw, newest_text}
-use Rattle.pcm_top.specs.declared.run.Done.{Done}
 
 same-rows : (f g : ℕ → List ℕ) (n : ℕ) → ((l : ℕ) → l < n → f l ≡ g l) → rows_from (shown_row f) 0 n ≡ rows_from (shown_row g) 0 n
 same-rows f g zero same = refl
@@ -54,13 +49,13 @@ shown-wide raw seed rows array ends s are saves =
     rw (size, read) (ap (λ t. Ok t) (shown-is 8 raw seed rows array ends s saves))
 
 narrow : IsShown 64 8 6
-narrow job s array before now done written is =
+narrow job s array out done written is =
     let Of : Print → Type 0 = λ p. IsRunText job.shape job.seed 6 written.run.events written.run.outcomes written.run.ends array p written.text in
     let image = subst Of is written.is_text in
     ap shown_of image.3 ∙ shown-narrow job.shape job.seed (rows_of written.run.events written.run.outcomes) array written.run.ends image.0 (written.rows is) image.2
 
 wide : IsShown 128 16 8
-wide job s array before now done written is =
+wide job s array out done written is =
     let Of : Print → Type 0 = λ p. IsRunText job.shape job.seed 8 written.run.events written.run.outcomes written.run.ends array p written.text in
     let image = subst Of is written.is_text in
     ap shown_of image.3 ∙ shown-wide job.shape job.seed (rows_of written.run.events written.run.outcomes) array written.run.ends image.0 (written.rows is) image.2

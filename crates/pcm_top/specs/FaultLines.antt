@@ -35,9 +35,11 @@ usage_text = codes "usage: pcm run|gen|map|moves|show|check [options]\n"
 -- the line that is written for a fault
 unfoldable pub fault_line : Fault → List ℕ
 fault_line Usage = usage_text
-fault_line (Trace f) = codes "trace row " ++ (decimal f.row ++ (codes ": " ++ (kind_word f.kind ++ codes "\n")))
+fault_line (Trace f) =
+    codes "trace row " ++ (decimal f.row ++ (codes ": " ++ (kind_word f.kind ++ codes "\n")))
 fault_line (Results row) = codes "results row " ++ (decimal row ++ codes "\n")
-fault_line (Image f) = codes "image byte " ++ (decimal f.at ++ (codes ": " ++ (image_word f.kind ++ codes "\n")))
+fault_line (Image f) =
+    codes "image byte " ++ (decimal f.at ++ (codes ": " ++ (image_word f.kind ++ codes "\n")))
 fault_line Read = codes "read fault\n"
 fault_line Write = codes "write fault\n"
 fault_line TooLong = codes "trace too long\n"

@@ -16,12 +16,14 @@ is_source Source = true
 is_source (Drawn mix) = false
 
 module _ (n : ℕ) (job : RunJob) where
-  -- the events are those of the trace that the source gives, read to its end; or those that the seed draws, and nothing is read
+  -- the events are those of the trace that the source gives, read to its end; or those that the seed draws,
+  -- and nothing is read
   abbrev pub ComeFrom : Input → SourceChange → List (Event n) → Type 0
   ComeFrom Source s events = ReadsTrace n (total_of job.shape) s events
   ComeFrom (Drawn mix) s events = TakesNothing s × (events ≡ generated n job.seed (total_of job.shape) mix)
 
-  -- why there are no events: the source gave no trace, or memory ran out; where they are drawn, only memory runs out
+  -- why there are no events: the source gave no trace, or memory ran out; where they are drawn, only memory
+  -- runs out
   abbrev pub IsFaultOf : Input → Fault → SourceChange → Type 0
   IsFaultOf Source fault s = IsReadFault n (total_of job.shape) fault s
   IsFaultOf (Drawn mix) fault s = fault ≡ NoMemory

@@ -1,6 +1,7 @@
 pub mod Jobs
 pub mod FaultLines
 pub mod Reading
+pub mod Calls
 pub mod Inputs
 pub mod Checking
 pub mod Rows
@@ -10,6 +11,8 @@ pub mod RunText
 pub mod Showing
 pub mod Running
 pub mod Statuses
+pub mod Ends
+pub mod Promises
 pub mod Laws
 pub mod Lasting
 pub mod ShownRuns

@@ -9,7 +9,10 @@ use Rattle.run_laws.specs.Finishing.{IsFinished}
 use Rattle.pcm_module.specs.Asking.{asked_for}
 use Rattle.pcm_module.specs.State.{ModuleState, bank_at}
 
--- histories of its banks, which asked for these events and gave them these outcomes, led to it over the array, and nothing is left to do
-pub record IsPlayed {n m e : ℕ} (pcm : ModuleState n m e) (events : List (Event n)) (outcomes : List (Outcome n)) (array : ArrayState n m) : Type 0 where
+-- histories of its banks, which asked for these events and gave them these outcomes, led to it over the
+-- array, and nothing is left to do
+pub record IsPlayed {n m e : ℕ} (pcm : ModuleState n m e)
+    (events : List (Event n)) (outcomes : List (Outcome n)) (array : ArrayState n m) : Type 0 where
   pub history : ℕ → List (TimedEvent n m)
-  pub finished : IsFinished pcm.shape pcm.seed history (asked_for (reverse events)) (bank_at pcm) array (outcome_in outcomes)
+  pub finished : IsFinished pcm.shape pcm.seed history (asked_for (reverse events)) (bank_at pcm) array
+      (outcome_in outcomes)

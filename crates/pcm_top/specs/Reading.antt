@@ -1,10 +1,11 @@
 -- What a run read of its source.
-use Rattle.std.specs.Prelude.{◌≡◌, ℕ, ◌*◌, ◌<◌, ◌≤◌, ◌⊎◌, List, length, Option, Ok, Err}
+use Rattle.std.specs.Prelude.{◌≡◌, ℕ, ◌+◌, ◌*◌, ◌-◌, ◌^◌, ◌<◌, ◌≤◌, ◌⊎◌, List, length, Option, Ok, Err}
 use Rattle.std.specs.Io.KnownBytes.{IsAtEnd}
 use Rattle.pcm_io.specs.Faults.{Rose}
 use Rattle.pcm_io.specs.Taking.{Takes}
 use Rattle.trace_reader.specs.Trace.{trace_of}
 use Rattle.trace_reader.specs.declared.event.Event.{Event}
+use Rattle.trace_reader.specs.declared.fault.ParseFault.{ParseFault}
 use Rattle.trace_reader.specs.declared.fault.ParseFault.TheVariants as parsing
 use Rattle.pcm_top.specs.declared.fault.Fault.{Fault}
 use Rattle.pcm_top.specs.declared.fault.Fault.TheVariants.{Usage, Trace, Image, Read, Write, TooLong, NoMemory, Results}
@@ -28,9 +29,19 @@ source_change left taken faults old new = record {
   faults_now = faults new;
 }
 
--- a trace over lines of n bytes has at most so many bytes: 67,108,864 for lines of 64 bytes, 134,217,728 for lines of 128
+-- a trace over lines of n bytes has at most so many bytes: 67,108,864 for lines of 64 bytes, 134,217,728 for
+-- lines of 128
 abbrev pub trace_room : ℕ → ℕ
 trace_room n = n * 1048576
+
+-- the greatest count of taken bytes
+abbrev pub most_taken : ℕ
+most_taken = 2 ^ 64 - 1
+
+-- something holds where more bytes were taken than there is room for, and the count of taken bytes is not
+-- near its end
+abbrev pub OnOverflow : ℕ → SourceChange → Type 0 → Type 0
+OnOverflow room s P = s.taken_before + room < most_taken → s.taken_before + room < s.taken_now → P
 
 -- these bytes were taken
 abbrev pub TakesBytes : SourceChange → List ℕ → Type 0
@@ -41,6 +52,10 @@ pub record TakesNothing (s : SourceChange) : Type 0 where
   pub left : s.left_now ≡ s.left_before
   pub taken : s.taken_now ≡ s.taken_before
   pub faults : s.faults_now ≡ s.faults_before
+
+-- its count of faults rose
+abbrev pub SourceFails : SourceChange → Type 0
+SourceFails s = Rose s.faults_before s.faults_now
 
 -- no call of the source failed
 abbrev pub NeverFails : SourceChange → Type 0
@@ -64,12 +79,16 @@ module _ (n : ℕ) where
 
 -- one for so many lines
 module _ (n lines : ℕ) where
-  -- why a trace gave no events: the source was read to its end and the bytes have this fault, or too many rows;
-  -- or it failed; or it gave too many bytes; or memory ran out, and no call failed
+  -- the source was read to its end, and its bytes have this fault
+  abbrev pub ReadsFault : ParseFault → SourceChange → Type 0
+  ReadsFault one s = (bytes : List ℕ) × ReadsWhole n s bytes × (trace_of n lines bytes ≡ Err one)
+
+  -- why a trace gave no events: the source was read to its end and the bytes have this fault, or too many
+  -- rows; or it failed; or it gave too many bytes; or memory ran out, and no call failed
   abbrev pub IsReadFault : Fault → SourceChange → Type 0
-  IsReadFault (Trace f) s = (bytes : List ℕ) × ReadsWhole n s bytes × (trace_of n lines bytes ≡ Err (parsing.Trace f))
-  IsReadFault Read s = Rose s.faults_before s.faults_now × TakesSome n s
-  IsReadFault TooLong s = (NeverFails s × TakesMore n s) ⊎ ((bytes : List ℕ) × ReadsWhole n s bytes × (trace_of n lines bytes ≡ Err parsing.TooMany))
+  IsReadFault (Trace f) s = ReadsFault (parsing.Trace f) s
+  IsReadFault Read s = SourceFails s × TakesSome n s
+  IsReadFault TooLong s = (NeverFails s × TakesMore n s) ⊎ ReadsFault parsing.TooMany s
   IsReadFault NoMemory s = NeverFails s × TakesSome n s
   IsReadFault (Image f) s = ⊥
   IsReadFault Usage s = ⊥

@@ -7,9 +7,10 @@ use Rattle.module_shape.specs.declared.raw.RawShape.{RawShape}
 use Rattle.pcm_module.specs.State.{ModuleState}
 use Rattle.pcm_module.specs.Replaying.{Replays}
 
--- the module of these sizes and this seed, to which nothing was handed in yet, over an array that fits; none of so many rows
--- has an outcome
-pub record IsReady {n m e : ℕ} (raw : RawShape) (seed rows : ℕ) (module_ : ModuleState n m e) (array : ArrayState n m) (results : List (Outcome n)) : Type 0 where
+-- the module of these sizes and this seed, to which nothing was handed in yet, over an array that fits; none
+-- of so many rows has an outcome
+pub record IsReady {n m e : ℕ} (raw : RawShape) (seed rows : ℕ)
+    (module_ : ModuleState n m e) (array : ArrayState n m) (results : List (Outcome n)) : Type 0 where
   pub shape : module_.shape ≡ raw
   pub seeded : module_.seed ≡ seed
   pub tick : module_.tick ≡ 0

@@ -30,26 +30,35 @@ bank_with raw line = line / array_lines_of (module_of raw)
 module _ (raw : RawShape) (seed : ℕ) where
   -- by these ends each array line has one role
   abbrev pub HaveRoles : (ℕ → BankEnd) → Type 0
-  HaveRoles ends = (bank at : ℕ) → bank < raw.banks → HasOneRole (bank_shape (module_of raw) bank) (line_named raw seed bank) (ends bank) at
+  HaveRoles ends =
+      (bank at : ℕ) → bank < raw.banks
+      → HasOneRole (bank_shape (module_of raw) bank) (line_named raw seed bank) (ends bank) at
 
 module _ {n m : ℕ} (raw : RawShape) (seed : ℕ) where
-  -- what the wear report says of an array line: its bank, its pulses, and the role that the end of its bank gives it
-  pub record IsWearRow (ends : ℕ → BankEnd) (array : ArrayState n m) (line : ℕ) (row : ℕ × ℕ × Role) : Type 0 where
+  -- what the wear report says of an array line: its bank, its pulses, and the role that the end of its bank
+  -- gives it
+  pub record IsWearRow (ends : ℕ → BankEnd) (array : ArrayState n m) (line : ℕ) (row : ℕ × ℕ × Role)
+      : Type 0 where
     pub bank : row.0 ≡ bank_with raw line
     pub pulses : row.1 ≡ (array.line line).pulses
-    pub role : IsRole (bank_shape (module_of raw) (bank_with raw line)) (line_named raw seed (bank_with raw line)) (ends (bank_with raw line)) line row.2
+    pub role : IsRole (bank_shape (module_of raw) (bank_with raw line))
+        (line_named raw seed (bank_with raw line)) (ends (bank_with raw line)) line row.2
 
   -- it has one row for each
-  pub record IsWearReport (ends : ℕ → BankEnd) (array : ArrayState n m) (rows : List (ℕ × ℕ × Role)) : Type 0 where
+  pub record IsWearReport (ends : ℕ → BankEnd) (array : ArrayState n m) (rows : List (ℕ × ℕ × Role))
+      : Type 0 where
     pub one_each : length rows ≡ array.lines
     pub each : (line : ℕ) → line < array.lines → IsSomeAnd (slice_get rows line) (IsWearRow ends array line)
 
-  -- what is written of these events and their outcomes, of these ends, and of the array, whose lines have e error-correcting pointers:
-  -- the results, the summary, the wear report, or the image of what the run left
-  abbrev pub IsRunText : ℕ → List (Event n) → List (Outcome n) → (ℕ → BankEnd) → ArrayState n m → Print → List ℕ → Type 0
+  -- what is written of these events and their outcomes, of these ends, and of the array, whose lines have e
+  -- error-correcting pointers: the results, the summary, the wear report, or the image of what the run left
+  abbrev pub IsRunText : ℕ → List (Event n) → List (Outcome n) → (ℕ → BankEnd) → ArrayState n m
+      → Print → List ℕ → Type 0
   IsRunText e events outcomes ends array Results text = text ≡ results_text events outcomes
   IsRunText e events outcomes ends array Summary text =
       text ≡ summary_text (length events) (counts_of outcomes) (spares_used raw ends) (pulses_in_all array)
-  IsRunText e events outcomes ends array Wear text = (rows : List (ℕ × ℕ × Role)) × IsWearReport ends array rows × (text ≡ wear_text rows)
+  IsRunText e events outcomes ends array Wear text =
+      (rows : List (ℕ × ℕ × Role)) × IsWearReport ends array rows × (text ≡ wear_text rows)
   IsRunText e events outcomes ends array Image text =
-      (s : Saved n m) × IsLeft e raw seed (rows_of events outcomes) array s × SavesRun e raw seed (rows_of events outcomes) array ends s × (text ≡ image_bytes s)
+      (s : Saved n m) × IsLeft e raw seed (rows_of events outcomes) array s
+      × SavesRun e raw seed (rows_of events outcomes) array ends s × (text ≡ image_bytes s)

@@ -1,8 +1,5 @@
 -- What a job does, and why a call does none of it.
-use Rattle.std.specs.Prelude.{◌≡◌, ◌⊎◌, ℕ, Bool, true, false, if◌then◌else◌, List, length, Option, Some, Result, Ok, Err}
-use Rattle.std.specs.Io.KnownBytes.{Appends}
-use Rattle.pcm_io.specs.Faults.{Rose}
-use Rattle.pcm_io.specs.Giving.{AppendsPrefix}
+use Rattle.std.specs.Prelude.{◌≡◌, ◌⊎◌, ℕ, Bool, true, false, if◌then◌else◌, List, length, Some, Result, Ok, Err}
 use Rattle.pcm_cells.specs.Device.{ArrayState}
 use Rattle.trace_reader.specs.declared.event.Event.{Event}
 use Rattle.result_rows.specs.declared.Outcome.{Outcome}
@@ -22,6 +19,7 @@ use Rattle.command_line.specs.declared.job.Refusal.{Refusal}
 use Rattle.command_line.specs.declared.job.Refusal.TheVariants as refusal
 use Rattle.pcm_top.specs.Jobs.{bytes_in, gen_text, map_options}
 use Rattle.pcm_top.specs.Reading.{SourceChange, trace_room}
+use Rattle.pcm_top.specs.Calls.{Deed, Gets, GetsPart, SinkChange, SinkFails}
 use Rattle.pcm_top.specs.Inputs.{ComeFrom, IsFaultOf, is_source}
 use Rattle.pcm_top.specs.Checking.{IsCheckFault, TellsVerdict, TellsVerdictInPart, pointers_in, room_line}
 use Rattle.pcm_top.specs.Rows.{rows_of}
@@ -43,8 +41,9 @@ status_done Short = 1
 
 -- lines of n bytes with m check bytes and e error-correcting pointers
 module _ (n m e : ℕ) (job : RunJob) (s : SourceChange) (array : ArrayState n m) where
-  -- a run: its events came from its input, each row has an outcome, and what a completed run leaves is right; a completed read
-  -- has its line's newest bytes, and each line's newest bytes are in the array or in a queue. The array was powered up with the job's wear
+  -- a run: its events came from its input, each row has an outcome, and what a completed run leaves is right;
+  -- a completed read has its line's newest bytes, and each line's newest bytes are in the array or in a
+  -- queue. The array was powered up with the job's wear
   pub record Runs : Type 0 where
     pub events : List (Event n)
     pub come : ComeFrom n job job.input s events
@@ -58,24 +57,25 @@ module _ (n m e : ℕ) (job : RunJob) (s : SourceChange) (array : ArrayState n m
   abbrev pub IsTextOf : Runs → List ℕ → Type 0
   IsTextOf run text = IsRunText job.shape job.seed e run.events run.outcomes run.ends array job.print text
 
-  -- it was made, and exactly its text was written; where that is an image, each row of the array has the bytes of a line
-  pub record RunIsWritten (before now : Option (List ℕ)) (done : Done) : Type 0 where
+  -- it was made, and exactly its text was written; where that is an image, each row of the array has the
+  -- bytes of a line
+  pub record RunIsWritten (out : SinkChange) (done : Done) : Type 0 where
     pub run : Runs
     pub text : List ℕ
     pub is_text : IsTextOf run text
-    pub written : Appends before now text
+    pub written : Gets out text
     pub ending : done ≡ done_by run.outcomes
     pub rows : job.print ≡ Image → AreRows array
 
   -- it was made, and first bytes of its text were written
-  pub record RunIsWrittenInPart (before now : Option (List ℕ)) : Type 0 where
+  pub record RunIsWrittenInPart (out : SinkChange) : Type 0 where
     pub run : Runs
     pub text : List ℕ
     pub is_text : IsTextOf run text
-    pub written : AppendsPrefix before now text
+    pub written : GetsPart out text
 
--- whether the words ask for what is read: a trace that is run, an image that is shown, or a trace and its results; and for a run over
--- lines of this size
+-- whether the words ask for what is read: a trace that is run, an image that is shown, or a trace and its
+-- results; and for a run over lines of this size
 abbrev pub reads_source : Result Job Refusal → Bool
 reads_source (Err e) = false
 reads_source (Ok (Run job)) = is_source job.input
@@ -101,7 +101,8 @@ runs_on size (Ok (Moves job)) = false
 runs_on size (Ok Show) = false
 runs_on size (Ok (Check job)) = false
 
--- how many bytes may be read for it; an image of whichever size may have as many as a trace over lines of 64 bytes
+-- how many bytes may be read for it; an image of whichever size may have as many as a trace over lines of 64
+-- bytes
 abbrev pub room_of : Result Job Refusal → ℕ
 room_of (Err e) = 0
 room_of (Ok (Run job)) = trace_room (bytes_in job.line)
@@ -111,44 +112,46 @@ room_of (Ok (Moves job)) = 0
 room_of (Ok Show) = trace_room 64
 room_of (Ok (Check job)) = trace_room room_line
 
--- the arrays of lines of 64 and of 128 bytes
-module _ (s : SourceChange) (array : ArrayState 64 8) (wide : ArrayState 128 16) (before now : Option (List ℕ)) where
+-- by what became of the source, the arrays and the output
+module _ (deed : Deed) where
   -- a run is made on the array of its lines, and its text is written
   abbrev pub WritesRun : RunJob → Done → LineSize → Type 0
-  WritesRun job done Bytes64 = RunIsWritten 64 8 6 job s array before now done
-  WritesRun job done Bytes128 = RunIsWritten 128 16 8 job s wide before now done
+  WritesRun job done Bytes64 = RunIsWritten 64 8 6 job deed.source deed.array deed.out done
+  WritesRun job done Bytes128 = RunIsWritten 128 16 8 job deed.source deed.wide deed.out done
 
-  -- what a job does: a run is made and its text is written; a generated trace or a report is written; an image is read and shown;
-  -- results are checked
+  -- what a job does: a run is made and its text is written; a generated trace or a report is written; an
+  -- image is read and shown; results are checked
   abbrev pub Does : Result Job Refusal → Done → Type 0
   Does (Err e) done = ⊥
   Does (Ok (Run job)) done = WritesRun job done job.line
-  Does (Ok (Gen job)) done = Appends before now (gen_text job) × (done ≡ Whole)
-  Does (Ok (Map job)) done = Appends before now (map_text (map_options job)) × (done ≡ Whole)
-  Does (Ok (Moves job)) done = Appends before now (moves_text job.lines job.from) × (done ≡ Whole)
-  Does (Ok Show) done = ShowsImage s before now × (done ≡ Whole)
-  Does (Ok (Check job)) done = TellsVerdict (bytes_in job.line) (pointers_in job.line) job s before now done
+  Does (Ok (Gen job)) done = Gets deed.out (gen_text job) × (done ≡ Whole)
+  Does (Ok (Map job)) done = Gets deed.out (map_text (map_options job)) × (done ≡ Whole)
+  Does (Ok (Moves job)) done = Gets deed.out (moves_text job.lines job.from) × (done ≡ Whole)
+  Does (Ok Show) done = ShowsImage deed.source deed.out × (done ≡ Whole)
+  Does (Ok (Check job)) done =
+      TellsVerdict (bytes_in job.line) (pointers_in job.line) job deed.source deed.out done
 
   -- the same, where only first bytes could be written
   abbrev pub WritesRunInPart : RunJob → LineSize → Type 0
-  WritesRunInPart job Bytes64 = RunIsWrittenInPart 64 8 6 job s array before now
-  WritesRunInPart job Bytes128 = RunIsWrittenInPart 128 16 8 job s wide before now
+  WritesRunInPart job Bytes64 = RunIsWrittenInPart 64 8 6 job deed.source deed.array deed.out
+  WritesRunInPart job Bytes128 = RunIsWrittenInPart 128 16 8 job deed.source deed.wide deed.out
 
   abbrev pub DoesPart : Result Job Refusal → Type 0
   DoesPart (Err e) = ⊥
   DoesPart (Ok (Run job)) = WritesRunInPart job job.line
-  DoesPart (Ok (Gen job)) = AppendsPrefix before now (gen_text job)
-  DoesPart (Ok (Map job)) = AppendsPrefix before now (map_text (map_options job))
-  DoesPart (Ok (Moves job)) = AppendsPrefix before now (moves_text job.lines job.from)
-  DoesPart (Ok Show) = ShowsImageInPart s before now
-  DoesPart (Ok (Check job)) = TellsVerdictInPart (bytes_in job.line) (pointers_in job.line) job s before now
+  DoesPart (Ok (Gen job)) = GetsPart deed.out (gen_text job)
+  DoesPart (Ok (Map job)) = GetsPart deed.out (map_text (map_options job))
+  DoesPart (Ok (Moves job)) = GetsPart deed.out (moves_text job.lines job.from)
+  DoesPart (Ok Show) = ShowsImageInPart deed.source deed.out
+  DoesPart (Ok (Check job)) =
+      TellsVerdictInPart (bytes_in job.line) (pointers_in job.line) job deed.source deed.out
 
 -- why words give no job: they ask for none, or memory ran out
 abbrev pub IsRefused : Result Job Refusal → Fault → Type 0
 IsRefused asked fault = (fault ≡ NoMemory) ⊎ ((fault ≡ Usage) × (asked ≡ Err refusal.Usage))
 
--- why a call doesn't do its work: the words ask for no job, a run has no events, there is no image to show, results can't be checked,
--- or there is no memory
+-- why a call doesn't do its work: the words ask for no job, a run has no events, there is no image to show,
+-- results can't be checked, or there is no memory
 abbrev pub HasCause : Fault → Result Job Refusal → SourceChange → Type 0
 HasCause fault (Err e) s = (fault ≡ Usage) ⊎ (fault ≡ NoMemory)
 HasCause fault (Ok (Run job)) s = IsFaultOf (bytes_in job.line) job job.input fault s
@@ -159,18 +162,19 @@ HasCause fault (Ok Show) s = IsShowFault fault s
 HasCause fault (Ok (Check job)) s = IsCheckFault (bytes_in job.line) job fault s
 
 -- a call that doesn't do its work says why, by its status and by a line
-pub record Tells (job : Result Job Refusal) (s : SourceChange) (before now : Option (List ℕ)) (status : ℕ) : Type 0 where
+pub record Tells (asked : Result Job Refusal) (s : SourceChange) (err : SinkChange) (status : ℕ)
+    : Type 0 where
   pub fault : Fault
-  pub cause : HasCause fault job s
+  pub cause : HasCause fault asked s
   pub answered : status ≡ status_of fault
-  pub line : Appends before now (fault_line fault)
+  pub line : Gets err (fault_line fault)
 
 -- it has a reason to say so, and only first bytes of the line could be written
-pub record TellsPart (job : Result Job Refusal) (s : SourceChange) (before now : Option (List ℕ)) : Type 0 where
+pub record TellsPart (asked : Result Job Refusal) (s : SourceChange) (err : SinkChange) : Type 0 where
   pub fault : Fault
-  pub cause : HasCause fault job s
-  pub part : AppendsPrefix before now (fault_line fault)
+  pub cause : HasCause fault asked s
+  pub part : GetsPart err (fault_line fault)
 
 -- a line was tried: all of it was written, or first bytes of it and then a fault came
-abbrev pub IsTried : Option (List ℕ) → Option (List ℕ) → ℕ → ℕ → List ℕ → Type 0
-IsTried before now faults faults_now line = Appends before now line ⊎ (AppendsPrefix before now line × Rose faults faults_now)
+abbrev pub IsTried : SinkChange → List ℕ → Type 0
+IsTried err line = Gets err line ⊎ (GetsPart err line × SinkFails err)

@@ -1,15 +1,13 @@
 -- What `show` writes of a saved module, and why it writes nothing.
-use Rattle.std.specs.Prelude.{◌≡◌, ℕ, ◌==◌, if◌then◌else◌, List, [], ◌∷◌, ◌++◌, codes, decimal, Option, Result, Ok, Err}
-use Rattle.std.specs.Io.KnownBytes.{Appends}
+use Rattle.std.specs.Prelude.{◌≡◌, ℕ, ◌==◌, if◌then◌else◌, List, [], ◌∷◌, ◌++◌, codes, decimal, Result, Ok, Err}
 use Rattle.hex.specs.Hex.{encode_lower}
-use Rattle.pcm_io.specs.Faults.{Rose}
-use Rattle.pcm_io.specs.Giving.{AppendsPrefix}
 use Rattle.rotation_reports.specs.Rows.{row_of, rows_from}
 use Rattle.pcm_image.specs.Saved.{Saved, total_in}
 use Rattle.pcm_image.specs.Reading.{◌>>=◌, image_of, size_of}
 use Rattle.pcm_image.specs.Standing.{stands_for}
 use Rattle.pcm_image.specs.declared.ImageFault.{ImageFault}
-use Rattle.pcm_top.specs.Reading.{ReadsWhole, NeverFails, SourceChange, TakesMore, TakesSome}
+use Rattle.pcm_top.specs.Calls.{Gets, GetsPart, SinkChange}
+use Rattle.pcm_top.specs.Reading.{ReadsWhole, NeverFails, SourceChange, SourceFails, TakesMore, TakesSome}
 use Rattle.pcm_top.specs.declared.fault.Fault.{Fault}
 use Rattle.pcm_top.specs.declared.fault.Fault.TheVariants.{Usage, Trace, Results, Image, Read, Write, TooLong, NoMemory}
 
@@ -21,7 +19,8 @@ shown_header = codes "line,data\n"
 abbrev pub shown_row : (ℕ → List ℕ) → ℕ → List ℕ
 shown_row bytes_of line = row_of (decimal line ∷ encode_lower (bytes_of line) ∷ [])
 
--- the text of a saved module whose lines have e error-correcting pointers: a row for each line, with its newest bytes
+-- the text of a saved module whose lines have e error-correcting pointers: a row for each line, with its
+-- newest bytes
 abbrev pub shown_text : {B M : ℕ} → ℕ → Saved B M → List ℕ
 shown_text e saved = shown_header ++ rows_from (shown_row (stands_for e saved)) 0 (total_in saved.head)
 
@@ -47,12 +46,21 @@ pub record ReadsImage (s : SourceChange) (text : List ℕ) : Type 0 where
   pub whole : ReadsWhole 64 s bytes
   pub shown : shown_of bytes ≡ Ok text
 
--- exactly its text was written, or first bytes of it
-abbrev pub ShowsImage : SourceChange → Option (List ℕ) → Option (List ℕ) → Type 0
-ShowsImage s before now = (text : List ℕ) × ReadsImage s text × Appends before now text
+-- there is a text, and exactly it was written
+abbrev pub ShowsText : Result (List ℕ) ImageFault → SinkChange → Type 0
+ShowsText shown out = (text : List ℕ) × (shown ≡ Ok text) × Gets out text
 
-abbrev pub ShowsImageInPart : SourceChange → Option (List ℕ) → Option (List ℕ) → Type 0
-ShowsImageInPart s before now = (text : List ℕ) × ReadsImage s text × AppendsPrefix before now text
+-- there is one, and first bytes of it were
+abbrev pub ShowsTextInPart : Result (List ℕ) ImageFault → SinkChange → Type 0
+ShowsTextInPart shown out = (text : List ℕ) × (shown ≡ Ok text) × GetsPart out text
+
+-- exactly the text of the image was written
+abbrev pub ShowsImage : SourceChange → SinkChange → Type 0
+ShowsImage s out = (text : List ℕ) × ReadsImage s text × Gets out text
+
+-- first bytes of it were
+abbrev pub ShowsImageInPart : SourceChange → SinkChange → Type 0
+ShowsImageInPart s out = (text : List ℕ) × ReadsImage s text × GetsPart out text
 
 -- why bytes give no text: a field fails, or memory runs out
 abbrev pub IsImageFault : Fault → Result (List ℕ) ImageFault → Type 0
@@ -65,11 +73,11 @@ IsImageFault Read shown = ⊥
 IsImageFault Write shown = ⊥
 IsImageFault TooLong shown = ⊥
 
--- why nothing is shown: the source was read to its end and a field of its bytes fails; or it failed; or it gave too many bytes;
--- or memory ran out, and no call failed
+-- why nothing is shown: the source was read to its end and a field of its bytes fails; or it failed; or it
+-- gave too many bytes; or memory ran out, and no call failed
 abbrev pub IsShowFault : Fault → SourceChange → Type 0
 IsShowFault (Image f) s = (bytes : List ℕ) × ReadsWhole 64 s bytes × (shown_of bytes ≡ Err f)
-IsShowFault Read s = Rose s.faults_before s.faults_now × TakesSome 64 s
+IsShowFault Read s = SourceFails s × TakesSome 64 s
 IsShowFault TooLong s = NeverFails s × TakesMore 64 s
 IsShowFault NoMemory s = NeverFails s × TakesSome 64 s
 IsShowFault Usage s = ⊥

@@ -1,13 +1,11 @@
 // The command `check`.
-ghost use Rattle.std.specs.Prelude.{◌≡◌, ◌≢◌, ◌+◌, ◌-◌, ◌^◌, ◌<◌, ◌≤◌, Err, IfOk, IfErr, OnOk};
-ghost use Rattle.std.specs.Io.KnownBytes.{Appends};
-ghost use Rattle.pcm_io.specs.Faults.{Rose};
-ghost use Rattle.pcm_io.specs.Giving.{AppendsPrefix};
-ghost use Rattle.command_line.specs.Jobs.{IsCheck};
+ghost use Rattle.std.specs.Prelude.{◌≡◌, ◌≤◌};
 ghost use Rattle.text_check.specs.VerdictText.{verdict_text};
 ghost use Rattle.pcm_top.specs.Jobs.{bytes_in};
-ghost use Rattle.pcm_top.specs.Reading.{source_change, trace_room};
-ghost use Rattle.pcm_top.specs.Checking.{IsCheckFault, ReadsVerdict, TellsVerdict, TellsVerdictInPart, done_on, pointers_in, room_line};
+ghost use Rattle.pcm_top.specs.Reading.{source_change};
+ghost use Rattle.pcm_top.specs.Calls.{lent_sink};
+ghost use Rattle.pcm_top.specs.Checking.{IsCheckFault, ReadsVerdict, done_on, pointers_in};
+ghost use Rattle.pcm_top.specs.Ends.{EndsCheck, EndsText, Gives};
 
 use crate::fault::Fault;
 use crate::run::Done;
@@ -28,10 +26,8 @@ fn read_verdict<const B: usize, const E: usize, S: Source>(
     requires some_size { 1 ≤ B }
     requires size { B ≤ 128 }
     requires few { E ≤ 8 }
-    ensures verdict { IfOk result (ReadsVerdict B E job.now (source_change S.left S.taken S.faults source.old source.new)) }
-    ensures unfailing { OnOk result (S.faults source.new ≡ S.faults source.old) }
-    ensures fault { IfErr result (λ fault. IsCheckFault B job.now fault (source_change S.left S.taken S.faults source.old source.new)) }
-    ensures never_falls { S.faults source.old ≤ S.faults source.new }
+    ensures { let s = source_change S.left S.taken S.faults source.old source.new in
+        Gives (ReadsVerdict B E job.now s) (λ fault. IsCheckFault B job.now fault s) s result }
 {
     let bytes = match read_all(alloc, source, CHECK_ROOM) {
         Ok(bytes) => bytes,
@@ -60,11 +56,7 @@ fn ending(verdict: Verdict) -> Done
 
 // Writes a verdict.
 fn write_verdict<K: Sink>(alloc: Global, verdict: Verdict, out: &mut K) -> Result<(), Fault>
-    ensures done { OnOk result (Appends (K.written out.old) (K.written out.new) (verdict_text verdict)) }
-    ensures write { result ≡ Err Fault.Write → AppendsPrefix (K.written out.old) (K.written out.new) (verdict_text verdict)
-        × Rose (K.faults out.old) (K.faults out.new) }
-    ensures memory { IfErr result (λ fault. fault ≢ Fault.Write → (fault ≡ Fault.NoMemory) × (out.new ≡ out.old)) }
-    ensures never_falls { K.faults out.old ≤ K.faults out.new }
+    ensures { EndsText (verdict_text verdict) (lent_sink K.written K.faults out.old out.new) result }
 {
     let mut text = match Text::new(alloc, 32) {
         Ok(text) => text,
@@ -87,17 +79,8 @@ fn check<const B: usize, const E: usize, S: Source, K: Sink>(
     requires some_size { 1 ≤ B }
     requires size { B ≤ 128 }
     requires few { E ≤ 8 }
-    ensures done { IfOk result (TellsVerdict B E job.now (source_change S.left S.taken S.faults source.old source.new) (K.written out.old) (K.written out.new)) }
-
-    // Only a fault of writing comes after the first byte was written.
-    ensures write { result ≡ Err Fault.Write →
-        TellsVerdictInPart B E job.now (source_change S.left S.taken S.faults source.old source.new) (K.written out.old) (K.written out.new)
-        × Rose (K.faults out.old) (K.faults out.new) }
-    ensures cause { IfErr result (λ fault. fault ≢ Fault.Write → IsCheckFault B job.now fault (source_change S.left S.taken S.faults source.old source.new)) }
-    ensures out { IfErr result (λ fault. fault ≢ Fault.Write → out.new ≡ out.old) }
-    ensures too_long { S.taken source.old + trace_room room_line < 2 ^ 64 - 1 → S.taken source.old + trace_room room_line < S.taken source.new → result ≡ Err Fault.TooLong }
-    ensures out_faults { K.faults out.old ≤ K.faults out.new }
-    ensures source_faults { S.faults source.old ≤ S.faults source.new }
+    ensures { EndsCheck B E job.now (source_change S.left S.taken S.faults source.old source.new)
+        (lent_sink K.written K.faults out.old out.new) result }
 {
     let verdict = read_verdict::<B, E, S>(alloc, job, source)?;
     write_verdict(alloc, verdict, out)?;
@@ -111,17 +94,9 @@ pub fn report_check<S: Source, K: Sink>(
     source: &mut S,
     out: &mut K,
 ) -> Result<Done, Fault>
-    ensures done { IfOk result (TellsVerdict (bytes_in job.line) (pointers_in job.line) job (source_change S.left S.taken S.faults source.old source.new) (K.written out.old) (K.written out.new)) }
-
-    // Only a fault of writing comes after the first byte was written.
-    ensures write { result ≡ Err Fault.Write →
-        TellsVerdictInPart (bytes_in job.line) (pointers_in job.line) job (source_change S.left S.taken S.faults source.old source.new) (K.written out.old) (K.written out.new)
-        × Rose (K.faults out.old) (K.faults out.new) }
-    ensures cause { IfErr result (λ fault. fault ≢ Fault.Write → IsCheckFault (bytes_in job.line) job fault (source_change S.left S.taken S.faults source.old source.new)) }
-    ensures out { IfErr result (λ fault. fault ≢ Fault.Write → out.new ≡ out.old) }
-    ensures too_long { S.taken source.old + trace_room room_line < 2 ^ 64 - 1 → S.taken source.old + trace_room room_line < S.taken source.new → result ≡ Err Fault.TooLong }
-    ensures out_faults { K.faults out.old ≤ K.faults out.new }
-    ensures source_faults { S.faults source.old ≤ S.faults source.new }
+    ensures { EndsCheck (bytes_in job.line) (pointers_in job.line) job
+        (source_change S.left S.taken S.faults source.old source.new)
+        (lent_sink K.written K.faults out.old out.new) result }
 {
     match job.line {
         LineSize::Bytes64 => check::<64, 6, S, K>(alloc, &job, source, out),

@@ -1,5 +1,5 @@
 // The command `gen`.
-ghost use Rattle.std.specs.Prelude.{◌≡◌, ◌≢◌, ◌≤◌, Err, IfErr, OnOk, OnErr};
+ghost use Rattle.std.specs.Prelude.{◌≡◌, ◌≤◌, OnOk, OnErr};
 ghost use Rattle.std.specs.Io.KnownBytes.{Appends};
 ghost use Rattle.pcm_io.specs.Faults.{Rose};
 ghost use Rattle.pcm_io.specs.Giving.{AppendsPrefix};
@@ -7,6 +7,8 @@ ghost use Rattle.pcm_io.specs.Reserved.{reserved};
 ghost use Rattle.trace_gen.specs.EventText.{trace_text};
 ghost use Rattle.trace_gen.specs.Generated.{IsMix, generated};
 ghost use Rattle.pcm_top.specs.Jobs.{gen_text};
+ghost use Rattle.pcm_top.specs.Calls.{lent_sink};
+ghost use Rattle.pcm_top.specs.Ends.{EndsText};
 
 use crate::fault::Fault;
 use command_line::{GenJob, LineSize};
@@ -28,8 +30,10 @@ fn print_drawn<const B: usize, K: Sink>(
     requires some_lines { 1 ≤ lines }
     requires few_lines { lines ≤ 65536 }
     requires mix { IsMix mix }
-    ensures ok { OnOk result (Appends (K.written out.old) (K.written out.new) (trace_text (generated B seed lines mix))) }
-    ensures prefix { OnErr result (AppendsPrefix (K.written out.old) (K.written out.new) (trace_text (generated B seed lines mix))) }
+    ensures ok { OnOk result
+        (Appends (K.written out.old) (K.written out.new) (trace_text (generated B seed lines mix))) }
+    ensures prefix { OnErr result
+        (AppendsPrefix (K.written out.old) (K.written out.new) (trace_text (generated B seed lines mix))) }
     ensures fault { OnErr result (Rose (K.faults out.old) (K.faults out.new)) }
     ensures never_falls { K.faults out.old ≤ K.faults out.new }
 {
@@ -62,13 +66,7 @@ fn print_job<K: Sink>(job: &GenJob, text: &mut Text, out: &mut K) -> Result<(), 
 /// Writes a generated trace.
 pub fn write_drawn<K: Sink>(alloc: Global, job: GenJob, out: &mut K) -> Result<(), Fault>
     requires { IsMix job.mix }
-    ensures done { OnOk result (Appends (K.written out.old) (K.written out.new) (gen_text job)) }
-
-    // Only a fault of writing comes after the first byte was written.
-    ensures write { result ≡ Err Fault.Write → AppendsPrefix (K.written out.old) (K.written out.new) (gen_text job)
-        × Rose (K.faults out.old) (K.faults out.new) }
-    ensures memory { IfErr result (λ fault. fault ≢ Fault.Write → (fault ≡ Fault.NoMemory) × (out.new ≡ out.old)) }
-    ensures never_falls { K.faults out.old ≤ K.faults out.new }
+    ensures { EndsText (gen_text job) (lent_sink K.written K.faults out.old out.new) result }
 {
     let mut text = match Text::new(alloc, TEXT_ROOM) {
         Ok(text) => text,

@@ -31,18 +31,20 @@ pub enum Fault {
     NoMemory,
 }
 
-/// The status of the program for a fault.
-pub fn status(fault: Fault) -> u8
-    ensures { result ≡ status_of fault }
-{
-    match fault {
-        Fault::Usage => 2,
-        Fault::Trace(_) | Fault::Results(_) => 3,
-        Fault::Image(_) => 3,
-        Fault::Read => 4,
-        Fault::Write => 5,
-        Fault::TooLong => 6,
-        Fault::NoMemory => 7,
+impl Fault {
+    /// The status of the program for it.
+    pub fn status(self) -> u8
+        ensures { result ≡ status_of self }
+    {
+        match self {
+            Fault::Usage => 2,
+            Fault::Trace(_) | Fault::Results(_) => 3,
+            Fault::Image(_) => 3,
+            Fault::Read => 4,
+            Fault::Write => 5,
+            Fault::TooLong => 6,
+            Fault::NoMemory => 7,
+        }
     }
 }
 
@@ -88,8 +90,10 @@ fn write_parts<F: Sink>(parts: &[&[u8]], err: &mut F) -> Result<(), WriteFault>
 }
 
 fn tell_trace<F: Sink>(fault: TraceFault, err: &mut F) -> Result<(), WriteFault>
-    ensures ok { OnOk result (Appends (F.written err.old) (F.written err.new) (fault_line (Fault.Trace fault))) }
-    ensures prefix { OnErr result (AppendsPrefix (F.written err.old) (F.written err.new) (fault_line (Fault.Trace fault))) }
+    ensures ok { OnOk result
+        (Appends (F.written err.old) (F.written err.new) (fault_line (Fault.Trace fault))) }
+    ensures prefix { OnErr result
+        (AppendsPrefix (F.written err.old) (F.written err.new) (fault_line (Fault.Trace fault))) }
     ensures fault { OnErr result (Rose (F.faults err.old) (F.faults err.new)) }
     ensures never_falls { F.faults err.old ≤ F.faults err.new }
 {
@@ -106,8 +110,10 @@ fn tell_trace<F: Sink>(fault: TraceFault, err: &mut F) -> Result<(), WriteFault>
 }
 
 fn tell_image<F: Sink>(fault: ImageFault, err: &mut F) -> Result<(), WriteFault>
-    ensures ok { OnOk result (Appends (F.written err.old) (F.written err.new) (fault_line (Fault.Image fault))) }
-    ensures prefix { OnErr result (AppendsPrefix (F.written err.old) (F.written err.new) (fault_line (Fault.Image fault))) }
+    ensures ok { OnOk result
+        (Appends (F.written err.old) (F.written err.new) (fault_line (Fault.Image fault))) }
+    ensures prefix { OnErr result
+        (AppendsPrefix (F.written err.old) (F.written err.new) (fault_line (Fault.Image fault))) }
     ensures fault { OnErr result (Rose (F.faults err.old) (F.faults err.new)) }
     ensures never_falls { F.faults err.old ≤ F.faults err.new }
 {
@@ -124,8 +130,10 @@ fn tell_image<F: Sink>(fault: ImageFault, err: &mut F) -> Result<(), WriteFault>
 }
 
 fn tell_results<F: Sink>(row: u32, err: &mut F) -> Result<(), WriteFault>
-    ensures ok { OnOk result (Appends (F.written err.old) (F.written err.new) (fault_line (Fault.Results row))) }
-    ensures prefix { OnErr result (AppendsPrefix (F.written err.old) (F.written err.new) (fault_line (Fault.Results row))) }
+    ensures ok { OnOk result
+        (Appends (F.written err.old) (F.written err.new) (fault_line (Fault.Results row))) }
+    ensures prefix { OnErr result
+        (AppendsPrefix (F.written err.old) (F.written err.new) (fault_line (Fault.Results row))) }
     ensures fault { OnErr result (Rose (F.faults err.old) (F.faults err.new)) }
     ensures never_falls { F.faults err.old ≤ F.faults err.new }
 {

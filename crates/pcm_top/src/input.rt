@@ -1,10 +1,11 @@
 // The events of a run: those of the trace that the source gives, or those that a seed draws.
-ghost use Rattle.std.specs.Prelude.{◌≡◌, ◌+◌, ◌-◌, ◌^◌, ◌<◌, ◌≤◌, false, vec_len, Err, IfOk, IfErr, OnOk};
+ghost use Rattle.std.specs.Prelude.{◌≡◌, ◌≤◌, false, vec_len, IfOk, IfErr};
 ghost use Rattle.trace_gen.specs.Generated.{IsMix, generated};
 ghost use Rattle.trace_reader.specs.Events.{AreEventsFor};
 ghost use Rattle.module_shape.specs.Limits.{IsShape, total_of};
 ghost use Rattle.command_line.specs.Jobs.{IsRun};
-ghost use Rattle.pcm_top.specs.Reading.{IsReadFault, ReadsTrace, source_change, trace_room};
+ghost use Rattle.pcm_top.specs.Reading.{IsReadFault, ReadsTrace, source_change};
+ghost use Rattle.pcm_top.specs.Ends.{Gives};
 ghost use Rattle.pcm_top.specs.Inputs.{ComeFrom, IsFaultOf, is_source};
 
 use crate::fault::Fault;
@@ -14,7 +15,8 @@ use std::alloc::Global;
 use trace_gen::{Mix, generate};
 use trace_reader::{Event, MOST_ROWS, ParseFault, parse};
 
-/// Bytes that a trace may have, for each byte of a line: 67,108,864 over lines of 64 bytes, 134,217,728 over lines of 128.
+/// Bytes that a trace may have, for each byte of a line: 67,108,864 over lines of 64 bytes, 134,217,728 over
+/// lines of 128.
 pub const TRACE_ROOM: usize = 1_048_576;
 
 // Reads the source to its end as a trace for so many lines of `B` bytes.
@@ -25,12 +27,10 @@ fn read_trace<const B: usize, S: Source>(
 ) -> Result<Vec<Event<B>>, Fault>
     requires small { B ≤ 128 }
     requires lines { 1 ≤ lines }
-    ensures trace { IfOk result (λ events. ReadsTrace B lines (source_change S.left S.taken S.faults source.old source.new) events.items) }
+    ensures gives { let s = source_change S.left S.taken S.faults source.old source.new in
+        Gives (λ events. ReadsTrace B lines s events.items) (λ fault. IsReadFault B lines fault s) s result }
     ensures events { IfOk result (λ events. AreEventsFor lines 0 events.items) }
     ensures rows { IfOk result (λ events. vec_len events ≤ MOST_ROWS) }
-    ensures unfailing { OnOk result (S.faults source.new ≡ S.faults source.old) }
-    ensures fault { IfErr result (λ fault. IsReadFault B lines fault (source_change S.left S.taken S.faults source.old source.new)) }
-    ensures never_falls { S.faults source.old ≤ S.faults source.new }
 {
     let bytes = match read_all(alloc, source, B * TRACE_ROOM) {
         Ok(bytes) => bytes,
@@ -76,13 +76,12 @@ pub fn events_of<const B: usize, S: Source>(
 ) -> Result<Vec<Event<B>>, Fault>
     requires small { B ≤ 128 }
     requires job { IsRun job.now }
-    ensures come { IfOk result (λ events. ComeFrom B job.now job.now.input (source_change S.left S.taken S.faults source.old source.new) events.items) }
+    ensures gives { let s = source_change S.left S.taken S.faults source.old source.new in
+        Gives (λ events. ComeFrom B job.now job.now.input s events.items)
+        (λ fault. IsFaultOf B job.now job.now.input fault s) s result }
     ensures events { IfOk result (λ events. AreEventsFor (total_of job.now.shape) 0 events.items) }
     ensures rows { IfOk result (λ events. vec_len events ≤ MOST_ROWS) }
-    ensures unfailing { OnOk result (S.faults source.new ≡ S.faults source.old) }
-    ensures fault { IfErr result (λ fault. IsFaultOf B job.now job.now.input fault (source_change S.left S.taken S.faults source.old source.new)) }
     ensures untouched { is_source job.now.input ≡ false → source.new ≡ source.old }
-    ensures never_falls { S.faults source.old ≤ S.faults source.new }
 {
     let lines = job.shape.total();
     match job.input {

@@ -22,9 +22,9 @@ pub fn right_runs_can_be_printed()
     array_lines_have_one_role();
 }
 
-/// Of whichever trace: without a power cut no read is lost; a write that finds room in a bank that isn't worn out and has no
-/// worn control line is accepted and leaves the queue; and where no power cut comes and each row finds what it needs, the run
-/// is done wholly.
+/// Of whichever trace: without a power cut no read is lost; a write that finds room in a bank that isn't worn
+/// out and has no worn control line is accepted and leaves the queue; and where no power cut comes and each
+/// row finds what it needs, the run is done wholly.
 pub fn runs_are_complete()
     ensures { CompletenessLaw }
 {
@@ -34,7 +34,8 @@ pub fn runs_are_complete()
     no_row_falls_short();
 }
 
-/// What a run of drawn events does is what a run does over a source that holds the text of `gen` with the same options.
+/// What a run of drawn events does is what a run does over a source that holds the text of `gen` with the
+/// same options.
 pub fn drawn_runs_are_runs_of_their_text()
     ensures { DrawnLaw }
 {

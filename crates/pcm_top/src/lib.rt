@@ -1,5 +1,6 @@
-//! The program `pcm` as one call over its words, its array of cells, and the places where its bytes come from and go to.
-//! The call's contract says what every run prints and leaves in the array, and what each status means.
+//! The program `pcm` as one call over its words, its array of cells, and the places where its bytes come from
+//! and go to. The call's contract says what every run prints and leaves in the array, and what each status
+//! means.
 #![tactic(auto)]
 
 mod check;

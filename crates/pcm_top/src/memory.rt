@@ -13,9 +13,9 @@ use result_rows::Results;
 use run_text::TEXT_ROOM;
 use std::alloc::{AllocError, Global};
 
-/// Takes all the memory of a run of so many rows: that of the array, of the module, of the table of outcomes and of the
-/// text that is written. Neither the run nor the printing takes memory afterwards. A line has room for what a control line
-/// keeps.
+/// Takes all the memory of a run of so many rows: that of the array, of the module, of the table of outcomes
+/// and of the text that is written. Neither the run nor the printing takes memory afterwards. A line has room
+/// for what a control line keeps.
 pub fn take_memory<const B: usize, const M: usize, const E: usize, A: CellArray<B, M>>(
     alloc: Global,
     job: &RunJob,
@@ -25,7 +25,8 @@ pub fn take_memory<const B: usize, const M: usize, const E: usize, A: CellArray<
     requires layout { IsLayout B M E }
     requires wide { 16 ≤ B }
     requires job { IsRun job.now }
-    ensures ready { IfOk result (λ taken. IsReady job.now.shape job.now.seed rows taken.0 (A.state array.new) taken.1) }
+    ensures ready { IfOk result (λ taken.
+        IsReady job.now.shape job.now.seed rows taken.0 (A.state array.new) taken.1) }
     ensures wear { IfOk result (λ taken. (A.state array.new).wear ≡ Some job.now.wear) }
     ensures text { IfOk result (λ taken. taken.2 ≡ reserved TEXT_ROOM) }
 {

@@ -27,8 +27,8 @@ use result_rows::Results;
 use run_text::{TEXT_ROOM, print_counts, print_results, sum_pulses};
 use trace_reader::{Event, MOST_ROWS};
 
-/// Writes what is asked for of a run that was made: its results, its summary, its wear report or its image. For an image each
-/// line of the array is sensed once more; otherwise nothing happens to the array.
+/// Writes what is asked for of a run that was made: its results, its summary, its wear report or its image.
+/// For an image each line of the array is sensed once more; otherwise nothing happens to the array.
 pub fn print_run<const B: usize, const M: usize, const E: usize, A: CellArray<B, M>, K: Sink>(
     print: Print,
     pcm: &Module<B, M, E>,
@@ -46,14 +46,19 @@ pub fn print_run<const B: usize, const M: usize, const E: usize, A: CellArray<B,
     requires seed { seed ≡ pcm.now.seed }
     requires shape { IsShape pcm.now.shape }
     requires played { IsPlayed pcm.now events.now results.now (A.state array.old) }
-    requires size { (A.state array.old).lines ≡ pcm.now.shape.banks * array_lines_of (module_of pcm.now.shape) }
+    requires size { (A.state array.old).lines
+        ≡ pcm.now.shape.banks * array_lines_of (module_of pcm.now.shape) }
     ensures ok { OnOk result ((ends : ℕ → BankEnd) → AreEndsOf pcm.now ends
-        → RunsRight E pcm.now.shape pcm.now.seed (rows_of events.now results.now) (A.state array.new) ends → HaveRoles pcm.now.shape pcm.now.seed ends
-        → (whole : List ℕ) × IsRunText pcm.now.shape pcm.now.seed E events.now results.now ends (A.state array.new) print whole
+        → RunsRight E pcm.now.shape pcm.now.seed (rows_of events.now results.now) (A.state array.new) ends
+        → HaveRoles pcm.now.shape pcm.now.seed ends
+        → (whole : List ℕ)
+        × IsRunText pcm.now.shape pcm.now.seed E events.now results.now ends (A.state array.new) print whole
         × Appends (K.written out.old) (K.written out.new) whole) }
     ensures prefix { OnErr result ((ends : ℕ → BankEnd) → AreEndsOf pcm.now ends
-        → RunsRight E pcm.now.shape pcm.now.seed (rows_of events.now results.now) (A.state array.new) ends → HaveRoles pcm.now.shape pcm.now.seed ends
-        → (whole : List ℕ) × IsRunText pcm.now.shape pcm.now.seed E events.now results.now ends (A.state array.new) print whole
+        → RunsRight E pcm.now.shape pcm.now.seed (rows_of events.now results.now) (A.state array.new) ends
+        → HaveRoles pcm.now.shape pcm.now.seed ends
+        → (whole : List ℕ)
+        × IsRunText pcm.now.shape pcm.now.seed E events.now results.now ends (A.state array.new) print whole
         × AppendsPrefix (K.written out.old) (K.written out.new) whole) }
     ensures sensed { SensedSince (A.state array.old) (A.state array.new) }
     ensures rows { OnOk result (print ≡ Print.Image → AreRows (A.state array.new)) }

@@ -1,20 +1,14 @@
 // The program's one call.
-ghost use Rattle.std.specs.Prelude.{◌≡◌, ◌≢◌, ◌⊎◌, ◌+◌, ◌<◌, ◌≤◌, ◌^◌, ◌-◌, ℕ, List, true, false, map, string_bytes, Some, Ok, Err, IfOk, IfErr, OnOk};
-ghost use Rattle.std.specs.Io.KnownBytes.{Appends};
-ghost use Rattle.pcm_io.specs.Faults.{Rose};
-ghost use Rattle.pcm_io.specs.Giving.{AppendsPrefix};
+ghost use Rattle.std.specs.Prelude.{◌≡◌, ◌⊎◌, map, string_bytes, Ok, Err, IfOk, IfErr, OnOk};
 ghost use Rattle.command_line.specs.Jobs.{IsJob, IsRun, job_of};
-ghost use Rattle.command_line.specs.declared.job.LineSize.TheVariants.{Bytes64, Bytes128};
-ghost use Rattle.pcm_top.specs.Jobs.{bytes_in};
-ghost use Rattle.pcm_top.specs.FaultLines.{fault_line, status_of};
-ghost use Rattle.pcm_top.specs.Reading.{source_change, trace_room};
-ghost use Rattle.pcm_top.specs.Inputs.{IsFaultOf, is_source};
-ghost use Rattle.pcm_top.specs.Running.{Does, DoesPart, WritesRun, WritesRunInPart, HasCause, Tells, TellsPart, IsTried, IsRefused, is_size, reads_source, runs_on, status_done, room_of};
-ghost use Rattle.pcm_top.specs.Statuses.{IsStatusFor};
+ghost use Rattle.pcm_top.specs.Calls.{lent_array, lent_sink, lent_source, sink_change};
+ghost use Rattle.pcm_top.specs.Ends.{EndsJob, IsToldOf};
+ghost use Rattle.pcm_top.specs.Promises.{KeepsPromises};
+ghost use Rattle.pcm_top.specs.Running.{IsRefused};
 
 use crate::check::report_check;
 use crate::drawn::write_drawn;
-use crate::fault::{Fault, status, tell};
+use crate::fault::{Fault, tell};
 use crate::report::{report_map, report_moves};
 use crate::run::{Done, run};
 use crate::show::show;
@@ -25,16 +19,11 @@ use std::alloc::Global;
 
 // The status of a fault, after its line was written; that of a fault of writing where the line couldn't be.
 fn give_up<F: Sink>(fault: Fault, err: &mut F) -> u8
-    ensures told { result ≢ 5 → (result ≡ status_of fault) × Appends (F.written err.old) (F.written err.new) (fault_line fault) }
-    ensures part { AppendsPrefix (F.written err.old) (F.written err.new) (fault_line fault) }
-    ensures tried { IsTried (F.written err.old) (F.written err.new) (F.faults err.old) (F.faults err.new) (fault_line fault) }
-    ensures broken { result ≡ 5 → fault ≢ Fault.Write → Rose (F.faults err.old) (F.faults err.new) }
-    ensures statuses { (2 ≤ result) × (result ≤ 7) }
-    ensures write { fault ≡ Fault.Write → result ≡ 5 }
+    ensures { IsToldOf fault (sink_change F.written F.faults err.old err.new) result }
 {
     match tell(fault, err) {
-        Ok(()) => status(fault),
-        Err(_) => 5,
+        Ok(()) => fault.status(),
+        Err(_) => Fault::Write.status(),
     }
 }
 
@@ -61,19 +50,13 @@ fn run_on<A: CellArray<64, 8>, V: CellArray<128, 16>, S: Source, K: Sink>(
     out: &mut K,
 ) -> Result<Done, Fault>
     requires { IsRun job.now }
-    ensures done { IfOk result (λ done. WritesRun (source_change S.left S.taken S.faults source.old source.new) (A.state array.new) (V.state wide.new) (K.written out.old) (K.written out.new) job.now done job.now.line) }
-    ensures write { result ≡ Err Fault.Write → WritesRunInPart (source_change S.left S.taken S.faults source.old source.new) (A.state array.new) (V.state wide.new) (K.written out.old) (K.written out.new) job.now job.now.line
-        × Rose (K.faults out.old) (K.faults out.new) }
-    ensures cause { IfErr result (λ fault. fault ≢ Fault.Write → IsFaultOf (bytes_in job.now.line) job.now job.now.input fault (source_change S.left S.taken S.faults source.old source.new)) }
-    ensures out { IfErr result (λ fault. fault ≢ Fault.Write → out.new ≡ out.old) }
-    ensures arrays { IfErr result (λ fault. fault ≢ Fault.Write → fault ≢ Fault.NoMemory → (array.new ≡ array.old) × (wide.new ≡ wide.old)) }
-    ensures array { is_size Bytes64 job.now.line ≡ false → array.new ≡ array.old }
-    ensures wide { is_size Bytes128 job.now.line ≡ false → wide.new ≡ wide.old }
-    ensures drawn { is_source job.now.input ≡ false → source.new ≡ source.old }
-    ensures too_long { S.taken source.old + trace_room (bytes_in job.now.line) < 2 ^ 64 - 1
-        → S.taken source.old + trace_room (bytes_in job.now.line) < S.taken source.new → result ≡ Err Fault.TooLong }
-    ensures out_faults { K.faults out.old ≤ K.faults out.new }
-    ensures source_faults { S.faults source.old ≤ S.faults source.new }
+    ensures { EndsJob (record {
+      asked = Ok (Job.Run job.now);
+      array = lent_array A.state array.old array.new;
+      wide = lent_array V.state wide.old wide.new;
+      source = lent_source S.left S.taken S.faults source.old source.new;
+      out = lent_sink K.written K.faults out.old out.new;
+    }) result }
 {
     match job.line {
         LineSize::Bytes64 => run::<64, 8, 6, A, S, K>(alloc, job, array, source, out),
@@ -102,18 +85,13 @@ fn carry_out<A: CellArray<64, 8>, V: CellArray<128, 16>, S: Source, K: Sink>(
     out: &mut K,
 ) -> Result<Done, Fault>
     requires { IsJob job }
-    ensures done { IfOk result (Does (source_change S.left S.taken S.faults source.old source.new) (A.state array.new) (V.state wide.new) (K.written out.old) (K.written out.new) (Ok job)) }
-    ensures write { result ≡ Err Fault.Write → DoesPart (source_change S.left S.taken S.faults source.old source.new) (A.state array.new) (V.state wide.new) (K.written out.old) (K.written out.new) (Ok job)
-        × Rose (K.faults out.old) (K.faults out.new) }
-    ensures cause { IfErr result (λ fault. fault ≢ Fault.Write → HasCause fault (Ok job) (source_change S.left S.taken S.faults source.old source.new)) }
-    ensures out { IfErr result (λ fault. fault ≢ Fault.Write → out.new ≡ out.old) }
-    ensures arrays { IfErr result (λ fault. fault ≢ Fault.Write → fault ≢ Fault.NoMemory → (array.new ≡ array.old) × (wide.new ≡ wide.old)) }
-    ensures array { runs_on Bytes64 (Ok job) ≡ false → array.new ≡ array.old }
-    ensures wide { runs_on Bytes128 (Ok job) ≡ false → wide.new ≡ wide.old }
-    ensures unread { reads_source (Ok job) ≡ false → source.new ≡ source.old }
-    ensures too_long { S.taken source.old + room_of (Ok job) < 2 ^ 64 - 1 → S.taken source.old + room_of (Ok job) < S.taken source.new → result ≡ Err Fault.TooLong }
-    ensures out_faults { K.faults out.old ≤ K.faults out.new }
-    ensures source_faults { S.faults source.old ≤ S.faults source.new }
+    ensures { EndsJob (record {
+      asked = Ok job;
+      array = lent_array A.state array.old array.new;
+      wide = lent_array V.state wide.old wide.new;
+      source = lent_source S.left S.taken S.faults source.old source.new;
+      out = lent_sink K.written K.faults out.old out.new;
+    }) result }
 {
     match job {
         Job::Run(job) => run_on(alloc, &job, array, wide, source, out),
@@ -134,27 +112,25 @@ fn work<A: CellArray<64, 8>, V: CellArray<128, 16>, S: Source, K: Sink>(
     source: &mut S,
     out: &mut K,
 ) -> Result<Done, Fault>
-    ensures done { IfOk result (Does (source_change S.left S.taken S.faults source.old source.new) (A.state array.new) (V.state wide.new) (K.written out.old) (K.written out.new) (job_of (map string_bytes words.now))) }
-    ensures write { result ≡ Err Fault.Write → DoesPart (source_change S.left S.taken S.faults source.old source.new) (A.state array.new) (V.state wide.new) (K.written out.old) (K.written out.new) (job_of (map string_bytes words.now))
-        × Rose (K.faults out.old) (K.faults out.new) }
-    ensures cause { IfErr result (λ fault. fault ≢ Fault.Write → HasCause fault (job_of (map string_bytes words.now)) (source_change S.left S.taken S.faults source.old source.new)) }
-    ensures out { IfErr result (λ fault. fault ≢ Fault.Write → out.new ≡ out.old) }
-    ensures arrays { IfErr result (λ fault. fault ≢ Fault.Write → fault ≢ Fault.NoMemory → (array.new ≡ array.old) × (wide.new ≡ wide.old)) }
-    ensures array { runs_on Bytes64 (job_of (map string_bytes words.now)) ≡ false → array.new ≡ array.old }
-    ensures wide { runs_on Bytes128 (job_of (map string_bytes words.now)) ≡ false → wide.new ≡ wide.old }
-    ensures unread { reads_source (job_of (map string_bytes words.now)) ≡ false → source.new ≡ source.old }
-    ensures usage { job_of (map string_bytes words.now) ≡ Err Refusal.Usage → ((result ≡ Err Fault.Usage) ⊎ (result ≡ Err Fault.NoMemory)) × (out.new ≡ out.old) }
-    ensures too_long { S.taken source.old + room_of (job_of (map string_bytes words.now)) < 2 ^ 64 - 1 → S.taken source.old + room_of (job_of (map string_bytes words.now)) < S.taken source.new → result ≡ Err Fault.TooLong }
+    ensures ends { EndsJob (record {
+      asked = job_of (map string_bytes words.now);
+      array = lent_array A.state array.old array.new;
+      wide = lent_array V.state wide.old wide.new;
+      source = lent_source S.left S.taken S.faults source.old source.new;
+      out = lent_sink K.written K.faults out.old out.new;
+    }) result }
+    ensures usage { job_of (map string_bytes words.now) ≡ Err Refusal.Usage
+        → ((result ≡ Err Fault.Usage) ⊎ (result ≡ Err Fault.NoMemory)) × (out.new ≡ out.old) }
 {
     let job = read_words(alloc, words)?;
     carry_out(alloc, job, array, wide, source, out)
 }
 
-/// Runs the program on the words behind its name, and answers its status: 0 the work is done, 1 a run is done in which some
-/// row was refused, lost or left in a queue, or results were checked of which a row breaks a rule, 2 the words ask for no job,
-/// 3 the trace, its results or the image have a fault, 4 reading failed, 5 writing failed, 6 there are too many bytes or rows, 7 memory
-/// ran out. A run is made on the array of its lines, which is powered up first:
-/// `array` for lines of 64 bytes, `wide` for lines of 128.
+/// Runs the program on the words behind its name, and answers its status: 0 the work is done, 1 a run is done
+/// in which some row was refused, lost or left in a queue, or results were checked of which a row breaks a
+/// rule, 2 the words ask for no job, 3 the trace, its results or the image have a fault, 4 reading failed, 5
+/// writing failed, 6 there are too many bytes or rows, 7 memory ran out. A run is made on the array of its
+/// lines, which is powered up first: `array` for lines of 64 bytes, `wide` for lines of 128.
 pub fn pcm_run<A: CellArray<64, 8>, V: CellArray<128, 16>, S: Source, K: Sink, F: Sink>(
     alloc: Global,
     words: &[String],
@@ -164,57 +140,17 @@ pub fn pcm_run<A: CellArray<64, 8>, V: CellArray<128, 16>, S: Source, K: Sink, F
     out: &mut K,
     err: &mut F,
 ) -> u8
-    // The work was done: a run was made that left what is right, and exactly its text was written; or exactly a report, or the
-    // verdict on results, was written. The status of a run is 1 exactly where some row falls short, and that of a check where the
-    // verdict isn't ok.
-    ensures done { result ≤ 1 → (done : Done) × Does (source_change S.left S.taken S.faults source.old source.new)
-        (A.state array.new) (V.state wide.new) (K.written out.old) (K.written out.new) (job_of (map string_bytes words.now)) done × (result ≡ status_done done) }
-    ensures silent { result ≤ 1 → err.new ≡ err.old }
-
-    // It was not: the status is that of a fault which has its cause, and its line was written.
-    ensures told { 2 ≤ result → result ≢ 5 → Tells (job_of (map string_bytes words.now))
-        (source_change S.left S.taken S.faults source.old source.new) (F.written err.old) (F.written err.new) result }
-    ensures unwritten { 2 ≤ result → result ≢ 5 → out.new ≡ out.old }
-    ensures untouched { 2 ≤ result → result ≢ 5 → result ≢ 7 → (array.new ≡ array.old) × (wide.new ≡ wide.old) }
-
-    // Writing failed: the text of a run or a report, whose fault is told as far as its line can be written; or the line of a fault
-    // that has its cause.
-    ensures broken { result ≡ 5 →
-        (DoesPart (source_change S.left S.taken S.faults source.old source.new)
-        (A.state array.new) (V.state wide.new) (K.written out.old) (K.written out.new) (job_of (map string_bytes words.now))
-        × Rose (K.faults out.old) (K.faults out.new)
-        × IsTried (F.written err.old) (F.written err.new) (F.faults err.old) (F.faults err.new) (fault_line Fault.Write))
-        ⊎ ((t : TellsPart (job_of (map string_bytes words.now))
-        (source_change S.left S.taken S.faults source.old source.new) (F.written err.old) (F.written err.new))
-        × Rose (F.faults err.old) (F.faults err.new)
-        × (out.new ≡ out.old)
-        × (t.fault ≢ Fault.NoMemory → (array.new ≡ array.old) × (wide.new ≡ wide.old))) }
-
-    // Only a run of a trace that is read, `show` and a check touch the source, and only a run over lines of its size touches an array.
-    ensures unread { reads_source (job_of (map string_bytes words.now)) ≡ false → source.new ≡ source.old }
-    ensures narrow { runs_on Bytes64 (job_of (map string_bytes words.now)) ≡ false → array.new ≡ array.old }
-    ensures wide { runs_on Bytes128 (job_of (map string_bytes words.now)) ≡ false → wide.new ≡ wide.old }
-
-    // Words that ask for no job touch nothing else; memory may run out while they are read.
-    ensures usage { job_of (map string_bytes words.now) ≡ Err Refusal.Usage →
-        ((result ≡ 2) ⊎ (result ≡ 7) ⊎ ((result ≡ 5) × Rose (F.faults err.old) (F.faults err.new)))
-        × (out.new ≡ out.old) }
-
-    // More bytes than a trace may have are always answered so; the count of taken bytes is not near its end.
-    ensures too_long { S.taken source.old + room_of (job_of (map string_bytes words.now)) < 2 ^ 64 - 1 → S.taken source.old + room_of (job_of (map string_bytes words.now)) < S.taken source.new
-        → (result ≡ 6) ⊎ ((result ≡ 5) × Rose (F.faults err.old) (F.faults err.new)) }
-
-    // Where nothing fails, words and bytes decide the status, but for the rows of a run that is made, or memory runs out. The
-    // bytes are those that the source tells, if it is read.
-    ensures exact { (bytes : List ℕ) → (reads_source (job_of (map string_bytes words.now)) ≡ true → S.left source.old ≡ Some bytes)
-        → ¬ Rose (S.faults source.old) (S.faults source.new)
-        → ¬ Rose (K.faults out.old) (K.faults out.new)
-        → ¬ Rose (F.faults err.old) (F.faults err.new)
-        → IsStatusFor (job_of (map string_bytes words.now)) bytes result ⊎ (result ≡ 7) }
+    // What was asked for, what was lent, and what became of it: each promise is a field of `KeepsPromises`.
+    ensures { KeepsPromises (record {
+      asked = job_of (map string_bytes words.now);
+      array = lent_array A.state array.old array.new;
+      wide = lent_array V.state wide.old wide.new;
+      source = lent_source S.left S.taken S.faults source.old source.new;
+      out = lent_sink K.written K.faults out.old out.new;
+    }) (lent_sink F.written F.faults err.old err.new) result }
 {
     match work(alloc, words, array, wide, source, out) {
-        Ok(Done::Whole) => 0,
-        Ok(Done::Short) => 1,
+        Ok(done) => done.status(),
         Err(fault) => give_up(fault, err),
     }
 }

@@ -23,7 +23,8 @@ pub fn replay<const B: usize, const M: usize, const E: usize, A: CellArray<B, M>
     results: &mut Results<B>,
 )
     requires layout { IsLayout B M E }
-    requires ready { IsReady pcm.old.shape pcm.old.seed (length events.now) pcm.old (A.state array.old) results.old }
+    requires ready { IsReady pcm.old.shape pcm.old.seed (length events.now)
+        pcm.old (A.state array.old) results.old }
     requires events { AreEventsFor (total_of pcm.old.shape) 0 events.now }
     requires rows { length events.now ≤ MOST_ROWS }
     ensures shape { pcm.new.shape ≡ pcm.old.shape }

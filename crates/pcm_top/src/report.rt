@@ -1,5 +1,5 @@
 // The reports on rotation: `map` and `moves`.
-ghost use Rattle.std.specs.Prelude.{◌≡◌, ◌≢◌, ◌≤◌, Err, IfErr, OnOk, OnErr};
+ghost use Rattle.std.specs.Prelude.{◌≡◌, ◌≤◌, OnOk, OnErr};
 ghost use Rattle.std.specs.Io.KnownBytes.{Appends};
 ghost use Rattle.pcm_io.specs.Faults.{Rose};
 ghost use Rattle.pcm_io.specs.Giving.{AppendsPrefix};
@@ -8,6 +8,8 @@ ghost use Rattle.rotation_reports.specs.MapText.{IsMapOptions, map_text};
 ghost use Rattle.rotation_reports.specs.MovesText.{moves_text};
 ghost use Rattle.command_line.specs.Jobs.{IsMoves};
 ghost use Rattle.pcm_top.specs.Jobs.{map_options};
+ghost use Rattle.pcm_top.specs.Calls.{lent_sink};
+ghost use Rattle.pcm_top.specs.Ends.{EndsText};
 
 use crate::fault::Fault;
 use command_line::{MapJob, MovesJob};
@@ -63,7 +65,8 @@ fn print_moves<K: Sink>(
     requires lines { (4 ≤ lines) × (lines ≤ 256) }
     requires first { first ≤ 16781312 }
     ensures ok { OnOk result (Appends (K.written out.old) (K.written out.new) (moves_text lines first)) }
-    ensures prefix { OnErr result (AppendsPrefix (K.written out.old) (K.written out.new) (moves_text lines first)) }
+    ensures prefix { OnErr result
+        (AppendsPrefix (K.written out.old) (K.written out.new) (moves_text lines first)) }
     ensures fault { OnErr result (Rose (K.faults out.old) (K.faults out.new)) }
     ensures never_falls { K.faults out.old ≤ K.faults out.new }
 {
@@ -78,13 +81,7 @@ fn print_moves<K: Sink>(
 
 /// Writes the report `map`.
 pub fn report_map<K: Sink>(alloc: Global, job: MapJob, out: &mut K) -> Result<(), Fault>
-    ensures done { OnOk result (Appends (K.written out.old) (K.written out.new) (map_text (map_options job))) }
-
-    // Only a fault of writing comes after the first byte was written.
-    ensures write { result ≡ Err Fault.Write → AppendsPrefix (K.written out.old) (K.written out.new) (map_text (map_options job))
-        × Rose (K.faults out.old) (K.faults out.new) }
-    ensures memory { IfErr result (λ fault. fault ≢ Fault.Write → (fault ≡ Fault.NoMemory) × (out.new ≡ out.old)) }
-    ensures never_falls { K.faults out.old ≤ K.faults out.new }
+    ensures { EndsText (map_text (map_options job)) (lent_sink K.written K.faults out.old out.new) result }
 {
     let mut text = match Text::new(alloc, TEXT_ROOM) {
         Ok(text) => text,
@@ -99,13 +96,7 @@ pub fn report_map<K: Sink>(alloc: Global, job: MapJob, out: &mut K) -> Result<()
 /// Writes the report `moves`.
 pub fn report_moves<K: Sink>(alloc: Global, job: MovesJob, out: &mut K) -> Result<(), Fault>
     requires { IsMoves job }
-    ensures done { OnOk result (Appends (K.written out.old) (K.written out.new) (moves_text job.lines job.from)) }
-
-    // Only a fault of writing comes after the first byte was written.
-    ensures write { result ≡ Err Fault.Write → AppendsPrefix (K.written out.old) (K.written out.new) (moves_text job.lines job.from)
-        × Rose (K.faults out.old) (K.faults out.new) }
-    ensures memory { IfErr result (λ fault. fault ≢ Fault.Write → (fault ≡ Fault.NoMemory) × (out.new ≡ out.old)) }
-    ensures never_falls { K.faults out.old ≤ K.faults out.new }
+    ensures { EndsText (moves_text job.lines job.from) (lent_sink K.written K.faults out.old out.new) result }
 {
     let mut text = match Text::new(alloc, TEXT_ROOM) {
         Ok(text) => text,

@@ -1,11 +1,10 @@
 // The command `run`.
-ghost use Rattle.std.specs.Prelude.{◌≡◌, ◌≢◌, ◌+◌, ◌-◌, ◌^◌, ◌<◌, ◌≤◌, false, Err, IfOk, IfErr};
-ghost use Rattle.pcm_io.specs.Faults.{Rose};
+ghost use Rattle.std.specs.Prelude.{◌≡◌, ◌≤◌};
 ghost use Rattle.ecp_line.specs.Layout.{IsLayout};
 ghost use Rattle.command_line.specs.Jobs.{IsRun};
-ghost use Rattle.pcm_top.specs.Reading.{source_change, trace_room};
-ghost use Rattle.pcm_top.specs.Inputs.{IsFaultOf, is_source};
-ghost use Rattle.pcm_top.specs.Running.{RunIsWritten, RunIsWrittenInPart, done_by};
+ghost use Rattle.pcm_top.specs.Calls.{lent_array, lent_sink, lent_source};
+ghost use Rattle.pcm_top.specs.Ends.{EndsRun};
+ghost use Rattle.pcm_top.specs.Running.{done_by, status_done};
 
 use crate::fault::Fault;
 use crate::input::events_of;
@@ -24,10 +23,24 @@ use std::alloc::Global;
 /// How a job was done.
 #[derive(Clone, Copy, Debug, PartialEq, Eq)]
 pub enum Done {
-    /// Wholly: no row of a run fell short of what it asked for, and each row of results that were checked keeps each rule.
+    /// Wholly: no row of a run fell short of what it asked for, and each row of results that were checked
+    /// keeps each rule.
     Whole,
-    /// A run was made in which some row was refused, lost or left in a queue, or a row of results breaks a rule.
+    /// A run was made in which some row was refused, lost or left in a queue, or a row of results breaks a
+    /// rule.
     Short,
+}
+
+impl Done {
+    /// The status of the program for it.
+    pub fn status(self) -> u8
+        ensures { result ≡ status_done self }
+    {
+        match self {
+            Done::Whole => 0,
+            Done::Short => 1,
+        }
+    }
 }
 
 // How a run was done, by its rows.
@@ -42,8 +55,8 @@ fn ending<const B: usize>(results: &Results<B>) -> Done
     }
 }
 
-/// Replays the events of a job on the array, and writes what the job asks to see of it. A line has room for what a control
-/// line keeps.
+/// Replays the events of a job on the array, and writes what the job asks to see of it. A line has room for
+/// what a control line keeps.
 pub fn run<const B: usize, const M: usize, const E: usize, A: CellArray<B, M>, S: Source, K: Sink>(
     alloc: Global,
     job: &RunJob,
@@ -54,20 +67,9 @@ pub fn run<const B: usize, const M: usize, const E: usize, A: CellArray<B, M>, S
     requires layout { IsLayout B M E }
     requires wide { 16 ≤ B }
     requires job { IsRun job.now }
-    ensures done { IfOk result (RunIsWritten B M E job.now (source_change S.left S.taken S.faults source.old source.new) (A.state array.new)
-        (K.written out.old) (K.written out.new)) }
-
-    // Only a fault of writing comes after the first byte was written.
-    ensures write { result ≡ Err Fault.Write →
-        RunIsWrittenInPart B M E job.now (source_change S.left S.taken S.faults source.old source.new) (A.state array.new) (K.written out.old) (K.written out.new)
-        × Rose (K.faults out.old) (K.faults out.new) }
-    ensures cause { IfErr result (λ fault. fault ≢ Fault.Write → IsFaultOf B job.now job.now.input fault (source_change S.left S.taken S.faults source.old source.new)) }
-    ensures out { IfErr result (λ fault. fault ≢ Fault.Write → out.new ≡ out.old) }
-    ensures array { IfErr result (λ fault. fault ≢ Fault.Write → fault ≢ Fault.NoMemory → array.new ≡ array.old) }
-    ensures drawn { is_source job.now.input ≡ false → source.new ≡ source.old }
-    ensures too_long { S.taken source.old + trace_room B < 2 ^ 64 - 1 → S.taken source.old + trace_room B < S.taken source.new → result ≡ Err Fault.TooLong }
-    ensures out_faults { K.faults out.old ≤ K.faults out.new }
-    ensures source_faults { S.faults source.old ≤ S.faults source.new }
+    ensures { EndsRun B M E job.now (lent_array A.state array.old array.new)
+        (lent_source S.left S.taken S.faults source.old source.new)
+        (lent_sink K.written K.faults out.old out.new) result }
 {
     let events = events_of::<B, S>(alloc, job, source)?;
     let taken = take_memory::<B, M, E, A>(alloc, job, array, events.len() as u32);

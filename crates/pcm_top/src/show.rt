@@ -1,5 +1,5 @@
 // The command `show`.
-ghost use Rattle.std.specs.Prelude.{◌≡◌, ◌≢◌, ◌+◌, ◌-◌, ◌*◌, ◌^◌, ◌<◌, ◌≤◌, ◌∷◌, [], ℕ, List, length, decimal, Ok, Err, IfOk, IfErr, OnOk, OnErr};
+ghost use Rattle.std.specs.Prelude.{◌≡◌, ◌≢◌, ◌+◌, ◌*◌, ◌<◌, ◌≤◌, ◌∷◌, [], ℕ, decimal, Ok, IfOk, IfErr, OnOk, OnErr};
 ghost use Rattle.std.specs.Io.KnownBytes.{Appends};
 ghost use Rattle.hex.specs.Hex.{encode_lower};
 ghost use Rattle.pcm_io.specs.Faults.{Rose};
@@ -10,7 +10,9 @@ ghost use Rattle.rotation_reports.specs.Rows.{row_of};
 ghost use Rattle.pcm_image.specs.Saved.{IsSaved, IsSize};
 ghost use Rattle.pcm_image.specs.Reading.{image_of};
 ghost use Rattle.pcm_top.specs.Reading.{ReadsWhole, source_change, trace_room};
-ghost use Rattle.pcm_top.specs.Showing.{IsImageFault, IsShowFault, ShowsImage, ShowsImageInPart, shown_as, shown_of, shown_text};
+ghost use Rattle.pcm_top.specs.Calls.{lent_sink};
+ghost use Rattle.pcm_top.specs.Ends.{EndsShow, EndsShown, Gives, Reads};
+ghost use Rattle.pcm_top.specs.Showing.{IsImageFault, IsShowFault, shown_as, shown_of, shown_text};
 
 use crate::fault::Fault;
 use crate::input::TRACE_ROOM;
@@ -44,7 +46,8 @@ fn print_lines<const B: usize, const M: usize, const E: usize, K: Sink>(
     requires size { B ≤ 128 }
     requires saved { IsSaved image.now }
     ensures ok { OnOk result (Appends (K.written out.old) (K.written out.new) (shown_text E image.now)) }
-    ensures prefix { OnErr result (AppendsPrefix (K.written out.old) (K.written out.new) (shown_text E image.now)) }
+    ensures prefix { OnErr result
+        (AppendsPrefix (K.written out.old) (K.written out.new) (shown_text E image.now)) }
     ensures fault { OnErr result (Rose (K.faults out.old) (K.faults out.new)) }
     ensures never_falls { K.faults out.old ≤ K.faults out.new }
 {
@@ -83,13 +86,7 @@ fn show_lines<const B: usize, const M: usize, const E: usize, K: Sink>(
 ) -> Result<(), Fault>
     requires layout { IsLayout B M E }
     requires size { IsSize B M }
-    ensures done { OnOk result ((shown : List ℕ) × (shown_as B M E bytes.now ≡ Ok shown)
-        × Appends (K.written out.old) (K.written out.new) shown) }
-    ensures write { result ≡ Err Fault.Write → ((shown : List ℕ) × (shown_as B M E bytes.now ≡ Ok shown)
-        × AppendsPrefix (K.written out.old) (K.written out.new) shown) × Rose (K.faults out.old) (K.faults out.new) }
-    ensures cause { IfErr result (λ fault. fault ≢ Fault.Write → IsImageFault fault (shown_as B M E bytes.now)) }
-    ensures out { IfErr result (λ fault. fault ≢ Fault.Write → out.new ≡ out.old) }
-    ensures never_falls { K.faults out.old ≤ K.faults out.new }
+    ensures { EndsShown (shown_as B M E bytes.now) (lent_sink K.written K.faults out.old out.new) result }
 {
     let image = read_saved::<B, M>(alloc, bytes)?;
     let mut text = match Text::new(alloc, TEXT_ROOM) {
@@ -105,12 +102,7 @@ fn show_lines<const B: usize, const M: usize, const E: usize, K: Sink>(
 // Shows the module that the bytes spell, whatever the size of its lines.
 #[tactic(auto, unfolding(crate::specs::Showing::shown_of))]
 fn show_bytes<K: Sink>(alloc: Global, bytes: &[u8], out: &mut K) -> Result<(), Fault>
-    ensures done { OnOk result ((shown : List ℕ) × (shown_of bytes.now ≡ Ok shown) × Appends (K.written out.old) (K.written out.new) shown) }
-    ensures write { result ≡ Err Fault.Write → ((shown : List ℕ) × (shown_of bytes.now ≡ Ok shown)
-        × AppendsPrefix (K.written out.old) (K.written out.new) shown) × Rose (K.faults out.old) (K.faults out.new) }
-    ensures cause { IfErr result (λ fault. fault ≢ Fault.Write → IsImageFault fault (shown_of bytes.now)) }
-    ensures out { IfErr result (λ fault. fault ≢ Fault.Write → out.new ≡ out.old) }
-    ensures never_falls { K.faults out.old ≤ K.faults out.new }
+    ensures { EndsShown (shown_of bytes.now) (lent_sink K.written K.faults out.old out.new) result }
 {
     match size_of_line(bytes) {
         Ok(64) => show_lines::<64, 8, 6, K>(alloc, bytes, out),
@@ -121,11 +113,10 @@ fn show_bytes<K: Sink>(alloc: Global, bytes: &[u8], out: &mut K) -> Result<(), F
 
 // The bytes of the source, read to its end.
 fn read_whole<S: Source>(alloc: Global, source: &mut S) -> Result<Vec<u8>, Fault>
-    ensures whole { IfOk result (λ bytes. ReadsWhole 64 (source_change S.left S.taken S.faults source.old source.new) bytes.items) }
-    ensures unfailing { OnOk result (S.faults source.new ≡ S.faults source.old) }
-    ensures cause { IfErr result (λ fault. IsShowFault fault (source_change S.left S.taken S.faults source.old source.new)) }
-    ensures too_long { S.taken source.old + trace_room 64 < 2 ^ 64 - 1 → S.taken source.old + trace_room 64 < S.taken source.new → result ≡ Err Fault.TooLong }
-    ensures never_falls { S.faults source.old ≤ S.faults source.new }
+    ensures gives { let s = source_change S.left S.taken S.faults source.old source.new in
+        Gives (λ bytes. ReadsWhole 64 s bytes.items) (λ fault. IsShowFault fault s) s result }
+    ensures reads { let s = source_change S.left S.taken S.faults source.old source.new in
+        Reads (trace_room 64) s result }
 {
     match read_all(alloc, source, 64 * TRACE_ROOM) {
         Ok(bytes) => Ok(bytes),
@@ -137,17 +128,8 @@ fn read_whole<S: Source>(alloc: Global, source: &mut S) -> Result<Vec<u8>, Fault
 
 /// Reads an image from the source, and writes the newest bytes of every line of the module that it saves.
 pub fn show<S: Source, K: Sink>(alloc: Global, source: &mut S, out: &mut K) -> Result<(), Fault>
-    ensures done { OnOk result (ShowsImage (source_change S.left S.taken S.faults source.old source.new) (K.written out.old) (K.written out.new)) }
-
-    // Only a fault of writing comes after the first byte was written.
-    ensures write { result ≡ Err Fault.Write →
-        ShowsImageInPart (source_change S.left S.taken S.faults source.old source.new) (K.written out.old) (K.written out.new)
-        × Rose (K.faults out.old) (K.faults out.new) }
-    ensures cause { IfErr result (λ fault. fault ≢ Fault.Write → IsShowFault fault (source_change S.left S.taken S.faults source.old source.new)) }
-    ensures out { IfErr result (λ fault. fault ≢ Fault.Write → out.new ≡ out.old) }
-    ensures too_long { S.taken source.old + trace_room 64 < 2 ^ 64 - 1 → S.taken source.old + trace_room 64 < S.taken source.new → result ≡ Err Fault.TooLong }
-    ensures out_faults { K.faults out.old ≤ K.faults out.new }
-    ensures source_faults { S.faults source.old ≤ S.faults source.new }
+    ensures { EndsShow (source_change S.left S.taken S.faults source.old source.new)
+        (lent_sink K.written K.faults out.old out.new) result }
 {
     let bytes = read_whole(alloc, source)?;
     show_bytes(alloc, bytes.as_slice(), out)

@@ -1,43 +1,59 @@
-use Rattle.std.proofs.Common.{◌≢◌, inl, inr, ap, Err}
+use Rattle.std.proofs.Common.{◌≢◌, ◌≤◌, inl, inr, refl, ap, arith, rules, Err}
 use Rattle.pcm_top.specs.declared.fault.Fault.TheVariants.{Write}
-use Rattle.pcm_top.proofs.Deciding.{done-decided, is_write, told-decided}
+use Rattle.pcm_top.proofs.Deciding.{done-decided, done-low, is_write, told-decided}
 use Rattle.pcm_top.proofs.program.pcm_run.Goals as goal
 
-pub returns-in-Ok-Whole-clause-exact : goal.returns-in-Ok-Whole-clause-exact
-returns-in-Ok-Whole-clause-exact g c =
-    λ bytes told calm writes tells. done-decided _ _ _ _ _ _ bytes c.in-Ok-Whole.field-0 0 (cc) told c.in-Ok-Whole.ensures.done
+pub returns-in-Ok : goal.returns-in-Ok
+returns-in-Ok g c =
+    let low : c.status.result ≤ 1 = omega (arith, c.status.ensures, done-low c.in-Ok.done) in
+    record {
+      done = λ _. (c.in-Ok.done, c.in-Ok.ensures.ends.ends.done, c.status.ensures);
+      silent = λ _. refl;
+      told = λ fault _. absurd (omega arith);
+      unwritten = λ fault _. absurd (omega arith);
+      untouched = λ fault _ _. absurd (omega arith);
+      broken = λ five. absurd (omega arith);
+      unread = search rules;
+      narrow = search rules;
+      wide = search rules;
+      usage = search rules;
+      too_long = search rules;
+      exact = λ bytes told calm writes tells. done-decided _ _ bytes c.in-Ok.done _ c.status.ensures told c.in-Ok.ensures.ends.ends.done;
+    }
 
-pub returns-in-Ok-Short-clause-exact : goal.returns-in-Ok-Short-clause-exact
-returns-in-Ok-Short-clause-exact g c =
-    λ bytes told calm writes tells. done-decided _ _ _ _ _ _ bytes c.in-Ok-Short.field-0 1 (cc) told c.in-Ok-Short.ensures.done
-
-pub returns-in-Err-clause-exact : goal.returns-in-Err-clause-exact
-returns-in-Err-clause-exact g c =
-    λ bytes told calm writes tells.
-    let whole : c.give_up.result ≢ 5 =
-    λ five. elim (is_write c.in-Err.fault) [
-      | inl write ↦ writes ((c.in-Err.ensures.write (ap Err write)).1)
-      | inr other ↦ tells (c.give_up.ensures.broken five other)
-    ] in
-    let other : c.in-Err.fault ≢ Write = λ write. whole (c.give_up.ensures.write write) in
-    told-decided _ _ _ _ bytes c.give_up.result told calm
-    (record {
-      fault = c.in-Err.fault;
-      cause = c.in-Err.ensures.cause other;
-      answered = (c.give_up.ensures.told whole).0;
-      line = (c.give_up.ensures.told whole).1;
-    })
-
-pub returns-in-Err-clause-broken : goal.returns-in-Err-clause-broken
-returns-in-Err-clause-broken g c =
-    λ five. elim (is_write c.in-Err.fault) [
-      | inl write ↦
-          let r = c.in-Err.ensures.write (ap Err write) in
-          inl (r.0, r.1, rw write at c.give_up.ensures.tried)
-      | inr other ↦ inr (
-        record { fault = c.in-Err.fault; cause = c.in-Err.ensures.cause other; part = c.give_up.ensures.part },
-        c.give_up.ensures.broken five other,
-        c.in-Err.ensures.out other,
-        c.in-Err.ensures.arrays other,
-      )
-    ]
+pub returns-in-Err : goal.returns-in-Err
+returns-in-Err g c =
+    let fault = c.in-Err.fault in
+    record {
+      done = λ low. absurd (omega (arith, c.give_up.ensures.statuses.0));
+      silent = λ low. absurd (omega (arith, c.give_up.ensures.statuses.0));
+      told = search rules;
+      unwritten = search rules;
+      untouched = search rules;
+      broken =
+          λ five. elim (is_write fault) [
+            | inl write ↦
+                let r = c.in-Err.ensures.ends.ends.write (ap Err write) in
+                inl (r.0, r.1, rw write at c.give_up.ensures.tried)
+            | inr other ↦ inr (
+              record { fault = fault; cause = c.in-Err.ensures.ends.ends.cause other; part = c.give_up.ensures.part },
+              c.give_up.ensures.broken five other,
+              c.in-Err.ensures.ends.ends.unwritten other,
+              c.in-Err.ensures.ends.untouched other,
+            )
+          ];
+      unread = search rules;
+      narrow = search rules;
+      wide = search rules;
+      usage = search rules;
+      too_long = search rules;
+      exact =
+          λ bytes told calm writes tells.
+          let whole : c.give_up.result ≢ 5 =
+          λ five. elim (is_write fault) [
+            | inl write ↦ writes ((c.in-Err.ensures.ends.ends.write (ap Err write)).1)
+            | inr other ↦ tells (c.give_up.ensures.broken five other)
+          ] in
+          let other : fault ≢ Write = λ write. whole (c.give_up.ensures.write write) in
+          told-decided _ _ bytes fault _ told calm (c.in-Err.ensures.ends.ends.cause other) (c.give_up.ensures.told whole).0;
+    }

@@ -1,17 +1,33 @@
-use Rattle.std.proofs.Common.{◌≡◌, ◌≤◌, length, sym, ap, ◌∙◌, subst, arith}
+use Rattle.std.proofs.Common.{◌≡◌, ◌≤◌, length, refl, sym, ap, ◌∙◌, subst, arith, rules}
 use Rattle.bank_timing.proofs.Sizes.{timed_fits}
 use Rattle.module_shape.specs.Limits.{IsShape}
-use Rattle.pcm_top.specs.Played.{IsPlayed}
 use Rattle.pcm_top.proofs.Making.{can-print, run-part, run-written}
 use Rattle.pcm_top.proofs.Saving.{right-now}
 use Rattle.trace_reader.proofs.Sizes.{event_fits}
-use Rattle.pcm_top.proofs.Deciding.{memory-after}
+use Rattle.pcm_top.proofs.Deciding.{come-within, memory-after}
 use Rattle.pcm_top.proofs.Making.{ready-itself}
 use Rattle.pcm_top.proofs.run.run.Goals as goal
 
-pub returns-in-Err-clause-cause : goal.returns-in-Err-clause-cause
-returns-in-Err-clause-cause g c = λ _.
-    memory-after g.row.B c.args.job.now c.args.job.now.input _ _ c.in_ok-events.ensures.come c.in_ok-events.ensures.unfailing
+pub returns-in-Err : goal.returns-in-Err
+returns-in-Err g c =
+    let come = c.in_ok-events.ensures.gives in
+    record {
+      ends =
+          record {
+            done = tt;
+            write = search rules;
+            cause = λ _. memory-after g.row.B c.args.job.now c.args.job.now.input _ _ come.done come.unfailing;
+            unwritten = search rules;
+            never_falls = search rules;
+          };
+      reads =
+          record {
+            too_long = λ low over. absurd (come-within g.row.B c.args.job.now c.args.job.now.input _ _ c.in_ok-events.ensures.gives.done low over);
+            never_falls = c.in_ok-events.ensures.gives.never_falls;
+          };
+      untouched = λ _ other. absurd (other refl);
+      unread = search rules;
+    }
 
 pub replay-requires : goal.replay-requires
 replay-requires g c =
@@ -72,8 +88,8 @@ print_run-written-requires g c =
       ),
     )
 
-pub returns-in-Ok-written-clause-done : goal.returns-in-Ok-written-clause-done
-returns-in-Ok-written-clause-done g c =
+pub returns-in-Ok-written : goal.returns-in-Ok-written
+returns-in-Ok-written g c =
     let job = c.args.job.now in
     let events = c.as_slice-2.result.now in
     let same : c.as_slice.result.now ≡ events = cc in
@@ -89,12 +105,27 @@ returns-in-Ok-written-clause-done g c =
     let can =
     can-print job before events c.replay.new.results c.replay.new.pcm shape seeded size left
     c.right_runs_can_be_printed.ensures c.requires.job.shape (rw (← c.as_slice-2.ensures.value) at c.in_ok-events.ensures.events) in
-    run-written job array events c.replay.new.results c.replay.new.pcm shape seeded size (left.0, left.1, stays) _ (rw (← c.as_slice-2.ensures.value) at c.in_ok-events.ensures.come)
-    (c.print_run-written.ensures.sensed.wear ∙ c.replay.ensures.wear ∙ c.in-Ok.ensures.wear) (g.K.Sink.written c.args.out.now) (g.K.Sink.written c.print_run-written.new.out) c.ending.result c.ending.ensures c.in-Ok-written.ensures.rows can.roles c.in-Ok-written.ensures.ok
+    record {
+      ends =
+          record {
+            done = run-written job array events c.replay.new.results c.replay.new.pcm shape seeded size (left.0, left.1, stays) _ (rw (← c.as_slice-2.ensures.value) at c.in_ok-events.ensures.gives.done)
+                (c.print_run-written.ensures.sensed.wear ∙ c.replay.ensures.wear ∙ c.in-Ok.ensures.wear) _ c.ending.result c.ending.ensures c.in-Ok-written.ensures.rows can.roles c.in-Ok-written.ensures.ok;
+            write = search rules;
+            cause = tt;
+            unwritten = tt;
+            never_falls = search rules;
+          };
+      reads =
+          record {
+            too_long = λ low over. absurd (come-within g.row.B c.args.job.now c.args.job.now.input _ _ c.in_ok-events.ensures.gives.done low over);
+            never_falls = c.in_ok-events.ensures.gives.never_falls;
+          };
+      untouched = tt;
+      unread = search rules;
+    }
 
-pub returns-clause-write : goal.returns-clause-write
-returns-clause-write g c =
-    λ _.
+pub returns : goal.returns
+returns g c =
     let job = c.args.job.now in
     let events = c.as_slice-2.result.now in
     let same : c.as_slice.result.now ≡ events = cc in
@@ -109,8 +140,25 @@ returns-clause-write g c =
     c.sensed_runs_stay_right.ensures (subst IsShape (sym shape) c.requires.job.shape) left.0 left.2 in
     let can =
     can-print job before events c.replay.new.results c.replay.new.pcm shape seeded size left
-    c.right_runs_can_be_printed.ensures c.requires.job.shape (rw (← c.as_slice-2.ensures.value) at c.in_ok-events.ensures.events) in (
-      run-part job array events c.replay.new.results c.replay.new.pcm shape seeded size (left.0, left.1, stays) _ (rw (← c.as_slice-2.ensures.value) at c.in_ok-events.ensures.come)
-          (c.print_run-written.ensures.sensed.wear ∙ c.replay.ensures.wear ∙ c.in-Ok.ensures.wear) (g.K.Sink.written c.args.out.now) (g.K.Sink.written c.print_run-written.new.out) can.roles c.in-Err-written.ensures.prefix,
-      c.in-Err-written.ensures.fault,
-    )
+    c.right_runs_can_be_printed.ensures c.requires.job.shape (rw (← c.as_slice-2.ensures.value) at c.in_ok-events.ensures.events) in
+    record {
+      ends =
+          record {
+            done = tt;
+            write = λ _. (
+              run-part job array events c.replay.new.results c.replay.new.pcm shape seeded size (left.0, left.1, stays) _ (rw (← c.as_slice-2.ensures.value) at c.in_ok-events.ensures.gives.done)
+                  (c.print_run-written.ensures.sensed.wear ∙ c.replay.ensures.wear ∙ c.in-Ok.ensures.wear) _ can.roles c.in-Err-written.ensures.prefix,
+              c.in-Err-written.ensures.fault,
+            );
+            cause = λ other. absurd (other refl);
+            unwritten = λ other. absurd (other refl);
+            never_falls = search rules;
+          };
+      reads =
+          record {
+            too_long = λ low over. absurd (come-within g.row.B c.args.job.now c.args.job.now.input _ _ c.in_ok-events.ensures.gives.done low over);
+            never_falls = c.in_ok-events.ensures.gives.never_falls;
+          };
+      untouched = λ other _. absurd (other refl);
+      unread = search rules;
+    }

@@ -1,4 +1,4 @@
-use Rattle.std.proofs.Common.{◌≡◌, ◌+◌, ap, ◌∙◌, arith}
+use Rattle.std.proofs.Common.{◌≡◌, ◌+◌, arith}
 use Rattle.pcm_image.specs.Saved.{total_in}
 use Rattle.pcm_image.specs.Standing.{stands_for}
 use Rattle.pcm_top.specs.Showing.{shown_header, shown_row}

@@ -1,0 +1,97 @@
+-- What a call of the program was given, and what it left.
+use Rattle.std.specs.Prelude.{◌≡◌, ℕ, List, Option, Result}
+use Rattle.std.specs.Io.KnownBytes.{Appends}
+use Rattle.pcm_io.specs.Faults.{Rose}
+use Rattle.pcm_io.specs.Giving.{AppendsPrefix}
+use Rattle.pcm_cells.specs.Device.{ArrayState}
+use Rattle.command_line.specs.declared.job.Job.{Job}
+use Rattle.command_line.specs.declared.job.Refusal.{Refusal}
+use Rattle.pcm_top.specs.Reading.{SourceChange, source_change}
+
+-- a sink before and after a call: what it was given, where that is told, and how often it failed
+pub record SinkChange : Type 0 where
+  pub written_before : Option (List ℕ)
+  pub written_now : Option (List ℕ)
+  pub faults_before : ℕ
+  pub faults_now : ℕ
+
+abbrev pub sink_change : {S : Type 0} → (S → Option (List ℕ)) → (S → ℕ) → S → S → SinkChange
+sink_change written faults old new = record {
+  written_before = written old;
+  written_now = written new;
+  faults_before = faults old;
+  faults_now = faults new;
+}
+
+-- it was given exactly this text
+abbrev pub Gets : SinkChange → List ℕ → Type 0
+Gets s text = Appends s.written_before s.written_now text
+
+-- it was given first bytes of it, maybe none and maybe all
+abbrev pub GetsPart : SinkChange → List ℕ → Type 0
+GetsPart s text = AppendsPrefix s.written_before s.written_now text
+
+-- its count of faults rose
+abbrev pub SinkFails : SinkChange → Type 0
+SinkFails s = Rose s.faults_before s.faults_now
+
+-- a thing that was lent to a call: as it was, as it is now, and what is seen of that
+pub record Lent (T U : Type 0) : Type 0 where
+  pub before : T
+  pub now : T
+  pub seen : U
+
+-- it is as it was
+abbrev pub IsUntouched : {T U : Type 0} → Lent T U → Type 0
+IsUntouched thing = thing.now ≡ thing.before
+
+-- an array of lines of n bytes with m check bytes that was lent: its state now is seen
+abbrev pub lent_array : {A : Type 0} {n m : ℕ} → (A → ArrayState n m) → A → A → Lent A (ArrayState n m)
+lent_array state before now = record { before = before; now = now; seen = state now }
+
+-- a source that was lent
+abbrev pub lent_source : {S : Type 0}
+    → (S → Option (List ℕ)) → (S → ℕ) → (S → ℕ) → S → S → Lent S SourceChange
+lent_source left taken faults before now = record {
+  before = before;
+  now = now;
+  seen = source_change left taken faults before now;
+}
+
+-- a sink that was lent
+abbrev pub lent_sink : {K : Type 0} → (K → Option (List ℕ)) → (K → ℕ) → K → K → Lent K SinkChange
+lent_sink written faults before now = record {
+  before = before;
+  now = now;
+  seen = sink_change written faults before now;
+}
+
+-- what becomes of the things that a job may change: the source, the arrays and the output
+pub record Deed : Type 0 where
+  pub source : SourceChange
+  pub array : ArrayState 64 8
+  pub wide : ArrayState 128 16
+  pub out : SinkChange
+
+-- a call: what was asked for, and what was lent to do it, the arrays of lines of 64 and of 128 bytes, the
+-- source and the output
+pub record Call (A V S K : Type 0) : Type 0 where
+  pub asked : Result Job Refusal
+  pub array : Lent A (ArrayState 64 8)
+  pub wide : Lent V (ArrayState 128 16)
+  pub source : Lent S SourceChange
+  pub out : Lent K SinkChange
+
+module _ {A V S K : Type 0} (call : Call A V S K) where
+  -- what became of what was lent
+  abbrev pub deed_of : Deed
+  deed_of = record {
+    source = call.source.seen;
+    array = call.array.seen;
+    wide = call.wide.seen;
+    out = call.out.seen;
+  }
+
+  -- neither array was touched
+  abbrev pub AreArraysUntouched : Type 0
+  AreArraysUntouched = IsUntouched call.array × IsUntouched call.wide
