@@ -65,3 +65,6 @@ returns-clause-step g c xs leads =
           (λ asked is. (ap (λ (t : ℕ). let b : Asked g.row.B = record { row = c.args.row; tick = t; asks = Writes c.args.line c.args.bytes c.args.given } in b) (sym c.advance.ensures.now), is))
           (λ other off. or_from (c.args.row == other) _ (ne_eqb c.args.row other (λ e. off (sym e))) refl),
     )
+
+pub advance-requires : goal.advance-requires
+advance-requires g c = grind arith
