@@ -44,3 +44,6 @@ returns-clause-step g c row xs leads =
       step_on xs run.0 c.args.timed.now c.advance.new.self c.power_cut.new.self before between after c.args.results.now c.advance.new.results c.power_cut.new.results leads run.2 run.1 (event ∷ []) a next
           (λ asked is. (sym c.advance.ensures.now, refl, is)) (λ other off. refl),
     )
+
+pub advance-requires : goal.advance-requires
+advance-requires g c = grind arith

@@ -67,3 +67,6 @@ returns-clause-step g c xs leads =
           ))
           (λ other off. or_from (c.args.row == other) _ (ne_eqb c.args.row other (λ e. off (sym e))) (first_off (run.0 ++ xs) clock c.args.line other)),
     )
+
+pub advance-requires : goal.advance-requires
+advance-requires g c = grind arith

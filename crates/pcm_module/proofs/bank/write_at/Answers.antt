@@ -62,3 +62,6 @@ returns-clause-step g c xs leads =
           (λ asked is. (ap (λ (t : ℕ). let b : Asked g.row.B = record { row = c.args.entry.row; tick = t; asks = Writes c.args.entry.line c.args.entry.bytes c.args.entry.given } in b) (sym c.advance.ensures.now), is))
           (λ other off. or_from (c.args.entry.row == other) _ (ne_eqb c.args.entry.row other (λ e. off (sym e))) refl),
     )
+
+pub advance-requires : goal.advance-requires
+advance-requires g c = grind arith

@@ -1,4 +1,4 @@
-use Rattle.std.proofs.Common.{ℕ, ◌-◌, ◌<◌, ap, ◌∙◌, subst}
+use Rattle.std.proofs.Common.{arith, ℕ, ◌-◌, ◌<◌, ap, ◌∙◌, subst}
 use Rattle.bank_shape.specs.declared.BankShape.{BankShape}
 use Rattle.bank_shape.specs.Shape.{controls_from}
 use Rattle.pcm_module.proofs.Placed.{free-role, retired-role}
@@ -16,3 +16,27 @@ pub returns-in-Retired : goal.returns-in-Retired
 returns-in-Retired g c =
     retired-role c.args.kept.now c.remap.ensures.in_range c.args.array_line (c.args.array_line - c.shape-shape.result.now.base) c.requires.begun
     (ap (λ shape. c.args.array_line - shape.base) c.shape-shape.ensures.shape) (rw c.remap.ensures.table at c.in-Retired.ensures.owner)
+
+pub shape-shape-requires : goal.shape-shape-requires
+shape-shape-requires g c = grind arith
+
+pub first_control-requires : goal.first_control-requires
+first_control-requires g c = grind arith
+
+pub returns-then-array_line-first_control : goal.returns-then-array_line-first_control
+returns-then-array_line-first_control g c = grind arith
+
+pub remap-requires : goal.remap-requires
+remap-requires g c = grind arith
+
+pub overflow_sub-array_line : goal.overflow_sub-array_line
+overflow_sub-array_line g c = grind arith
+
+pub owner-requires : goal.owner-requires
+owner-requires g c = grind arith
+
+pub role_of_slot-requires : goal.role_of_slot-requires
+role_of_slot-requires g c = grind arith
+
+pub returns-in-Slot : goal.returns-in-Slot
+returns-in-Slot g c = grind arith

@@ -1,4 +1,4 @@
-use Rattle.std.proofs.Common.{◌≡◌, ℕ, ◌<◌, ◌++◌, length, Some, sym, subst, ◌∙◌}
+use Rattle.std.proofs.Common.{arith, ◌≡◌, ℕ, ◌<◌, ◌++◌, length, Some, sym, subst, ◌∙◌}
 use Rattle.std.specs.Prelude.{slice_get}
 use Rattle.bank_timing.proofs.Sizes.{timed_fits, row_fits}
 use Rattle.pcm_module.specs.Draining.{AreDrained}
@@ -55,3 +55,9 @@ returns g c = record {
       let all = reached_all c.loop-bank.bank c.len-bank-end.result (length c.args.banks.now.items) of.shape.banks c.loop-bank.auto.bank-end c.loop-bank-test.false (c.len-bank-end.ensures ∙ c.args.banks.now.ok.0) may.count in
       subst (λ (k : ℕ). AreDrained of k c.loop-bank.banks.items (g.A.CellArray.state c.args.array.now) (g.A.CellArray.state c.loop-bank.array) c.args.results.now c.loop-bank.results) all (c.loop-bank.invariant of may);
 }
+
+pub index_mut-requires : goal.index_mut-requires
+index_mut-requires g c = grind arith
+
+pub loop-bank-smaller : goal.loop-bank-smaller
+loop-bank-smaller g c = grind arith

@@ -1,4 +1,4 @@
-use Rattle.std.proofs.Common.{◌≡◌, ◌+◌, ◌++◌, ◌<◌, ◌≤◌, length, Some, refl, sym, ap, subst}
+use Rattle.std.proofs.Common.{arith, ◌≡◌, ◌+◌, ◌++◌, ◌<◌, ◌≤◌, length, Some, refl, sym, ap, subst}
 use Rattle.std.specs.Prelude.{slice_get}
 use Rattle.row_rules.specs.declared.Asks.TheVariants.{Cuts}
 use Rattle.bank_timing.proofs.Sizes.{timed_fits, row_fits, outcome_fits}
@@ -100,3 +100,18 @@ returns g c =
           subst (λ (new : ModuleState g.row.B g.row.M g.row.E). Takes (record { row = c.args.row; tick = c.args.tick; asks = Cuts }) old new (g.A.CellArray.state c.args.array.now) (g.A.CellArray.state c.loop-bank.array) c.args.results.now c.loop-bank.results)
           (sym (ap (λ (o : ModuleState g.row.B g.row.M g.row.E). let new : ModuleState g.row.B g.row.M g.row.E = record o { banks = items; tick = c.args.tick; rows_below = c.args.row + 1 } in new) inv.same)) taken;
     }
+
+pub banks-banks-requires : goal.banks-banks-requires
+banks-banks-requires g c = grind arith
+
+pub overflow_cast-bank : goal.overflow_cast-bank
+overflow_cast-bank g c = grind arith
+
+pub index_mut-requires : goal.index_mut-requires
+index_mut-requires g c = grind arith
+
+pub loop-bank-smaller : goal.loop-bank-smaller
+loop-bank-smaller g c = grind arith
+
+pub overflow_add-self : goal.overflow_add-self
+overflow_add-self g c = grind arith

@@ -1,4 +1,4 @@
-use Rattle.std.proofs.Common.{◌<◌, arith}
+use Rattle.std.proofs.Common.{◌<◌, ◌∙◌, arith}
 use Rattle.trace_reader.specs.declared.event.EventOp.TheVariants.{Read, Write, Mask, Cut}
 use Rattle.masked_bytes.proofs.Layering.{IsMasked-all_given}
 use Rattle.module_shape.specs.Limits.{total_of}
@@ -52,3 +52,120 @@ returns-in-Mask-clause-replays g c =
 pub returns-in-Cut-clause-replays : goal.returns-in-Cut-clause-replays
 returns-in-Cut-clause-replays g c =
     replays_event c.args.row c.args.event.now (Cut) c.args.self.now c.cut.new.self (g.A.CellArray.state c.args.array.now) (g.A.CellArray.state c.cut.new.array) c.args.results.now c.cut.new.results c.in-Cut.is c.cut.ensures.takes
+
+pub returns-in-Read-clause-shape : goal.returns-in-Read-clause-shape
+returns-in-Read-clause-shape g c = c.read.ensures.takes.shape
+
+pub returns-in-Read-clause-seed : goal.returns-in-Read-clause-seed
+returns-in-Read-clause-seed g c = c.read.ensures.takes.seed
+
+pub returns-in-Read-clause-tick : goal.returns-in-Read-clause-tick
+returns-in-Read-clause-tick g c = c.read.ensures.takes.tick
+
+pub returns-in-Read-clause-rows : goal.returns-in-Read-clause-rows
+returns-in-Read-clause-rows g c = c.read.ensures.takes.rows
+
+pub returns-in-Read-clause-table : goal.returns-in-Read-clause-table
+returns-in-Read-clause-table g c = c.read.ensures.takes.table
+
+pub returns-in-Read-clause-open : goal.returns-in-Read-clause-open
+returns-in-Read-clause-open g c = c.read.ensures.takes.open_rows
+
+pub returns-in-Read-clause-others : goal.returns-in-Read-clause-others
+returns-in-Read-clause-others g c = c.read.ensures.takes.others
+
+pub returns-in-Read-clause-stays : goal.returns-in-Read-clause-stays
+returns-in-Read-clause-stays g c = c.read.ensures.takes.stays
+
+pub returns-in-Read-clause-going : goal.returns-in-Read-clause-going
+returns-in-Read-clause-going g c = c.read.ensures.takes.going ∙ c.requires.going
+
+pub returns-in-Write-clause-shape : goal.returns-in-Write-clause-shape
+returns-in-Write-clause-shape g c = c.write.ensures.takes.shape
+
+pub returns-in-Write-clause-seed : goal.returns-in-Write-clause-seed
+returns-in-Write-clause-seed g c = c.write.ensures.takes.seed
+
+pub returns-in-Write-clause-tick : goal.returns-in-Write-clause-tick
+returns-in-Write-clause-tick g c = c.write.ensures.takes.tick
+
+pub returns-in-Write-clause-rows : goal.returns-in-Write-clause-rows
+returns-in-Write-clause-rows g c = c.write.ensures.takes.rows
+
+pub returns-in-Write-clause-table : goal.returns-in-Write-clause-table
+returns-in-Write-clause-table g c = c.write.ensures.takes.table
+
+pub returns-in-Write-clause-open : goal.returns-in-Write-clause-open
+returns-in-Write-clause-open g c = c.write.ensures.takes.open_rows
+
+pub returns-in-Write-clause-others : goal.returns-in-Write-clause-others
+returns-in-Write-clause-others g c = c.write.ensures.takes.others
+
+pub returns-in-Write-clause-stays : goal.returns-in-Write-clause-stays
+returns-in-Write-clause-stays g c = c.write.ensures.takes.stays
+
+pub returns-in-Write-clause-going : goal.returns-in-Write-clause-going
+returns-in-Write-clause-going g c = c.write.ensures.takes.going ∙ c.requires.going
+
+pub returns-in-Mask-clause-shape : goal.returns-in-Mask-clause-shape
+returns-in-Mask-clause-shape g c = c.write-in-Mask.ensures.takes.shape
+
+pub returns-in-Mask-clause-seed : goal.returns-in-Mask-clause-seed
+returns-in-Mask-clause-seed g c = c.write-in-Mask.ensures.takes.seed
+
+pub returns-in-Mask-clause-tick : goal.returns-in-Mask-clause-tick
+returns-in-Mask-clause-tick g c = c.write-in-Mask.ensures.takes.tick
+
+pub returns-in-Mask-clause-rows : goal.returns-in-Mask-clause-rows
+returns-in-Mask-clause-rows g c = c.write-in-Mask.ensures.takes.rows
+
+pub returns-in-Mask-clause-table : goal.returns-in-Mask-clause-table
+returns-in-Mask-clause-table g c = c.write-in-Mask.ensures.takes.table
+
+pub returns-in-Mask-clause-open : goal.returns-in-Mask-clause-open
+returns-in-Mask-clause-open g c = c.write-in-Mask.ensures.takes.open_rows
+
+pub returns-in-Mask-clause-others : goal.returns-in-Mask-clause-others
+returns-in-Mask-clause-others g c = c.write-in-Mask.ensures.takes.others
+
+pub returns-in-Mask-clause-stays : goal.returns-in-Mask-clause-stays
+returns-in-Mask-clause-stays g c = c.write-in-Mask.ensures.takes.stays
+
+pub returns-in-Mask-clause-going : goal.returns-in-Mask-clause-going
+returns-in-Mask-clause-going g c = c.write-in-Mask.ensures.takes.going ∙ c.requires.going
+
+pub returns-in-Cut-clause-shape : goal.returns-in-Cut-clause-shape
+returns-in-Cut-clause-shape g c = c.cut.ensures.takes.shape
+
+pub returns-in-Cut-clause-seed : goal.returns-in-Cut-clause-seed
+returns-in-Cut-clause-seed g c = c.cut.ensures.takes.seed
+
+pub returns-in-Cut-clause-tick : goal.returns-in-Cut-clause-tick
+returns-in-Cut-clause-tick g c = c.cut.ensures.takes.tick
+
+pub returns-in-Cut-clause-rows : goal.returns-in-Cut-clause-rows
+returns-in-Cut-clause-rows g c = c.cut.ensures.takes.rows
+
+pub returns-in-Cut-clause-table : goal.returns-in-Cut-clause-table
+returns-in-Cut-clause-table g c = c.cut.ensures.takes.table
+
+pub returns-in-Cut-clause-open : goal.returns-in-Cut-clause-open
+returns-in-Cut-clause-open g c = c.cut.ensures.takes.open_rows
+
+pub returns-in-Cut-clause-others : goal.returns-in-Cut-clause-others
+returns-in-Cut-clause-others g c = c.cut.ensures.takes.others
+
+pub returns-in-Cut-clause-stays : goal.returns-in-Cut-clause-stays
+returns-in-Cut-clause-stays g c = c.cut.ensures.takes.stays
+
+pub returns-in-Cut-clause-going : goal.returns-in-Cut-clause-going
+returns-in-Cut-clause-going g c = c.cut.ensures.takes.going ∙ c.requires.going
+
+pub read-requires : goal.read-requires
+read-requires g c = grind arith
+
+pub write-requires-in-Mask : goal.write-requires-in-Mask
+write-requires-in-Mask g c = grind arith
+
+pub cut-requires : goal.cut-requires
+cut-requires g c = grind arith

@@ -1,4 +1,4 @@
-use Rattle.std.proofs.Common.{◌++◌, true}
+use Rattle.std.proofs.Common.{arith, ◌++◌, true}
 use Rattle.bank_timing.specs.Extending.{outcome_in}
 use Rattle.run_laws.specs.FinishedLaws.{ends_of}
 use Rattle.pcm_module.specs.State.{ModuleState, bank_at}
@@ -47,3 +47,15 @@ returns-clause-others g c = rw (← c.self.view_is) (drained g (goal.at.returns-
 
 pub returns-clause-stays : goal.returns-clause-stays
 returns-clause-stays g c = rw (← c.self.view_is) (drained g (goal.at.returns-clause-stays g c).After-drain_all).stays
+
+pub finished_runs_are_right-requires : goal.finished_runs_are_right-requires
+finished_runs_are_right-requires g c = grind arith
+
+pub returns-clause-finished : goal.returns-clause-finished
+returns-clause-finished g c = grind arith
+
+pub returns-clause-shape : goal.returns-clause-shape
+returns-clause-shape g c = grind arith
+
+pub returns-clause-seed : goal.returns-clause-seed
+returns-clause-seed g c = grind arith

@@ -38,3 +38,6 @@ returns g c =
       shaped = ap (λ (k : KeptState g.row.B). k.shape) kept ∙ own.shaped ∙ ap (λ (o : ModuleState g.row.B g.row.M g.row.E). bank_shape (module_of o.shape) bank) same;
       in_range = subst (λ (k : KeptState g.row.B). IsKept k) (sym kept) own.kept;
     }
+
+pub index-requires : goal.index-requires
+index-requires g c = grind arith

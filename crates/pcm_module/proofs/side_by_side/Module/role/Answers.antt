@@ -1,4 +1,4 @@
-use Rattle.std.proofs.Common.{◌≡◌, ℕ, ◌/◌, ◌<◌, ap, subst}
+use Rattle.std.proofs.Common.{arith, ◌≡◌, ℕ, ◌/◌, ◌<◌, ap, subst}
 use Rattle.wear_report.specs.declared.Role.TheVariants.{Line}
 use Rattle.bank_shape.specs.declared.BankShape.{BankShape}
 use Rattle.module_shape.specs.declared.raw.RawShape.{RawShape}
@@ -49,3 +49,12 @@ returns-in_default g c ends own =
     = subst (λ (s : BankShape). IsRole s (λ own. own) (ends bank) c.args.array_line c.role_in.result) c.kept.ensures.shaped held in
     subst (λ (b : ℕ). IsRole (bank_shape (module_of now.shape) b) (line_named now.shape now.seed b) (ends b) c.args.array_line c.role_in.result) number
     (same_role (bank_shape (module_of now.shape) bank) (line_named now.shape now.seed bank) (ends bank) c.args.array_line c.role_in.result c.in_default.not-Line placed)
+
+pub bank_of-bank-requires : goal.bank_of-bank-requires
+bank_of-bank-requires g c = grind arith
+
+pub kept-requires : goal.kept-requires
+kept-requires g c = grind arith
+
+pub role_in-requires : goal.role_in-requires
+role_in-requires g c = grind arith

@@ -1,4 +1,4 @@
-use Rattle.std.proofs.Common.{◌≡◌, ℕ, ◌+◌, ◌*◌, ◌<◌, ◌≤◌, sym, subst, ◌∙◌}
+use Rattle.std.proofs.Common.{arith, ◌≡◌, ℕ, ◌+◌, ◌*◌, ◌<◌, ◌≤◌, sym, subst, ◌∙◌}
 use Rattle.module_shape.specs.Addresses.{module_of, array_lines_of}
 use Rattle.run_laws.specs.Runs.{bank_of_line}
 use Rattle.run_laws.proofs.Mixing.{lines_law}
@@ -24,3 +24,15 @@ returns g c =
       exists = subst (λ (k : ℕ). k < bank_of_line now.shape now.seed c.args.line * array_lines_of (module_of now.shape) + array_lines_of (module_of now.shape)) (sym stands) (stands_to now s.feistel module_is lines c.args.line c.requires);
       apart = λ other below stands_there. stands_apart now s.feistel module_is lines c.args.line other c.requires below (stands_there ∙ stands);
     }
+
+pub place-place-requires : goal.place-place-requires
+place-place-requires g c = grind arith
+
+pub kept-kept-requires : goal.kept-kept-requires
+kept-kept-requires g c = grind arith
+
+pub slot_of-requires : goal.slot_of-requires
+slot_of-requires g c = grind arith
+
+pub array_line-requires : goal.array_line-requires
+array_line-requires g c = grind arith

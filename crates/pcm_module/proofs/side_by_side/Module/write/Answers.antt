@@ -1,3 +1,4 @@
+use Rattle.std.proofs.Common.{arith}
 use Rattle.pcm_module.proofs.Views.{state_of}
 use Rattle.pcm_module.proofs.Serving.{ComesTo, comes, bank_replays, bank_forward, bank_has, bank_rises, taken_kept, write_taken}
 use Rattle.bank_timing.proofs.Sizes.{timed_fits, row_fits, entry_fits}
@@ -24,3 +25,15 @@ invariant_of-self g c = taken_kept (arrives g (goal.at.invariant_of-self g c).Af
 
 pub returns : goal.returns
 returns g c = rw (← c.self.view_is) (record { takes = write_taken (arrives g (goal.at.returns g c).After-index_mut-timed) c.write_at.ensures.at c.write_at.ensures.step })
+
+pub place-place-requires : goal.place-place-requires
+place-place-requires g c = grind arith
+
+pub overflow_cast-place : goal.overflow_cast-place
+overflow_cast-place g c = grind arith
+
+pub index_mut-timed-requires : goal.index_mut-timed-requires
+index_mut-timed-requires g c = grind arith
+
+pub overflow_add-self : goal.overflow_add-self
+overflow_add-self g c = grind arith
