@@ -1,5 +1,5 @@
 -- What a call of the program was given, and what it left.
-use Rattle.std.specs.Prelude.{◌≡◌, ℕ, List, Option, Result}
+use Rattle.std.specs.Prelude.{◌≡◌, ◌≤◌, ℕ, List, Option, Result, OnOk, OnErr}
 use Rattle.std.specs.Io.KnownBytes.{Appends}
 use Rattle.pcm_io.specs.Faults.{Rose}
 use Rattle.pcm_io.specs.Giving.{AppendsPrefix}
@@ -23,25 +23,32 @@ sink_change written faults old new = record {
   faults_now = faults new;
 }
 
--- it was given exactly this text
+-- a sink was given exactly this text
 abbrev pub Gets : SinkChange → List ℕ → Type 0
 Gets s text = Appends s.written_before s.written_now text
 
--- it was given first bytes of it, maybe none and maybe all
+-- a sink was given first bytes of this text, maybe none and maybe all
 abbrev pub GetsPart : SinkChange → List ℕ → Type 0
 GetsPart s text = AppendsPrefix s.written_before s.written_now text
 
--- its count of faults rose
+-- a sink's count of faults rose
 abbrev pub SinkFails : SinkChange → Type 0
 SinkFails s = Rose s.faults_before s.faults_now
 
--- a thing that was lent to a call: as it was, as it is now, and what is seen of that
+-- how a text is written: exactly it, or first bytes of it where the sink fails
+pub record Writes {T E : Type 0} (text : List ℕ) (sink : SinkChange) (result : Result T E) : Type 0 where
+  pub ok : OnOk result (Gets sink text)
+  pub prefix : OnErr result (GetsPart sink text)
+  pub fault : OnErr result (SinkFails sink)
+  pub never_falls : sink.faults_before ≤ sink.faults_now
+
+-- a thing that was lent to a call: as it was, as it is now, and what is seen of it
 pub record Lent (T U : Type 0) : Type 0 where
   pub before : T
   pub now : T
   pub seen : U
 
--- it is as it was
+-- a thing that was lent is as it was
 abbrev pub IsUntouched : {T U : Type 0} → Lent T U → Type 0
 IsUntouched thing = thing.now ≡ thing.before
 
@@ -66,7 +73,8 @@ lent_sink written faults before now = record {
   seen = sink_change written faults before now;
 }
 
--- what becomes of the things that a job may change: the source, the arrays and the output
+-- what became of all that a job may change: the source, the arrays of lines of 64 and of 128 bytes, and the
+-- output
 pub record Deed : Type 0 where
   pub source : SourceChange
   pub array : ArrayState 64 8
@@ -83,7 +91,7 @@ pub record Call (A V S K : Type 0) : Type 0 where
   pub out : Lent K SinkChange
 
 module _ {A V S K : Type 0} (call : Call A V S K) where
-  -- what became of what was lent
+  -- what became of all that was lent to a call
   abbrev pub deed_of : Deed
   deed_of = record {
     source = call.source.seen;
@@ -92,6 +100,6 @@ module _ {A V S K : Type 0} (call : Call A V S K) where
     out = call.out.seen;
   }
 
-  -- neither array was touched
+  -- a call left both arrays as they were
   abbrev pub AreArraysUntouched : Type 0
   AreArraysUntouched = IsUntouched call.array × IsUntouched call.wide

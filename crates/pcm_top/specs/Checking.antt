@@ -54,17 +54,17 @@ module _ (n e : ℕ) (job : CheckJob) where
 
 -- over lines of n bytes
 module _ (n : ℕ) (job : CheckJob) where
-  -- the source was read to its end, and what it gave has this fault
-  abbrev pub ReadsFault : TextFault → SourceChange → Type 0
-  ReadsFault one s = (bytes : List ℕ) × ReadsWhole room_line s bytes × IsTextFault n job.shape bytes one
+  -- the source was read to its end, and its trace with its results has this fault
+  abbrev pub ReadsTextFault : TextFault → SourceChange → Type 0
+  ReadsTextFault one s = (bytes : List ℕ) × ReadsWhole room_line s bytes × IsTextFault n job.shape bytes one
 
   -- why there is no verdict: the source was read to its end and its trace has this fault, or too many rows,
   -- or its results have; or it failed; or it gave too many bytes; or memory ran out, and no call failed
   abbrev pub IsCheckFault : Fault → SourceChange → Type 0
-  IsCheckFault (Trace f) s = ReadsFault (text.Trace f) s
-  IsCheckFault (Results row) s = ReadsFault (text.Results row) s
+  IsCheckFault (Trace f) s = ReadsTextFault (text.Trace f) s
+  IsCheckFault (Results row) s = ReadsTextFault (text.Results row) s
   IsCheckFault Read s = SourceFails s × TakesSome room_line s
-  IsCheckFault TooLong s = (NeverFails s × TakesMore room_line s) ⊎ ReadsFault text.TooMany s
+  IsCheckFault TooLong s = (NeverFails s × TakesMore room_line s) ⊎ ReadsTextFault text.TooMany s
   IsCheckFault NoMemory s = NeverFails s × TakesSome room_line s
   IsCheckFault (Image f) s = ⊥
   IsCheckFault Usage s = ⊥

@@ -48,7 +48,7 @@ pub record Gives {T : Type 0} (has : T → Type 0) (stops : Fault → Type 0)
   pub cause : IfErr result stops
   pub never_falls : source.faults_before ≤ source.faults_now
 
--- how a source is read where there is so much room: more bytes than that are always answered so
+-- how a source is read where there is so much room: more bytes than that always end with the fault `TooLong`
 pub record Reads {T : Type 0} (room : ℕ) (source : SourceChange) (result : Result T Fault) : Type 0 where
   pub too_long : OnOverflow room source (result ≡ Err TooLong)
   pub never_falls : source.faults_before ≤ source.faults_now

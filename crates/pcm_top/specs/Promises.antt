@@ -30,7 +30,7 @@ module _ {A V S K F : Type 0} (call : Call A V S K) (err : Lent F SinkChange) (s
   abbrev pub OnNoFault : Type 0 → Type 0
   OnNoFault P = ¬ SourceFails call.source.seen → ¬ SinkFails call.out.seen → ¬ SinkFails err.seen → P
 
-  -- the job was done, and the status says how
+  -- the job that was asked for was done, and the status says how
   abbrev pub EndsDone : Type 0
   EndsDone = (done : Done) × Does (deed_of call) call.asked done × (status ≡ status_done done)
 
@@ -79,7 +79,7 @@ module _ {A V S K F : Type 0} (call : Call A V S K) (err : Lent F SinkChange) (s
     -- Words that ask for no job touch nothing else; memory may run out while they are read.
     pub usage : call.asked ≡ Err refusal.Usage
         → ((status ≡ status_of Usage) ⊎ (status ≡ status_of NoMemory) ⊎ IsUntold) × IsUntouched call.out
-    -- More bytes than a trace may have are always answered so.
+    -- More bytes than there may be are always answered with the status for that.
     pub too_long : OnOverflow (room_of call.asked) call.source.seen ((status ≡ status_of TooLong) ⊎ IsUntold)
     -- Where nothing fails, words and bytes decide the status, but for the rows of a run that is made, or
     -- memory runs out.

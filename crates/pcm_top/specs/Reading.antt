@@ -53,7 +53,7 @@ pub record TakesNothing (s : SourceChange) : Type 0 where
   pub taken : s.taken_now ≡ s.taken_before
   pub faults : s.faults_now ≡ s.faults_before
 
--- its count of faults rose
+-- a source's count of faults rose
 abbrev pub SourceFails : SourceChange → Type 0
 SourceFails s = Rose s.faults_before s.faults_now
 
@@ -79,7 +79,7 @@ module _ (n : ℕ) where
 
 -- one for so many lines
 module _ (n lines : ℕ) where
-  -- the source was read to its end, and its bytes have this fault
+  -- the source was read to its end, and its trace has this fault
   abbrev pub ReadsFault : ParseFault → SourceChange → Type 0
   ReadsFault one s = (bytes : List ℕ) × ReadsWhole n s bytes × (trace_of n lines bytes ≡ Err one)
 

@@ -50,7 +50,7 @@ pub record ReadsImage (s : SourceChange) (text : List ℕ) : Type 0 where
 abbrev pub ShowsText : Result (List ℕ) ImageFault → SinkChange → Type 0
 ShowsText shown out = (text : List ℕ) × (shown ≡ Ok text) × Gets out text
 
--- there is one, and first bytes of it were
+-- there is a text, and first bytes of it were written
 abbrev pub ShowsTextInPart : Result (List ℕ) ImageFault → SinkChange → Type 0
 ShowsTextInPart shown out = (text : List ℕ) × (shown ≡ Ok text) × GetsPart out text
 
@@ -58,7 +58,7 @@ ShowsTextInPart shown out = (text : List ℕ) × (shown ≡ Ok text) × GetsPart
 abbrev pub ShowsImage : SourceChange → SinkChange → Type 0
 ShowsImage s out = (text : List ℕ) × ReadsImage s text × Gets out text
 
--- first bytes of it were
+-- first bytes of the text of the image were written
 abbrev pub ShowsImageInPart : SourceChange → SinkChange → Type 0
 ShowsImageInPart s out = (text : List ℕ) × ReadsImage s text × GetsPart out text
 

@@ -1,13 +1,10 @@
 // The command `gen`.
-ghost use Rattle.std.specs.Prelude.{◌≡◌, ◌≤◌, OnOk, OnErr};
-ghost use Rattle.std.specs.Io.KnownBytes.{Appends};
-ghost use Rattle.pcm_io.specs.Faults.{Rose};
-ghost use Rattle.pcm_io.specs.Giving.{AppendsPrefix};
+ghost use Rattle.std.specs.Prelude.{◌≡◌, ◌≤◌};
 ghost use Rattle.pcm_io.specs.Reserved.{reserved};
 ghost use Rattle.trace_gen.specs.EventText.{trace_text};
 ghost use Rattle.trace_gen.specs.Generated.{IsMix, generated};
 ghost use Rattle.pcm_top.specs.Jobs.{gen_text};
-ghost use Rattle.pcm_top.specs.Calls.{lent_sink};
+ghost use Rattle.pcm_top.specs.Calls.{Writes, lent_sink, sink_change};
 ghost use Rattle.pcm_top.specs.Ends.{EndsText};
 
 use crate::fault::Fault;
@@ -30,12 +27,8 @@ fn print_drawn<const B: usize, K: Sink>(
     requires some_lines { 1 ≤ lines }
     requires few_lines { lines ≤ 65536 }
     requires mix { IsMix mix }
-    ensures ok { OnOk result
-        (Appends (K.written out.old) (K.written out.new) (trace_text (generated B seed lines mix))) }
-    ensures prefix { OnErr result
-        (AppendsPrefix (K.written out.old) (K.written out.new) (trace_text (generated B seed lines mix))) }
-    ensures fault { OnErr result (Rose (K.faults out.old) (K.faults out.new)) }
-    ensures never_falls { K.faults out.old ≤ K.faults out.new }
+    ensures { Writes (trace_text (generated B seed lines mix))
+        (sink_change K.written K.faults out.old out.new) result }
 {
     let mut generator = Generator::<B>::new(seed, lines, mix);
     text.push(header());
@@ -51,10 +44,7 @@ fn print_drawn<const B: usize, K: Sink>(
 fn print_job<K: Sink>(job: &GenJob, text: &mut Text, out: &mut K) -> Result<(), WriteFault>
     requires room { text.old ≡ reserved TEXT_ROOM }
     requires mix { IsMix job.now.mix }
-    ensures ok { OnOk result (Appends (K.written out.old) (K.written out.new) (gen_text job.now)) }
-    ensures prefix { OnErr result (AppendsPrefix (K.written out.old) (K.written out.new) (gen_text job.now)) }
-    ensures fault { OnErr result (Rose (K.faults out.old) (K.faults out.new)) }
-    ensures never_falls { K.faults out.old ≤ K.faults out.new }
+    ensures { Writes (gen_text job.now) (sink_change K.written K.faults out.old out.new) result }
 {
     let lines = job.shape.total();
     match job.line {

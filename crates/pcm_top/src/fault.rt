@@ -1,8 +1,6 @@
 // Why a call ends without its work done, and what it says then.
-ghost use Rattle.std.specs.Prelude.{◌≡◌, ◌≤◌, OnOk, OnErr, length, decimal};
-ghost use Rattle.std.specs.Io.KnownBytes.{Appends};
-ghost use Rattle.pcm_io.specs.Faults.{Rose};
-ghost use Rattle.pcm_io.specs.Giving.{AppendsPrefix};
+ghost use Rattle.std.specs.Prelude.{◌≡◌};
+ghost use Rattle.pcm_top.specs.Calls.{Writes, sink_change};
 ghost use Rattle.pcm_top.specs.FaultLines.{kind_word, image_word, fault_line, status_of, joined};
 
 use itoa::Buffer;
@@ -78,10 +76,7 @@ fn image_word_of(kind: ImageKind) -> &'static [u8]
 
 // Writes texts one after the other.
 fn write_parts<F: Sink>(parts: &[&[u8]], err: &mut F) -> Result<(), WriteFault>
-    ensures ok { OnOk result (Appends (F.written err.old) (F.written err.new) (joined parts.now)) }
-    ensures prefix { OnErr result (AppendsPrefix (F.written err.old) (F.written err.new) (joined parts.now)) }
-    ensures fault { OnErr result (Rose (F.faults err.old) (F.faults err.new)) }
-    ensures never_falls { F.faults err.old ≤ F.faults err.new }
+    ensures { Writes (joined parts.now) (sink_change F.written F.faults err.old err.new) result }
 {
     for part in parts {
         write_all(err, part)?;
@@ -90,12 +85,7 @@ fn write_parts<F: Sink>(parts: &[&[u8]], err: &mut F) -> Result<(), WriteFault>
 }
 
 fn tell_trace<F: Sink>(fault: TraceFault, err: &mut F) -> Result<(), WriteFault>
-    ensures ok { OnOk result
-        (Appends (F.written err.old) (F.written err.new) (fault_line (Fault.Trace fault))) }
-    ensures prefix { OnErr result
-        (AppendsPrefix (F.written err.old) (F.written err.new) (fault_line (Fault.Trace fault))) }
-    ensures fault { OnErr result (Rose (F.faults err.old) (F.faults err.new)) }
-    ensures never_falls { F.faults err.old ≤ F.faults err.new }
+    ensures { Writes (fault_line (Fault.Trace fault)) (sink_change F.written F.faults err.old err.new) result }
 {
     let mut digits = Buffer::new();
     let row = digits.format(fault.row).as_bytes();
@@ -110,12 +100,7 @@ fn tell_trace<F: Sink>(fault: TraceFault, err: &mut F) -> Result<(), WriteFault>
 }
 
 fn tell_image<F: Sink>(fault: ImageFault, err: &mut F) -> Result<(), WriteFault>
-    ensures ok { OnOk result
-        (Appends (F.written err.old) (F.written err.new) (fault_line (Fault.Image fault))) }
-    ensures prefix { OnErr result
-        (AppendsPrefix (F.written err.old) (F.written err.new) (fault_line (Fault.Image fault))) }
-    ensures fault { OnErr result (Rose (F.faults err.old) (F.faults err.new)) }
-    ensures never_falls { F.faults err.old ≤ F.faults err.new }
+    ensures { Writes (fault_line (Fault.Image fault)) (sink_change F.written F.faults err.old err.new) result }
 {
     let mut digits = Buffer::new();
     let at = digits.format(fault.at).as_bytes();
@@ -130,12 +115,7 @@ fn tell_image<F: Sink>(fault: ImageFault, err: &mut F) -> Result<(), WriteFault>
 }
 
 fn tell_results<F: Sink>(row: u32, err: &mut F) -> Result<(), WriteFault>
-    ensures ok { OnOk result
-        (Appends (F.written err.old) (F.written err.new) (fault_line (Fault.Results row))) }
-    ensures prefix { OnErr result
-        (AppendsPrefix (F.written err.old) (F.written err.new) (fault_line (Fault.Results row))) }
-    ensures fault { OnErr result (Rose (F.faults err.old) (F.faults err.new)) }
-    ensures never_falls { F.faults err.old ≤ F.faults err.new }
+    ensures { Writes (fault_line (Fault.Results row)) (sink_change F.written F.faults err.old err.new) result }
 {
     let mut digits = Buffer::new();
     let number = digits.format(row).as_bytes();
@@ -145,10 +125,7 @@ fn tell_results<F: Sink>(row: u32, err: &mut F) -> Result<(), WriteFault>
 
 /// Writes the line of a fault.
 pub fn tell<F: Sink>(fault: Fault, err: &mut F) -> Result<(), WriteFault>
-    ensures ok { OnOk result (Appends (F.written err.old) (F.written err.new) (fault_line fault)) }
-    ensures prefix { OnErr result (AppendsPrefix (F.written err.old) (F.written err.new) (fault_line fault)) }
-    ensures fault { OnErr result (Rose (F.faults err.old) (F.faults err.new)) }
-    ensures never_falls { F.faults err.old ≤ F.faults err.new }
+    ensures { Writes (fault_line fault) (sink_change F.written F.faults err.old err.new) result }
 {
     match fault {
         Fault::Usage => write_all(err, b"usage: pcm run|gen|map|moves|show|check [options]\n"),

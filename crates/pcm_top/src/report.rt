@@ -1,14 +1,11 @@
 // The reports on rotation: `map` and `moves`.
-ghost use Rattle.std.specs.Prelude.{◌≡◌, ◌≤◌, OnOk, OnErr};
-ghost use Rattle.std.specs.Io.KnownBytes.{Appends};
-ghost use Rattle.pcm_io.specs.Faults.{Rose};
-ghost use Rattle.pcm_io.specs.Giving.{AppendsPrefix};
+ghost use Rattle.std.specs.Prelude.{◌≡◌, ◌≤◌};
 ghost use Rattle.pcm_io.specs.Reserved.{reserved};
 ghost use Rattle.rotation_reports.specs.MapText.{IsMapOptions, map_text};
 ghost use Rattle.rotation_reports.specs.MovesText.{moves_text};
 ghost use Rattle.command_line.specs.Jobs.{IsMoves};
 ghost use Rattle.pcm_top.specs.Jobs.{map_options};
-ghost use Rattle.pcm_top.specs.Calls.{lent_sink};
+ghost use Rattle.pcm_top.specs.Calls.{Writes, lent_sink, sink_change};
 ghost use Rattle.pcm_top.specs.Ends.{EndsText};
 
 use crate::fault::Fault;
@@ -39,10 +36,7 @@ fn options_of(job: &MapJob) -> MapOptions
 fn print_map<K: Sink>(options: MapOptions, text: &mut Text, out: &mut K) -> Result<(), WriteFault>
     requires room { text.old ≡ reserved TEXT_ROOM }
     requires in_range { IsMapOptions options }
-    ensures ok { OnOk result (Appends (K.written out.old) (K.written out.new) (map_text options)) }
-    ensures prefix { OnErr result (AppendsPrefix (K.written out.old) (K.written out.new) (map_text options)) }
-    ensures fault { OnErr result (Rose (K.faults out.old) (K.faults out.new)) }
-    ensures never_falls { K.faults out.old ≤ K.faults out.new }
+    ensures { Writes (map_text options) (sink_change K.written K.faults out.old out.new) result }
 {
     let map = Map::new(options);
     print_map_header(text);
@@ -64,11 +58,7 @@ fn print_moves<K: Sink>(
     requires room { text.old ≡ reserved TEXT_ROOM }
     requires lines { (4 ≤ lines) × (lines ≤ 256) }
     requires first { first ≤ 16781312 }
-    ensures ok { OnOk result (Appends (K.written out.old) (K.written out.new) (moves_text lines first)) }
-    ensures prefix { OnErr result
-        (AppendsPrefix (K.written out.old) (K.written out.new) (moves_text lines first)) }
-    ensures fault { OnErr result (Rose (K.faults out.old) (K.faults out.new)) }
-    ensures never_falls { K.faults out.old ≤ K.faults out.new }
+    ensures { Writes (moves_text lines first) (sink_change K.written K.faults out.old out.new) result }
 {
     print_moves_header(text);
     for row in 0..lines * (lines + 1) {

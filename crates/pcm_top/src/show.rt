@@ -1,16 +1,13 @@
 // The command `show`.
-ghost use Rattle.std.specs.Prelude.{◌≡◌, ◌≢◌, ◌+◌, ◌*◌, ◌<◌, ◌≤◌, ◌∷◌, [], ℕ, decimal, Ok, IfOk, IfErr, OnOk, OnErr};
-ghost use Rattle.std.specs.Io.KnownBytes.{Appends};
+ghost use Rattle.std.specs.Prelude.{◌≡◌, ◌≢◌, ◌<◌, ◌≤◌, ◌∷◌, [], ℕ, decimal, Ok, IfOk, IfErr};
 ghost use Rattle.hex.specs.Hex.{encode_lower};
-ghost use Rattle.pcm_io.specs.Faults.{Rose};
-ghost use Rattle.pcm_io.specs.Giving.{AppendsPrefix};
 ghost use Rattle.pcm_io.specs.Reserved.{appended, reserved, room_in};
 ghost use Rattle.ecp_line.specs.Layout.{IsLayout};
 ghost use Rattle.rotation_reports.specs.Rows.{row_of};
 ghost use Rattle.pcm_image.specs.Saved.{IsSaved, IsSize};
 ghost use Rattle.pcm_image.specs.Reading.{image_of};
 ghost use Rattle.pcm_top.specs.Reading.{ReadsWhole, source_change, trace_room};
-ghost use Rattle.pcm_top.specs.Calls.{lent_sink};
+ghost use Rattle.pcm_top.specs.Calls.{Writes, lent_sink, sink_change};
 ghost use Rattle.pcm_top.specs.Ends.{EndsShow, EndsShown, Gives, Reads};
 ghost use Rattle.pcm_top.specs.Showing.{IsImageFault, IsShowFault, shown_as, shown_of, shown_text};
 
@@ -45,11 +42,7 @@ fn print_lines<const B: usize, const M: usize, const E: usize, K: Sink>(
     requires layout { IsLayout B M E }
     requires size { B ≤ 128 }
     requires saved { IsSaved image.now }
-    ensures ok { OnOk result (Appends (K.written out.old) (K.written out.new) (shown_text E image.now)) }
-    ensures prefix { OnErr result
-        (AppendsPrefix (K.written out.old) (K.written out.new) (shown_text E image.now)) }
-    ensures fault { OnErr result (Rose (K.faults out.old) (K.faults out.new)) }
-    ensures never_falls { K.faults out.old ≤ K.faults out.new }
+    ensures { Writes (shown_text E image.now) (sink_change K.written K.faults out.old out.new) result }
 {
     text.push(b"line,data\n");
     for line in 0..image.total() {

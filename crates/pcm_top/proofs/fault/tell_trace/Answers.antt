@@ -1,17 +1,17 @@
-use Rattle.std.proofs.Common.{◌≡◌, ◌++◌, [], refl}
+use Rattle.std.proofs.Common.{◌≡◌, ◌++◌, [], refl, arith, rules}
+use Rattle.std.proofs.lemmas.Grind.{common_steps}
 use Rattle.pcm_top.specs.FaultLines.{fault_line}
 use Rattle.pcm_top.specs.declared.fault.Fault.TheVariants.{Trace}
 use Rattle.pcm_top.proofs.Telling.{told, told_part}
 use Rattle.pcm_top.proofs.fault.tell_trace.Goals as goal
 
-pub returns-clause-ok : goal.returns-clause-ok
+pub returns : goal.returns
 unfolding fault_line
-returns-clause-ok g c =
-    let line : c.as_slice.result.now ++ (c.as_bytes-row.result.now ++ (c.as_slice-2.result.now ++ (c.word.result.now ++ (c.as_slice-3.result.now ++ [])))) ≡ fault_line (Trace c.args.fault) = rw (c.as_slice.ensures, c.as_bytes-row.ensures.value, c.format.ensures.text, c.as_slice-2.ensures, c.word.ensures, c.as_slice-3.ensures) refl in
-    told c.write_parts.result _ _ _ _ line c.write_parts.ensures.ok
-
-pub returns-clause-prefix : goal.returns-clause-prefix
-unfolding fault_line
-returns-clause-prefix g c =
-    let line : c.as_slice.result.now ++ (c.as_bytes-row.result.now ++ (c.as_slice-2.result.now ++ (c.word.result.now ++ (c.as_slice-3.result.now ++ [])))) ≡ fault_line (Trace c.args.fault) = rw (c.as_slice.ensures, c.as_bytes-row.ensures.value, c.format.ensures.text, c.as_slice-2.ensures, c.word.ensures, c.as_slice-3.ensures) refl in
-    told_part c.write_parts.result _ _ _ _ line c.write_parts.ensures.prefix
+returns g c = record {
+  ok = let line : c.as_slice.result.now ++ (c.as_bytes-row.result.now ++ (c.as_slice-2.result.now ++ (c.word.result.now ++ (c.as_slice-3.result.now ++ [])))) ≡ fault_line (Trace c.args.fault) = rw (c.as_slice.ensures, c.as_bytes-row.ensures.value, c.format.ensures.text, c.as_slice-2.ensures, c.word.ensures, c.as_slice-3.ensures) refl in
+      told c.write_parts.result _ _ _ _ line c.write_parts.ensures.ok;
+  prefix = let line : c.as_slice.result.now ++ (c.as_bytes-row.result.now ++ (c.as_slice-2.result.now ++ (c.word.result.now ++ (c.as_slice-3.result.now ++ [])))) ≡ fault_line (Trace c.args.fault) = rw (c.as_slice.ensures, c.as_bytes-row.ensures.value, c.format.ensures.text, c.as_slice-2.ensures, c.word.ensures, c.as_slice-3.ensures) refl in
+      told_part c.write_parts.result _ _ _ _ line c.write_parts.ensures.prefix;
+  fault = search rules;
+  never_falls = first_of (search rules, grind (arith, common_steps));
+}

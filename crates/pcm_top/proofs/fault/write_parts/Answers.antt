@@ -1,11 +1,16 @@
-use Rattle.std.proofs.Common.{arith}
+use Rattle.std.proofs.Common.{arith, rules}
+use Rattle.std.proofs.lemmas.Grind.{common_steps}
 use Rattle.pcm_top.proofs.Printing.{on_err_any, written-more, written-part}
 use Rattle.pcm_top.proofs.fault.write_parts.Goals as goal
 
-pub returns-in_err-write_all-clause-prefix : goal.returns-in_err-write_all-clause-prefix
-returns-in_err-write_all-clause-prefix g c =
-    on_err_any c.from_residual.result _
-    (written-part c.args.parts.now c.loop-part.part-index _ _ _ _ c.loop-part-test.true c.loop-part.invariant.0 c.in_err-write_all.ensures.prefix)
+pub returns-in_err-write_all : goal.returns-in_err-write_all
+returns-in_err-write_all g c = record {
+  ok = search rules;
+  prefix = on_err_any c.from_residual.result _
+      (written-part c.args.parts.now c.loop-part.part-index _ _ _ _ c.loop-part-test.true c.loop-part.invariant.0 c.in_err-write_all.ensures.prefix);
+  fault = search rules;
+  never_falls = first_of (search rules, grind (arith, common_steps));
+}
 
 pub loop-part-preserved : goal.loop-part-preserved
 loop-part-preserved g c = (
