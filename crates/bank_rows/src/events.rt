@@ -124,7 +124,12 @@ fn write(bank: &mut Bank<64, 8, 6>, row: u32, line: u32, bytes: [u8; 64], given:
     ensures tied { (array : ArrayState 64 8) → IsTied bank.old array → IsTied bank.new array }
 {
     if has_line(bank, line) {
-        let entry = Entry { row, line, bytes, given };
+        let entry = Entry {
+            row,
+            line,
+            bytes,
+            given,
+        };
         wrote(bank.write(entry))
     } else {
         Saw::Refused

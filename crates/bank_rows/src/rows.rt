@@ -134,7 +134,12 @@ fn write<A: CellArray<64, 8>>(
     if !has_line(timed, line) || !is_open(results, row) {
         return false;
     }
-    let entry = Entry { row, line, bytes, given };
+    let entry = Entry {
+        row,
+        line,
+        bytes,
+        given,
+    };
     timed.arrive_write(entry, results);
     true
 }
