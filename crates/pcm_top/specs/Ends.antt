@@ -58,7 +58,8 @@ abbrev pub EndsText : {T K : Type 0} → List ℕ → Lent K SinkChange → Resu
 EndsText text out = Ends (λ done. Gets out.seen text) (GetsPart out.seen text) (λ fault. fault ≡ NoMemory) out
 
 -- how the image that some bytes spell, or don't, is shown
-abbrev pub EndsShown : {T K : Type 0} → Result (List ℕ) ImageFault → Lent K SinkChange → Result T Fault → Type 0
+abbrev pub EndsShown : {T K : Type 0}
+    → Result (List ℕ) ImageFault → Lent K SinkChange → Result T Fault → Type 0
 EndsShown shown out =
     Ends (λ done. ShowsText shown out.seen) (ShowsTextInPart shown out.seen)
     (λ fault. IsImageFault fault shown) out

@@ -85,7 +85,8 @@ fn write_parts<F: Sink>(parts: &[&[u8]], err: &mut F) -> Result<(), WriteFault>
 }
 
 fn tell_trace<F: Sink>(fault: TraceFault, err: &mut F) -> Result<(), WriteFault>
-    ensures { Writes (fault_line (Fault.Trace fault)) (sink_change F.written F.faults err.old err.new) result }
+    ensures { Writes (fault_line (Fault.Trace fault))
+        (sink_change F.written F.faults err.old err.new) result }
 {
     let mut digits = Buffer::new();
     let row = digits.format(fault.row).as_bytes();
@@ -100,7 +101,8 @@ fn tell_trace<F: Sink>(fault: TraceFault, err: &mut F) -> Result<(), WriteFault>
 }
 
 fn tell_image<F: Sink>(fault: ImageFault, err: &mut F) -> Result<(), WriteFault>
-    ensures { Writes (fault_line (Fault.Image fault)) (sink_change F.written F.faults err.old err.new) result }
+    ensures { Writes (fault_line (Fault.Image fault))
+        (sink_change F.written F.faults err.old err.new) result }
 {
     let mut digits = Buffer::new();
     let at = digits.format(fault.at).as_bytes();
@@ -115,7 +117,8 @@ fn tell_image<F: Sink>(fault: ImageFault, err: &mut F) -> Result<(), WriteFault>
 }
 
 fn tell_results<F: Sink>(row: u32, err: &mut F) -> Result<(), WriteFault>
-    ensures { Writes (fault_line (Fault.Results row)) (sink_change F.written F.faults err.old err.new) result }
+    ensures { Writes (fault_line (Fault.Results row))
+        (sink_change F.written F.faults err.old err.new) result }
 {
     let mut digits = Buffer::new();
     let number = digits.format(row).as_bytes();
