@@ -1,4 +1,4 @@
-use Rattle.std.proofs.Common.{◌∙◌, sym, subst, arith}
+use Rattle.std.proofs.Common.{◌∙◌, subst, arith}
 use Rattle.std.proofs.lemmas.Bool.{le-leb}
 use Rattle.row_verdict.specs.Fitting.{IsKnown, follows}
 use Rattle.row_verdict.proofs.Pairs.{first_alone, first_paired}
