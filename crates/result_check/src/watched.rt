@@ -130,6 +130,7 @@ impl Watched {
     {
         let next = earlier(self.next, member.end);
         let twins = twins_with(self.twins, &self.bank.members, member.line);
+        // Where memory runs out nothing is known.
         self.next = 0;
         self.twins = Twins::Anywhere;
         self.bank.pass_write(member, outcome)?;
@@ -149,6 +150,7 @@ impl Watched {
     {
         let next = earlier(self.next, read_at(outcome));
         let twins = self.twins;
+        // Where memory runs out nothing is known.
         self.next = 0;
         self.twins = Twins::Anywhere;
         self.bank.pass_read(tick, outcome)?;

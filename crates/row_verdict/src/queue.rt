@@ -105,7 +105,7 @@ fn has_staying(members: &[Member], line: u32) -> bool
     members.iter().any(|member| is_staying(member, line))
 }
 
-/// What is known once a write of a line joins, where two were of this one alone.
+/// What is known once a write of a line joins, where no line but `pair` may have had two members.
 fn only_with(pair: u32, members: &[Member], line: u32) -> Twins
     requires { IsKnown (twin.Only pair) members.now }
     ensures joins { (m : Member) → m.line ≡ line → IsKnown result (filter (stays_beside line) members.now ++ m ∷ []) }
@@ -120,7 +120,7 @@ fn only_with(pair: u32, members: &[Member], line: u32) -> Twins
     }
 }
 
-/// What is known once a write of a line joins, where two were of none.
+/// What is known once a write of a line joins, where no line had two members.
 fn first_with(members: &[Member], line: u32) -> Twins
     requires { IsKnown twin.Nowhere members.now }
     ensures joins { (m : Member) → m.line ≡ line → IsKnown result (filter (stays_beside line) members.now ++ m ∷ []) }
@@ -133,7 +133,7 @@ fn first_with(members: &[Member], line: u32) -> Twins
     }
 }
 
-/// What is known once a write of a line joins. It holds too where the write doesn't.
+/// What is known once a write of a line joins. It holds too where it is refused.
 pub fn twins_with(twins: Twins, members: &[Member], line: u32) -> Twins
     requires { IsKnown twins members.now }
     ensures joins { (m : Member) → m.line ≡ line → IsKnown result (filter (stays_beside line) members.now ++ m ∷ []) }
