@@ -10,7 +10,6 @@ use Rattle.masked_bytes.proofs.Layering.{length-laid, laid-all_given, laid-laid,
 use Rattle.masked_bytes.proofs.Queueing.{IsLayer, IsLayer-layer_of, stacked-no_layer, append_under, layer_of-none, some_same, IsLayer-layer_by}
 
 module _ {n : ℕ} where
-
   merged_head : (e : Entry n) (es : List (Entry n)) (line i row : ℕ) (bytes : List ℕ) (given : List Bool) (b : Bool)
       → IsMasked n e.bytes e.given → IsMasked n bytes given → layer_of es line ≡ no_layer n → (e.line == line) ≡ b
       → (if b then Some 0 else None) ≡ Some i
