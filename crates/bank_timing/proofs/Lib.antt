@@ -19,6 +19,9 @@ mod Drains
 mod Places
 mod WriteArrivals
 mod Losses
+mod Merging
+mod Sensing
+mod Restoring
 mod Recovers
 mod Firsts
 mod Lawful

@@ -19,10 +19,10 @@ ghost use Rattle.bank_timing.specs.Extending.{Extends, AreOpen, LeavesOthers};
 ghost use Rattle.bank_timing.specs.Losing.{LosesOpen, lost_recorded, with_lost};
 
 use crate::clocked::ClockedBank;
+use crate::recovery::recover;
 use bank_shape::Home;
 use bank_shape::clock::{Action, Doing};
 use pcm_cells::CellArray;
-use register_recovery::recover;
 use result_rows::{Outcome, Results};
 
 impl<const B: usize, const M: usize, const E: usize> ClockedBank<B, M, E> {

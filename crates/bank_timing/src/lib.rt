@@ -7,5 +7,6 @@ pub mod clocked;
 mod completing;
 mod cutting;
 mod draining;
+mod recovery;
 
-pub use register_recovery::recover;
+pub use recovery::recover;

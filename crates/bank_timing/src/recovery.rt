@@ -1,6 +1,4 @@
-//! Reads back what a bank kept, from the control lines of its array and from the change that stands.
-#![tactic(auto)]
-
+// Reads back what a bank kept, from the control lines of its array and from the change that stands.
 ghost use Rattle.std.specs.Prelude.{◌≡◌, ◌+◌, [], ◌∷◌, None, false};
 ghost use Rattle.ecp_line.specs.Layout.{IsLayout};
 ghost use Rattle.bank_model.specs.Touching.{Touches};
@@ -9,7 +7,7 @@ ghost use Rattle.power_recovery.specs.Kept.{KeptState};
 ghost use Rattle.register_laws.specs.Recovering.{IsReadable};
 ghost use Rattle.bank_invariant.specs.Tied.{IsTied};
 ghost use Rattle.bank_core.specs.Stepping.{with_kept};
-ghost use Rattle.register_recovery.specs.Reading.{IsOnLines, spares_back, mark_back};
+ghost use Rattle.bank_timing.specs.Reading.{IsOnLines, spares_back, mark_back};
 
 use bank_core::bank::Bank;
 use pcm_cells::CellArray;

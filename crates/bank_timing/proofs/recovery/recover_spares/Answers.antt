@@ -8,13 +8,13 @@ use Rattle.bank_invariant.specs.State.{BankState}
 use Rattle.bank_core.specs.Stepping.{with_kept}
 use Rattle.register_laws.specs.Items.{spare_values, item_values}
 use Rattle.register_laws.proofs.Items.{item-spare}
-use Rattle.register_recovery.specs.Reading.{IsOnLines, spares_back}
-use Rattle.register_recovery.proofs.Sizes.{bank_fits, kept_fits}
-use Rattle.register_recovery.proofs.Sensing.{item-read, numbers-more}
-use Rattle.register_recovery.proofs.Restoring.{restores-spare, passes-spare, spares-all}
-use Rattle.register_recovery.proofs.recover_spares.Given.{Over}
-use Rattle.register_recovery.proofs.recover_spares.Goals.{After-read_item-values, then-values-ne0, else-values-ne0}
-use Rattle.register_recovery.proofs.recover_spares.Goals as goal
+use Rattle.bank_timing.specs.Reading.{IsOnLines, spares_back}
+use Rattle.bank_timing.proofs.Sizes.{bank_fits, kept_fits}
+use Rattle.bank_timing.proofs.Sensing.{item-read, numbers-more}
+use Rattle.bank_timing.proofs.Restoring.{restores-spare, passes-spare, spares-all}
+use Rattle.bank_timing.proofs.recovery.recover_spares.Given.{Over}
+use Rattle.bank_timing.proofs.recovery.recover_spares.Goals.{After-read_item-values, then-values-ne0, else-values-ne0}
+use Rattle.bank_timing.proofs.recovery.recover_spares.Goals as goal
 
 pub kept-requires : goal.kept-requires
 kept-requires g c = (bank_fits g.row.B g.row.M g.row.E c.requires.layout, kept_fits)

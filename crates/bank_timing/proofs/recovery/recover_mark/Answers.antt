@@ -4,13 +4,13 @@ use Rattle.power_recovery.specs.Kept.{KeptState}
 use Rattle.bank_core.specs.Stepping.{with_kept}
 use Rattle.register_laws.specs.Items.{item_values, mark_values}
 use Rattle.register_laws.proofs.Items.{item-mark}
-use Rattle.register_recovery.specs.Reading.{IsOnLines, mark_back}
-use Rattle.register_recovery.proofs.Sizes.{bank_fits, kept_fits}
-use Rattle.register_recovery.proofs.Sensing.{item-read}
-use Rattle.register_recovery.proofs.Restoring.{restores-mark, passes-mark}
-use Rattle.register_recovery.proofs.recover_mark.Given.{Over}
-use Rattle.register_recovery.proofs.recover_mark.Goals.{After-read_item-values}
-use Rattle.register_recovery.proofs.recover_mark.Goals as goal
+use Rattle.bank_timing.specs.Reading.{IsOnLines, mark_back}
+use Rattle.bank_timing.proofs.Sizes.{bank_fits, kept_fits}
+use Rattle.bank_timing.proofs.Sensing.{item-read}
+use Rattle.bank_timing.proofs.Restoring.{restores-mark, passes-mark}
+use Rattle.bank_timing.proofs.recovery.recover_mark.Given.{Over}
+use Rattle.bank_timing.proofs.recovery.recover_mark.Goals.{After-read_item-values}
+use Rattle.bank_timing.proofs.recovery.recover_mark.Goals as goal
 
 pub kept-requires : goal.kept-requires
 kept-requires g c = (bank_fits g.row.B g.row.M g.row.E c.requires.layout, kept_fits)

@@ -13,7 +13,7 @@ use Rattle.register_laws.specs.Recovering.{IsReadable}
 use Rattle.register_laws.proofs.Holding.{values-stay, read-same}
 use Rattle.register_laws.proofs.Determining.{all-items}
 use Rattle.register_laws.proofs.Staying.{queue_law}
-use Rattle.register_recovery.specs.Reading.{IsOnLines}
+use Rattle.bank_timing.specs.Reading.{IsOnLines}
 
 -- one number more
 pub numbers-more : (from i : ℕ) → numbers_from from i ++ (from + i) ∷ [] ≡ numbers_from from (suc i)

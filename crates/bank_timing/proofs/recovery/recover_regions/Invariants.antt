@@ -4,8 +4,8 @@ use Rattle.bank_model.specs.Changes.{numbers_from}
 use Rattle.power_recovery.specs.Kept.{KeptState}
 use Rattle.bank_core.specs.Stepping.{with_kept}
 use Rattle.register_laws.specs.Recovering.{IsReadable}
-use Rattle.register_recovery.specs.Reading.{regions_back}
-use Rattle.register_recovery.proofs.recover_regions.Given as goal
+use Rattle.bank_timing.specs.Reading.{regions_back}
+use Rattle.bank_timing.proofs.recovery.recover_regions.Given as goal
 
 -- the regions so far are read back
 abbrev pub invariant-loop-i : goal.invariant-loop-i

@@ -3,8 +3,8 @@ use Rattle.bank_model.specs.Touching.{Touches}
 use Rattle.bank_model.specs.Changes.{numbers_from}
 use Rattle.power_recovery.specs.Kept.{KeptState}
 use Rattle.bank_core.specs.Stepping.{with_kept}
-use Rattle.register_recovery.specs.Reading.{IsOnLines, spares_back}
-use Rattle.register_recovery.proofs.recover_spares.Given as goal
+use Rattle.bank_timing.specs.Reading.{IsOnLines, spares_back}
+use Rattle.bank_timing.proofs.recovery.recover_spares.Given as goal
 
 -- the spares so far are read back
 abbrev pub invariant-loop-j : goal.invariant-loop-j

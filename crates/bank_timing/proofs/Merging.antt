@@ -1,6 +1,6 @@
 -- The first so many of one list, and the rest of another.
 use Rattle.std.proofs.Common.{◌≡◌, ℕ, ◌<◌, ◌≤◌, List, [], ◌∷◌, zero, suc, length, get_or, slice_set, refl, ap, arith}
-use Rattle.register_recovery.specs.Reading.{merged}
+use Rattle.bank_timing.specs.Reading.{merged}
 
 module _ {A : Type 0} where
   -- all of the first list

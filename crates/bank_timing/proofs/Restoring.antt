@@ -11,8 +11,8 @@ use Rattle.power_recovery.specs.Kept.{KeptState, IsKept, no_region, region_at}
 use Rattle.power_recovery.specs.Events.{with_regions, retired_kept, exhausted_kept}
 use Rattle.power_recovery.specs.Restoring.{IsOneDue, stripped_kept, region_with, region_restored}
 use Rattle.register_laws.specs.Items.{region_values, spare_values, mark_values}
-use Rattle.register_recovery.specs.Reading.{merged, regions_back, spares_back, mark_back}
-use Rattle.register_recovery.proofs.Merging.{merged-all, merged-more, merged-low, merged-high}
+use Rattle.bank_timing.specs.Reading.{merged, regions_back, spares_back, mark_back}
+use Rattle.bank_timing.proofs.Merging.{merged-all, merged-more, merged-low, merged-high}
 
 -- Lists
 

@@ -8,12 +8,12 @@ use Rattle.bank_invariant.specs.State.{BankState}
 use Rattle.bank_invariant.specs.Tied.{IsTied}
 use Rattle.bank_core.specs.Stepping.{with_kept}
 use Rattle.register_laws.specs.Recovering.{IsReadable}
-use Rattle.register_recovery.specs.Reading.{IsOnLines, spares_back, mark_back}
-use Rattle.register_recovery.proofs.Sizes.{bank_fits}
-use Rattle.register_recovery.proofs.Sensing.{on-lines, on-after, touches-all}
-use Rattle.register_recovery.proofs.recover.Given.{Over}
-use Rattle.register_recovery.proofs.recover.Goals.{After-recover_regions, After-recover_spares}
-use Rattle.register_recovery.proofs.recover.Goals as goal
+use Rattle.bank_timing.specs.Reading.{IsOnLines, spares_back, mark_back}
+use Rattle.bank_timing.proofs.Sizes.{bank_fits}
+use Rattle.bank_timing.proofs.Sensing.{on-lines, on-after, touches-all}
+use Rattle.bank_timing.proofs.recovery.recover.Given.{Over}
+use Rattle.bank_timing.proofs.recovery.recover.Goals.{After-recover_regions, After-recover_spares}
+use Rattle.bank_timing.proofs.recovery.recover.Goals as goal
 
 -- with the regions read back, the lines still hold what was kept
 regions : (g : Over) (c : After-recover_regions g) (kept : KeptState g.row.B)

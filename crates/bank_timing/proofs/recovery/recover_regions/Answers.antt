@@ -8,13 +8,13 @@ use Rattle.bank_invariant.specs.State.{BankState}
 use Rattle.bank_core.specs.Stepping.{with_kept}
 use Rattle.register_laws.specs.Recovering.{IsReadable}
 use Rattle.register_laws.proofs.Items.{item-region}
-use Rattle.register_recovery.specs.Reading.{regions_back}
-use Rattle.register_recovery.proofs.Sizes.{bank_fits, kept_fits}
-use Rattle.register_recovery.proofs.Sensing.{on-lines, item-read, numbers-more}
-use Rattle.register_recovery.proofs.Restoring.{RestoresRegion, restores-region, regions-all}
-use Rattle.register_recovery.proofs.recover_regions.Given.{Over}
-use Rattle.register_recovery.proofs.recover_regions.Goals.{After-read_item-values}
-use Rattle.register_recovery.proofs.recover_regions.Goals as goal
+use Rattle.bank_timing.specs.Reading.{regions_back}
+use Rattle.bank_timing.proofs.Sizes.{bank_fits, kept_fits}
+use Rattle.bank_timing.proofs.Sensing.{on-lines, item-read, numbers-more}
+use Rattle.bank_timing.proofs.Restoring.{RestoresRegion, restores-region, regions-all}
+use Rattle.bank_timing.proofs.recovery.recover_regions.Given.{Over}
+use Rattle.bank_timing.proofs.recovery.recover_regions.Goals.{After-read_item-values}
+use Rattle.bank_timing.proofs.recovery.recover_regions.Goals as goal
 
 pub kept-requires : goal.kept-requires
 kept-requires g c = (bank_fits g.row.B g.row.M g.row.E c.requires.layout, kept_fits)

@@ -1,4 +1,0 @@
-pub mod Sizes
-pub mod Merging
-pub mod Sensing
-pub mod Restoring
