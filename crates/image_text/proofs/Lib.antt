@@ -1,4 +1,3 @@
 pub mod Prints
 mod Sensing
-mod Clocks
-mod Whole
+pub mod Whole

@@ -3,8 +3,6 @@ use Rattle.std.specs.Prelude.{ℕ, List, ◌++◌, Option}
 use Rattle.pcm_io.specs.Giving.{AppendsPrefix}
 use Rattle.pcm_io.specs.Reserved.{Reserved}
 use Rattle.run_text.specs.Gathering.{Printed}
-use Rattle.power_recovery.specs.Kept.{KeptState}
-use Rattle.pcm_module.specs.State.{ModuleState, bank_at}
 
 -- whatever was printed, so many bytes more are printed behind it
 abbrev pub PrintsMore : Reserved → Reserved → Option (List ℕ) → Option (List ℕ) → List ℕ → Type 0
@@ -15,7 +13,3 @@ PrintsMore old new was now piece =
 abbrev pub PrintsPart : Reserved → Option (List ℕ) → Option (List ℕ) → List ℕ → Type 0
 PrintsPart old was now piece =
     (before : Option (List ℕ)) (whole later : List ℕ) → Printed before was old whole → AppendsPrefix before now (whole ++ (piece ++ later))
-
--- what a bank of a module keeps
-abbrev pub kept_in : {n m e : ℕ} → ModuleState n m e → ℕ → KeptState n
-kept_in module_ bank = (bank_at module_ bank).bank.kept

@@ -103,8 +103,8 @@ fn print_entries<const B: usize, K: Sink>(
     Ok(())
 }
 
-// What a bank keeps: its mark, the slots of its used spares, its registers and the writes of its queue.
-pub(crate) fn print_bank<const B: usize, K: Sink>(
+/// Writes what a bank keeps: its mark, the slots of its used spares, its registers and the writes of its queue.
+pub fn print_bank<const B: usize, K: Sink>(
     kept: &Kept<B>,
     text: &mut Text,
     out: &mut K,

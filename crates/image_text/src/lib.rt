@@ -1,9 +1,11 @@
-//! The image of a module as it is printed: its numbers, what each bank keeps, and the cells of each array line. The text is
+//! The parts of a module's image as they are printed: its numbers, what a bank keeps, and the cells of the array lines. The text is
 //! gathered in memory that was reserved before, and written whenever the next piece might not fit.
 #![tactic(auto)]
 
 mod bank;
-mod image;
+mod lines;
 mod pieces;
 
-pub use image::print_image;
+pub use bank::print_bank;
+pub use lines::print_rows;
+pub use pieces::print_head;

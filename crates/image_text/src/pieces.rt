@@ -44,8 +44,8 @@ fn push_head(size: u8, shape: &Shape, seed: u64, text: &mut Text)
     );
 }
 
-// The numbers of a module of these sizes, with lines of so many bytes.
-pub(crate) fn print_head<K: Sink>(
+/// Writes the numbers of a module of these sizes, with lines of so many bytes.
+pub fn print_head<K: Sink>(
     size: u8,
     shape: &Shape,
     seed: u64,

@@ -7,6 +7,7 @@ pub mod Deciding
 mod Replaying
 mod Printable
 mod Wearing
+mod Clocks
 mod Saving
 mod Shown
 mod DrawnRuns

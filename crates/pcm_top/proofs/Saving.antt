@@ -15,11 +15,11 @@ use Rattle.run_laws.specs.Runs.{RunsRight}
 use Rattle.pcm_image.specs.Spelling.{image_bytes}
 use Rattle.image_laws.specs.Saving.{saved_of}
 use Rattle.image_laws.specs.SavedRuns.{IsLeft, SavedLaw, SensedSince, StaysRightLaw}
-use Rattle.image_text.specs.Printing.{kept_in}
 use Rattle.pcm_module.specs.Asking.{asked_for}
 use Rattle.pcm_module.specs.State.{AreEndsOf, ModuleState, bank_at, first_bank}
 use Rattle.command_line.specs.declared.job.Print.{Print}
 use Rattle.command_line.specs.declared.job.Print.TheVariants.{Image}
+use Rattle.pcm_top.specs.Images.{kept_in}
 use Rattle.pcm_top.specs.Played.{IsPlayed}
 use Rattle.pcm_top.specs.Rows.{rows_of}
 use Rattle.pcm_top.specs.RunText.{HaveRoles, IsRunText}

@@ -7,6 +7,7 @@ pub mod Checking
 pub mod Rows
 pub mod Ready
 pub mod Played
+pub mod Images
 pub mod RunText
 pub mod Showing
 pub mod Running

@@ -6,6 +6,7 @@
 mod check;
 mod drawn;
 mod fault;
+mod image;
 mod input;
 pub mod laws;
 mod memory;

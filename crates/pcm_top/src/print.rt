@@ -16,10 +16,10 @@ ghost use Rattle.pcm_top.specs.Played.{IsPlayed};
 ghost use Rattle.pcm_top.specs.Rows.{rows_of};
 ghost use Rattle.pcm_top.specs.RunText.{HaveRoles, IsRunText};
 
+use crate::image::print_image;
 use crate::wear::print_wear;
 use command_line::Print;
 use image_laws::images_are_of_their_runs;
-use image_text::print_image;
 use pcm_cells::CellArray;
 use pcm_io::{Sink, Text, WriteFault};
 use pcm_module::Module;

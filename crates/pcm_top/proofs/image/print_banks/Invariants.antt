@@ -2,8 +2,9 @@ use Rattle.std.proofs.Common.{◌≡◌, ◌≤◌, length, take}
 use Rattle.std.specs.List.{flat_map}
 use Rattle.pcm_image.specs.Spelling.{bank_bytes}
 use Rattle.image_laws.specs.Saving.{saved_banks}
-use Rattle.image_text.specs.Printing.{PrintsMore, kept_in}
-use Rattle.image_text.proofs.image.print_banks.Given as goal
+use Rattle.image_text.specs.Printing.{PrintsMore}
+use Rattle.pcm_top.specs.Images.{kept_in}
+use Rattle.pcm_top.proofs.image.print_banks.Given as goal
 
 -- those so far are printed
 abbrev pub invariant-loop-bank : goal.invariant-loop-bank

@@ -5,7 +5,7 @@ use Rattle.pcm_image.specs.Spelling.{cells_bytes}
 use Rattle.image_laws.specs.Saving.{saved_cells}
 use Rattle.image_laws.specs.SavedRuns.{SensedSince}
 use Rattle.image_text.specs.Printing.{PrintsMore}
-use Rattle.image_text.proofs.image.print_rows.Given as goal
+use Rattle.image_text.proofs.lines.print_rows.Given as goal
 
 -- those so far are printed, and were sensed; each of them has the bytes of a line
 abbrev pub invariant-loop-line : goal.invariant-loop-line

@@ -5,7 +5,7 @@ use Rattle.image_laws.specs.Saving.{saved_cells}
 use Rattle.run_text.proofs.Gathered.{on_err_any}
 use Rattle.image_text.proofs.Sensing.{row-more, rows-all, sensed-more, sensed-none}
 use Rattle.image_text.proofs.Prints.{more-all, more-next, more-none, part-next}
-use Rattle.image_text.proofs.image.print_rows.Goals as goal
+use Rattle.image_text.proofs.lines.print_rows.Goals as goal
 
 pub loop-line-init : goal.loop-line-init
 loop-line-init g c = (more-none c.args.text.now (g.K.Sink.written c.args.out.now), refl, omega arith, omega arith, sensed-none (g.A.CellArray.state c.args.array.now), λ line lt. absurd (omega (arith, lt)))

@@ -1,0 +1,41 @@
+// The array lines of a module, printed one after the other.
+ghost use Rattle.std.specs.Prelude.{◌≡◌, ◌≤◌, OnOk, OnErr};
+ghost use Rattle.std.specs.List.{flat_map};
+ghost use Rattle.pcm_io.specs.Faults.{Rose};
+ghost use Rattle.pcm_cells.specs.Shape.{IsShape};
+ghost use Rattle.pcm_image.specs.Spelling.{cells_bytes};
+ghost use Rattle.image_laws.specs.Saving.{saved_cells};
+ghost use Rattle.image_laws.specs.SavedRuns.{AreRows, SensedSince};
+ghost use Rattle.image_text.specs.Printing.{PrintsMore, PrintsPart};
+
+use crate::pieces::print_cells;
+use pcm_cells::CellArray;
+use pcm_io::{Sink, Text, WriteFault};
+use run_text::ROW_ROOM;
+
+/// Writes the cells of the array lines, in order. Each line is sensed for it, at tick 0 after the run.
+pub fn print_rows<const B: usize, const M: usize, A: CellArray<B, M>, K: Sink>(
+    array: &mut A,
+    text: &mut Text,
+    out: &mut K,
+) -> Result<(), WriteFault>
+    requires limit { ROW_ROOM ≤ text.old.limit }
+    requires shape { IsShape B M }
+    requires small { B ≤ 128 }
+    requires checks { M ≤ 16 }
+    ensures printed { OnOk result (PrintsMore text.old text.new (K.written out.old) (K.written out.new)
+        (flat_map cells_bytes (saved_cells (A.state array.old) (A.state array.old).lines))) }
+    ensures part { OnErr result (PrintsPart text.old (K.written out.old) (K.written out.new)
+        (flat_map cells_bytes (saved_cells (A.state array.old) (A.state array.old).lines))) }
+    ensures sensed { SensedSince (A.state array.old) (A.state array.new) }
+    ensures rows { OnOk result (AreRows (A.state array.new)) }
+    ensures limit { text.new.limit ≡ text.old.limit }
+    ensures fault { OnErr result (Rose (K.faults out.old) (K.faults out.new)) }
+    ensures never_falls { K.faults out.old ≤ K.faults out.new }
+{
+    for line in 0..array.lines() {
+        let cells = array.sense(line, 0);
+        print_cells(&cells, text, out)?;
+    }
+    Ok(())
+}
