@@ -42,3 +42,36 @@ returns-in-NoMemory g c = record {
   fault = search rules;
   never_falls = first_of (search rules, grind (arith, common_steps));
 }
+
+pub write_all-requires : goal.write_all-requires
+write_all-requires g c κs = grind arith
+
+pub tell_trace-requires : goal.tell_trace-requires
+tell_trace-requires g c κs = grind arith
+
+pub tell_results-requires : goal.tell_results-requires
+tell_results-requires g c κs = grind arith
+
+pub tell_image-requires : goal.tell_image-requires
+tell_image-requires g c κs = grind arith
+
+pub write_all-requires-in-Read : goal.write_all-requires-in-Read
+write_all-requires-in-Read g c κs = grind arith
+
+pub write_all-requires-in-Write : goal.write_all-requires-in-Write
+write_all-requires-in-Write g c κs = grind arith
+
+pub write_all-requires-in-TooLong : goal.write_all-requires-in-TooLong
+write_all-requires-in-TooLong g c κs = grind arith
+
+pub write_all-requires-in-NoMemory : goal.write_all-requires-in-NoMemory
+write_all-requires-in-NoMemory g c κs = grind arith
+
+pub returns-in-Trace : goal.returns-in-Trace
+returns-in-Trace g c = grind arith
+
+pub returns-in-Results : goal.returns-in-Results
+returns-in-Results g c = grind arith
+
+pub returns-in-Image : goal.returns-in-Image
+returns-in-Image g c = grind arith

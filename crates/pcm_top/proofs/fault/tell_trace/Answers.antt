@@ -15,3 +15,27 @@ returns g c = record {
   fault = search rules;
   never_falls = first_of (search rules, grind (arith, common_steps));
 }
+
+pub new-digits-requires : goal.new-digits-requires
+new-digits-requires g c = grind arith
+
+pub as_bytes-row-requires : goal.as_bytes-row-requires
+as_bytes-row-requires g c = grind arith
+
+pub as_slice-requires : goal.as_slice-requires
+as_slice-requires g c = grind arith
+
+pub as_slice-requires-2 : goal.as_slice-requires-2
+as_slice-requires-2 g c = grind arith
+
+pub word-requires : goal.word-requires
+word-requires g c = grind arith
+
+pub as_slice-requires-3 : goal.as_slice-requires-3
+as_slice-requires-3 g c = grind arith
+
+pub slice_bounds-write_parts-end : goal.slice_bounds-write_parts-end
+slice_bounds-write_parts-end g c = grind arith
+
+pub write_parts-requires : goal.write_parts-requires
+write_parts-requires g c κs = grind arith

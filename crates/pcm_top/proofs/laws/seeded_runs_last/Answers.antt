@@ -1,4 +1,4 @@
-use Rattle.std.proofs.Common.{sym, ap, subst}
+use Rattle.std.proofs.Common.{arith, sym, ap, subst}
 use Rattle.pcm_cells.specs.Device.{CellBounds}
 use Rattle.pcm_cells.specs.Seeded.{seeded_state, bounds_of}
 use Rattle.run_laws.specs.Lasting.{Outlasts, OutlastsAsked}
@@ -14,3 +14,9 @@ pub returns-clause-asked : goal.returns-clause-asked
 returns-clause-asked c n m e job s array run hot bank is layout exists few =
     c.traces_last.ensures n m e job s (seeded_state array) run hot bank is layout exists
     (subst (λ (bounds : CellBounds). OutlastsAsked bounds e job.shape job.seed (rows_of run.events run.outcomes) bank hot) (sym (ap bounds_of run.wear)) few)
+
+pub runs_last-requires : goal.runs_last-requires
+runs_last-requires c = grind arith
+
+pub traces_last-requires : goal.traces_last-requires
+traces_last-requires c = grind arith

@@ -162,3 +162,24 @@ returns g c =
       untouched = λ other _. absurd (other refl);
       unread = search rules;
     }
+
+pub events_of-requires : goal.events_of-requires
+events_of-requires g c = grind arith
+
+pub returns-in_err-events : goal.returns-in_err-events
+returns-in_err-events g c = grind arith
+
+pub overflow_cast-len : goal.overflow_cast-len
+overflow_cast-len g c = grind arith
+
+pub take_memory-taken-requires : goal.take_memory-taken-requires
+take_memory-taken-requires g c = grind arith
+
+pub right_runs_can_be_printed-requires : goal.right_runs_can_be_printed-requires
+right_runs_can_be_printed-requires g c = grind arith
+
+pub sensed_runs_stay_right-requires : goal.sensed_runs_stay_right-requires
+sensed_runs_stay_right-requires g c = grind arith
+
+pub ending-requires : goal.ending-requires
+ending-requires g c = grind arith

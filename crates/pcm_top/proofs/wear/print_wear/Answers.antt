@@ -47,3 +47,48 @@ returns-clause-prefix g c =
     on_err c.print_rest.result _ _ c.print_rest.ensures.part
     (λ writes. reported-last c.args.pcm.now (g.A.CellArray.state c.args.array.now) c.loop-line.line c.loop-line.text (g.K.Sink.written c.args.out.now) (g.K.Sink.written c.loop-line.out)
     (g.K.Sink.written c.print_rest.new.out) (omega arith) c.loop-line.invariant.0 writes)
+
+pub shape-shape-requires : goal.shape-shape-requires
+shape-shape-requires g c = grind arith
+
+pub array_lines-requires : goal.array_lines-requires
+array_lines-requires g c = grind arith
+
+pub banks-requires : goal.banks-requires
+banks-requires g c = grind arith
+
+pub nonzero_div-bank_lines : goal.nonzero_div-bank_lines
+nonzero_div-bank_lines g c = grind arith
+
+pub print_wear_header-requires : goal.print_wear_header-requires
+print_wear_header-requires g c = grind arith
+
+pub role-role-requires : goal.role-role-requires
+role-role-requires g c = grind arith
+
+pub nonzero_div-line : goal.nonzero_div-line
+nonzero_div-line g c = grind arith
+
+pub pulses-requires : goal.pulses-requires
+pulses-requires g c = grind arith
+
+pub print_wear_row-requires : goal.print_wear_row-requires
+print_wear_row-requires g c = grind arith
+
+pub returns-in_err-print_wear_row-clause-ok : goal.returns-in_err-print_wear_row-clause-ok
+returns-in_err-print_wear_row-clause-ok g c = grind arith
+
+pub returns-in_err-print_wear_row-clause-fault : goal.returns-in_err-print_wear_row-clause-fault
+returns-in_err-print_wear_row-clause-fault g c = grind arith
+
+pub loop-line-smaller : goal.loop-line-smaller
+loop-line-smaller g c = grind arith
+
+pub print_rest-requires : goal.print_rest-requires
+print_rest-requires g c κs = grind arith
+
+pub returns-clause-fault : goal.returns-clause-fault
+returns-clause-fault g c = grind arith
+
+pub returns-clause-never_falls : goal.returns-clause-never_falls
+returns-clause-never_falls g c = grind arith
