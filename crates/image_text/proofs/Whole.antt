@@ -1,5 +1,5 @@
 -- The pieces of an image are the image.
-use Rattle.std.proofs.Common.{◌≡◌, ℕ, List, ◌++◌, refl, ap}
+use Rattle.std.proofs.Common.{◌≡◌, ℕ, ◌++◌, ap}
 use Rattle.std.specs.List.{flat_map}
 use Rattle.pcm_cells.specs.Device.{ArrayState}
 use Rattle.power_recovery.specs.Kept.{KeptState}

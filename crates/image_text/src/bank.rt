@@ -112,8 +112,10 @@ pub fn print_bank<const B: usize, K: Sink>(
     requires limit { ROW_ROOM ≤ text.old.limit }
     requires small { B ≤ 128 }
     requires in_range { IsKept kept.now }
-    ensures printed { OnOk result (PrintsMore text.old text.new (K.written out.old) (K.written out.new) (bank_bytes (saved_bank kept.now))) }
-    ensures part { OnErr result (PrintsPart text.old (K.written out.old) (K.written out.new) (bank_bytes (saved_bank kept.now))) }
+    ensures printed { OnOk result (PrintsMore text.old text.new (K.written out.old) (K.written out.new)
+        (bank_bytes (saved_bank kept.now))) }
+    ensures part { OnErr result (PrintsPart text.old (K.written out.old) (K.written out.new)
+        (bank_bytes (saved_bank kept.now))) }
     ensures limit { text.new.limit ≡ text.old.limit }
     ensures fault { OnErr result (Rose (K.faults out.old) (K.faults out.new)) }
     ensures never_falls { K.faults out.old ≤ K.faults out.new }

@@ -53,8 +53,10 @@ pub fn print_head<K: Sink>(
     out: &mut K,
 ) -> Result<(), WriteFault>
     requires { ROW_ROOM ≤ text.old.limit }
-    ensures printed { OnOk result (PrintsMore text.old text.new (K.written out.old) (K.written out.new) (head_bytes size (head_of shape.now seed))) }
-    ensures part { OnErr result (PrintsPart text.old (K.written out.old) (K.written out.new) (head_bytes size (head_of shape.now seed))) }
+    ensures printed { OnOk result (PrintsMore text.old text.new (K.written out.old) (K.written out.new)
+        (head_bytes size (head_of shape.now seed))) }
+    ensures part { OnErr result (PrintsPart text.old (K.written out.old) (K.written out.new)
+        (head_bytes size (head_of shape.now seed))) }
     ensures limit { text.new.limit ≡ text.old.limit }
     ensures fault { OnErr result (Rose (K.faults out.old) (K.faults out.new)) }
     ensures never_falls { K.faults out.old ≤ K.faults out.new }

@@ -1,5 +1,5 @@
 -- The bank that stands at a number of a module.
-use Rattle.std.proofs.Common.{◌≡◌, ℕ, Some, Option, refl, sym, ap}
+use Rattle.std.proofs.Common.{◌≡◌, ℕ, Some, sym, ap}
 use Rattle.std.specs.Prelude.{slice_get, unwrap_or}
 use Rattle.clock_laws.specs.State.{ClockState}
 use Rattle.pcm_module.specs.State.{ModuleState, bank_at, first_bank}

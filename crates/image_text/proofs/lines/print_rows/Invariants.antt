@@ -1,4 +1,4 @@
-use Rattle.std.proofs.Common.{◌≡◌, ℕ, ◌<◌, ◌≤◌, length, take}
+use Rattle.std.proofs.Common.{◌≡◌, ℕ, ◌<◌, ◌≤◌, take}
 use Rattle.std.specs.List.{flat_map}
 use Rattle.pcm_image.specs.Saved.{IsSavedRow}
 use Rattle.pcm_image.specs.Spelling.{cells_bytes}
