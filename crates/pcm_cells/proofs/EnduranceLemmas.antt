@@ -7,8 +7,8 @@ use Rattle.pcm_cells.specs.declared.row.Cells.{Cells}
 use Rattle.pcm_cells.specs.declared.seeded.SeededCell.{SeededCell}
 use Rattle.pcm_cells.specs.Rows.{cell}
 use Rattle.pcm_cells.specs.Device.{CellBounds, counted}
-use Rattle.pcm_cells.specs.Seeded.{LifeLine, SeededArray, IsDrawn, Wears, bounds_of, changed, life_state, lifeless, pulsed, seeded, seeded_cell, seeded_line, seeded_state}
-use Rattle.pcm_cells.specs.Endurance.{EnduresAtLeast, IsBounded, AreBounded}
+use Rattle.pcm_cells.specs.Seeded.{LifeLine, SeededArray, IsDrawn, Wears, bounds_of, changed, life_state, lifeless, pulsed, seeded, seeded_cell, seeded_line}
+use Rattle.pcm_cells.specs.Endurance.{IsBounded, AreBounded}
 use Rattle.pcm_cells.proofs.RowLemmas.{cell_past}
 use Rattle.pcm_cells.proofs.LineLemmas.{KeepsTo}
 
@@ -109,11 +109,6 @@ bounded_kept {B} {M} bounds at tearing mask want old new few w s line n exists w
           subst (λ l. IsBounded bounds (seeded_line new l).line.pulses (seeded_cell (seeded_line new l) n)) (sym same) count
       | inr other ↦ subst (λ row. IsBounded bounds row.line.pulses (seeded_cell row n)) (sym (w.others line other)) (s line n before within)
     ]
-
--- and then cells endure
-pub bounded_endures : {B M : ℕ} (bounds : CellBounds) (array : SeededArray B M) → AreBounded bounds array.lines → EnduresAtLeast bounds.endures (seeded_state array)
-unfolding AreBounded
-bounded_endures bounds array s line n exists within stuck = (s line n exists within).stuck stuck
 
 pub masked_within : {B M : ℕ} (mask : Cells B M) (n : ℕ) → length mask.bits ≡ B → length mask.meta ≡ M → cell mask n ≡ true → n < 8 * (B + M)
 masked_within {B} {M} mask n bits meta masked =

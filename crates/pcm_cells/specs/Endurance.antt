@@ -1,18 +1,8 @@
 -- Cells that stick only after many pulses of their line, and miss only so often.
-use Rattle.std.specs.Prelude.{ℕ, ◌+◌, ◌*◌, ◌^◌, ◌<◌, ◌≤◌, List, length, slice_index_or, IsTrue, IsFalse, Option}
-use Rattle.pcm_cells.specs.declared.array.Wear.{Wear}
+use Rattle.std.specs.Prelude.{ℕ, ◌+◌, ◌*◌, ◌^◌, ◌<◌, ◌≤◌, List, length, slice_index_or, IsTrue, IsFalse}
 use Rattle.pcm_cells.specs.declared.seeded.SeededCell.{SeededCell}
-use Rattle.pcm_cells.specs.Device.{ArrayState, CellBounds}
-use Rattle.pcm_cells.specs.Seeded.{LifeLine, bounds_of, seeded_cell, lifeless}
-
--- a cell is stuck only if its line was pulsed or torn at least so often
-abbrev pub EnduresAtLeast : {B M : ℕ} → ℕ → ArrayState B M → Type 0
-EnduresAtLeast {B} {M} lo array =
-    (line n : ℕ) → line < array.lines → n < 8 * (B + M) → IsTrue ((array.line line).stuck n) → lo ≤ (array.line line).pulses
-
--- the least number of changes after which a cell sticks; before the array is powered up it is 0
-abbrev pub least_endurance : Option Wear → ℕ
-least_endurance wear = (bounds_of wear).endures
+use Rattle.pcm_cells.specs.Device.{CellBounds}
+use Rattle.pcm_cells.specs.Seeded.{LifeLine, seeded_cell, lifeless}
 
 -- a cell whose line had so many pulses: a live one has enough changes left, and a stuck one's line had enough; it has missed no more often
 -- than its limit, which is none above the bound

@@ -38,7 +38,8 @@ pub trait CellArray<const B: usize, const M: usize> {
 
     ghost state: { Self → ArrayState B M };
 
-    /// Makes `lines` new lines in place of those that were there, which wear out so. `state` tells the wear until the next power-up.
+    /// Makes `lines` new lines in place of those that were there, which wear out so. `state` tells
+    /// the wear until the next power-up.
     fn power_up(&mut self, alloc: Global, lines: u32, wear: Wear) -> Result<(), AllocError>
         requires wear { IsWear wear }
         requires shape { IsShape B M }
@@ -54,14 +55,16 @@ pub trait CellArray<const B: usize, const M: usize> {
         requires exists { line < (state self.old).lines }
         requires shape { IsShape B M }
         ensures cells { result ≡ ((state self.old).line line).held }
-        ensures step { Senses (sense_of line tick ((state self.old).line line)) (state self.old) (state self.new) };
+        ensures step { Senses (sense_of line tick ((state self.old).line line)) (state self.old)
+            (state self.new) };
 
     /// Tries to give each masked cell of the line its wanted value.
     fn pulse(&mut self, line: u32, mask: &Cells<B, M>, want: &Cells<B, M>, tick: u64)
         requires exists { line < (state self.old).lines }
         requires lawful { IsPulse mask.now want.now ((state self.old).line line).held }
         requires shape { IsShape B M }
-        ensures step { DeviceStep (state self.old).bounds mask.now want.now ((state self.old).line line) ((state self.new).line line) }
+        ensures step { DeviceStep (state self.old).bounds mask.now want.now ((state self.old).line line)
+            ((state self.new).line line) }
         ensures others { ChangesOnly line (state self.old) (state self.new) }
         ensures tears { (state self.new).tears ≡ (state self.old).tears };
 
@@ -70,7 +73,8 @@ pub trait CellArray<const B: usize, const M: usize> {
         requires exists { line < (state self.old).lines }
         requires lawful { IsPulse mask.now want.now ((state self.old).line line).held }
         requires shape { IsShape B M }
-        ensures step { TornStep (state self.old).bounds mask.now ((state self.old).line line) ((state self.new).line line) }
+        ensures step { TornStep (state self.old).bounds mask.now ((state self.old).line line)
+            ((state self.new).line line) }
         ensures others { ChangesOnly line (state self.old) (state self.new) }
         ensures tears { (state self.new).tears ≡ counted (state self.old).tears };
 

@@ -74,7 +74,8 @@ fn cleared(bits: u64, place: u32) -> u64
 // Takes one from each count that is in the mask, and answers those of them that were at most one.
 pub(crate) fn spend(left: &mut [u32; 64], mask: u64) -> u64
     ensures last { (i : ℕ) → i < 64 → bit_in result i ≡ bit_in mask i && nat_le (slice_index left.old i) 1 }
-    ensures here { (i : ℕ) → i < 64 → slice_index left.new i ≡ (if bit_in mask i then slice_index left.old i - 1 else slice_index left.old i) }
+    ensures here { (i : ℕ) → i < 64 → slice_index left.new i
+        ≡ (if bit_in mask i then slice_index left.old i - 1 else slice_index left.old i) }
 {
     let mut last = 0;
     let mut rest = mask;
@@ -119,7 +120,8 @@ fn digit_at(bits: u32, place: u32) -> u32
 // Takes from each of 32 counts the number whose binary digits these are, the lowest first.
 fn level_half(left: &mut [u32; 64], first: usize, low: u32, middle: u32, high: u32)
     requires { first ≤ 32 }
-    ensures here { (i : ℕ) → i < 32 → slice_index left.new (first + i) ≡ slice_index left.old (first + i) - number_of (bit_in low i) (bit_in middle i) (bit_in high i) }
+    ensures here { (i : ℕ) → i < 32 → slice_index left.new (first + i) ≡ slice_index left.old (first + i)
+        - number_of (bit_in low i) (bit_in middle i) (bit_in high i) }
     ensures before { (n : ℕ) → n < first → slice_index left.new n ≡ slice_index left.old n }
     ensures after { (n : ℕ) → first + 32 ≤ n → slice_index left.new n ≡ slice_index left.old n }
 {
@@ -132,7 +134,8 @@ fn level_half(left: &mut [u32; 64], first: usize, low: u32, middle: u32, high: u
 
 // Takes from each count the number whose binary digits these are, the lowest first.
 pub(crate) fn level(left: &mut [u32; 64], low: u64, middle: u64, high: u64)
-    ensures { (i : ℕ) → i < 64 → slice_index left.new i ≡ slice_index left.old i - number_of (bit_in low i) (bit_in middle i) (bit_in high i) }
+    ensures { (i : ℕ) → i < 64 → slice_index left.new i ≡ slice_index left.old i
+        - number_of (bit_in low i) (bit_in middle i) (bit_in high i) }
 {
     let (low, middle, high) = (halves(low), halves(middle), halves(high));
     level_half(left, 0, low.0, middle.0, high.0);

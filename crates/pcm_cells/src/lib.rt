@@ -1,5 +1,6 @@
-//! Rows of one-bit memory cells, and arrays of them whose cells miss, stick or are torn by a power cut.
-//! A trait says all that a pulse, a tear and a sense may do to an array, so that a controller can be proved over every one.
+//! Rows of one-bit memory cells, and arrays of them whose cells miss, stick or are torn by a
+//! power cut. A trait says all that a pulse, a tear and a sense may do to an array, so that a
+//! controller can be proved over every one.
 #![tactic(auto)]
 
 mod array;

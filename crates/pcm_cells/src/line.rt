@@ -8,7 +8,8 @@ use crate::Cells;
 use std::alloc::{AllocError, Global};
 use std::marker::Model;
 
-/// One cell: what it holds, whether it is stuck at that, and how often it missed since it last changed, 0 to 7.
+/// One cell: what it holds, whether it is stuck at that, and how often it missed
+/// since it last changed, 0 to 7.
 #[derive(Clone, Copy, Drop)]
 pub struct CellState {
     pub value: bool,
@@ -32,9 +33,15 @@ impl<const B: usize, const M: usize> Model for Line<B, M> {
 
     ghost Value = { CellLine B M };
 
-    ghost view = { λ l. record { held = l.held; stuck = l.stuck; misses = l.misses.items; pulses = l.pulses } };
+    ghost view = { λ l. record {
+      held = l.held;
+      stuck = l.stuck;
+      misses = l.misses.items;
+      pulses = l.pulses;
+    } };
 
-    ghost invariant = { λ l. (vec_len l.misses ≡ 8 * (B + M)) × ((n : ℕ) → slice_index l.misses.items n ≤ 7) × IsShape B M };
+    ghost invariant = { λ l. (vec_len l.misses ≡ 8 * (B + M)) × ((n : ℕ) → slice_index l.misses.items n ≤ 7)
+        × IsShape B M };
 }
 
 impl<const B: usize, const M: usize> Line<B, M> {

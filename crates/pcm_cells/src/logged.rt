@@ -103,11 +103,16 @@ impl<A: CellArray<B, M> + Drop, const B: usize, const M: usize> CellArray<B, M>
         requires exists { line < (A.state self.old.inner).lines }
         requires shape { IsShape B M }
         ensures cells { result ≡ ((A.state self.old.inner).line line).held }
-        ensures step { Senses (sense_of line tick ((A.state self.old.inner).line line)) (logged_state (A.state self.old.inner) self.old) (logged_state (A.state self.new.inner) self.new) }
-        ensures log { told_log self.new ≡ logged self.old.cap (sense_of line tick ((A.state self.old.inner).line line)) (told_log self.old) }
+        ensures step { Senses (sense_of line tick ((A.state self.old.inner).line line))
+            (logged_state (A.state self.old.inner) self.old)
+            (logged_state (A.state self.new.inner) self.new) }
+        ensures log { told_log self.new
+            ≡ logged self.old.cap (sense_of line tick ((A.state self.old.inner).line line))
+            (told_log self.old) }
 
         // the inner array senses the same line at the same tick
-        ensures passed { Senses (sense_of line tick ((A.state self.old.inner).line line)) (A.state self.old.inner) (A.state self.new.inner) }
+        ensures passed { Senses (sense_of line tick ((A.state self.old.inner).line line))
+            (A.state self.old.inner) (A.state self.new.inner) }
         ensures cap { self.new.cap ≡ self.old.cap }
     {
         let sense = Sense {
@@ -124,8 +129,10 @@ impl<A: CellArray<B, M> + Drop, const B: usize, const M: usize> CellArray<B, M>
         requires exists { line < (A.state self.old.inner).lines }
         requires lawful { IsPulse mask.now want.now ((A.state self.old.inner).line line).held }
         requires shape { IsShape B M }
-        ensures step { DeviceStep (A.state self.old.inner).bounds mask.now want.now ((A.state self.old.inner).line line) ((A.state self.new.inner).line line) }
-        ensures others { ChangesOnly line (logged_state (A.state self.old.inner) self.old) (logged_state (A.state self.new.inner) self.new) }
+        ensures step { DeviceStep (A.state self.old.inner).bounds mask.now want.now
+            ((A.state self.old.inner).line line) ((A.state self.new.inner).line line) }
+        ensures others { ChangesOnly line (logged_state (A.state self.old.inner) self.old)
+            (logged_state (A.state self.new.inner) self.new) }
         ensures tears { (A.state self.new.inner).tears ≡ (A.state self.old.inner).tears }
         ensures passed { ChangesOnly line (A.state self.old.inner) (A.state self.new.inner) }
         ensures cap { self.new.cap ≡ self.old.cap }
@@ -137,8 +144,10 @@ impl<A: CellArray<B, M> + Drop, const B: usize, const M: usize> CellArray<B, M>
         requires exists { line < (A.state self.old.inner).lines }
         requires lawful { IsPulse mask.now want.now ((A.state self.old.inner).line line).held }
         requires shape { IsShape B M }
-        ensures step { TornStep (A.state self.old.inner).bounds mask.now ((A.state self.old.inner).line line) ((A.state self.new.inner).line line) }
-        ensures others { ChangesOnly line (logged_state (A.state self.old.inner) self.old) (logged_state (A.state self.new.inner) self.new) }
+        ensures step { TornStep (A.state self.old.inner).bounds mask.now ((A.state self.old.inner).line line)
+            ((A.state self.new.inner).line line) }
+        ensures others { ChangesOnly line (logged_state (A.state self.old.inner) self.old)
+            (logged_state (A.state self.new.inner) self.new) }
         ensures tears { (A.state self.new.inner).tears ≡ counted (A.state self.old.inner).tears }
         ensures passed { ChangesOnly line (A.state self.old.inner) (A.state self.new.inner) }
         ensures cap { self.new.cap ≡ self.old.cap }

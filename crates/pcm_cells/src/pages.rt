@@ -11,8 +11,8 @@ use crate::seeded::SeededLine;
 use crate::{Cells, Wear};
 use std::alloc::{AllocError, Global};
 
-/// The lines of an array, each with a page from its first pulse or tear on. A line without a page is as its words will draw it:
-/// they depend on the seed and its number alone.
+/// The lines of an array, each with a page from its first pulse or tear on. A line without a page is as its
+/// words will draw it: they depend on the seed and its number alone.
 #[derive(Drop)]
 pub(crate) struct Pages<const B: usize, const M: usize> {
     wear: Wear,
@@ -110,7 +110,8 @@ impl<const B: usize, const M: usize> Pages<B, M> {
         requires exists { line < length self.old.table.items }
         requires shape { IsShape B M }
         requires whole { IsWhole B M }
-        ensures cells { Follows (cell mask.now) (seeded tearing (cell want.now)) (seeded_cell (seen self.old line)) (seeded_cell (seen self.new line)) }
+        ensures cells { Follows (cell mask.now) (seeded tearing (cell want.now))
+            (seeded_cell (seen self.old line)) (seeded_cell (seen self.new line)) }
         ensures pulses { (seen self.new line).line.pulses ≡ counted (seen self.old line).line.pulses }
         ensures others { (n : ℕ) → n ≢ line → seen self.new n ≡ seen self.old n }
         ensures lines { length self.new.table.items ≡ length self.old.table.items }

@@ -7,8 +7,8 @@ ghost use Rattle.pcm_cells.specs.Planes.{bit_in};
 use crate::blocks::{read_block, write_block};
 use crate::bytes::{and_with, bit, is_zero, set_bit, xor_with};
 
-/// A row of `8 * B` data cells and `8 * M` check cells of one bit each, or a mask over such a row.
-/// Cell `n` is bit `n % 8`, the lowest being bit 0, of byte `n / 8` of the data bytes followed by the check bytes.
+/// A row of `8 * B` data cells and `8 * M` check cells of one bit each, or a mask over such a row. Cell `n`
+/// is bit `n % 8`, the lowest being bit 0, of byte `n / 8` of the data bytes followed by the check bytes.
 #[derive(Clone, Copy, Drop)]
 pub struct Cells<const B: usize, const M: usize> {
     pub bits: [u8; B],

@@ -80,7 +80,8 @@ impl<const B: usize, const M: usize> Model for ScriptLine<B, M> {
 
     ghost view = { λ l. record { line = l.line; turns = l.turns.items } };
 
-    ghost invariant = { λ l. (vec_len l.turns ≡ 8 * (B + M)) × ((n : ℕ) → slice_index l.line.misses n ≤ 7) × IsShape B M };
+    ghost invariant = { λ l. (vec_len l.turns ≡ 8 * (B + M)) × ((n : ℕ) → slice_index l.line.misses n ≤ 7)
+        × IsShape B M };
 }
 
 ghost use Rattle.pcm_cells.specs.Cell.{cell_state, line_state, SetsCell};
@@ -111,7 +112,8 @@ impl<const B: usize, const M: usize> ScriptLine<B, M> {
         want: &Cells<B, M>,
     )
         requires { number < 8 * (B + M) }
-        ensures here { scripted_cell self.new number ≡ scripted script.now line tearing (cell want.now) number (scripted_cell self.old number) }
+        ensures here { scripted_cell self.new number
+            ≡ scripted script.now line tearing (cell want.now) number (scripted_cell self.old number) }
         ensures others { (n : ℕ) → n ≢ number → scripted_cell self.new n ≡ scripted_cell self.old n }
         ensures pulses { self.new.line.pulses ≡ self.old.line.pulses }
     {
@@ -137,7 +139,9 @@ impl<const B: usize, const M: usize> ScriptLine<B, M> {
     )
         requires exists { group < B + M }
         requires shape { IsShape B M }
-        ensures cells { FollowsIn (8 * group) (8 * group + 8) (cell mask.now) (scripted script.now line tearing (cell want.now)) (scripted_cell self.old) (scripted_cell self.new) }
+        ensures cells { FollowsIn (8 * group) (8 * group + 8) (cell mask.now)
+            (scripted script.now line tearing (cell want.now)) (scripted_cell self.old)
+            (scripted_cell self.new) }
         ensures pulses { self.new.line.pulses ≡ self.old.line.pulses }
     {
         for number in 8 * group..8 * group + 8 {
@@ -158,7 +162,8 @@ impl<const B: usize, const M: usize> ScriptLine<B, M> {
         want: &Cells<B, M>,
     )
         requires { IsShape B M }
-        ensures cells { Follows (cell mask.now) (scripted script.now line tearing (cell want.now)) (scripted_cell self.old) (scripted_cell self.new) }
+        ensures cells { Follows (cell mask.now) (scripted script.now line tearing (cell want.now))
+            (scripted_cell self.old) (scripted_cell self.new) }
         ensures pulses { self.new.line.pulses ≡ counted self.old.line.pulses }
         ensures few { (n : ℕ) → slice_index self.new.line.misses n ≤ 7 }
     {
@@ -185,8 +190,8 @@ fn blank_lines<const B: usize, const M: usize>(
     Ok(rows)
 }
 
-/// An array whose cells miss and stick exactly as its script says. It only keeps its `Wear`, and tells no log.
-/// Contracts see it as a `ScriptedArray`.
+/// An array whose cells miss and stick exactly as its script says. It only keeps its `Wear`, and tells no
+/// log. Contracts see it as a `ScriptedArray`.
 #[derive(Drop)]
 pub struct ScriptArray<const B: usize, const M: usize> {
     lines: Option<Vec<ScriptLine<B, M>>>,
@@ -202,7 +207,12 @@ impl<const B: usize, const M: usize> Model for ScriptArray<B, M> {
 
     ghost Value = { ScriptedArray B M };
 
-    ghost view = { λ a. record { lines = scripted_lines a.lines; script = a.script.items; tears = a.tears; wear = a.wear } };
+    ghost view = { λ a. record {
+      lines = scripted_lines a.lines;
+      script = a.script.items;
+      tears = a.tears;
+      wear = a.wear;
+    } };
 
     ghost invariant = { λ a. (length (scripted_lines a.lines) < 2 ^ 32) × IsShape B M };
 }
@@ -225,7 +235,11 @@ impl<const B: usize, const M: usize> ScriptArray<B, M> {
 
     fn renew(&mut self, alloc: Global, lines: u32, wear: Wear) -> Result<(), AllocError>
         requires { IsShape B M }
-        ensures ok { OnOk result (self.new ≡ record self.old { lines = replicate lines (blank_scripted B M); tears = 0; wear = Some wear }) }
+        ensures ok { OnOk result (self.new ≡ record self.old {
+          lines = replicate lines (blank_scripted B M);
+          tears = 0;
+          wear = Some wear;
+        }) }
         ensures err { OnErr result (self.new ≡ record self.old { lines = []; tears = 0; wear = Some wear }) }
     {
         self.lines = None;
@@ -279,7 +293,8 @@ impl<const B: usize, const M: usize> CellArray<B, M> for ScriptArray<B, M> {
         requires exists { line < length self.old.lines }
         requires shape { IsShape B M }
         ensures cells { result ≡ (scripted_line self.old line).line.held }
-        ensures step { Senses (sense_of line tick ((scripted_state self.old).line line)) (scripted_state self.old) (scripted_state self.new) }
+        ensures step { Senses (sense_of line tick ((scripted_state self.old).line line))
+            (scripted_state self.old) (scripted_state self.new) }
         ensures kept { self.new ≡ self.old }
     {
         let Some(lines) = &self.lines else {
@@ -292,7 +307,8 @@ impl<const B: usize, const M: usize> CellArray<B, M> for ScriptArray<B, M> {
         requires exists { line < length self.old.lines }
         requires lawful { IsPulse mask.now want.now (scripted_line self.old line).line.held }
         requires shape { IsShape B M }
-        ensures step { DeviceStep (scripted_state self.old).bounds mask.now want.now ((scripted_state self.old).line line) ((scripted_state self.new).line line) }
+        ensures step { DeviceStep (scripted_state self.old).bounds mask.now want.now
+            ((scripted_state self.old).line line) ((scripted_state self.new).line line) }
         ensures others { ChangesOnly line (scripted_state self.old) (scripted_state self.new) }
         ensures tears { self.new.tears ≡ self.old.tears }
         ensures turn { Turns line false mask.now want.now self.old self.new }
@@ -304,7 +320,8 @@ impl<const B: usize, const M: usize> CellArray<B, M> for ScriptArray<B, M> {
         requires exists { line < length self.old.lines }
         requires lawful { IsPulse mask.now want.now (scripted_line self.old line).line.held }
         requires shape { IsShape B M }
-        ensures step { TornStep (scripted_state self.old).bounds mask.now ((scripted_state self.old).line line) ((scripted_state self.new).line line) }
+        ensures step { TornStep (scripted_state self.old).bounds mask.now
+            ((scripted_state self.old).line line) ((scripted_state self.new).line line) }
         ensures others { ChangesOnly line (scripted_state self.old) (scripted_state self.new) }
         ensures tears { self.new.tears ≡ counted self.old.tears }
         ensures turn { Turns line true mask.now want.now self.old self.new }

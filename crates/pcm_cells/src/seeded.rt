@@ -87,7 +87,12 @@ impl<const B: usize, const M: usize> SeededLine<B, M> {
     // A line with these lives that was never pulsed.
     fn new(left: Counts<B, M>, limits: Digits<B, M>, ends: Cells<B, M>) -> SeededLine<B, M>
         requires { IsShape B M }
-        ensures is { result ≡ record { line = blank_planes B M; left = left_of (zero_digits B M) left.entry; limits = limits.entry; ends = ends.entry } }
+        ensures is { result ≡ record {
+          line = blank_planes B M;
+          left = left_of (zero_digits B M) left.entry;
+          limits = limits.entry;
+          ends = ends.entry;
+        } }
         ensures no_limits { (n : ℕ) → 8 * (B + M) ≤ n → digit limits.entry n ≡ 0 }
         ensures no_ends { (n : ℕ) → 8 * (B + M) ≤ n → cell ends.entry n ≡ false }
     {
@@ -123,16 +128,21 @@ impl<const B: usize, const M: usize> SeededLine<B, M> {
         SeededLine::new(left, limits, ends)
     }
 
-    // Takes one from each count of a block that is in the mask, and answers those of them that were at most one.
-    // The counts themselves are brought up to date only where a digit is full, or a count low.
+    // Takes one from each count of a block that is in the mask, and answers those of them that were at most
+    // one. The counts themselves are brought up to date only where a digit is full, or a count low.
     fn spend(&mut self, block: usize, changing: u64) -> u64
         requires exists { 8 * block < B + M }
         requires shape { IsShape B M }
         requires whole { IsWhole B M }
-        requires live { (i : ℕ) → i < 64 → bit_in changing i ≡ true → cell self.old.line.stuck (64 * block + i) ≡ false }
-        ensures last { (i : ℕ) → i < 64 → bit_in result i ≡ bit_in changing i && nat_le (slice_index self.old.left (64 * block + i)) 1 }
-        ensures here { (i : ℕ) → i < 64 → slice_index self.new.left (64 * block + i) ≡ (if bit_in changing i then slice_index self.old.left (64 * block + i) - 1 else slice_index self.old.left (64 * block + i)) }
-        ensures others { (n : ℕ) → n / 64 ≢ block → slice_index self.new.left n ≡ slice_index self.old.left n }
+        requires live { (i : ℕ) → i < 64 → bit_in changing i ≡ true
+            → cell self.old.line.stuck (64 * block + i) ≡ false }
+        ensures last { (i : ℕ) → i < 64 → bit_in result i ≡ bit_in changing i
+            && nat_le (slice_index self.old.left (64 * block + i)) 1 }
+        ensures here { (i : ℕ) → i < 64 → slice_index self.new.left (64 * block + i)
+            ≡ (if bit_in changing i then slice_index self.old.left (64 * block + i) - 1
+            else slice_index self.old.left (64 * block + i)) }
+        ensures others { (n : ℕ) → n / 64 ≢ block → slice_index self.new.left n
+            ≡ slice_index self.old.left n }
         ensures line { self.new.line ≡ self.old.line }
         ensures limits { self.new.limits ≡ self.old.limits }
         ensures ends { self.new.ends ≡ self.old.ends }
@@ -163,7 +173,8 @@ impl<const B: usize, const M: usize> SeededLine<B, M> {
         requires exists { 8 * block < B + M }
         requires shape { IsShape B M }
         requires whole { IsWhole B M }
-        ensures cells { FollowsIn (64 * block) (64 * block + 64) (cell mask.now) (seeded tearing (cell want.now)) (seeded_cell self.old) (seeded_cell self.new) }
+        ensures cells { FollowsIn (64 * block) (64 * block + 64) (cell mask.now)
+            (seeded tearing (cell want.now)) (seeded_cell self.old) (seeded_cell self.new) }
         ensures pulses { self.new.line.pulses ≡ self.old.line.pulses }
     {
         let stuck = self.stuck.block(block);
@@ -182,7 +193,8 @@ impl<const B: usize, const M: usize> SeededLine<B, M> {
     pub(crate) fn wear(&mut self, tearing: bool, mask: &Cells<B, M>, want: &Cells<B, M>)
         requires shape { IsShape B M }
         requires whole { IsWhole B M }
-        ensures cells { Follows (cell mask.now) (seeded tearing (cell want.now)) (seeded_cell self.old) (seeded_cell self.new) }
+        ensures cells { Follows (cell mask.now) (seeded tearing (cell want.now)) (seeded_cell self.old)
+            (seeded_cell self.new) }
         ensures pulses { self.new.line.pulses ≡ counted self.old.line.pulses }
     {
         for block in 0..(B + M) / 8 {
@@ -209,10 +221,12 @@ impl<const B: usize, const M: usize> SeededLine<B, M> {
 ghost use Rattle.std.specs.Prelude.{[]};
 ghost use Rattle.pcm_cells.specs.Seeded.{bounds_of, seeded_line, seeded_state, Wears};
 
-/// An array whose cells miss and wear out as the words of the generator xoshiro256++ say, which `Wear::seed` and the line's number seed.
-/// A tear reaches the masked cells of even number alone. It tells no log. Contracts see it as a `SeededArray`.
+/// An array whose cells miss and wear out as the words of the generator xoshiro256++ say, which `Wear::seed`
+/// and the line's number seed. A tear reaches the masked cells of even number alone. It tells no log.
+/// Contracts see it as a `SeededArray`.
 ///
-/// `power_up` takes room for all lines and draws no word: those of a line are drawn at its first pulse or tear.
+/// `power_up` takes room for all lines and draws no word: those of a line are
+/// drawn at its first pulse or tear.
 #[derive(Drop)]
 pub struct MemArray<const B: usize, const M: usize> {
     lines: Option<Pages<B, M>>,
@@ -230,11 +244,12 @@ impl<const B: usize, const M: usize> Model for MemArray<B, M> {
 
     ghost view = { λ a. record { lines = seeded_lines a.lines; tears = a.tears; wear = a.wear } };
 
-    ghost invariant = { λ a. IsShape B M × IsWhole B M × IsInRange (bounds_of a.wear) × AreBounded (bounds_of a.wear) (seeded_lines a.lines) };
+    ghost invariant = { λ a. IsShape B M × IsWhole B M × IsInRange (bounds_of a.wear)
+        × AreBounded (bounds_of a.wear) (seeded_lines a.lines) };
 }
 
 impl<const B: usize, const M: usize> MemArray<B, M> {
-    ghost use Rattle.pcm_cells.specs.Endurance.{AreBounded, EnduresAtLeast, IsInRange, least_endurance};
+    ghost use Rattle.pcm_cells.specs.Endurance.{AreBounded, IsInRange};
 
     /// An array without lines, whose rows are to be whole blocks of 64 cells.
     pub fn new() -> MemArray<B, M>
@@ -246,18 +261,6 @@ impl<const B: usize, const M: usize> MemArray<B, M> {
             lines: None,
             tears: 0,
             wear: None,
-        }
-    }
-
-    /// The least number of pulses and tears of a line with a stuck cell: `lo` of the wear that the array was last powered up with,
-    /// and before that 0.
-    pub fn endurance(&self) -> u32
-        ensures is { result ≡ least_endurance (seeded_state self.now).wear }
-        ensures endures { EnduresAtLeast result (seeded_state self.now) }
-    {
-        match self.wear {
-            Some(wear) => wear.lo,
-            None => 0,
         }
     }
 
@@ -309,7 +312,8 @@ impl<const B: usize, const M: usize> CellArray<B, M> for MemArray<B, M> {
         requires exists { line < length self.old.lines }
         requires shape { IsShape B M }
         ensures cells { result ≡ (seeded_line self.old line).line.held }
-        ensures step { Senses (sense_of line tick ((seeded_state self.old).line line)) (seeded_state self.old) (seeded_state self.new) }
+        ensures step { Senses (sense_of line tick ((seeded_state self.old).line line))
+            (seeded_state self.old) (seeded_state self.new) }
         ensures kept { self.new ≡ self.old }
     {
         let Some(lines) = &self.lines else {
@@ -322,7 +326,8 @@ impl<const B: usize, const M: usize> CellArray<B, M> for MemArray<B, M> {
         requires exists { line < length self.old.lines }
         requires lawful { IsPulse mask.now want.now (seeded_line self.old line).line.held }
         requires shape { IsShape B M }
-        ensures step { DeviceStep (seeded_state self.old).bounds mask.now want.now ((seeded_state self.old).line line) ((seeded_state self.new).line line) }
+        ensures step { DeviceStep (seeded_state self.old).bounds mask.now want.now
+            ((seeded_state self.old).line line) ((seeded_state self.new).line line) }
         ensures others { ChangesOnly line (seeded_state self.old) (seeded_state self.new) }
         ensures tears { self.new.tears ≡ self.old.tears }
         ensures wears { Wears line false mask.now want.now self.old self.new }
@@ -334,7 +339,8 @@ impl<const B: usize, const M: usize> CellArray<B, M> for MemArray<B, M> {
         requires exists { line < length self.old.lines }
         requires lawful { IsPulse mask.now want.now (seeded_line self.old line).line.held }
         requires shape { IsShape B M }
-        ensures step { TornStep (seeded_state self.old).bounds mask.now ((seeded_state self.old).line line) ((seeded_state self.new).line line) }
+        ensures step { TornStep (seeded_state self.old).bounds mask.now ((seeded_state self.old).line line)
+            ((seeded_state self.new).line line) }
         ensures others { ChangesOnly line (seeded_state self.old) (seeded_state self.new) }
         ensures tears { self.new.tears ≡ counted self.old.tears }
         ensures wears { Wears line true mask.now want.now self.old self.new }
