@@ -1,17 +1,17 @@
 -- Each entry of a history's queue has the row and the line of one of its writes.
-use Rattle.std.proofs.Common.{◌≡◌, ℕ, ◌<◌, ◌≤◌, ◌==◌, ◌&&◌, not, cond, if◌then◌else◌, Bool, true, false, List, [], ◌∷◌, ◌++◌, length, drop, Option, Some, None, refl, sym, subst, ap, ◌∙◌, arith, eqb-true, eq-eqb}
+use Rattle.std.proofs.Common.{◌≡◌, ℕ, ◌<◌, ◌≤◌, ◌==◌, ◌&&◌, not, cond, if◌then◌else◌, Bool, true, false, List, [], ◌∷◌, ◌++◌, length, drop, Option, Some, None, refl, sym, ap, ◌∙◌, arith, eqb-true, eq-eqb}
 use Rattle.std.proofs.lemmas.Bool.{ne_eqb}
-use Rattle.masked_bytes.specs.Entries.{or_this, newest_row, candidate, laid_on, merged, merged_at, head_row, head_line, has_row, RowsApart}
+use Rattle.masked_bytes.specs.Entries.{or_this, newest_row, candidate, laid_on, merged, head_row, head_line, has_row, RowsApart}
 use Rattle.masked_bytes.specs.declared.entry.Entry.{Entry}
-use Rattle.masked_bytes.proofs.Queueing.{newest_place-within, candidate_place-newest, merged-row_at}
-use Rattle.masked_bytes.proofs.Standing.{RowsApart-append, RowsApart-merged_at}
+use Rattle.masked_bytes.proofs.Rows.{apart-push, apart-drop, apart-merged}
 use Rattle.bank_shape.specs.declared.BankShape.{BankShape}
 use Rattle.bank_shape.specs.declared.answer.WriteAnswer.TheVariants as wrote
 use Rattle.bank_shape.specs.declared.answer.Step.TheVariants as did
 use Rattle.bank_model.specs.Events.{Event, Write, Read, Serve, Begin, Iterate, Cut, line_of_row, newest, RowsBelow}
 use Rattle.bank_model.specs.History.{queue, begun, due_after, has_exhausted}
 use Rattle.bank_model.specs.Answers.{MayAll, head_busy_after}
-use Rattle.bank_invariant.proofs.Taking.{answer_merged, some_place}
+use Rattle.bank_model.proofs.Begun.{apart-begun}
+use Rattle.bank_invariant.proofs.Taking.{answer_merged}
 
 -- each entry's row is below a bound, and names its line
 abbrev pub AreNamed : {n : ℕ} → (ℕ → ℕ) → ℕ → List (Entry n) → Type 0
@@ -147,44 +147,25 @@ module _ {n : ℕ} where
       let first = named.0 in
       rw (ne_eqb e.row bound (λ same. omega (arith, same, first))) (AreNamed-no_row line_of bound es named.2)
 
-  RowsApart-begun : (due : Option ℕ) (newest_of : ℕ → List ℕ) (es : List (Entry n)) → RowsApart es → RowsApart (begun due newest_of es)
-  RowsApart-begun (Some region) newest_of es apart = apart
-  RowsApart-begun None newest_of [] apart = apart
-  RowsApart-begun None newest_of (e ∷ es) apart = apart
-
-  RowsApart-drop : (es : List (Entry n)) → RowsApart es → RowsApart (drop 1 es)
-  RowsApart-drop [] apart = tt
-  RowsApart-drop (e ∷ es) apart = apart.1
-
-  RowsApart-merged : (busy : Bool) (es : List (Entry n)) (line old row : ℕ) (bytes : List ℕ) (given : List Bool) → RowsApart es → has_row es row ≡ false
-      → candidate busy es line ≡ Some old → RowsApart (merged old row bytes given es)
-  RowsApart-merged busy es line old row bytes given apart new found =
-      let place = some_place busy es line old found in
-      let within : place.0 < length es = newest_place-within es line place.0 (candidate_place-newest busy es line place.0 place.1) in
-      let same : merged old row bytes given es ≡ merged_at place.0 row bytes given es =
-      ap (λ r. merged r row bytes given es) (sym place.2) ∙ merged-row_at es place.0 row bytes given apart within in
-      subst (λ (xs : List (Entry n)). RowsApart xs) (sym same) (RowsApart-merged_at es place.0 row bytes given apart new)
-
   -- no two entries of the queue have one row, since the rows of the writes rise
   pub rows-apart : (shape : BankShape) (most bound : ℕ) (h : List (Event n)) → MayAll shape most h → RowsBelow h bound → RowsApart (queue shape h)
   rows-apart shape most bound [] may below = tt
   rows-apart shape most bound (Write row line bytes given wrote.Accepted ∷ h) may below =
-      RowsApart-append (queue shape h) _ (rows-apart shape most row h may.1 below.1)
+      apart-push (queue shape h) _ (rows-apart shape most row h may.1 below.1)
       (AreNamed-no_row (λ at. line_of_row at h) row (queue shape h) (queue-named shape most row h may.1 below.1))
   rows-apart shape most bound (Write row line bytes given (wrote.Merged old) ∷ h) may below =
-      let told = answer_merged shape h (has_exhausted h) (candidate (head_busy_after shape h) (queue shape h) line) old may.0.2 in
-      RowsApart-merged (head_busy_after shape h) (queue shape h) line old row bytes given (rows-apart shape most row h may.1 below.1)
-      (AreNamed-no_row (λ at. line_of_row at h) row (queue shape h) (queue-named shape most row h may.1 below.1)) told.1
+      apart-merged old row bytes given (queue shape h) (rows-apart shape most row h may.1 below.1)
+      (AreNamed-no_row (λ at. line_of_row at h) row (queue shape h) (queue-named shape most row h may.1 below.1))
   rows-apart shape most bound (Write row line bytes given wrote.Full ∷ h) may below = rows-apart shape most row h may.1 below.1
   rows-apart shape most bound (Write row line bytes given wrote.Exhausted ∷ h) may below = rows-apart shape most row h may.1 below.1
   rows-apart shape most bound (Read row line answer ∷ h) may below = rows-apart shape most row h may.1 below.1
   rows-apart shape most bound (Serve answer ∷ h) may below = rows-apart shape most bound h may.1 below
-  rows-apart shape most bound (Begin (did.Stored row place) ∷ h) may below = RowsApart-drop (queue shape h) (rows-apart shape most bound h may.1 below)
-  rows-apart shape most bound (Begin did.More ∷ h) may below = RowsApart-begun (due_after shape h) (newest h) (queue shape h) (rows-apart shape most bound h may.1 below)
-  rows-apart shape most bound (Begin (did.Moved step) ∷ h) may below = RowsApart-begun (due_after shape h) (newest h) (queue shape h) (rows-apart shape most bound h may.1 below)
-  rows-apart shape most bound (Begin (did.Retired slot line) ∷ h) may below = RowsApart-begun (due_after shape h) (newest h) (queue shape h) (rows-apart shape most bound h may.1 below)
-  rows-apart shape most bound (Begin did.Exhausted ∷ h) may below = RowsApart-begun (due_after shape h) (newest h) (queue shape h) (rows-apart shape most bound h may.1 below)
-  rows-apart shape most bound (Iterate (did.Stored row place) ∷ h) may below = RowsApart-drop (queue shape h) (rows-apart shape most bound h may.1 below)
+  rows-apart shape most bound (Begin (did.Stored row place) ∷ h) may below = apart-drop (queue shape h) (rows-apart shape most bound h may.1 below)
+  rows-apart shape most bound (Begin did.More ∷ h) may below = apart-begun (due_after shape h) (newest h) (queue shape h) (rows-apart shape most bound h may.1 below)
+  rows-apart shape most bound (Begin (did.Moved step) ∷ h) may below = apart-begun (due_after shape h) (newest h) (queue shape h) (rows-apart shape most bound h may.1 below)
+  rows-apart shape most bound (Begin (did.Retired slot line) ∷ h) may below = apart-begun (due_after shape h) (newest h) (queue shape h) (rows-apart shape most bound h may.1 below)
+  rows-apart shape most bound (Begin did.Exhausted ∷ h) may below = apart-begun (due_after shape h) (newest h) (queue shape h) (rows-apart shape most bound h may.1 below)
+  rows-apart shape most bound (Iterate (did.Stored row place) ∷ h) may below = apart-drop (queue shape h) (rows-apart shape most bound h may.1 below)
   rows-apart shape most bound (Iterate did.More ∷ h) may below = rows-apart shape most bound h may.1 below
   rows-apart shape most bound (Iterate (did.Moved step) ∷ h) may below = rows-apart shape most bound h may.1 below
   rows-apart shape most bound (Iterate (did.Retired slot line) ∷ h) may below = rows-apart shape most bound h may.1 below

@@ -22,7 +22,7 @@ length-drop_one [] most le = le
 length-drop_one (x ∷ xs) most le = omega arith
 
 module _ {n : ℕ} where
-  length-merged : (old row : ℕ) (bytes : List ℕ) (given : List Bool) (es : List (Entry n)) → length (merged old row bytes given es) ≡ length es
+  pub length-merged : (old row : ℕ) (bytes : List ℕ) (given : List Bool) (es : List (Entry n)) → length (merged old row bytes given es) ≡ length es
   length-merged old row bytes given [] = refl
   length-merged old row bytes given (e ∷ es) =
       elim (eqb e.row old) as (λ b. length (cond b (laid_on row bytes given e ∷ es) (e ∷ merged old row bytes given es)) ≡ length (e ∷ es)) [

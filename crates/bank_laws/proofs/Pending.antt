@@ -6,6 +6,7 @@ use Rattle.std.proofs.lemmas.Bool.{lt-ltb, le-ltb, le-leb, or_left, or_right, an
 use Rattle.result_rows.specs.declared.Outcome.{Outcome}
 use Rattle.result_rows.specs.declared.Outcome.TheVariants as out
 use Rattle.masked_bytes.specs.Entries.{has_row, candidate}
+use Rattle.masked_bytes.proofs.Rows.{lacks-push, lacks-drop, lacks-merged}
 use Rattle.row_rules.specs.declared.Row.{Row}
 use Rattle.row_rules.specs.Answers.{accepts, is_full, is_merged, is_queued, stored_after}
 use Rattle.row_rules.specs.Rows.{accepted_of}
@@ -21,10 +22,11 @@ use Rattle.bank_model.specs.Sensing.{most_steps}
 use Rattle.bank_shape.specs.declared.pace.Pace.{Pace}
 use Rattle.bank_model.specs.Timing.{Happens, Core, Regs, TimedEvent, core, core_of, last_tick}
 use Rattle.bank_model.specs.Lawful.{Lawful, MayCome}
+use Rattle.bank_model.proofs.Begun.{row-begun}
 use Rattle.bank_laws.specs.Outcomes.{outcome_with, outcome_of, ended, row_with, rows_from}
 use Rattle.bank_laws.specs.Ticks.{ends_action}
 use Rattle.bank_laws.specs.RowLaws.{is_room_fair, QueueLaw}
-use Rattle.bank_laws.proofs.Entries.{either, lacks-push, lacks-drop, lacks-merged, row-begun}
+use Rattle.bank_laws.proofs.Entries.{either}
 use Rattle.bank_laws.proofs.Standing.{stand_apart}
 use Rattle.bank_laws.proofs.Ticks.{last_tick-rises, last-below}
 use Rattle.bank_laws.proofs.Settling.{opens, above_all, lawful_before, step_stays, stays}

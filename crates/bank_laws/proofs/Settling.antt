@@ -8,6 +8,7 @@ use Rattle.masked_bytes.specs.declared.entry.Entry.{Entry}
 use Rattle.bank_shape.specs.declared.answer.Served.{Served}
 use Rattle.bank_shape.specs.declared.answer.Step.{Step}
 use Rattle.masked_bytes.specs.Entries.{has_row, merged}
+use Rattle.masked_bytes.proofs.Rows.{lacks-push, lacks-drop, lacks-merged, lacks-old}
 use Rattle.bank_shape.specs.declared.BankShape.{BankShape}
 use Rattle.bank_shape.specs.declared.answer.WriteAnswer.TheVariants as wrote
 use Rattle.bank_shape.specs.declared.answer.ReadAnswer.TheVariants as came
@@ -17,10 +18,11 @@ use Rattle.bank_model.specs.History.{awaited, begun, queue, waits, due_after}
 use Rattle.bank_shape.specs.declared.pace.Pace.{Pace}
 use Rattle.bank_model.specs.Timing.{Happens, Core, Regs, TimedEvent, core, core_of}
 use Rattle.bank_model.specs.Lawful.{Lawful, MayCome}
+use Rattle.bank_model.proofs.Begun.{row-begun}
 use Rattle.bank_laws.specs.Outcomes.{on_row, outcome_with, outcome_of}
 use Rattle.bank_laws.specs.Standing.{has_wait}
 use Rattle.bank_laws.specs.Settling.{AreOpen, OpenLaw, SetOnceLaw}
-use Rattle.bank_laws.proofs.Entries.{differ, lacks-push, lacks-drop, lacks-merged, lacks-old, row-begun, no_wait-push, no_wait-drop, either}
+use Rattle.bank_laws.proofs.Entries.{differ, no_wait-push, no_wait-drop, either}
 use Rattle.bank_laws.proofs.Standing.{stand_apart}
 use Rattle.bank_laws.proofs.Answering.{IsHead, IsFirst, head-there, head-gone, first-there, first-gone, merged-there, stored-head, served-first}
 

@@ -1,3 +1,4 @@
+pub mod Begun
 pub mod Newest
 pub mod Sticking
 pub mod Touched

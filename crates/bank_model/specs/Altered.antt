@@ -7,7 +7,7 @@ use Rattle.bank_model.specs.Events.{Write, Read, Begin, Iterate, Cut}
 use Rattle.bank_model.specs.Timing.{TimedEvent, Core}
 use Rattle.bank_shape.specs.declared.answer.Keep.TheVariants as keep
 use Rattle.bank_model.specs.Timing.{KeepBegin, KeepIterate}
-use Rattle.bank_model.specs.Worked.{kept, kept_on, kept_begun, cut_of_control, read_controls, at, sensed, pulsed, holds, cancel, whole, both, begun, in_flight, zeros, stored}
+use Rattle.bank_model.specs.Worked.{kept, kept_on, kept_begun, read_controls, at, sensed, pulsed, holds, cancel, whole, both, begun, in_flight, zeros, stored}
 
 -- Times.
 

@@ -6,7 +6,7 @@ use Rattle.bank_shape.specs.Pausing.{gives_way}
 use Rattle.bank_shape.specs.declared.answer.Step.TheVariants as did
 use Rattle.bank_shape.specs.declared.answer.ReadAnswer.TheVariants as came
 use Rattle.bank_shape.specs.declared.clock.Doing.{Doing}
-use Rattle.bank_shape.specs.declared.clock.Doing.TheVariants.{Serving, Beginning, Iterating}
+use Rattle.bank_shape.specs.declared.clock.Doing.TheVariants.{Beginning, Iterating}
 use Rattle.bank_shape.specs.declared.clock.Action.{Action}
 use Rattle.bank_model.specs.Events.{Event, Write, Read, Serve, Begin, Iterate, Cut}
 use Rattle.bank_model.specs.History.{waits, in_progress, iterated, has_exhausted}

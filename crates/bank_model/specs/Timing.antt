@@ -1,5 +1,5 @@
 -- Events with their times, the newest first, and the actions of a bank.
-use Rattle.std.specs.Prelude.{ℕ, ◌+◌, ◌||◌, Bool, true, false, List, [], ◌∷◌, Option, Some, None}
+use Rattle.std.specs.Prelude.{ℕ, ◌||◌, Bool, true, false, List, [], ◌∷◌, Option, Some, None}
 use Rattle.pcm_cells.specs.declared.array.Sense.{Sense}
 use Rattle.bank_shape.specs.Acting.{ends_with}
 use Rattle.bank_shape.specs.declared.pace.Pace.{Pace}

@@ -9,6 +9,7 @@ use Rattle.result_rows.specs.declared.Outcome.TheVariants as out
 use Rattle.result_rows.specs.Table.{HasRow, with_outcome}
 use Rattle.masked_bytes.specs.declared.entry.Entry.{Entry}
 use Rattle.masked_bytes.specs.Entries.{has_row, merged, laid_on, candidate, RowsApart}
+use Rattle.masked_bytes.proofs.Rows.{lacks-push, lacks-merged}
 use Rattle.bank_shape.specs.declared.BankShape.{BankShape}
 use Rattle.line_writer.specs.Writing.{most_steps}
 use Rattle.bank_shape.specs.declared.pace.Pace.{Pace}
@@ -21,7 +22,6 @@ use Rattle.bank_model.specs.Timing.{TimedEvent, core}
 use Rattle.bank_laws.specs.Outcomes.{outcome_by}
 use Rattle.bank_laws.proofs.Answering.{candidate-there}
 use Rattle.bank_laws.proofs.Fates.{new-merged}
-use Rattle.bank_laws.proofs.Entries.{lacks-push, lacks-merged}
 use Rattle.bank_shape.specs.declared.waiting.Waiting.{Waiting}
 use Rattle.bank_invariant.specs.State.{BankState}
 use Rattle.bank_invariant.specs.Holds.{Holds}

@@ -2,6 +2,7 @@
 use Rattle.std.proofs.Common.{◌≡◌, ℕ, false, List, [], ◌∷◌, Option, Some, None, refl}
 use Rattle.masked_bytes.specs.declared.entry.Entry.{Entry}
 use Rattle.masked_bytes.specs.Entries.{has_row}
+use Rattle.masked_bytes.proofs.Rows.{lacks-push, lacks-drop, lacks-merged}
 use Rattle.bank_shape.specs.declared.BankShape.{BankShape}
 use Rattle.bank_shape.specs.declared.answer.WriteAnswer.TheVariants as wrote
 use Rattle.bank_shape.specs.declared.answer.ReadAnswer.TheVariants as came
@@ -10,7 +11,7 @@ use Rattle.bank_model.specs.Events.{Event, Write, Read, Serve, Begin, Iterate, C
 use Rattle.bank_model.specs.History.{queue, waits, begun, due_after}
 use Rattle.bank_model.specs.Timing.{Core}
 use Rattle.bank_laws.specs.Standing.{has_wait}
-use Rattle.bank_laws.proofs.Entries.{no_wait-push, no_wait-drop, lacks-push, lacks-drop, lacks-merged}
+use Rattle.bank_laws.proofs.Entries.{no_wait-push, no_wait-drop}
 use Rattle.clock_laws.specs.Standing.{is_arrival_of}
 
 module _ {n : ℕ} where

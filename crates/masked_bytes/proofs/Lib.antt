@@ -2,3 +2,4 @@ pub mod Truth
 pub mod Layering
 pub mod Queueing
 pub mod Standing
+pub mod Rows

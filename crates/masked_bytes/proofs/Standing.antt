@@ -1,10 +1,8 @@
 -- What each change of a queue leaves of what its entries stand for.
 use Rattle.std.proofs.Common.{◌≡◌, ℕ, ◌<◌, List, [], ◌∷◌, ◌++◌, Bool, true, false, ◌==◌, if◌then◌else◌, zero, suc, length, refl, sym, subst, ap, ◌∙◌, arith, Option, Some, None, eq-eqb, eqb-true}
-use Rattle.std.proofs.lemmas.Bool.{or_from}
-use Rattle.masked_bytes.proofs.Truth.{neither_first, neither_second, differ_sym}
 use Rattle.std.proofs.lemmas.List.{length-replicate}
 use Rattle.masked_bytes.specs.Masked.{laid, all_given, IsMasked}
-use Rattle.masked_bytes.specs.Entries.{Layer, no_layer, stacked, or_this, one_further, layer_by, layer_of, newest_place, laid_on, merged_at, completed, head_line, has_row, RowsApart, AllMasked}
+use Rattle.masked_bytes.specs.Entries.{Layer, no_layer, stacked, or_this, one_further, layer_by, layer_of, newest_place, laid_on, merged_at, completed, head_line, AllMasked}
 use Rattle.masked_bytes.specs.declared.entry.Entry.{Entry}
 use Rattle.masked_bytes.proofs.Layering.{length-laid, laid-all_given, laid-laid, IsMasked-laid, IsMasked-all_given}
 use Rattle.masked_bytes.proofs.Queueing.{IsLayer, IsLayer-layer_of, stacked-no_layer, append_under, layer_of-none, some_same, IsLayer-layer_by}
@@ -141,34 +139,3 @@ module _ {n : ℕ} where
   pub AllMasked-completed : (es : List (Entry n)) (below : List ℕ) → 0 < n → length below ≡ n → AllMasked es → AllMasked (completed below es)
   AllMasked-completed [] below some h m = tt
   AllMasked-completed (e ∷ es) below some h m = (IsMasked-all_given n (laid e.bytes e.given below) some (length-laid e.bytes e.given below ∙ h), m.1)
-
-  -- Rows stay apart
-
-  has_row-append : (es : List (Entry n)) (e : Entry n) (row : ℕ) → has_row es row ≡ false → (e.row == row) ≡ false → has_row (es ++ e ∷ []) row ≡ false
-  has_row-append [] e row h k = rw k
-  has_row-append (f ∷ es) e row h k = or_from (f.row == row) _ (neither_first (f.row == row) _ h) (has_row-append es e row (neither_second (f.row == row) _ h) k)
-
-  pub RowsApart-append : (es : List (Entry n)) (e : Entry n) → RowsApart es → has_row es e.row ≡ false → RowsApart (es ++ e ∷ [])
-  RowsApart-append [] e apart h = (refl, tt)
-  RowsApart-append (f ∷ es) e apart h =
-      (has_row-append es e f.row apart.0 (differ_sym f.row e.row (neither_first (f.row == e.row) _ h)), RowsApart-append es e apart.1 (neither_second (f.row == e.row) _ h))
-
-  has_row-merged_at : (es : List (Entry n)) (i row : ℕ) (bytes : List ℕ) (given : List Bool) (other : ℕ) → has_row es other ≡ false → (row == other) ≡ false
-      → has_row (merged_at i row bytes given es) other ≡ false
-  has_row-merged_at [] i row bytes given other h k = refl
-  has_row-merged_at (e ∷ es) zero row bytes given other h k = or_from (row == other) _ k (neither_second (e.row == other) _ h)
-  has_row-merged_at (e ∷ es) (suc i) row bytes given other h k =
-      or_from (e.row == other) _ (neither_first (e.row == other) _ h) (has_row-merged_at es i row bytes given other (neither_second (e.row == other) _ h) k)
-
-  pub RowsApart-merged_at : (es : List (Entry n)) (i row : ℕ) (bytes : List ℕ) (given : List Bool) → RowsApart es → has_row es row ≡ false
-      → RowsApart (merged_at i row bytes given es)
-  RowsApart-merged_at [] i row bytes given apart h = tt
-  RowsApart-merged_at (e ∷ es) zero row bytes given apart h = (neither_second (e.row == row) _ h, apart.1)
-  RowsApart-merged_at (e ∷ es) (suc i) row bytes given apart h = (
-    has_row-merged_at es i row bytes given e.row apart.0 (differ_sym e.row row (neither_first (e.row == row) _ h)),
-    RowsApart-merged_at es i row bytes given apart.1 (neither_second (e.row == row) _ h),
-  )
-
-  pub RowsApart-completed : (es : List (Entry n)) (below : List ℕ) → RowsApart es → RowsApart (completed below es)
-  RowsApart-completed [] below apart = tt
-  RowsApart-completed (e ∷ es) below apart = apart
