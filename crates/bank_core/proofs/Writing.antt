@@ -1,10 +1,13 @@
 -- That what a bank answers to a write keeps the invariant.
-use Rattle.std.proofs.Common.{◌≡◌, ℕ, ◌+◌, ◌<◌, ◌≤◌, refl, sym, ap, subst, ◌∙◌, Bool, true, false, if◌then◌else◌, List, ◌∷◌}
+use Rattle.std.proofs.Common.{◌≡◌, ℕ, zero, suc, ◌+◌, ◌<◌, ◌≤◌, nat_lt, refl, sym, ap, subst, ◌∙◌, arith, Bool, true, false, if◌then◌else◌, List, [], ◌∷◌, length, slice_get, Option, Some, None}
+use Rattle.std.specs.Prelude.{IsSomeAnd}
 use Rattle.masked_bytes.specs.Masked.{IsMasked}
+use Rattle.masked_bytes.specs.Entries.{candidate_place, merged_at}
+use Rattle.masked_bytes.proofs.Queueing.{newest_place-within, candidate_place-newest}
 use Rattle.masked_bytes.specs.declared.entry.Entry.{Entry}
 use Rattle.protected_queue.specs.declared.accept.Accept.{Accept}
 use Rattle.protected_queue.specs.declared.accept.Accept.TheVariants as became
-use Rattle.protected_queue.specs.Queue.{accept_answer}
+use Rattle.protected_queue.specs.Queue.{accept_answer, answer_by, accepted, accepted_by}
 use Rattle.pcm_cells.specs.Device.{ArrayState}
 use Rattle.line_writer.specs.Writing.{most_steps}
 use Rattle.power_recovery.specs.Kept.{KeptState}
@@ -23,6 +26,27 @@ use Rattle.bank_invariant.proofs.Answering.{write_answer_law, refusal_law, kept-
 use Rattle.bank_invariant.proofs.Taking.{full_law, exhausted_write_law, tied-taken}
 use Rattle.bank_invariant.proofs.Arriving.{accepted_write_law, merged_write_law}
 use Rattle.bank_core.specs.Steps.{write_from, after_write}
+use Rattle.bank_core.specs.Arriving.{arrived_as, IsMergedAt}
+
+module _ {n : ℕ} where
+  laid_there : (es : List (Entry n)) (i row : ℕ) (bytes : List ℕ) (given : List Bool) → i < length es
+      → IsSomeAnd (slice_get (merged_at i row bytes given es) i) (λ entry. entry.row ≡ row)
+  laid_there [] i row bytes given within = absurd (omega arith)
+  laid_there (e ∷ es) zero row bytes given within = refl
+  laid_there (e ∷ es) (suc i) row bytes given within = laid_there es i row bytes given (omega arith)
+
+  -- where a write was merged its row stands
+  pub merged_there : (places : ℕ) (busy : Bool) (entry : Entry n) (es : List (Entry n))
+      → IsMergedAt (accepted places busy entry es) entry.row (arrived_as (accept_answer places busy es entry.line))
+  merged_there places busy entry es =
+      by (candidate_place busy es entry.line)
+      (λ i is. newest_place-within es entry.line i (candidate_place-newest busy es entry.line i is)) (nat_lt (length es) places)
+    where
+      by : (place : Option ℕ) → ((i : ℕ) → place ≡ Some i → i < length es) → (room : Bool)
+          → IsMergedAt (accepted_by place room entry es) entry.row (arrived_as (answer_by place room es))
+      by (Some i) within room = laid_there es i entry.row entry.bytes entry.given (within i refl)
+      by None within true = tt
+      by None within false = tt
 
 module _ {n m e : ℕ} where
   -- a bank answers a write as its history says
@@ -70,7 +94,7 @@ module _ {n m e : ℕ} where
       by : (answer : Accept) → accept_answer bank.kept.shape.writes (is_storing bank.running) bank.kept.entries entry.line ≡ answer
           → taken (is_storing bank.running) entry bank ≡ after_write bank entry (written answer)
       by became.Pushed is = refl
-      by (became.Merged old) is = refl
+      by (became.Merged row index) is = refl
       by became.Full is = ap with_kept (kept-full (is_storing bank.running) entry bank.kept is)
 
   pub taken_holds : (entry : Entry n) (h : List (Event n)) (bank : BankState n m e) (array : ArrayState n m)

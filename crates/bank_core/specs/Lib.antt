@@ -1,3 +1,4 @@
+pub mod Arriving
 pub mod Running
 pub mod Bank
 pub mod Steps

@@ -9,31 +9,46 @@ ghost use Rattle.bank_invariant.specs.Tied.{IsTied};
 ghost use Rattle.bank_invariant.specs.Holds.{Holds};
 ghost use Rattle.bank_invariant.specs.WriteAnswers.{written};
 ghost use Rattle.bank_core.specs.Steps.{write_from, after_write};
+ghost use Rattle.bank_core.specs.Arriving.{answer_of, arrived_as, IsMergedAt};
 
 use crate::bank::Bank;
 use bank_shape::Work;
-use bank_shape::answer::WriteAnswer;
 use masked_bytes::entry::Entry;
 use protected_queue::accept::Accept;
 
+/// What became of a write that arrived.
+#[derive(Clone, Copy)]
+pub enum Arrived {
+    /// It stands in the queue as an entry of its own.
+    Accepted,
+    /// It was laid over the queue's entry at this index, the newest of its line, whose row this was.
+    Merged { row: u32, index: usize },
+    /// The queue is full.
+    Full,
+    /// A worn line had found no spare, so the bank takes no more writes.
+    Exhausted,
+}
+
 impl<const B: usize, const M: usize, const E: usize> Bank<B, M, E> {
     /// A write of a bank line arrives; the number of its row is above those of all before it.
-    pub fn write(&mut self, entry: Entry<B>) -> WriteAnswer
+    pub fn write(&mut self, entry: Entry<B>) -> Arrived
         requires exists { entry.line < bank_lines self.old.kept.shape }
         requires rises { self.old.rows_below ≤ entry.row }
         requires masked { IsMasked B entry.bytes entry.given }
-        ensures answer { result ≡ write_from self.old entry.entry.line }
-        ensures bank { self.new ≡ after_write self.old entry.entry result }
+        ensures answer { answer_of result ≡ write_from self.old entry.entry.line }
+        ensures index { IsMergedAt self.new.kept.entries entry.entry.row result }
+        ensures bank { self.new ≡ after_write self.old entry.entry (answer_of result) }
         ensures tied { (array : ArrayState B M) → IsTied self.old array → IsTied self.new array }
         ensures holds { (h : List (Event B)) (array : ArrayState B M) → Holds h self.old array
-            → Holds (Write entry.entry.row entry.entry.line entry.entry.bytes entry.entry.given result ∷ h) self.new array }
+            → Holds (Write entry.entry.row entry.entry.line entry.entry.bytes entry.entry.given
+            (answer_of result) ∷ h) self.new array }
     {
         self.rows_below = entry.row as u64 + 1;
         if self.kept.exhausted() {
-            return WriteAnswer::Exhausted;
+            return Arrived::Exhausted;
         }
         let busy = self.storing();
-        answer_to(self.kept.accept(entry, busy))
+        arrived_as(self.kept.accept(entry, busy))
     }
 
     // Whether the head of the queue is being stored.
@@ -50,13 +65,14 @@ impl<const B: usize, const M: usize, const E: usize> Bank<B, M, E> {
     }
 }
 
-// What a write is answered that the queue took so.
-fn answer_to(taken: Accept) -> WriteAnswer
-    ensures { result ≡ written taken }
+// What became of a write that the queue took so.
+fn arrived_as(taken: Accept) -> Arrived
+    ensures is { result ≡ arrived_as taken }
+    ensures answer { answer_of result ≡ written taken }
 {
     match taken {
-        Accept::Pushed => WriteAnswer::Accepted,
-        Accept::Merged(old) => WriteAnswer::Merged(old),
-        Accept::Full => WriteAnswer::Full,
+        Accept::Pushed => Arrived::Accepted,
+        Accept::Merged { row, index } => Arrived::Merged { row, index },
+        Accept::Full => Arrived::Full,
     }
 }

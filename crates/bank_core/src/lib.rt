@@ -2,7 +2,7 @@
 //! Each line stands for the newest bytes that were accepted for it, whatever the cells do and wherever a cut falls.
 #![tactic(auto)]
 
-mod arriving;
+pub mod arriving;
 pub mod bank;
 mod beginning;
 mod cutting;

@@ -14,7 +14,7 @@ use Rattle.bank_invariant.specs.Holds.{Holds}
 -- the answer of a bank to a write, by that of its queue
 abbrev pub written : Accept → WriteAnswer
 written Pushed = wrote.Accepted
-written (Merged old) = wrote.Merged old
+written (Merged row place) = wrote.Merged row
 written Full = wrote.Full
 
 -- a bank that isn't exhausted answers a write as its queue does. That the history tells the same of the head is a law of its own: here a premise

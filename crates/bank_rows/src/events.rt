@@ -7,8 +7,9 @@ ghost use Rattle.pcm_cells.specs.Device.{ArrayState};
 ghost use Rattle.power_recovery.specs.Slots.{bank_lines};
 ghost use Rattle.bank_invariant.specs.Tied.{IsTied};
 
+use bank_core::arriving::Arrived;
 use bank_core::bank::Bank;
-use bank_shape::answer::{ReadAnswer, Step, WriteAnswer};
+use bank_shape::answer::{ReadAnswer, Step};
 use bank_shape::{BankShape, Home};
 use masked_bytes::entry::Entry;
 use pcm_cells::{Act, CellArray, Script, ScriptArray, Wear};
@@ -56,12 +57,12 @@ enum Saw {
     Refused,
 }
 
-fn wrote(answer: WriteAnswer) -> Saw {
-    match answer {
-        WriteAnswer::Accepted => Saw::Accepted,
-        WriteAnswer::Merged(row) => Saw::Merged(row),
-        WriteAnswer::Full => Saw::Full,
-        WriteAnswer::Exhausted => Saw::Exhausted,
+fn wrote(arrived: Arrived) -> Saw {
+    match arrived {
+        Arrived::Accepted => Saw::Accepted,
+        Arrived::Merged { row, .. } => Saw::Merged(row),
+        Arrived::Full => Saw::Full,
+        Arrived::Exhausted => Saw::Exhausted,
     }
 }
 

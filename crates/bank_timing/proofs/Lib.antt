@@ -16,7 +16,6 @@ mod Cancels
 mod Settling
 mod Queued
 mod Drains
-mod Places
 mod WriteArrivals
 mod Losses
 mod Merging

@@ -1,15 +1,15 @@
 -- A write arrives: what becomes of the clock and of the results.
-use Rattle.std.proofs.Common.{◌≡◌, ◌≢◌, ℕ, ◌+◌, ◌<◌, ◌≤◌, ◌==◌, Bool, true, false, List, [], ◌∷◌, ◌++◌, length, ◌⊎◌, inl, inr, refl, sym, ap, subst, ◌∙◌, arith, eqb-true, length-append}
-use Rattle.std.specs.Prelude.{unwrap_or, if◌then◌else◌}
+use Rattle.std.proofs.Common.{◌≡◌, ◌≢◌, ℕ, zero, suc, slice_get, ◌+◌, ◌<◌, ◌≤◌, ◌==◌, Bool, true, false, List, [], ◌∷◌, ◌++◌, length, ◌⊎◌, inl, inr, refl, sym, ap, subst, ◌∙◌, arith, eqb-true, length-append}
+use Rattle.std.specs.Prelude.{unwrap_or, IsSomeAnd}
 use Rattle.std.proofs.lemmas.List.{length-map}
-use Rattle.std.proofs.lemmas.Bool.{ne_eqb, or_from}
+use Rattle.std.proofs.lemmas.Bool.{ne_eqb}
 use Rattle.pcm_cells.specs.Device.{ArrayState}
 use Rattle.result_rows.specs.declared.Outcome.{Outcome}
 use Rattle.result_rows.specs.declared.Outcome.TheVariants as out
 use Rattle.result_rows.specs.Table.{HasRow, with_outcome}
 use Rattle.masked_bytes.specs.declared.entry.Entry.{Entry}
-use Rattle.masked_bytes.specs.Entries.{has_row, merged, laid_on, candidate, RowsApart}
-use Rattle.masked_bytes.proofs.Rows.{lacks-push, lacks-merged}
+use Rattle.masked_bytes.specs.Entries.{has_row, merged, candidate}
+use Rattle.masked_bytes.proofs.Rows.{lacks-push, lacks-merged, lacks-old}
 use Rattle.bank_shape.specs.declared.BankShape.{BankShape}
 use Rattle.line_writer.specs.Writing.{most_steps}
 use Rattle.bank_shape.specs.declared.pace.Pace.{Pace}
@@ -21,7 +21,7 @@ use Rattle.bank_model.specs.Answers.{MayAll, head_busy_after}
 use Rattle.bank_model.specs.Timing.{TimedEvent, core}
 use Rattle.bank_laws.specs.Outcomes.{outcome_by}
 use Rattle.bank_laws.proofs.Answering.{candidate-there}
-use Rattle.bank_laws.proofs.Fates.{new-merged}
+use Rattle.bank_laws.proofs.Holding.{length-merged}
 use Rattle.bank_shape.specs.declared.waiting.Waiting.{Waiting}
 use Rattle.bank_invariant.specs.State.{BankState}
 use Rattle.bank_invariant.specs.Holds.{Holds}
@@ -51,16 +51,13 @@ write_recorded wrote.Full tick row results = with_outcome results row (out.Full 
 write_recorded wrote.Exhausted tick row results = with_outcome results row (out.Worn tick)
 
 module _ {n : ℕ} where
-  -- the rows of a queue that took a write
-  lacks-old : (old row : ℕ) (bytes : List ℕ) (given : List Bool) (es : List (Entry n)) → RowsApart es → (row == old) ≡ false → has_row (merged old row bytes given es) old ≡ false
-  lacks-old old row bytes given [] a h = refl
-  lacks-old old row bytes given (e ∷ es) a h = by (e.row == old) refl (lacks-old old row bytes given es a.1 h)
-    where
-      by : (b : Bool) → (e.row == old) ≡ b → has_row (merged old row bytes given es) old ≡ false → has_row (if b then laid_on row bytes given e ∷ es else e ∷ merged old row bytes given es) old ≡ false
-      by true is rest = or_from (row == old) _ h (subst (λ (r : ℕ). has_row es r ≡ false) (eqb-true e.row old is) a.0)
-      by false is rest = or_from (e.row == old) _ is rest
+  -- an entry that is there is within
+  some-within : (row : ℕ) (es : List (Entry n)) (place : ℕ) → IsSomeAnd (slice_get es place) (λ entry. entry.row ≡ row) → place < length es
+  some-within row [] place some = absurd some
+  some-within row (e ∷ es) zero some = omega arith
+  some-within row (e ∷ es) (suc place) some = let below = some-within row es place some in omega (arith, below)
 
-  -- a row of the queue then is one of before, or the new one
+  -- a row of the queue that took a write is one of before, or the new one
   old-or-new : (before after : List (Entry n)) (row r : ℕ) → (has_row before r ≡ false → (row == r) ≡ false → has_row after r ≡ false) → has_row after r ≡ true
       → (has_row before r ≡ true) ⊎ (r ≡ row)
   old-or-new before after row r lacks there = by (has_row before r) (row == r) refl refl
@@ -261,12 +258,14 @@ module _ {n m e row line old : ℕ} {bytes : List ℕ} {given : List Bool} {cloc
   pub merge-unset : IsOpen results old
   merge-unset = w.unset.queued old (stands-by w w.led.0 w.led.1 w.led.2)
 
-  -- the row that it brings stands in the queue
-  pub merge-there : has_row bank.kept.entries row ≡ true
-  merge-there =
-      let there : has_row (queue clock.bank.kept.shape (core w.led.0)) old ≡ true =
-      subst (λ (es : List (Entry n)). has_row es old ≡ true) w.led.2.holds.entries (stands-by w w.led.0 w.led.1 w.led.2) in
-      subst (λ (es : List (Entry n)). has_row es row ≡ true) (sym (entries-then w w.led.0 w.led.1 w.led.2)) (new-merged old row bytes given (queue clock.bank.kept.shape (core w.led.0)) there)
+  -- the entry into which it is merged has an arrival tick
+  pub merge-room : (place : ℕ) → IsPlaceOf bank.kept row place (wrote.Merged old) → place < length clock.arrivals
+  merge-room place at =
+      let queued : List (Entry n) = queue clock.bank.kept.shape (core w.led.0) in
+      let told = ap length w.led.2.told.arrived ∙ length-map queued _ in
+      let now = ap length (entries-then w w.led.0 w.led.1 w.led.2) ∙ length-merged old row bytes given queued in
+      let within = some-within row bank.kept.entries place at in
+      omega (arith, told, now, within)
 
 -- there is room for the arrival tick of a write that is accepted
 pub accept-room : {n m e row line : ℕ} {bytes : List ℕ} {given : List Bool} {clock : ClockState n m e} {results : List (Outcome n)} {bank : BankState n m e}

@@ -2,7 +2,6 @@ pub mod Clock
 pub mod Extending
 pub mod Completing
 pub mod Draining
-pub mod Queueing
 pub mod Losing
 pub mod Laws
 pub mod Cancelling

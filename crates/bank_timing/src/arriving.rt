@@ -1,5 +1,5 @@
 //! What arrives at a bank.
-ghost use Rattle.std.specs.Prelude.{◌≡◌, ◌+◌, ◌<◌, ◌≤◌, List, [], ◌∷◌, false, None, ◌&&◌, ◌++◌, ℕ, true, length, IsSomeAnd, IsTrue, slice_get, slice_set, if◌then◌else◌};
+ghost use Rattle.std.specs.Prelude.{◌≡◌, ◌+◌, ◌<◌, ◌≤◌, List, [], ◌∷◌, false, None, ◌&&◌, ◌++◌, true, length, IsTrue, slice_set, if◌then◌else◌};
 ghost use Rattle.masked_bytes.specs.Masked.{IsMasked};
 ghost use Rattle.pcm_cells.specs.Device.{ArrayState};
 ghost use Rattle.power_recovery.specs.Slots.{bank_lines};
@@ -15,19 +15,17 @@ ghost use Rattle.bank_shape.specs.declared.clock.Doing.TheVariants.{Beginning};
 ghost use Rattle.bank_model.specs.Timing.{is_doing, is_writing};
 ghost use Rattle.bank_model.specs.After.{is_store_of};
 ghost use Rattle.power_recovery.specs.Kept.{next_work};
-ghost use Rattle.masked_bytes.specs.Entries.{has_row};
 ghost use Rattle.bank_timing.specs.Completing.{with_arrivals};
-ghost use Rattle.bank_timing.specs.Queueing.{entry_has_row};
 ghost use Rattle.bank_timing.specs.Extending.{Extends, AreOpen, IsOpen, LeavesOthersThan};
 
 use crate::clocked::ClockedBank;
+use bank_core::arriving::Arrived;
 use bank_shape::Work;
-use bank_shape::answer::{ReadAnswer, WriteAnswer};
+use bank_shape::answer::ReadAnswer;
 use bank_shape::clock::{Action, Doing};
 use masked_bytes::entry::Entry;
 use masked_bytes::layers::has_all;
 use pcm_cells::CellArray;
-use power_recovery::kept::Kept;
 use result_rows::{Outcome, Results};
 
 impl<const B: usize, const M: usize, const E: usize> ClockedBank<B, M, E> {
@@ -53,13 +51,13 @@ impl<const B: usize, const M: usize, const E: usize> ClockedBank<B, M, E> {
     {
         let row = entry.row;
         match self.bank.write(entry) {
-            WriteAnswer::Accepted => self.arrive_last(),
-            WriteAnswer::Merged(old) => {
+            Arrived::Accepted => self.arrive_last(),
+            Arrived::Merged { row: old, index } => {
                 results.set(old, Outcome::Merged { tick: self.tick });
-                self.arrive_again(row);
+                self.arrive_again(index);
             }
-            WriteAnswer::Full => results.set(row, Outcome::Full { tick: self.tick }),
-            WriteAnswer::Exhausted => results.set(row, Outcome::Worn { tick: self.tick }),
+            Arrived::Full => results.set(row, Outcome::Full { tick: self.tick }),
+            Arrived::Exhausted => results.set(row, Outcome::Worn { tick: self.tick }),
         }
     }
 
@@ -74,17 +72,15 @@ impl<const B: usize, const M: usize, const E: usize> ClockedBank<B, M, E> {
         }
     }
 
-    // The entry of this row, which was merged, arrived now.
-    fn arrive_again(&mut self, row: u32)
-        requires there { has_row self.old.bank.kept.entries row ≡ true }
-        ensures { (place : ℕ) × IsSomeAnd (slice_get self.old.bank.kept.entries place)
-            (λ entry. entry.row ≡ row)
-            × (self.new ≡ with_arrivals (slice_set self.old.arrivals place self.old.tick) self.old) }
+    // The entry of the queue at an index, into which a write was merged, arrived now.
+    fn arrive_again(&mut self, index: usize)
+        requires there { index < length self.old.arrivals }
+        ensures { self.new ≡ with_arrivals (slice_set self.old.arrivals index self.old.tick) self.old }
     {
-        let place = place_of(self.bank.kept(), row);
-        if let Some(tick) = self.arrivals.get_mut(place) {
-            *tick = self.tick;
-        }
+        let Some(tick) = self.arrivals.get_mut(index) else {
+            unreachable!()
+        };
+        *tick = self.tick;
     }
 
     /// A read of a bank line arrives now, with its row's number, above those of all before it. One that waits on the line of a
@@ -211,31 +207,6 @@ impl<const B: usize, const M: usize, const E: usize> ClockedBank<B, M, E> {
             ) => is_store_of(self.bank.kept().next_work(), line),
             _ => false,
         }
-    }
-}
-
-// Where a row stands in the queue.
-fn place_of<const B: usize>(kept: &Kept<B>, row: u32) -> usize
-    requires few { B ≤ 128 }
-    requires there { has_row kept.now.entries row ≡ true }
-    ensures { IsSomeAnd (slice_get kept.now.entries result) (λ entry. entry.row ≡ row) }
-{
-    for place in 0..kept.len() {
-        if is_row(kept, place, row) {
-            return place;
-        }
-    }
-    0
-}
-
-// Whether the entry at a place of the queue has a row.
-fn is_row<const B: usize>(kept: &Kept<B>, place: usize, row: u32) -> bool
-    requires { B ≤ 128 }
-    ensures { result ≡ entry_has_row row (slice_get kept.now.entries place) }
-{
-    match kept.at(place) {
-        None => false,
-        Some(entry) => entry.row == row,
     }
 }
 

@@ -95,7 +95,9 @@ fn recover_mark<A: CellArray<B, M>, const B: usize, const M: usize, const E: usi
         × IsOnLines kept regs.now (A.state array.old) }
     ensures kept { (kept : KeptState B) → bank.old.kept ≡ mark_back kept
         → IsOnLines kept regs.now (A.state array.old) → bank.new ≡ with_kept bank.old kept }
-    ensures touches { Touches tick ((regs.now.base + (bank.old.kept.shape.regions + bank.old.kept.shape.spares)) ∷ []) None false (A.state array.old) (A.state array.new) }
+    ensures touches { Touches tick
+        ((regs.now.base + (bank.old.kept.shape.regions + bank.old.kept.shape.spares)) ∷ []) None false
+        (A.state array.old) (A.state array.new) }
 {
     let shape = *bank.kept().shape();
     let values = regs.read_item(array, shape.regions + shape.spares, tick);

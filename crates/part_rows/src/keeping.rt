@@ -30,7 +30,7 @@ fn a_store_makes_a_move_due(rt: HostRuntime) -> Result<(), Fail> {
     );
     assert_eq!(rt;
         kept.accept(Entry::whole(2, 0, &[0x22; 128]), false),
-        Accept::Merged(1)
+        Accept::Merged { row: 1, index: 0 }
     );
     assert_eq!(rt; kept.next_work(), Work::Store { line: 0, slot: 0 });
     assert_eq!(rt; kept.stored(), 2);
@@ -83,7 +83,10 @@ fn masked_writes_merge_unless_the_head_is_in_flight(rt: HostRuntime) -> Result<(
         given: [false, true, true, false, false, false, false, false],
     };
     assert_eq!(rt; kept.accept(first, false), Accept::Pushed);
-    assert_eq!(rt; kept.accept(second, false), Accept::Merged(1));
+    assert_eq!(rt;
+        kept.accept(second, false),
+        Accept::Merged { row: 1, index: 0 }
+    );
     kept.complete(&[90, 91, 92, 93, 94, 95, 96, 97]);
     let head = kept.head().map(|entry| (entry.row, entry.bytes));
     assert_eq!(rt; head, Some((2, [10, 21, 22, 93, 94, 95, 96, 97])));
@@ -94,7 +97,7 @@ fn masked_writes_merge_unless_the_head_is_in_flight(rt: HostRuntime) -> Result<(
     );
     assert_eq!(rt;
         kept.accept(Entry { row: 4, ..second }, true),
-        Accept::Merged(3)
+        Accept::Merged { row: 3, index: 1 }
     );
     assert_eq!(rt; kept.len(), 2);
     assert_eq!(rt; kept.at(1).map(|entry| entry.row), Some(4));

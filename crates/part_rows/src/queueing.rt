@@ -22,7 +22,7 @@ fn merges_unless_the_entry_is_the_head_in_flight(rt: HostRuntime) -> Result<(), 
     );
     assert_eq!(rt;
         queue.accept(Entry::whole(4, 0, &[0xdd; 64]), false),
-        Accept::Merged(1)
+        Accept::Merged { row: 1, index: 0 }
     );
     assert_eq!(rt; queue.len(), 1);
     let head = queue.pop();
@@ -47,7 +47,7 @@ fn keeps_two_writes_of_one_line_while_the_older_is_in_flight(rt: HostRuntime) ->
     );
     assert_eq!(rt;
         queue.accept(Entry::whole(3, 7, &[0x33; 128]), true),
-        Accept::Merged(2)
+        Accept::Merged { row: 2, index: 1 }
     );
     assert_eq!(rt; queue.at(0).map(|entry| entry.row), Some(1));
     assert_eq!(rt; queue.at(1).map(|entry| entry.row), Some(3));
@@ -75,7 +75,10 @@ fn lays_masked_writes_over_each_other(rt: HostRuntime) -> Result<(), Fail> {
         given: [false, true, true, false, false, false, false, false],
     };
     assert_eq!(rt; queue.accept(first, false), Accept::Pushed);
-    assert_eq!(rt; queue.accept(second, false), Accept::Merged(1));
+    assert_eq!(rt;
+        queue.accept(second, false),
+        Accept::Merged { row: 1, index: 0 }
+    );
     let (bytes, given) = queue.newest(3);
     assert_eq!(rt; bytes, [10, 21, 22, 0, 0, 0, 0, 0]);
     assert_eq!(rt;

@@ -5,7 +5,7 @@ use Rattle.masked_bytes.specs.Masked.{joined, none_given, gives_some, IsMasked}
 use Rattle.masked_bytes.specs.Entries.{stacked, or_this, one_further, layer_by, layer_of, newest_place, candidate_place, laid_on, merged_at, completed_by, completed, row_at, AllMasked}
 use Rattle.masked_bytes.specs.declared.entry.Entry.{Entry}
 use Rattle.masked_bytes.proofs.Layering.{gives_some-joined}
-use Rattle.masked_bytes.proofs.Queueing.{IsLayer, IsLayer-layer_of, length-merged_at, merged_at-slice_set, candidate-place, candidate-none}
+use Rattle.masked_bytes.proofs.Queueing.{IsLayer, IsLayer-layer_of, length-merged_at, merged_at-slice_set}
 use Rattle.masked_bytes.proofs.Standing.{AllMasked-append, AllMasked-merged_at, AllMasked-completed}
 use Rattle.protected_queue.specs.declared.accept.Accept.TheVariants.{Pushed, Merged, Full}
 use Rattle.protected_queue.specs.Queue.{IsQueue, accept_answer}
@@ -141,15 +141,15 @@ module _ {n : ℕ} where
   -- What accept answers
 
   pub accept_answer-Some : (cap : ℕ) (busy : Bool) (es : List (Entry n)) (line i : ℕ) → candidate_place busy es line ≡ Some i
-      → accept_answer cap busy es line ≡ Merged (row_at es i)
-  accept_answer-Some cap busy es line i h = rw (candidate-place busy es line i h)
+      → accept_answer cap busy es line ≡ Merged (row_at es i) i
+  accept_answer-Some cap busy es line i h = rw h
 
   -- with no candidate, and room for one more
   pub accept_answer-room : (cap : ℕ) (busy : Bool) (es : List (Entry n)) (line : ℕ) → candidate_place busy es line ≡ None → length es < cap
       → accept_answer cap busy es line ≡ Pushed
-  accept_answer-room cap busy es line h room = rw (candidate-none busy es line h, lt-ltb (length es) cap room)
+  accept_answer-room cap busy es line h room = rw (h, lt-ltb (length es) cap room)
 
   -- and with none
   pub accept_answer-full : (cap : ℕ) (busy : Bool) (es : List (Entry n)) (line : ℕ) → candidate_place busy es line ≡ None → (length es < cap → false ≡ true)
       → accept_answer cap busy es line ≡ Full
-  accept_answer-full cap busy es line h full = rw (candidate-none busy es line h, le-ltb (length es) cap (no_room (length es) cap full))
+  accept_answer-full cap busy es line h full = rw (h, le-ltb (length es) cap (no_room (length es) cap full))

@@ -5,8 +5,8 @@
 pub enum Accept {
     /// It stands behind all others.
     Pushed,
-    /// It was merged into the entry that counted as this row's.
-    Merged(u32),
+    /// It was merged into the entry at this index, which counted as this row's.
+    Merged { row: u32, index: usize },
     /// It was refused, and nothing changed.
     Full,
 }

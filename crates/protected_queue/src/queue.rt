@@ -49,7 +49,10 @@ impl<const B: usize> Queue<B> {
             ≡ record self.old { entries = accepted self.old.cap head_busy entry.entry self.old.entries } }
     {
         match self.candidate(entry.line, head_busy) {
-            Some(place) => Accept::Merged(self.merge(place, &entry)),
+            Some(index) => Accept::Merged {
+                row: self.merge(index, &entry),
+                index,
+            },
             None => match self.ring.try_push_back(entry) {
                 Ok(()) => Accept::Pushed,
                 Err(_) => Accept::Full,

@@ -3,7 +3,7 @@ use Rattle.masked_bytes.specs.declared.entry.Entry.{Entry}
 use Rattle.bank_shape.specs.declared.answer.WriteAnswer.TheVariants as wrote
 use Rattle.bank_invariant.specs.State.{BankState}
 use Rattle.bank_core.specs.Running.{operation_of}
-use Rattle.bank_core.proofs.Writing.{write_law, write_worn, taken_law, taken_holds, taken_tied}
+use Rattle.bank_core.proofs.Writing.{write_law, write_worn, taken_law, taken_holds, taken_tied, merged_there}
 use Rattle.bank_core.proofs.bank.Bank.write.Goals as goal
 
 pub returns-then-exhausted-clause-holds : goal.returns-then-exhausted-clause-holds
@@ -33,7 +33,12 @@ returns-clause-bank g c =
       rows_below = c.self.inside.rows_below;
     } in
     let entry : Entry g.row.B = c.args.entry in
-    rw (← c.self.view_is, c.answer_to.ensures, c.accept.ensures.answer, c.accept.ensures.kept, c.storing-busy.ensures) (taken_law bank entry)
+    rw (← c.self.view_is, c.arrived_as.ensures.answer, c.accept.ensures.answer, c.accept.ensures.kept, c.storing-busy.ensures) (taken_law bank entry)
+
+pub returns-clause-index : goal.returns-clause-index
+returns-clause-index g c =
+    rw (c.accept.ensures.kept, c.arrived_as.ensures.is, c.accept.ensures.answer)
+    (merged_there c.self.inside.kept.shape.writes c.storing-busy.result c.args.entry c.self.inside.kept.entries)
 
 pub returns-clause-tied : goal.returns-clause-tied
 returns-clause-tied g c =
@@ -65,7 +70,7 @@ returns-clause-holds g c =
     let is = c.exhausted.ensures.mark in
     let no = c.if-exhausted.false in
     let going : c.self.inside.kept.exhausted ≡ false = cc in
-    rw (← c.self.view_is, c.answer_to.ensures, c.accept.ensures.answer, c.accept.ensures.kept, c.storing-busy.ensures)
+    rw (← c.self.view_is, c.arrived_as.ensures.answer, c.accept.ensures.answer, c.accept.ensures.kept, c.storing-busy.ensures)
     (λ h array holds. taken_holds entry h bank array going exists rises c.requires.masked holds)
 
 pub overflow_add-self : goal.overflow_add-self
@@ -92,8 +97,8 @@ invariant_of-self-2 g c = grind arith
 pub accept-requires : goal.accept-requires
 accept-requires g c = grind arith
 
-pub answer_to-requires : goal.answer_to-requires
-answer_to-requires g c = grind arith
+pub arrived_as-requires : goal.arrived_as-requires
+arrived_as-requires g c = grind arith
 
 pub invariant_of-self-3 : goal.invariant_of-self-3
 invariant_of-self-3 g c = grind arith

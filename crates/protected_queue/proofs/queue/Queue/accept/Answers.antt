@@ -7,7 +7,7 @@ use Rattle.protected_queue.proofs.queue.Queue.accept.Goals.{in-Ok, in-Err}
 pub merge-requires : goal.merge-requires
 merge-requires g c =
     let few : g.row.B ≤ 128 = c.self.invariant.few_bytes in
-    let there : c.in-Some.place < length c.args.self.now.entries =
+    let there : c.in-Some.index < length c.args.self.now.entries =
     newest_place-within c.args.self.now.entries c.args.entry.line _ (candidate_place-newest c.args.head_busy c.args.self.now.entries c.args.entry.line _ (sym c.in-Some.ensures)) in
     search rules
 
