@@ -1,7 +1,7 @@
-//! The lifetime that Start-Gap (Qureshi et al., MICRO 2009) gives a module: how the stores of one line are spread over the array
-//! lines of its region, how many line writes an array line takes, and that over cells that endure so many changes no line of a slot wears
-//! out, however often cells miss.
-//! A law is what a function here ensures; the functions do nothing when they run.
+//! The lifetime that Start-Gap (Qureshi et al., MICRO 2009) gives a module: how the stores of one line are
+//! spread over the array lines of its region, how many line writes an array line takes, and that over cells
+//! that endure so many changes no line of a slot wears out, however often cells miss. A law is what a
+//! function here ensures; the functions do nothing when they run.
 #![tactic(auto)]
 
 ghost use Rattle.lifetime_laws.specs.Spread.{AnyLineLaw, CopiesLaw, EvenLaw, FoundLaw, OneStayLaw, SpreadLaw, StayLaw, TightLaw};
@@ -19,7 +19,8 @@ pub fn stays_are_exact()
     ensures { TightLaw }
 {}
 
-/// N + 1 times as many as one place takes are at most all stores and N stays more: so each place takes its share, up to one stay.
+/// N + 1 times as many as one place takes are at most all stores and N stays more: so each place
+/// takes its share, up to one stay.
 pub fn places_share_evenly()
     ensures { EvenLaw }
 {}
@@ -34,7 +35,8 @@ pub fn copies_are_spread()
     ensures { CopiesLaw }
 {}
 
-/// By the rows of a table, as many stores of a line are on a slot's own array line as find the line at that slot.
+/// By the rows of a table, as many stores of a line are on a slot's own array line
+/// as find the line at that slot.
 pub fn stores_find_their_line()
     ensures { FoundLaw }
 {}
@@ -54,8 +56,8 @@ pub fn hot_lines_are_spread()
     ensures { HotLinesLaw }
 {}
 
-/// An attack on one line: N + 1 times its stores on one slot's own array line are at most all its stores, those of other lines of
-/// its region, and N stays more.
+/// An attack on one line: N + 1 times its stores on one slot's own array line are at most all its stores,
+/// those of other lines of its region, and N stays more.
 pub fn attacks_are_spread()
     ensures { AttackLaw }
 {}
@@ -65,7 +67,8 @@ pub fn spared_lines_are_unworn()
     ensures { UnwornLaw }
 {}
 
-/// Where no slot's own line is worn, no row is refused for want of a spare, and none is left in the queue unless a control line is worn.
+/// Where no slot's own line is worn, no row is refused for want of a spare, and none is left in the queue
+/// unless a control line is worn.
 pub fn unworn_banks_take_all()
     ensures { SoundRowsLaw }
 {}
@@ -85,8 +88,8 @@ pub fn pulses_are_of_line_writes()
     ensures { PulsesOnLaw }
 {}
 
-/// The line writes of a slot's own array line: its stores, the moves into it, one that gives it up, and the cuts; five times as many
-/// where reads cancel line writes.
+/// The line writes of a slot's own array line: its stores, the moves into it, one that gives it up, and the
+/// cuts; five times as many where reads cancel line writes.
 pub fn line_writes_are_few()
     ensures { WorksLaw }
 {}
@@ -101,8 +104,8 @@ pub fn lines_age_slowly()
     ensures { LineAgesLaw }
 {}
 
-/// And those of a control line: it is written for each store and move of its region, and again after a cut; that of a spare or of
-/// the mark is written once.
+/// And those of a control line: it is written for each store and move of its region, and again after a cut;
+/// that of a spare or of the mark is written once.
 pub fn control_pulses_are_few()
     ensures { ControlPulsesLaw }
 {}
@@ -117,8 +120,8 @@ pub fn asked_writes_bound_stores()
     ensures { AskedLaw }
 {}
 
-/// Over cells that endure more changes than a slot's own line may take by its hot lines, one a line write however often cells miss, no
-/// cell of such a line sticks.
+/// Over cells that endure more changes than a slot's own line may take by its hot lines, one a line write
+/// however often cells miss, no cell of such a line sticks.
 pub fn hot_lines_leave_banks_alive()
     ensures { LifetimeLaw }
 {}
