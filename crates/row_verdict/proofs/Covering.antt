@@ -1,8 +1,8 @@
 -- What is kept of a line.
 use Rattle.std.proofs.Common.{◌≡◌, ℕ, ◌<◌, ◌≤◌, ◌&&◌, ◌||◌, ◌⊎◌, inl, inr, Bool, true, false, List, [], ◌∷◌, ◌++◌, Option, Some, None, refl, sym, ap, ◌∙◌, cond, arith}
-use Rattle.std.specs.Prelude.{nat_le, reverse, min, All}
+use Rattle.std.specs.Prelude.{nat_le, reverse, min}
 use Rattle.std.specs.List.{list_any}
-use Rattle.std.proofs.lemmas.Bool.{le-leb, leb-true, lt-leb, cases_lt}
+use Rattle.std.proofs.lemmas.Bool.{le-leb, lt-leb, cases_lt}
 use Rattle.std.proofs.lemmas.List.{reverse-append, reverse-reverse}
 use Rattle.masked_bytes.specs.Masked.{joined, laid, none_given}
 use Rattle.result_rows.specs.declared.Outcome.{Outcome}
@@ -10,11 +10,11 @@ use Rattle.result_rows.specs.declared.Outcome.TheVariants as out
 use Rattle.row_rules.specs.declared.Row.{Row}
 use Rattle.row_rules.specs.Answers.{is_stored, stored_by}
 use Rattle.row_rules.specs.Rows.{accepted_of, write_of, newest, bytes_of, given_of}
-use Rattle.row_rules.specs.Queueing.{unstored, cover}
+use Rattle.row_rules.specs.Queueing.{unstored}
 use Rattle.row_judging.specs.Runs.{run, held}
 use Rattle.row_judging.proofs.Covers.{cover_law}
 use Rattle.row_verdict.specs.declared.lines.Run.{Run}
-use Rattle.row_verdict.specs.Covering.{held_by, KeptLine, sooner, soonest, comes_by, cover_kept, closed, CoverKeptLaw, LineStaysLaw, LineJoinsLaw}
+use Rattle.row_verdict.specs.Covering.{held_by, KeptLine, sooner, soonest, comes_by, closed, CoverKeptLaw, LineStaysLaw, LineJoinsLaw}
 
 either_least : (u v e : ℕ) → nat_le (min u v) e ≡ (nat_le u e || nat_le v e)
 either_least u v e = by (cases_lt e u) (cases_lt e v)

@@ -1,7 +1,7 @@
 -- What is kept of a bank, as rows pass.
-use Rattle.std.proofs.Common.{◌≡◌, ℕ, ◌+◌, ◌<◌, ◌≤◌, ◌&&◌, ◌||◌, Bool, true, false, List, [], ◌∷◌, ◌++◌, Option, Some, None, refl, sym, ap, ◌∙◌, cond, arith}
+use Rattle.std.proofs.Common.{◌≡◌, ℕ, ◌≤◌, ◌&&◌, ◌||◌, Bool, true, false, List, [], ◌∷◌, refl, sym, ap, ◌∙◌, cond, arith}
 use Rattle.std.specs.Prelude.{nat_le, nat_lt, not}
-use Rattle.std.specs.List.{list_all, list_any}
+use Rattle.std.specs.List.{list_any}
 use Rattle.std.proofs.lemmas.Bool.{le-leb, leb-true, ltb-true, and_from}
 use Rattle.result_rows.specs.declared.Outcome.{Outcome}
 use Rattle.result_rows.specs.declared.Outcome.TheVariants as out
@@ -9,7 +9,7 @@ use Rattle.row_rules.specs.declared.Asks.TheVariants.{Reads, Writes, Cuts}
 use Rattle.row_rules.specs.declared.Row.{Row}
 use Rattle.row_rules.specs.Answers.{accepts, is_stored, is_answered, is_lost, is_merged, is_queued, is_worn, stored_after}
 use Rattle.row_rules.specs.declared.Rules.{Rules}
-use Rattle.row_rules.specs.Queueing.{stands, has_room}
+use Rattle.row_rules.specs.Queueing.{has_room}
 use Rattle.row_rules.specs.Serving.{may_have}
 use Rattle.row_rules.specs.Wearing.{worn_row}
 use Rattle.row_judging.specs.Coming.{came}
@@ -18,11 +18,10 @@ use Rattle.row_judging.specs.Keys.{reach}
 use Rattle.row_judging.specs.Rising.{falling}
 use Rattle.row_judging.proofs.Nears.{near_stays, near_behind}
 use Rattle.row_verdict.specs.declared.members.Member.{Member}
-use Rattle.row_verdict.specs.Fitting.{is_brief, all_brief}
+use Rattle.row_verdict.specs.Fitting.{is_brief}
 use Rattle.row_verdict.specs.Judged.{a_write, a_read, a_cut}
-use Rattle.row_verdict.specs.Kept.{sight, sight_of, KeptBank}
-use Rattle.row_verdict.specs.States.{Facts, Stands, with_member, with_worn, with_answer, with_loss, cut_off, after_write, after_read, StandsLaterLaw, WritePassesLaw, ReadPassesLaw, CutPassesLaw}
-use Rattle.row_verdict.specs.Tables.{KeptFour}
+use Rattle.row_verdict.specs.Kept.{sight, sight_of}
+use Rattle.row_verdict.specs.States.{Facts, Stands, with_member, cut_off, after_write, after_read, StandsLaterLaw, WritePassesLaw, ReadPassesLaw, CutPassesLaw}
 use Rattle.row_verdict.proofs.Joins.{join_kept_law, cut_kept_law}
 use Rattle.row_verdict.proofs.OtherJoins.{other_kept_law}
 use Rattle.row_verdict.proofs.ReadJoins.{answer_kept_law, loss_kept_law}
