@@ -1,5 +1,6 @@
 -- What is kept of a line.
 use Rattle.std.proofs.Common.{◌≡◌, ℕ, ◌<◌, ◌≤◌, ◌&&◌, ◌||◌, ◌⊎◌, inl, inr, Bool, true, false, List, [], ◌∷◌, ◌++◌, Option, Some, None, refl, sym, ap, ◌∙◌, cond, arith}
+use Rattle.masked_bytes.proofs.Truth.{or_false}
 use Rattle.std.specs.Prelude.{nat_le, reverse, min}
 use Rattle.std.specs.List.{list_any}
 use Rattle.std.proofs.lemmas.Bool.{le-leb, lt-leb, cases_lt}
@@ -24,14 +25,6 @@ either_least u v e = by (cases_lt e u) (cases_lt e v)
     by (inl a) (inr b) = le-leb (min u v) e (omega (arith, b)) ∙ sym (ap (λ c. c || nat_le v e) (lt-leb u e a) ∙ le-leb v e b)
     by (inl a) (inl b) = lt-leb (min u v) e (omega (arith, a, b)) ∙ sym (ap (λ c. c || nat_le v e) (lt-leb u e a) ∙ lt-leb v e b)
 
-and_false : (a : Bool) → (a && false) ≡ false
-and_false true = refl
-and_false false = refl
-
-or_false : (a : Bool) → a ≡ (a || false)
-or_false true = refl
-or_false false = refl
-
 module _ {n : ℕ} where
   -- whether a write of the line is stored by a tick
   some_by : (t line : ℕ) (rows : List (Row n)) → list_any (λ q. write_of line q && stored_by t q.outcome) rows ≡ comes_by t (soonest line rows)
@@ -45,7 +38,7 @@ module _ {n : ℕ} where
       by : (o : Outcome n) (own : Bool) → write_of line q ≡ own → (found : Option ℕ) → list_any (λ q. write_of line q && stored_by t q.outcome) rows ≡ comes_by t found
           → ((own && stored_by t o) || list_any (λ q. write_of line q && stored_by t q.outcome) rows) ≡ comes_by t (sooner line q o found)
       by (out.Stored v place) true is None ih =
-          ap (λ b. nat_le v t || b) ih ∙ sym (or_false (nat_le v t)) ∙ ap (λ b. comes_by t (cond b (Some v) None)) (sym is)
+          ap (λ b. nat_le v t || b) ih ∙ or_false (nat_le v t) ∙ ap (λ b. comes_by t (cond b (Some v) None)) (sym is)
       by (out.Stored v place) false is None ih = ih ∙ ap (λ b. comes_by t (cond b (Some v) None)) (sym is)
       by (out.Stored v place) true is (Some u) ih =
           ap (λ b. nat_le v t || b) ih ∙ sym (either_least v u t) ∙ ap (λ b. comes_by t (cond b (Some (min v u)) (Some u))) (sym is)

@@ -1,6 +1,6 @@
 -- The queue's rule, by what is kept of a bank.
 use Rattle.std.proofs.Common.{◌≡◌, ℕ, suc, ◌+◌, ◌-◌, ◌<◌, ◌≤◌, ◌==◌, ◌&&◌, ◌||◌, ◌⊎◌, inl, inr, Bool, true, false, List, [], ◌∷◌, ◌++◌, Option, Some, None, length, refl, sym, ap, ◌∙◌, cond, arith}
-use Rattle.masked_bytes.proofs.Truth.{and_first, and_second}
+use Rattle.masked_bytes.proofs.Truth.{and_first, and_second, and_true}
 use Rattle.std.specs.Prelude.{nat_le, nat_lt, not, reverse, map, filter, drop, take, slice_get, count_by}
 use Rattle.std.specs.List.{list_all, list_any}
 use Rattle.std.proofs.lemmas.Bool.{lt-leb, lt-ltb, ltb-true, eq-eqb, ne_eqb, cases_eq}
@@ -146,10 +146,6 @@ has_twins-reverse (m ∷ ms) =
     ∙ twins-last (map (λ m. m.line) (reverse ms)) m.line
     ∙ ap (λ b. b || twins (map (λ m. m.line) (reverse ms))) (any-map (λ y. y == m.line) (λ m. m.line) (reverse ms) ∙ any-reverse (is_of m.line) ms)
     ∙ ap (λ b. list_any (is_of m.line) ms || b) (sym (twins-members (reverse ms)) ∙ has_twins-reverse ms)
-
-and_true : (a : Bool) → (a && true) ≡ a
-and_true true = refl
-and_true false = refl
 
 below_never : (u : ℕ) → nat_lt u reach ≡ true → u ≤ never
 below_never u h = let k : u < reach = ltb-true u reach h in omega (arith, k)

@@ -3,7 +3,7 @@ use Rattle.std.proofs.Common.{◌≡◌, ℕ, zero, suc, ◌+◌, ◌<◌, ◌�
 use Rattle.masked_bytes.proofs.Truth.{and_first, and_second, and_true, and_false, or_false, differ_sym, neither_first, neither_second}
 use Rattle.std.specs.Prelude.{nat_le, nat_lt, not, filter, take, count_by}
 use Rattle.std.specs.List.{list_all, list_any}
-use Rattle.std.proofs.lemmas.Bool.{le-leb, leb-true, lt-leb, lt-ltb, ltb-false, eq-eqb, ne_eqb, eqb-true, cases_eq}
+use Rattle.std.proofs.lemmas.Bool.{le-leb, leb-true, lt-leb, lt-ltb, ltb-false, eq-eqb, ne_eqb, eqb-true, cases_eq, or_right, not-true, not_from_false}
 use Rattle.std.proofs.lemmas.List.{take_at}
 use Rattle.std.proofs.lemmas.List.Folds.{list_any-append}
 use Rattle.row_judging.specs.Few.{few_by}
@@ -13,17 +13,6 @@ use Rattle.row_verdict.specs.declared.members.Twins.{Twins}
 use Rattle.row_verdict.specs.declared.members.Twins.TheVariants.{Nowhere, Only, Anywhere}
 use Rattle.row_verdict.specs.Fitting.{is_of, is_staying, has_twins, pairs_only, may_have_two, twins_with, IsKnown}
 use Rattle.row_verdict.specs.Joined.{stays_beside}
-
-pub denied : (b : Bool) → not b ≡ true → b ≡ false
-denied true h = absurd (cc)
-denied false h = refl
-
-deny : (b : Bool) → b ≡ false → not b ≡ true
-deny b h = ap not h
-
-either_right : (a b : Bool) → b ≡ true → (a || b) ≡ true
-either_right true b h = refl
-either_right false b h = h
 
 -- whether one of a kind is there, by the number of these
 any-count : {X : Type 0} (p : X → Bool) (xs : List X) → list_any p xs ≡ nat_lt 0 (count_by p xs)
@@ -64,12 +53,12 @@ twins-counted line (m ∷ ms) h =
         ∙ ap (λ b. b || has_twins ms) (any-count (is_of line) ms)
         ∙ ap (λ b. nat_lt 0 (count_by (is_of line) ms) || b) ih
         ∙ one_more (count_by (is_of line) ms)
-    by false is own ih = ap (λ b. b || has_twins ms) (denied (list_any (is_of m.line) ms) own) ∙ ih ∙ ap (nat_le 2) (omega arith)
+    by false is own ih = ap (λ b. b || has_twins ms) (not-true (list_any (is_of m.line) ms) own) ∙ ih ∙ ap (nat_le 2) (omega arith)
 
 -- a member that may be stored first only where no two are of one line, by the number of these
 pub first_alone : (line : ℕ) (ms : List Member) (follows : Bool) → pairs_only line ms ≡ true → count_by (is_of line) ms ≤ 1 → true ≡ (follows || not (has_twins ms))
 first_alone line ms follows h few =
-    sym (either_right follows (not (has_twins ms)) (deny (has_twins ms) (twins-counted line ms h ∙ lt-leb 2 (count_by (is_of line) ms) (omega (arith, few)))))
+    sym (or_right follows (not (has_twins ms)) (not_from_false (has_twins ms) (twins-counted line ms h ∙ lt-leb 2 (count_by (is_of line) ms) (omega (arith, few)))))
 
 pub first_paired : (line : ℕ) (ms : List Member) (follows : Bool) → pairs_only line ms ≡ true → 1 < count_by (is_of line) ms → follows ≡ (follows || not (has_twins ms))
 first_paired line ms follows h two =
@@ -79,7 +68,7 @@ first_paired line ms follows h two =
 pub no_twins : (line : ℕ) (ms : List Member) → has_twins ms ≡ false → pairs_only line ms ≡ true
 no_twins line [] h = refl
 no_twins line (m ∷ ms) h =
-    ap (λ b. b && pairs_only line ms) (either_right (m.line == line) (not (list_any (is_of m.line) ms)) (deny (list_any (is_of m.line) ms) (neither_first _ _ h)))
+    ap (λ b. b && pairs_only line ms) (or_right (m.line == line) (not (list_any (is_of m.line) ms)) (not_from_false (list_any (is_of m.line) ms) (neither_first _ _ h)))
     ∙ no_twins line ms (neither_second _ _ h)
 
 module _ (q p : Member → Bool) where
@@ -129,7 +118,7 @@ pairs_only-filter p line (m ∷ ms) h = by (p m) (pairs_only-filter p line ms (a
   where
     own : (b : Bool) → (b || not (list_any (is_of m.line) ms)) ≡ true → (b || not (list_any (is_of m.line) (filter p ms))) ≡ true
     own true k = refl
-    own false k = deny (list_any (is_of m.line) (filter p ms)) (none-filter (is_of m.line) p ms (denied (list_any (is_of m.line) ms) k))
+    own false k = not_from_false (list_any (is_of m.line) (filter p ms)) (none-filter (is_of m.line) p ms (not-true (list_any (is_of m.line) ms) k))
 
     by : (b : Bool) → pairs_only line (filter p ms) ≡ true → pairs_only line (cond b (m ∷ filter p ms) (filter p ms)) ≡ true
     by true ih = ap (λ b. b && pairs_only line (filter p ms)) (own (m.line == line) (and_first _ _ h)) ∙ ih
@@ -149,7 +138,7 @@ pairs_only-take line (suc k) (m ∷ ms) h =
   where
     own : (b : Bool) → (b || not (list_any (is_of m.line) ms)) ≡ true → (b || not (list_any (is_of m.line) (take k ms))) ≡ true
     own true g = refl
-    own false g = deny (list_any (is_of m.line) (take k ms)) (none-take (is_of m.line) k ms (denied (list_any (is_of m.line) ms) g))
+    own false g = not_from_false (list_any (is_of m.line) (take k ms)) (none-take (is_of m.line) k ms (not-true (list_any (is_of m.line) ms) g))
 
 -- and as a member joins that is of this line, or whose line has no other
 pub pairs_only-last : (line : ℕ) (ms : List Member) (new : Member) → pairs_only line ms ≡ true → (new.line == line || not (list_any (is_of new.line) ms)) ≡ true
@@ -161,7 +150,7 @@ pairs_only-last line (m ∷ ms) new h own =
   where
     rest : (b : Bool) → (b || not (list_any (is_of new.line) (m ∷ ms))) ≡ true → (b || not (list_any (is_of new.line) ms)) ≡ true
     rest true k = refl
-    rest false k = deny (list_any (is_of new.line) ms) (neither_second (m.line == new.line) _ (denied ((m.line == new.line) || list_any (is_of new.line) ms) k))
+    rest false k = not_from_false (list_any (is_of new.line) ms) (neither_second (m.line == new.line) _ (not-true ((m.line == new.line) || list_any (is_of new.line) ms) k))
 
     other : (m.line == line) ≡ false → (new.line == m.line) ≡ false
     other off = by (cases_eq new.line m.line)
@@ -173,16 +162,16 @@ pairs_only-last line (m ∷ ms) new h own =
             sides : (b : Bool) → (new.line == line) ≡ b → (b || not (list_any (is_of new.line) (m ∷ ms))) ≡ true → (new.line == m.line) ≡ false
             sides true is k = let t : (m.line == line) ≡ true = eq-eqb m.line line (sym e ∙ eqb-true new.line line is) in absurd (cc)
             sides false is k =
-                let f : (m.line == new.line) ≡ false = neither_first (m.line == new.line) _ (denied ((m.line == new.line) || list_any (is_of new.line) ms) k) in
+                let f : (m.line == new.line) ≡ false = neither_first (m.line == new.line) _ (not-true ((m.line == new.line) || list_any (is_of new.line) ms) k) in
                 let t : (m.line == new.line) ≡ true = eq-eqb m.line new.line (sym e) in
                 absurd (cc)
 
     front : (b : Bool) → (m.line == line) ≡ b → (b || not (list_any (is_of m.line) ms)) ≡ true → (b || not (list_any (is_of m.line) (ms ++ new ∷ []))) ≡ true
     front true is k = refl
     front false is k =
-        deny (list_any (is_of m.line) (ms ++ new ∷ []))
+        not_from_false (list_any (is_of m.line) (ms ++ new ∷ []))
         (list_any-append (is_of m.line) ms (new ∷ [])
-        ∙ ap (λ b. b || ((new.line == m.line) || false)) (denied (list_any (is_of m.line) ms) k)
+        ∙ ap (λ b. b || ((new.line == m.line) || false)) (not-true (list_any (is_of m.line) ms) k)
         ∙ ap (λ b. b || false) (other is))
 
 -- What is known of a line that may have two
@@ -197,8 +186,8 @@ module _ (pair line : ℕ) (ms : List Member) (new : Member) (of : new.line ≡ 
       → pairs_only pair (filter (stays_beside line) ms ++ new ∷ []) ≡ true
   joined-alone none h =
       pairs_only-last pair (filter (stays_beside line) ms) new (pairs_only-filter (stays_beside line) pair ms h)
-      (either_right (new.line == pair) (not (list_any (is_of new.line) (filter (stays_beside line) ms)))
-      (deny (list_any (is_of new.line) (filter (stays_beside line) ms))
+      (or_right (new.line == pair) (not (list_any (is_of new.line) (filter (stays_beside line) ms)))
+      (not_from_false (list_any (is_of new.line) (filter (stays_beside line) ms))
       (ap (λ l. list_any (is_of l) (filter (stays_beside line) ms)) of ∙ sym (any-staying line ms) ∙ none)))
 
   -- of no line there are two until this one joins
@@ -310,15 +299,11 @@ module _ (line : ℕ) (ms : List Member) where
       off : list_any (is_staying line) ms ≡ false
       off = any-staying line ms ∙ none-filter (is_of line) (stays_beside line) ms none
 
-      either_true : (b : Bool) → (b || true) ≡ true
-      either_true true = refl
-      either_true false = refl
-
       by : (twins : Twins) → twins ≡ twins_with line ms twins
       by Nowhere = ap (λ b. cond b (Only line) Nowhere) (sym off)
       by (Only pair) =
           ap (λ b. cond b (Only pair) (cond (nat_le (count_by (is_of pair) ms) 1) (Only line) Anywhere))
-          (sym (ap (λ b. (pair == line) || not b) off ∙ either_true (pair == line)))
+          (sym (ap (λ b. (pair == line) || not b) off ∙ or_right (pair == line) true refl))
       by Anywhere = refl
 
 -- where its line may not have two members, the newest member is the only one of its line
@@ -336,7 +321,7 @@ few_alone one twins ms new h off = few_of_none (is_of new.line) one ms (none_of 
             differ_sym new.line m.line
             (neither_first (new.line == m.line) false
             (neither_second (list_any (is_of m.line) ms) _
-            (sym (list_any-append (is_of m.line) ms (new ∷ [])) ∙ denied (list_any (is_of m.line) (ms ++ new ∷ [])) k)))
+            (sym (list_any-append (is_of m.line) ms (new ∷ [])) ∙ not-true (list_any (is_of m.line) (ms ++ new ∷ [])) k)))
 
     number : list_any (is_of new.line) ms ≡ false → count_by (is_of new.line) ms ≡ 0
     number none = let k = ltb-false 0 (count_by (is_of new.line) ms) (sym (any-count (is_of new.line) ms) ∙ none) in omega (arith, k)

@@ -1,6 +1,6 @@
 -- The rule on the queue, by what is kept of a bank.
 use Rattle.std.proofs.Common.{◌≡◌, ℕ, ◌+◌, ◌<◌, ◌==◌, ◌&&◌, ◌||◌, Bool, true, false, List, [], ◌∷◌, ◌++◌, Some, length, refl, sym, ap, ◌∙◌, cond, arith}
-use Rattle.masked_bytes.proofs.Truth.{and_first, and_second}
+use Rattle.masked_bytes.proofs.Truth.{and_first, and_second, or_false}
 use Rattle.std.specs.Prelude.{nat_lt, not, reverse, filter}
 use Rattle.std.specs.List.{list_all, list_any}
 use Rattle.std.proofs.lemmas.Bool.{ltb-true, ne_eqb}
@@ -25,10 +25,6 @@ use Rattle.row_verdict.specs.QueueLaws.{next_accepted, KeysTell, RoomKeptLaw, Wr
 use Rattle.row_verdict.proofs.Apart.{shown}
 use Rattle.row_verdict.proofs.Fits.{all-where, any-where, any-reverse, flat_any, turned, stands_accepted, stands_all, write_of_line, refusal_shown, room_shown}
 use Rattle.row_verdict.proofs.Numbers.{numbers_law}
-
-plain : (b : Bool) → (b || false) ≡ true → b ≡ true
-plain true h = refl
-plain false h = h
 
 pub room_kept_law : RoomKeptLaw
 room_kept_law n t rules rows members waits lost last_answer last_store found near = room_shown rules t rows members waits lost last_answer last_store found.kept found.brief near
@@ -59,7 +55,7 @@ module _ {n : ℕ} where
 
   -- what stands at a tick is stored above it, if at all
   stood : (t : ℕ) (w m : Bool) (o : Outcome n) → ((w && accepts o) && (stored_after t o || (is_queued o || (is_merged o && m)))) ≡ true → ends_behind t o ≡ true
-  stood t w m (out.Stored v place) h = plain (nat_lt t v) (and_second (w && true) _ h)
+  stood t w m (out.Stored v place) h = sym (or_false (nat_lt t v)) ∙ and_second (w && true) _ h
   stood t w m (out.Read v place bytes) h = let k : false ≡ true = and_second w false (and_first (w && false) _ h) in absurd (cc)
   stood t w m out.Unset h = refl
   stood t w m (out.Merged v) h = refl

@@ -1,5 +1,6 @@
 -- What sorted keys of a whole table tell of a row of it.
 use Rattle.std.proofs.Common.{◌≡◌, ℕ, ◌+◌, ◌<◌, ◌≤◌, ◌==◌, ◌&&◌, ◌||◌, ◌⊎◌, inl, inr, Bool, true, false, List, [], ◌∷◌, ◌++◌, Option, Some, None, refl, sym, ap, ◌∙◌, cond, arith}
+use Rattle.masked_bytes.proofs.Truth.{and_false}
 use Rattle.std.specs.Prelude.{nat_le, nat_lt, not, reverse, filter, count_by, max, slice_get}
 use Rattle.std.proofs.lemmas.Bool.{lt-ltb, le-ltb, eq-eqb, eqb-true, cases_lt}
 use Rattle.result_rows.specs.declared.Outcome.{Outcome}
@@ -55,10 +56,6 @@ counts_told_law n bank_of bank a u before r after stores reads same other le bel
     record { stored = omega (arith, stored, s, s_a, s_u); read = omega (arith, read, w, r_a, r_u) }
 
 -- A line's stores
-
-and_false : (a : Bool) → (a && false) ≡ false
-and_false true = refl
-and_false false = refl
 
 module _ {n : ℕ} (line : ℕ) where
   -- the rows of a line, as if it were a bank
