@@ -4,6 +4,7 @@ use Rattle.std.specs.Prelude.{All}
 use Rattle.std.proofs.lemmas.Bool.{le-leb, lt-ltb}
 use Rattle.std.proofs.lemmas.List.{length-replicate}
 use Rattle.std.proofs.lemmas.List.Elements.{All-tail, All-cons}
+use Rattle.masked_bytes.proofs.Queueing.{some_same}
 use Rattle.trace_reader.specs.Events.{AreEventsFor, IsEventFor, IsOpFor}
 use Rattle.trace_reader.specs.declared.event.Event.{Event}
 use Rattle.trace_reader.specs.declared.event.EventOp.{EventOp}
@@ -27,9 +28,6 @@ lawful_first : {n : ℕ} (lines before : ℕ) (event : Event n) (rest : List (Ev
 unfolding AreEventsFor
 lawful_first lines before event rest h = h
 
-some_tick : (u v : ℕ) → Some u ≡ Some v → u ≡ v
-some_tick u v is = cc
-
 op_below : {n : ℕ} (lines : ℕ) (op : EventOp n) → IsOpFor lines op → IsBelow lines (asks_of op)
 op_below lines (Read line) h = h
 op_below lines (Write line bytes) h = h.0
@@ -44,16 +42,16 @@ op_sized lines Cut h is = absurd (cc)
 
 timed_brief : {n : ℕ} (o : Outcome n) → IsTimed o → is_brief o ≡ true
 timed_brief out.Unset h = refl
-timed_brief (out.Stored u place) h = let e = some_tick u h.tick h.at in let s = h.short in lt-ltb u reach (omega (arith, e, s))
-timed_brief (out.Merged u) h = let e = some_tick u h.tick h.at in let s = h.short in lt-ltb u reach (omega (arith, e, s))
-timed_brief (out.Queued u) h = let e = some_tick u h.tick h.at in let s = h.short in lt-ltb u reach (omega (arith, e, s))
-timed_brief (out.Full u) h = let e = some_tick u h.tick h.at in let s = h.short in lt-ltb u reach (omega (arith, e, s))
-timed_brief (out.Worn u) h = let e = some_tick u h.tick h.at in let s = h.short in lt-ltb u reach (omega (arith, e, s))
-timed_brief (out.Read u place bytes) h = let e = some_tick u h.tick h.at in let s = h.short in lt-ltb u reach (omega (arith, e, s))
-timed_brief (out.Forwarded u bytes) h = let e = some_tick u h.tick h.at in let s = h.short in lt-ltb u reach (omega (arith, e, s))
-timed_brief (out.Busy u) h = let e = some_tick u h.tick h.at in let s = h.short in lt-ltb u reach (omega (arith, e, s))
-timed_brief (out.Lost u) h = let e = some_tick u h.tick h.at in let s = h.short in lt-ltb u reach (omega (arith, e, s))
-timed_brief (out.Cut u) h = let e = some_tick u h.tick h.at in let s = h.short in lt-ltb u reach (omega (arith, e, s))
+timed_brief (out.Stored u place) h = let e = some_same u h.tick h.at in let s = h.short in lt-ltb u reach (omega (arith, e, s))
+timed_brief (out.Merged u) h = let e = some_same u h.tick h.at in let s = h.short in lt-ltb u reach (omega (arith, e, s))
+timed_brief (out.Queued u) h = let e = some_same u h.tick h.at in let s = h.short in lt-ltb u reach (omega (arith, e, s))
+timed_brief (out.Full u) h = let e = some_same u h.tick h.at in let s = h.short in lt-ltb u reach (omega (arith, e, s))
+timed_brief (out.Worn u) h = let e = some_same u h.tick h.at in let s = h.short in lt-ltb u reach (omega (arith, e, s))
+timed_brief (out.Read u place bytes) h = let e = some_same u h.tick h.at in let s = h.short in lt-ltb u reach (omega (arith, e, s))
+timed_brief (out.Forwarded u bytes) h = let e = some_same u h.tick h.at in let s = h.short in lt-ltb u reach (omega (arith, e, s))
+timed_brief (out.Busy u) h = let e = some_same u h.tick h.at in let s = h.short in lt-ltb u reach (omega (arith, e, s))
+timed_brief (out.Lost u) h = let e = some_same u h.tick h.at in let s = h.short in lt-ltb u reach (omega (arith, e, s))
+timed_brief (out.Cut u) h = let e = some_same u h.tick h.at in let s = h.short in lt-ltb u reach (omega (arith, e, s))
 
 rises_from : {n : ℕ} (lines before : ℕ) (events : List (Event n)) (outcomes : List (Outcome n)) → AreEventsFor lines before events → rising before (rows_with events outcomes) ≡ true
 rises_from lines before [] outcomes h = refl

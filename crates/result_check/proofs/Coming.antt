@@ -1,7 +1,7 @@
 -- What the rows behind each row bring.
 use Rattle.std.proofs.Common.{◌≡◌, ℕ, suc, ◌-◌, ◌<◌, ◌≤◌, ◌==◌, ◌&&◌, ◌⊎◌, inl, inr, Bool, true, false, List, [], ◌∷◌, ◌++◌, length, drop, replicate, Option, Some, None, refl, sym, ap, ◌∙◌, cond, subst, arith}
 use Rattle.std.specs.Prelude.{slice_get, slice_set, min}
-use Rattle.std.proofs.lemmas.Bool.{eq-eqb, eqb-true, ne_eqb, cases_eq}
+use Rattle.std.proofs.lemmas.Bool.{eq-eqb, eqb-true, ne_eqb, cases_eq, and_right}
 use Rattle.std.proofs.Math.ListN.{length-set}
 use Rattle.std.proofs.lemmas.List.{length-replicate, get_or-replicate}
 use Rattle.std.proofs.lemmas.Option.{slice_get_within, get_or_from_slice_get}
@@ -41,11 +41,7 @@ module _ {n : ℕ} (banks : List ℕ) (rows : List (Row n)) where
 
     -- a row that is not an accepted write
     next_same : accepts outcome ≡ false → (next : List (Option ℕ)) → Next rows next → Next (r ∷ rows) next
-    next_same fails next h line found is = h line found is ∙ sym (ap (λ b. cond b (Some tick) (next_accepted line rows)) (none (asks_write_of line asks) ∙ refl))
-      where
-        none : (b : Bool) → (b && accepts outcome) ≡ false
-        none true = fails
-        none false = refl
+    next_same fails next h line found is = h line found is ∙ sym (ap (λ b. cond b (Some tick) (next_accepted line rows)) (and_right (asks_write_of line asks) (accepts outcome) fails))
 
     soonest_same : ((line : ℕ) (found : Option ℕ) → sooner line r outcome found ≡ found) → (soon : List (Option ℕ)) → Soonest rows soon → Soonest (r ∷ rows) soon
     soonest_same fails soon h line found is = h line found is ∙ sym (fails line (soonest line rows))

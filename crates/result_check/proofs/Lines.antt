@@ -1,5 +1,6 @@
 -- What is kept of a line, behind a row.
 use Rattle.std.proofs.Common.{◌≡◌, ℕ, ◌<◌, ◌==◌, ◌&&◌, ◌⊎◌, inl, inr, Bool, true, false, List, ◌∷◌, length, Some, refl, sym, ap, ◌∙◌, cond, subst, arith}
+use Rattle.masked_bytes.proofs.Truth.{and_false}
 use Rattle.std.specs.Prelude.{slice_get}
 use Rattle.std.proofs.lemmas.Bool.{cases_eq, eq-eqb, ne_eqb}
 use Rattle.masked_bytes.specs.Masked.{joined, laid}
@@ -60,10 +61,6 @@ module _ {n : ℕ} (tick line : ℕ) (bytes : List ℕ) (given : List Bool) (row
       by false is =
           subst (λ (ln : Line n). KeptLine n tick line (a_write tick line bytes given o ∷ rows) ln.newest ln.unclosed ln.runs.items) (sym (behind.refused is))
           (line_stays_law n tick tick line (a_write tick line bytes given o) rows old.newest old.unclosed old.runs.items k (omega arith) (ap (λ b. (line == line) && b) is ∙ and_false (line == line)))
-        where
-          and_false : (b : Bool) → (b && false) ≡ false
-          and_false true = refl
-          and_false false = refl
 
 -- a line behind a row that isn't an accepted write of it
 line_beside : {n : ℕ} (banks : List ℕ) (tick l : ℕ) (r : Row n) (before : List (Row n)) (ln : Line n) → accepted_of l r ≡ false

@@ -12,12 +12,12 @@ use Rattle.row_judging.specs.Distances.{later_of}
 use Rattle.row_verdict.specs.declared.members.Member.{Member}
 use Rattle.row_verdict.specs.declared.members.Twins.{Twins}
 use Rattle.row_verdict.specs.declared.members.Twins.TheVariants.{Anywhere}
-use Rattle.row_verdict.specs.Kept.{ended}
+use Rattle.row_verdict.specs.Kept.{ended, least_end}
 use Rattle.row_verdict.specs.Fitting.{IsKnown}
 use Rattle.row_verdict.specs.Joined.{stays_beside}
 use Rattle.row_verdict.specs.States.{Facts, settled, after_write, after_read}
 use Rattle.row_verdict.specs.Members.{never}
-use Rattle.result_check.specs.Watching.{NoneEndsBelow, IsWatched, least_end, least_of, read_at}
+use Rattle.result_check.specs.Watching.{NoneEndsBelow, IsWatched, least_of, read_at}
 
 -- a bound on some numbers
 module _ {A : Type 0} (f : A → ℕ) where

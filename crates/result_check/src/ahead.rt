@@ -10,7 +10,6 @@ ghost use Rattle.result_check.specs.Coming.{a_row, coming_at, coming_of, IsOutlo
 ghost use Rattle.result_check.specs.Tables.{IsTable};
 
 use crate::found::bank_of;
-use crate::watched::earlier;
 use result_rows::{Outcome, Results};
 use std::alloc::{AllocError, Global};
 use trace_reader::{Event, EventOp};
@@ -37,7 +36,7 @@ fn sooner_of(tick: u64, found: Option<u64>) -> Option<u64>
     ensures { result ≡ spec.sooner_of tick found }
 {
     match found {
-        Some(other) => Some(earlier(tick, other)),
+        Some(other) => Some(tick.min(other)),
         None => Some(tick),
     }
 }

@@ -1,6 +1,6 @@
 //! What is kept of the rows that have passed, and how the next row passes.
 
-ghost use Rattle.std.specs.Prelude.{◌≡◌, ◌<◌, ◌≤◌, ◌+◌, ℕ, List, [], None, Some, true, length, max};
+ghost use Rattle.std.specs.Prelude.{◌≡◌, ◌<◌, ◌≤◌, ◌+◌, ℕ, List, [], None, Some, true, length};
 ghost use Rattle.std.specs.Prelude.{slice_get, slice_set, All, IsTrue, IfOk, IfSome};
 ghost use Rattle.std.specs.List.Sorted.{IsNonDecreasing};
 ghost use Rattle.row_rules.specs.Answers as answers;
@@ -65,7 +65,7 @@ fn accepts<const B: usize>(outcome: &Outcome<B>) -> bool
 }
 
 /// The member that a write of a line would be.
-fn member_of<const B: usize>(row: u32, line: u32, tick: u64, outcome: &Outcome<B>) -> Member
+fn member_of<const B: usize>(line: u32, tick: u64, outcome: &Outcome<B>) -> Member
     ensures sight { sight result ≡ sight_of (a_row tick (Writes line [] []) outcome.now) }
     ensures line { result.line ≡ line }
 {
@@ -75,12 +75,11 @@ fn member_of<const B: usize>(row: u32, line: u32, tick: u64, outcome: &Outcome<B
         _ => (NEVER, NEVER, false),
     };
     Member {
-        row,
         line,
+        merged,
         arrived: tick,
         end,
         leave,
-        merged,
     }
 }
 
@@ -136,16 +135,9 @@ fn number_of_banks(banks: &[u8]) -> usize
 {
     let mut number = 0;
     for bank in banks {
-        number = greater(number, *bank as usize + 1);
+        number = number.max(*bank as usize + 1);
     }
     number
-}
-
-/// The greater of two numbers.
-fn greater(number: usize, other: usize) -> usize
-    ensures { result ≡ max number other }
-{
-    if number < other { other } else { number }
 }
 
 /// So many banks of which no row has passed.
@@ -240,7 +232,6 @@ impl<const B: usize> Kept<B> {
     fn pass_write(
         &mut self,
         bank: u8,
-        row: u32,
         tick: u64,
         line: u32,
         bytes: &[u8; B],
@@ -258,7 +249,7 @@ impl<const B: usize> Kept<B> {
             → LinePasses B tick bytes.now given.now outcome.now line self.old.lines.items old self.new.lines.items) }
         ensures joined { IfOk result (λ _. self.new.joined ≡ Some line) }
     {
-        let member = member_of(row, line, tick, outcome);
+        let member = member_of(line, tick, outcome);
         self.banks[bank as usize].pass_write(member, outcome)?;
         pass_line(&mut self.lines[line as usize], tick, bytes, given, outcome)?;
         self.joined = Some(line);
@@ -294,7 +285,6 @@ impl<const B: usize> Kept<B> {
         cuts: &[u64],
         coming: Coming,
         room: bool,
-        row: u32,
         tick: u64,
         line: u32,
         op: &EventOp<B>,
@@ -351,7 +341,7 @@ impl<const B: usize> Kept<B> {
         match broken {
             Some(rule) => Ok(Some(rule)),
             None => {
-                self.pass_write(number, row, tick, line, bytes, given, outcome)?;
+                self.pass_write(number, tick, line, bytes, given, outcome)?;
                 Ok(None)
             }
         }
@@ -455,7 +445,6 @@ impl<const B: usize> Kept<B> {
         found: &Found,
         cuts: &[u64],
         coming: Coming,
-        row: u32,
         event: &Event<B>,
         outcome: &Outcome<B>,
     ) -> Result<Option<Rule>, AllocError>
@@ -489,14 +478,14 @@ impl<const B: usize> Kept<B> {
             EventOp::Write(line, bytes) => {
                 let given = [true; B];
                 self.take_write(
-                    rules, banks, found, cuts, coming, room, row, tick, *line, &event.op, bytes,
-                    &given, outcome,
+                    rules, banks, found, cuts, coming, room, tick, *line, &event.op, bytes, &given,
+                    outcome,
                 )
             }
             EventOp::Mask(line, bytes, given) => {
                 self.take_write(
-                    rules, banks, found, cuts, coming, room, row, tick, *line, &event.op, bytes,
-                    given, outcome,
+                    rules, banks, found, cuts, coming, room, tick, *line, &event.op, bytes, given,
+                    outcome,
                 )
             }
             EventOp::Cut => Ok(self.take_cut(room, tick, outcome)),

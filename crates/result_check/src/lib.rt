@@ -80,7 +80,7 @@ fn pass_rows<const B: usize>(
         cuts = cuts_with(cuts, &event.op);
         let behind = cuts_behind(&found.cuts, cuts);
         let ahead = item(coming, events.len() - 1 - i);
-        let broken = kept.take(rules, banks, found, behind, ahead, row, event, outcome)?;
+        let broken = kept.take(rules, banks, found, behind, ahead, event, outcome)?;
         if let Some(rule) = broken {
             return Ok(Verdict::No { row, rule });
         }

@@ -1,18 +1,18 @@
 //! What is kept of a bank, with a tick below which nothing of it ends, so that a bank that nothing leaves is settled at once, and
 //! with the lines that may have two members, so that no others are sought for two.
 
-ghost use Rattle.std.specs.Prelude.{◌≡◌, ◌<◌, ◌^◌, ◌-◌, min, IfOk};
+ghost use Rattle.std.specs.Prelude.{◌≡◌, ◌<◌, ◌^◌, ◌-◌, IfOk};
 ghost use Rattle.row_verdict.specs.Banks.{facts_of};
 ghost use Rattle.row_verdict.specs.Fitting.{room_kept};
 ghost use Rattle.row_verdict.specs.Members.{never};
 ghost use Rattle.row_verdict.specs.States as spec;
 ghost use Rattle.result_check.specs.Watching as watching;
-ghost use Rattle.result_check.specs.Watching.{least_end, least_of};
+ghost use Rattle.result_check.specs.Watching.{least_of};
 
 use result_rows::Outcome;
 use row_verdict::bank::Bank;
 use row_verdict::members::{Member, NEVER, Twins};
-use row_verdict::queue::{has_room, twins_with};
+use row_verdict::queue::{has_line, has_room, twins_with};
 use std::alloc::{AllocError, Global};
 use std::marker::Model;
 
@@ -38,31 +38,13 @@ impl Model for Watched {
     ghost invariant = { λ w. IsWatched w.next w.twins (facts_of w.bank) };
 }
 
-/// The lesser of two ticks.
-pub fn earlier(tick: u64, other: u64) -> u64
-    ensures { result ≡ min tick other }
-{
-    if tick < other { tick } else { other }
-}
-
-/// The least tick at which one of these is stored.
-fn first_end(members: &[Member]) -> u64
-    ensures { result ≡ least_end never members.now }
-{
-    let mut first = NEVER;
-    for member in members {
-        first = earlier(first, member.end);
-    }
-    first
-}
-
 /// The least of these ticks.
 fn first_of(ticks: &[u64]) -> u64
     ensures { result ≡ least_of never ticks.now }
 {
     let mut first = NEVER;
     for tick in ticks {
-        first = earlier(first, *tick);
+        first = first.min(*tick);
     }
     first
 }
@@ -115,8 +97,8 @@ impl Watched {
         ensures { self.new ≡ spec.settled tick self.old }
     {
         if self.next <= tick {
-            self.bank.settle(tick);
-            self.next = earlier(first_end(&self.bank.members), first_of(&self.bank.waits));
+            let first = self.bank.settle(tick);
+            self.next = first.min(first_of(&self.bank.waits));
         }
     }
 
@@ -128,12 +110,13 @@ impl Watched {
     ) -> Result<(), AllocError>
         ensures { IfOk result (λ _. self.new ≡ spec.after_write member.line member outcome.now self.old) }
     {
-        let next = earlier(self.next, member.end);
-        let twins = twins_with(self.twins, &self.bank.members, member.line);
+        let next = self.next.min(member.end);
+        let has_mates = has_line(&self.bank.members, member.line);
+        let twins = twins_with(self.twins, has_mates, &self.bank.members, member.line);
         // Where memory runs out nothing is known.
         self.next = 0;
         self.twins = Twins::Anywhere;
-        self.bank.pass_write(member, outcome)?;
+        self.bank.pass_write(member, has_mates, outcome)?;
         self.next = next;
         self.twins = twins;
         Ok(())
@@ -148,7 +131,7 @@ impl Watched {
         requires { self.old.lost < 2 ^ 32 - 1 }
         ensures { IfOk result (λ _. self.new ≡ spec.after_read tick outcome.now self.old) }
     {
-        let next = earlier(self.next, read_at(outcome));
+        let next = self.next.min(read_at(outcome));
         let twins = self.twins;
         // Where memory runs out nothing is known.
         self.next = 0;

@@ -1,8 +1,9 @@
 -- What is kept of a line.
 use Rattle.std.proofs.Common.{◌≡◌, ℕ, ◌<◌, ◌≤◌, ◌&&◌, ◌||◌, ◌⊎◌, inl, inr, Bool, true, false, List, [], ◌∷◌, ◌++◌, Option, Some, None, refl, sym, ap, ◌∙◌, cond, arith}
-use Rattle.std.specs.Prelude.{nat_le, reverse, min, All}
+use Rattle.masked_bytes.proofs.Truth.{or_false}
+use Rattle.std.specs.Prelude.{nat_le, reverse, min}
 use Rattle.std.specs.List.{list_any}
-use Rattle.std.proofs.lemmas.Bool.{le-leb, leb-true, lt-leb, cases_lt}
+use Rattle.std.proofs.lemmas.Bool.{le-leb, lt-leb, cases_lt}
 use Rattle.std.proofs.lemmas.List.{reverse-append, reverse-reverse}
 use Rattle.masked_bytes.specs.Masked.{joined, laid, none_given}
 use Rattle.result_rows.specs.declared.Outcome.{Outcome}
@@ -10,11 +11,11 @@ use Rattle.result_rows.specs.declared.Outcome.TheVariants as out
 use Rattle.row_rules.specs.declared.Row.{Row}
 use Rattle.row_rules.specs.Answers.{is_stored, stored_by}
 use Rattle.row_rules.specs.Rows.{accepted_of, write_of, newest, bytes_of, given_of}
-use Rattle.row_rules.specs.Queueing.{unstored, cover}
+use Rattle.row_rules.specs.Queueing.{unstored}
 use Rattle.row_judging.specs.Runs.{run, held}
 use Rattle.row_judging.proofs.Covers.{cover_law}
 use Rattle.row_verdict.specs.declared.lines.Run.{Run}
-use Rattle.row_verdict.specs.Covering.{held_by, KeptLine, sooner, soonest, comes_by, cover_kept, closed, CoverKeptLaw, LineStaysLaw, LineJoinsLaw}
+use Rattle.row_verdict.specs.Covering.{held_by, KeptLine, sooner, soonest, comes_by, closed, CoverKeptLaw, LineStaysLaw, LineJoinsLaw}
 
 either_least : (u v e : ℕ) → nat_le (min u v) e ≡ (nat_le u e || nat_le v e)
 either_least u v e = by (cases_lt e u) (cases_lt e v)
@@ -23,14 +24,6 @@ either_least u v e = by (cases_lt e u) (cases_lt e v)
     by (inr a) k = le-leb (min u v) e (omega (arith, a)) ∙ sym (ap (λ b. b || nat_le v e) (le-leb u e a))
     by (inl a) (inr b) = le-leb (min u v) e (omega (arith, b)) ∙ sym (ap (λ c. c || nat_le v e) (lt-leb u e a) ∙ le-leb v e b)
     by (inl a) (inl b) = lt-leb (min u v) e (omega (arith, a, b)) ∙ sym (ap (λ c. c || nat_le v e) (lt-leb u e a) ∙ lt-leb v e b)
-
-and_false : (a : Bool) → (a && false) ≡ false
-and_false true = refl
-and_false false = refl
-
-or_false : (a : Bool) → a ≡ (a || false)
-or_false true = refl
-or_false false = refl
 
 module _ {n : ℕ} where
   -- whether a write of the line is stored by a tick
@@ -45,7 +38,7 @@ module _ {n : ℕ} where
       by : (o : Outcome n) (own : Bool) → write_of line q ≡ own → (found : Option ℕ) → list_any (λ q. write_of line q && stored_by t q.outcome) rows ≡ comes_by t found
           → ((own && stored_by t o) || list_any (λ q. write_of line q && stored_by t q.outcome) rows) ≡ comes_by t (sooner line q o found)
       by (out.Stored v place) true is None ih =
-          ap (λ b. nat_le v t || b) ih ∙ sym (or_false (nat_le v t)) ∙ ap (λ b. comes_by t (cond b (Some v) None)) (sym is)
+          ap (λ b. nat_le v t || b) ih ∙ or_false (nat_le v t) ∙ ap (λ b. comes_by t (cond b (Some v) None)) (sym is)
       by (out.Stored v place) false is None ih = ih ∙ ap (λ b. comes_by t (cond b (Some v) None)) (sym is)
       by (out.Stored v place) true is (Some u) ih =
           ap (λ b. nat_le v t || b) ih ∙ sym (either_least v u t) ∙ ap (λ b. comes_by t (cond b (Some (min v u)) (Some u))) (sym is)

@@ -1,9 +1,9 @@
 -- The queue's rule, by what is kept of a bank.
-use Rattle.std.proofs.Common.{◌≡◌, ℕ, suc, ◌+◌, ◌-◌, ◌<◌, ◌≤◌, ◌==◌, ◌&&◌, ◌||◌, ◌⊎◌, inl, inr, Bool, true, false, List, [], ◌∷◌, ◌++◌, Option, Some, None, length, refl, sym, ap, ◌∙◌, subst, cond, arith}
-use Rattle.masked_bytes.proofs.Truth.{and_first, and_second}
+use Rattle.std.proofs.Common.{◌≡◌, ℕ, suc, ◌+◌, ◌-◌, ◌<◌, ◌≤◌, ◌==◌, ◌&&◌, ◌||◌, ◌⊎◌, inl, inr, Bool, true, false, List, [], ◌∷◌, ◌++◌, Option, Some, None, length, refl, sym, ap, ◌∙◌, cond, arith}
+use Rattle.masked_bytes.proofs.Truth.{and_first, and_second, and_true}
 use Rattle.std.specs.Prelude.{nat_le, nat_lt, not, reverse, map, filter, drop, take, slice_get, count_by}
 use Rattle.std.specs.List.{list_all, list_any}
-use Rattle.std.proofs.lemmas.Bool.{le-leb, lt-leb, lt-ltb, ltb-true, eq-eqb, ne_eqb, eqb-true, cases_eq}
+use Rattle.std.proofs.lemmas.Bool.{lt-leb, lt-ltb, ltb-true, eq-eqb, ne_eqb, cases_eq}
 use Rattle.std.proofs.lemmas.List.{reverse-append, reverse-reverse, map-append}
 use Rattle.std.proofs.lemmas.List.Folds.{list_any-append, list_all-map}
 use Rattle.std.proofs.lemmas.List.Sorted.{IsPermutation-reverse}
@@ -12,7 +12,7 @@ use Rattle.result_rows.specs.declared.Outcome.TheVariants as out
 use Rattle.row_rules.specs.declared.Asks.{Asks}
 use Rattle.row_rules.specs.declared.Asks.TheVariants.{Reads, Writes, Cuts}
 use Rattle.row_rules.specs.declared.Row.{Row}
-use Rattle.row_rules.specs.Answers.{accepts, is_merged, is_queued, stored_after, stored_by}
+use Rattle.row_rules.specs.Answers.{accepts, is_merged, stored_by}
 use Rattle.row_rules.specs.declared.Rules.{Rules}
 use Rattle.row_rules.specs.Rows.{asks_write, asks_write_of, accepted, accepted_of, write_of, line_of}
 use Rattle.row_rules.specs.Queueing.{stands, pending, waiting, none_before, is_older, has_few, pairs_few, is_refused, has_room}
@@ -146,10 +146,6 @@ has_twins-reverse (m ∷ ms) =
     ∙ twins-last (map (λ m. m.line) (reverse ms)) m.line
     ∙ ap (λ b. b || twins (map (λ m. m.line) (reverse ms))) (any-map (λ y. y == m.line) (λ m. m.line) (reverse ms) ∙ any-reverse (is_of m.line) ms)
     ∙ ap (λ b. list_any (is_of m.line) ms || b) (sym (twins-members (reverse ms)) ∙ has_twins-reverse ms)
-
-and_true : (a : Bool) → (a && true) ≡ a
-and_true true = refl
-and_true false = refl
 
 below_never : (u : ℕ) → nat_lt u reach ≡ true → u ≤ never
 below_never u h = let k : u < reach = ltb-true u reach h in omega (arith, k)

@@ -1,7 +1,7 @@
 -- What is kept of a bank, with one row more.
 use Rattle.std.proofs.Common.{◌≡◌, ℕ, ◌+◌, ◌==◌, ◌&&◌, ◌||◌, Bool, true, false, List, [], ◌∷◌, ◌++◌, Option, refl, sym, ap, ◌∙◌, cond, arith}
 use Rattle.std.proofs.lemmas.Bool.{and_from}
-use Rattle.masked_bytes.proofs.Truth.{and_first, and_second}
+use Rattle.masked_bytes.proofs.Truth.{and_first, and_second, and_true, or_false}
 use Rattle.std.specs.Prelude.{nat_lt, not, reverse, map, filter}
 use Rattle.std.specs.List.{list_any}
 use Rattle.std.proofs.lemmas.List.{reverse-append, map-append}
@@ -23,10 +23,6 @@ use Rattle.row_verdict.specs.declared.members.Member.{Member}
 use Rattle.row_verdict.specs.Kept.{sight, sight_of, Shows}
 use Rattle.row_verdict.specs.Joined.{stays_beside, JoinKeptLaw, CutKeptLaw}
 use Rattle.row_verdict.proofs.Settles.{filter-map, filter-same, filter-reverse}
-
-and_true : (a : Bool) → (a && true) ≡ a
-and_true true = refl
-and_true false = refl
 
 pub filter-all : {A : Type 0} (xs : List A) (p : A → Bool) → ((x : A) → p x ≡ true) → filter p xs ≡ xs
 filter-all [] p all = refl
@@ -123,11 +119,7 @@ module _ {n : ℕ} where
 
   -- what stands isn't stored yet
   not_yet : (t : ℕ) (m : Bool) (o : Outcome n) (last : Option ℕ) → accepts o ≡ true → (stored_after t o || (is_queued o || (is_merged o && m))) ≡ true → end_to t o last ≡ last
-  not_yet t m (out.Stored u place) last a h = ap (λ b. cond b last (later_of u last)) (plain (nat_lt t u) h)
-    where
-      plain : (b : Bool) → (b || false) ≡ true → b ≡ true
-      plain true h = refl
-      plain false h = h
+  not_yet t m (out.Stored u place) last a h = ap (λ b. cond b last (later_of u last)) (sym (or_false (nat_lt t u)) ∙ h)
   not_yet t m (out.Merged u) last a h = refl
   not_yet t m (out.Queued u) last a h = refl
   not_yet t m out.Unset last a h = refl

@@ -1,26 +1,22 @@
 -- A row's verdict, by what is kept of its bank and known of the rows behind it.
-use Rattle.std.proofs.Common.{◌≡◌, ℕ, ◌+◌, ◌&&◌, ◌||◌, Bool, true, false, List, [], ◌∷◌, ◌++◌, Option, Some, None, length, refl, sym, ap, ◌∙◌, cond, arith}
+use Rattle.std.proofs.Common.{◌≡◌, ℕ, ◌+◌, ◌&&◌, ◌||◌, Bool, true, false, List, [], Option, Some, None, length, refl, ap, ◌∙◌, cond, arith}
 use Rattle.std.specs.Prelude.{not, nat_le}
-use Rattle.std.specs.List.{list_all, list_any}
+use Rattle.std.specs.List.{list_any}
 use Rattle.std.proofs.lemmas.Bool.{le-leb}
 use Rattle.masked_bytes.specs.Masked.{gives_all}
 use Rattle.result_rows.specs.declared.Outcome.{Outcome}
 use Rattle.result_rows.specs.declared.Outcome.TheVariants as out
-use Rattle.row_rules.specs.declared.Asks.{Asks}
 use Rattle.row_rules.specs.declared.Asks.TheVariants.{Reads, Writes, Cuts}
-use Rattle.row_rules.specs.declared.Row.{Row}
 use Rattle.row_rules.specs.Answers.{is_worn}
-use Rattle.row_rules.specs.declared.Rules.{Rules}
 use Rattle.row_rules.specs.Rows.{newest}
-use Rattle.row_rules.specs.Serving.{may_have, owed}
-use Rattle.row_rules.specs.Queueing.{pending, waiting, cover, read_fits, queue_fits, has_room}
-use Rattle.row_rules.specs.Ticking.{bound, is_in_time}
-use Rattle.row_rules.specs.Wearing.{worn_row, is_wear_final}
+use Rattle.row_rules.specs.Serving.{may_have}
+use Rattle.row_rules.specs.Queueing.{cover, read_fits, has_room}
+use Rattle.row_rules.specs.Ticking.{bound}
+use Rattle.row_rules.specs.Wearing.{worn_row}
 use Rattle.row_judging.specs.Cutting.{cut_ticks}
 use Rattle.row_judging.proofs.FirstWorn.{worn_law}
 use Rattle.row_verdict.specs.declared.Rule.{Rule}
 use Rattle.row_verdict.specs.declared.Rule.TheVariants as rule
-use Rattle.row_verdict.specs.declared.members.Member.{Member}
 use Rattle.row_verdict.specs.Fitting.{at_head_kept, write_fits}
 use Rattle.row_verdict.specs.Keeping.{stored_early, read_timely, write_timely}
 use Rattle.row_verdict.specs.Kept.{apart_kept}

@@ -1,7 +1,7 @@
 -- A verdict names the lowest row that breaks a rule.
 use Rattle.std.proofs.Common.{◌≡◌, ℕ, ◌+◌, ◌&&◌, Bool, true, false, List, [], ◌∷◌, ◌++◌, length, Option, Some, None, refl, sym, ap, ◌∙◌, subst, cond, arith, append_assoc}
 use Rattle.std.proofs.lemmas.Bool.{and_from}
-use Rattle.masked_bytes.proofs.Truth.{and_first, and_second}
+use Rattle.masked_bytes.proofs.Truth.{and_first, and_second, and_true}
 use Rattle.std.specs.Prelude.{reverse}
 use Rattle.std.specs.List.{list_all}
 use Rattle.std.proofs.lemmas.List.{append-nil, reverse-append}
@@ -13,10 +13,6 @@ use Rattle.row_verdict.specs.declared.Verdict.{Verdict}
 use Rattle.row_verdict.specs.declared.Verdict.TheVariants.{Yes, No}
 use Rattle.row_verdict.specs.Verdicts.{keeps, all_rules, broken_by, or_later, verdict_from, keeps_all}
 use Rattle.row_verdict.specs.Judging.{VerdictLaw}
-
-and_true : (a : Bool) → a ≡ (a && true)
-and_true true = refl
-and_true false = refl
 
 and_turn : (a b c : Bool) → ((a && b) && c) ≡ (b && (a && c))
 and_turn true true c = refl
@@ -35,7 +31,7 @@ module _ {n : ℕ} (test : RowTest n) where
   forward before (r ∷ rest) = test before r rest && forward (r ∷ before) rest
 
   all_rows : (rest before : List (Row n)) → each_row test (reverse rest ++ before) [] ≡ (each_row test before rest && forward before rest)
-  all_rows [] before = and_true (each_row test before [])
+  all_rows [] before = sym (and_true (each_row test before []))
   all_rows (r ∷ rest) before =
       ap (λ rows. each_row test rows []) (turned r rest before)
       ∙ all_rows rest (r ∷ before)

@@ -1,5 +1,6 @@
 -- What is kept of a bank, behind a row that changes nothing.
 use Rattle.std.proofs.Common.{◌≡◌, ℕ, ◌+◌, ◌&&◌, ◌||◌, ◌==◌, Bool, true, false, [], ◌∷◌, Option, refl, sym, ap, ◌∙◌, cond, arith}
+use Rattle.masked_bytes.proofs.Truth.{and_false}
 use Rattle.std.proofs.lemmas.Bool.{and_from}
 use Rattle.std.specs.Prelude.{not, reverse, map, filter}
 use Rattle.result_rows.specs.declared.Outcome.{Outcome}
@@ -17,10 +18,6 @@ use Rattle.row_judging.proofs.Steps.{step_law}
 use Rattle.row_verdict.specs.Kept.{sight_of}
 use Rattle.row_verdict.specs.Joined.{OtherKeptLaw}
 use Rattle.row_verdict.proofs.Joins.{filter-all, not_both, lost_same, no_wait, no_answer}
-
-and_false : (b : Bool) → (b && false) ≡ false
-and_false true = refl
-and_false false = refl
 
 -- one where the test holds
 abbrev one_if : Bool → ℕ

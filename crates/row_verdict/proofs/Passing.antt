@@ -1,10 +1,10 @@
 -- What the pass over the rows keeps of all banks.
-use Rattle.std.proofs.Common.{◌≡◌, ℕ, zero, suc, ◌+◌, ◌<◌, ◌≤◌, ◌==◌, ◌&&◌, ◌⊎◌, inl, inr, Bool, true, false, List, [], ◌∷◌, Option, Some, None, length, refl, sym, ap, ◌∙◌, subst, cond, arith}
+use Rattle.std.proofs.Common.{◌≡◌, ℕ, zero, suc, ◌<◌, ◌≤◌, ◌==◌, ◌&&◌, ◌⊎◌, inl, inr, Bool, true, false, List, [], ◌∷◌, Option, Some, None, length, refl, sym, ap, ◌∙◌, subst, cond, arith}
 use Rattle.masked_bytes.proofs.Truth.{and_first, and_second}
-use Rattle.std.specs.Prelude.{slice_get, unwrap_or}
+use Rattle.std.specs.Prelude.{unwrap_or}
 use Rattle.std.specs.List.{list_all}
-use Rattle.std.proofs.lemmas.Bool.{eq-eqb, ne_eqb, eqb-true, cases_eq}
-use Rattle.row_rules.specs.declared.Asks.TheVariants.{Reads, Writes, Cuts}
+use Rattle.std.proofs.lemmas.Bool.{eq-eqb, ne_eqb, cases_eq}
+use Rattle.row_rules.specs.declared.Asks.TheVariants.{Reads, Writes}
 use Rattle.row_rules.specs.declared.Row.{Row}
 use Rattle.row_rules.specs.declared.Rules.{Rules}
 use Rattle.row_rules.specs.Table.{is_of, of_bank}
@@ -14,7 +14,7 @@ use Rattle.row_verdict.specs.Fitting.{room_kept}
 use Rattle.row_verdict.specs.Judged.{a_cut}
 use Rattle.row_verdict.specs.Members.{never}
 use Rattle.row_verdict.specs.States.{Facts, Stands, settled, cut_off}
-use Rattle.row_verdict.specs.Verdicts.{bank_in, all_have_room}
+use Rattle.row_verdict.specs.Verdicts.{bank_in}
 use Rattle.row_verdict.specs.Passing.{is_joined, Passed, joined_room, put, AllRoomLaw, CutRoomLaw, SettleOneLaw, RoomSeenLaw, RowPassesLaw, CutPassedLaw}
 use Rattle.row_verdict.proofs.Fits.{room_shown}
 use Rattle.row_verdict.proofs.States.{stands_later_law, cut_passes_law}

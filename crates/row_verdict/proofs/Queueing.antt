@@ -1,6 +1,6 @@
 -- The rule on the queue, by what is kept of a bank.
-use Rattle.std.proofs.Common.{◌≡◌, ℕ, ◌+◌, ◌<◌, ◌≤◌, ◌==◌, ◌&&◌, ◌||◌, Bool, true, false, List, [], ◌∷◌, ◌++◌, Option, Some, None, length, refl, sym, ap, ◌∙◌, cond, arith}
-use Rattle.masked_bytes.proofs.Truth.{and_first, and_second}
+use Rattle.std.proofs.Common.{◌≡◌, ℕ, ◌+◌, ◌<◌, ◌==◌, ◌&&◌, ◌||◌, Bool, true, false, List, [], ◌∷◌, ◌++◌, Some, length, refl, sym, ap, ◌∙◌, cond, arith}
+use Rattle.masked_bytes.proofs.Truth.{and_first, and_second, or_false}
 use Rattle.std.specs.Prelude.{nat_lt, not, reverse, filter}
 use Rattle.std.specs.List.{list_all, list_any}
 use Rattle.std.proofs.lemmas.Bool.{ltb-true, ne_eqb}
@@ -10,7 +10,7 @@ use Rattle.result_rows.specs.declared.Outcome.TheVariants as out
 use Rattle.row_rules.specs.declared.Row.{Row}
 use Rattle.row_rules.specs.Answers.{accepts, is_full, is_merged, is_queued, stored_after}
 use Rattle.row_rules.specs.Rows.{asks_write, accepted, accepted_of, write_of, line_of}
-use Rattle.row_rules.specs.Queueing.{stands, pending, waiting, cover, merges_at, merge_fits, next_store, is_first, is_refused, read_fits}
+use Rattle.row_rules.specs.Queueing.{stands, pending, cover, merges_at, merge_fits, next_store, is_first, is_refused, read_fits}
 use Rattle.row_judging.specs.Counting.{line_stores}
 use Rattle.row_judging.specs.Distances.{ends_behind}
 use Rattle.row_judging.specs.Heads.{end_of}
@@ -18,17 +18,13 @@ use Rattle.row_judging.specs.Keys.{reach}
 use Rattle.row_judging.specs.Standing.{at_end}
 use Rattle.row_judging.proofs.Counts.{first_by_count_law}
 use Rattle.row_verdict.specs.declared.members.Member.{Member}
-use Rattle.row_verdict.specs.Fitting.{comes_at, is_of, stores_between, is_behind_store, at_head_kept, merge_kept, write_fits, refused_kept, is_brief, all_brief}
-use Rattle.row_verdict.specs.Kept.{Sight, sight, sight_of, Shows}
+use Rattle.row_verdict.specs.Fitting.{comes_at, is_of, stores_between, at_head_kept, merge_kept, refused_kept, is_brief, all_brief}
+use Rattle.row_verdict.specs.Kept.{Shows}
 use Rattle.row_verdict.specs.Members.{never}
 use Rattle.row_verdict.specs.QueueLaws.{next_accepted, KeysTell, RoomKeptLaw, WriteFitsLaw, ReadFitsLaw}
-use Rattle.row_verdict.proofs.Apart.{all-reverse, shown}
+use Rattle.row_verdict.proofs.Apart.{shown}
 use Rattle.row_verdict.proofs.Fits.{all-where, any-where, any-reverse, flat_any, turned, stands_accepted, stands_all, write_of_line, refusal_shown, room_shown}
 use Rattle.row_verdict.proofs.Numbers.{numbers_law}
-
-plain : (b : Bool) → (b || false) ≡ true → b ≡ true
-plain true h = refl
-plain false h = h
 
 pub room_kept_law : RoomKeptLaw
 room_kept_law n t rules rows members waits lost last_answer last_store found near = room_shown rules t rows members waits lost last_answer last_store found.kept found.brief near
@@ -59,7 +55,7 @@ module _ {n : ℕ} where
 
   -- what stands at a tick is stored above it, if at all
   stood : (t : ℕ) (w m : Bool) (o : Outcome n) → ((w && accepts o) && (stored_after t o || (is_queued o || (is_merged o && m)))) ≡ true → ends_behind t o ≡ true
-  stood t w m (out.Stored v place) h = plain (nat_lt t v) (and_second (w && true) _ h)
+  stood t w m (out.Stored v place) h = sym (or_false (nat_lt t v)) ∙ and_second (w && true) _ h
   stood t w m (out.Read v place bytes) h = let k : false ≡ true = and_second w false (and_first (w && false) _ h) in absurd (cc)
   stood t w m out.Unset h = refl
   stood t w m (out.Merged v) h = refl

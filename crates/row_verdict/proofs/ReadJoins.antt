@@ -1,7 +1,7 @@
 -- What is kept of a bank, with a read more.
 use Rattle.std.proofs.Common.{◌≡◌, ℕ, ◌+◌, ◌&&◌, ◌||◌, Bool, true, false, List, [], ◌∷◌, ◌++◌, refl, sym, ap, ◌∙◌, cond, arith}
 use Rattle.std.specs.Prelude.{nat_le, not, reverse, map, filter}
-use Rattle.std.proofs.lemmas.Bool.{lt-ltb, and_from}
+use Rattle.std.proofs.lemmas.Bool.{lt-ltb, and_from, or_right}
 use Rattle.std.proofs.lemmas.List.{reverse-append}
 use Rattle.result_rows.specs.declared.Outcome.{Outcome}
 use Rattle.result_rows.specs.declared.Outcome.TheVariants as out
@@ -40,11 +40,7 @@ module _ {n : ℕ} where
   own_read : (r : Row n) (o : Outcome n) → r.outcome ≡ o → asks_read r.asks ≡ true → is_stored o ≡ false → is_own r ≡ true
   own_read r o is reads stored =
       and_from (not (is_stored r.outcome) || asks_write r.asks) _ (ap (λ b. not b || asks_write r.asks) (ap is_stored is ∙ stored))
-      (ap (λ b. not (is_answered r.outcome) || b) reads ∙ last (not (is_answered r.outcome)))
-    where
-      last : (a : Bool) → (a || true) ≡ true
-      last true = refl
-      last false = refl
+      (ap (λ b. not (is_answered r.outcome) || b) reads ∙ or_right (not (is_answered r.outcome)) true refl)
 
 pub answer_kept_law : AnswerKeptLaw
 answer_kept_law n t u place bytes r rows members waits lost last_answer last_store kept reads is above = record {

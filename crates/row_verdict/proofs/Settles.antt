@@ -1,5 +1,6 @@
 -- What is kept of a bank, as time passes.
 use Rattle.std.proofs.Common.{◌≡◌, ℕ, ◌+◌, ◌<◌, ◌≤◌, ◌&&◌, ◌||◌, ◌⊎◌, inl, inr, Bool, true, false, List, [], ◌∷◌, ◌++◌, Option, refl, sym, ap, ◌∙◌, cond, arith}
+use Rattle.masked_bytes.proofs.Truth.{and_true}
 use Rattle.std.specs.Prelude.{nat_le, nat_lt, not, reverse, map, filter}
 use Rattle.std.specs.List.{list_all}
 use Rattle.std.proofs.lemmas.Bool.{le-leb, lt-leb, lt-ltb, le-ltb, cases_lt}
@@ -64,10 +65,6 @@ and_mid false false c = refl
 and_group : (a b c : Bool) → (a && (b && c)) ≡ ((a && b) && c)
 and_group true b c = refl
 and_group false b c = refl
-
-and_true : (a : Bool) → a ≡ (a && true)
-and_true true = refl
-and_true false = refl
 
 -- a member that is stored by u is far below x
 abbrev Far : ℕ → ℕ → ℕ → ℕ → Bool
@@ -149,7 +146,7 @@ module _ {n : ℕ} (t u : ℕ) (le : t ≤ u) where
 
 -- the last store, once members have left
 far_ended : (u read x : ℕ) (members : List Member) (last : Option ℕ) → is_far_below read x (ended u members last) ≡ (is_far_below read x last && list_all (λ m. Far u read x m.end) members)
-far_ended u read x [] last = and_true (is_far_below read x last)
+far_ended u read x [] last = sym (and_true (is_far_below read x last))
 far_ended u read x (m ∷ members) last = by (nat_le m.end u) (λ l. far_ended u read x members l)
   where
     by : (b : Bool) → ((l : Option ℕ) → is_far_below read x (ended u members l) ≡ (is_far_below read x l && list_all (λ m. Far u read x m.end) members))

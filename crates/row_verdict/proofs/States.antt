@@ -1,15 +1,16 @@
 -- What is kept of a bank, as rows pass.
-use Rattle.std.proofs.Common.{◌≡◌, ℕ, ◌+◌, ◌<◌, ◌≤◌, ◌&&◌, ◌||◌, Bool, true, false, List, [], ◌∷◌, ◌++◌, Option, Some, None, refl, sym, ap, ◌∙◌, cond, arith}
+use Rattle.std.proofs.Common.{◌≡◌, ℕ, ◌≤◌, ◌&&◌, ◌||◌, Bool, true, false, List, [], ◌∷◌, refl, sym, ap, ◌∙◌, cond, arith}
+use Rattle.masked_bytes.proofs.Truth.{and_first, and_second}
 use Rattle.std.specs.Prelude.{nat_le, nat_lt, not}
-use Rattle.std.specs.List.{list_all, list_any}
-use Rattle.std.proofs.lemmas.Bool.{le-leb, leb-true, ltb-true, and_from}
+use Rattle.std.specs.List.{list_any}
+use Rattle.std.proofs.lemmas.Bool.{le-leb, leb-true, ltb-true, and_from, or_left}
 use Rattle.result_rows.specs.declared.Outcome.{Outcome}
 use Rattle.result_rows.specs.declared.Outcome.TheVariants as out
 use Rattle.row_rules.specs.declared.Asks.TheVariants.{Reads, Writes, Cuts}
 use Rattle.row_rules.specs.declared.Row.{Row}
 use Rattle.row_rules.specs.Answers.{accepts, is_stored, is_answered, is_lost, is_merged, is_queued, is_worn, stored_after}
 use Rattle.row_rules.specs.declared.Rules.{Rules}
-use Rattle.row_rules.specs.Queueing.{stands, has_room}
+use Rattle.row_rules.specs.Queueing.{has_room}
 use Rattle.row_rules.specs.Serving.{may_have}
 use Rattle.row_rules.specs.Wearing.{worn_row}
 use Rattle.row_judging.specs.Coming.{came}
@@ -18,11 +19,10 @@ use Rattle.row_judging.specs.Keys.{reach}
 use Rattle.row_judging.specs.Rising.{falling}
 use Rattle.row_judging.proofs.Nears.{near_stays, near_behind}
 use Rattle.row_verdict.specs.declared.members.Member.{Member}
-use Rattle.row_verdict.specs.Fitting.{is_brief, all_brief}
+use Rattle.row_verdict.specs.Fitting.{is_brief}
 use Rattle.row_verdict.specs.Judged.{a_write, a_read, a_cut}
-use Rattle.row_verdict.specs.Kept.{sight, sight_of, KeptBank}
-use Rattle.row_verdict.specs.States.{Facts, Stands, with_member, with_worn, with_answer, with_loss, cut_off, after_write, after_read, StandsLaterLaw, WritePassesLaw, ReadPassesLaw, CutPassesLaw}
-use Rattle.row_verdict.specs.Tables.{KeptFour}
+use Rattle.row_verdict.specs.Kept.{sight, sight_of}
+use Rattle.row_verdict.specs.States.{Facts, Stands, with_member, cut_off, after_write, after_read, StandsLaterLaw, WritePassesLaw, ReadPassesLaw, CutPassesLaw}
 use Rattle.row_verdict.proofs.Joins.{join_kept_law, cut_kept_law}
 use Rattle.row_verdict.proofs.OtherJoins.{other_kept_law}
 use Rattle.row_verdict.proofs.ReadJoins.{answer_kept_law, loss_kept_law}
@@ -33,15 +33,7 @@ use Rattle.row_verdict.proofs.Tables.{four_law}
 falls_later : {n : ℕ} (t u : ℕ) → t ≤ u → (rows : List (Row n)) → falling t rows ≡ true → falling u rows ≡ true
 falls_later t u le [] h = refl
 falls_later t u le (q ∷ rows) h =
-    and_from (nat_le q.tick u) _ (let k : q.tick ≤ t = leb-true q.tick t (first_of (nat_le q.tick t) _ h) in le-leb q.tick u (omega (arith, k, le))) (second_of (nat_le q.tick t) _ h)
-  where
-    first_of : (a b : Bool) → (a && b) ≡ true → a ≡ true
-    first_of true b h = refl
-    first_of false b h = h
-
-    second_of : (a b : Bool) → (a && b) ≡ true → b ≡ true
-    second_of true b h = h
-    second_of false b h = absurd (cc)
+    and_from (nat_le q.tick u) _ (let k : q.tick ≤ t = leb-true q.tick t (and_first (nat_le q.tick t) _ h) in le-leb q.tick u (omega (arith, k, le))) (and_second (nat_le q.tick t) _ h)
 
 pub stands_later_law : StandsLaterLaw
 stands_later_law n t u rows f le below s = record {
@@ -103,16 +95,12 @@ module _ {n : ℕ} (tick line : ℕ) (bytes : List ℕ) (given : List Bool) (rul
 abbrev or_none : Bool → Bool
 or_none b = b || false
 
-or_true : (b : Bool) → b ≡ true → (b || false) ≡ true
-or_true true h = refl
-or_true false h = h
-
 pub write_passes_law : WritePassesLaw
 write_passes_law n tick line bytes given outcome rules rows f m some s room served brief above shown = by outcome served brief above shown
   where
     by : (o : Outcome n) → may_have tick (Writes line bytes given) some o ≡ true → is_brief o ≡ true → ends_behind tick o ≡ true
         → sight m ≡ sight_of (a_write tick line bytes given o) → Stands tick (a_write tick line bytes given o ∷ rows) (after_write line m o f)
-    by (out.Stored u place) k b a is = joins tick line bytes given rules rows f s room (out.Stored u place) m refl refl refl b (or_true (nat_lt tick u) a) refl is
+    by (out.Stored u place) k b a is = joins tick line bytes given rules rows f s room (out.Stored u place) m refl refl refl b (or_left (nat_lt tick u) false a) refl is
     by (out.Merged u) k b a is = joins tick line bytes given rules rows f s room (out.Merged u) m refl refl refl b refl refl is
     by (out.Queued u) k b a is = joins tick line bytes given rules rows f s room (out.Queued u) m refl refl refl b refl refl is
     by (out.Full u) k b a is = refused tick line bytes given rules rows f s room (out.Full u) f.worn refl refl refl refl b s.worn_is

@@ -1,6 +1,7 @@
 -- What sorted keys of a whole table tell of a row of it.
 use Rattle.std.proofs.Common.{◌≡◌, ℕ, ◌+◌, ◌<◌, ◌≤◌, ◌==◌, ◌&&◌, ◌||◌, ◌⊎◌, inl, inr, Bool, true, false, List, [], ◌∷◌, ◌++◌, Option, Some, None, refl, sym, ap, ◌∙◌, cond, arith}
-use Rattle.std.specs.Prelude.{nat_le, nat_lt, not, reverse, filter, count_by, IsPermutation, max, slice_get}
+use Rattle.masked_bytes.proofs.Truth.{and_false}
+use Rattle.std.specs.Prelude.{nat_le, nat_lt, not, reverse, filter, count_by, max, slice_get}
 use Rattle.std.proofs.lemmas.Bool.{lt-ltb, le-ltb, eq-eqb, eqb-true, cases_lt}
 use Rattle.result_rows.specs.declared.Outcome.{Outcome}
 use Rattle.result_rows.specs.declared.Outcome.TheVariants as out
@@ -8,23 +9,21 @@ use Rattle.row_rules.specs.declared.Asks.{Asks}
 use Rattle.row_rules.specs.declared.Asks.TheVariants.{Reads, Writes, Cuts}
 use Rattle.row_rules.specs.declared.Row.{Row}
 use Rattle.row_rules.specs.Answers.{is_stored, is_answered, stored_after, stored_by, read_after, read_by}
-use Rattle.row_rules.specs.declared.Rules.{Rules}
 use Rattle.row_rules.specs.Rows.{asks_write, asks_read, asks_write_of, write_of}
 use Rattle.row_rules.specs.Serving.{may_have}
 use Rattle.row_rules.specs.Table.{is_of, of_bank}
-use Rattle.row_rules.specs.Ticking.{stores_in, reads_in, delay, came_since, last_store}
+use Rattle.row_rules.specs.Ticking.{stores_in, delay, last_store}
 use Rattle.bank_shape.specs.declared.pace.Policy.{Policy}
 use Rattle.bank_shape.specs.declared.pace.Policy.TheVariants.{Pause, Plain, Cancel}
 use Rattle.row_judging.specs.Coming.{came, fourth_from}
 use Rattle.row_judging.specs.Counting.{line_stores}
-use Rattle.row_judging.specs.Keys.{reach, key, up_to, store_keys, read_keys}
+use Rattle.row_judging.specs.Keys.{key, up_to, store_keys, read_keys}
 use Rattle.row_judging.proofs.Counts.{count-same, count-filter, count-append, count-permuted, count-turned, last_by_count_law}
 use Rattle.row_judging.proofs.Cuts.{count-cons}
 use Rattle.row_judging.proofs.Fourth.{fourth_law}
 use Rattle.row_judging.proofs.Places.{count_law}
-use Rattle.row_verdict.specs.Keeping.{delay_kept, delay_by}
-use Rattle.row_verdict.specs.Fitting.{stores_between}
-use Rattle.row_verdict.specs.Tables.{around, CountsToldLaw, LineKeysLaw, OwnLaw, four_came, KeptFour, DelayLaw, FourLaw}
+use Rattle.row_verdict.specs.Keeping.{delay_by}
+use Rattle.row_verdict.specs.Tables.{around, CountsToldLaw, LineKeysLaw, OwnLaw, four_came, DelayLaw, FourLaw}
 
 -- one where the test holds
 abbrev one_if : Bool → ℕ
@@ -57,10 +56,6 @@ counts_told_law n bank_of bank a u before r after stores reads same other le bel
     record { stored = omega (arith, stored, s, s_a, s_u); read = omega (arith, read, w, r_a, r_u) }
 
 -- A line's stores
-
-and_false : (a : Bool) → (a && false) ≡ false
-and_false true = refl
-and_false false = refl
 
 module _ {n : ℕ} (line : ℕ) where
   -- the rows of a line, as if it were a bank

@@ -2,8 +2,7 @@
 use Rattle.std.proofs.Common.{◌≡◌, ℕ, zero, suc, ◌+◌, ◌-◌, ◌*◌, ◌<◌, ◌≤◌, ◌==◌, ◌&&◌, ◌||◌, ◌⊎◌, inl, inr, Bool, true, false, List, [], ◌∷◌, ◌++◌, Option, Some, None, length, refl, sym, ap, ◌∙◌, subst, cond, arith}
 use Rattle.masked_bytes.proofs.Truth.{and_first, and_second}
 use Rattle.std.specs.Prelude.{nat_le, nat_lt, not, slice_get, unwrap_or, count_by}
-use Rattle.std.specs.List.{list_any}
-use Rattle.std.proofs.lemmas.Bool.{leb-true, lt-ltb, ltb-true, le-ltb, eq-eqb, eqb-true, ne_eqb, cases_lt, cases_eq}
+use Rattle.std.proofs.lemmas.Bool.{leb-true, ltb-true, le-ltb, eq-eqb, eqb-true, ne_eqb, cases_lt, cases_eq}
 use Rattle.masked_bytes.specs.Masked.{gives_all, laid}
 use Rattle.result_rows.specs.declared.Outcome.{Outcome}
 use Rattle.result_rows.specs.declared.Outcome.TheVariants as out
@@ -17,11 +16,10 @@ use Rattle.row_rules.specs.Serving.{may_have}
 use Rattle.row_rules.specs.Table.{is_of, of_bank}
 use Rattle.row_rules.specs.Queueing.{waiting, cover, read_fits}
 use Rattle.row_rules.specs.Ticking.{bound, delay, longest, stores_in, reads_in, cuts_to}
-use Rattle.row_rules.specs.Wearing.{worn_row}
 use Rattle.row_judging.specs.Coming.{came}
 use Rattle.row_judging.specs.Cutting.{cut_ticks}
 use Rattle.row_judging.specs.Keys.{reach, is_short, key, up_to}
-use Rattle.row_judging.specs.Rising.{rising, falling}
+use Rattle.row_judging.specs.Rising.{falling}
 use Rattle.row_judging.proofs.Counts.{count-append}
 use Rattle.row_judging.proofs.Cuts.{count-cons, first_cut_law, cuts_of_bank_law}
 use Rattle.row_verdict.specs.Ahead.{four_kept, bound_kept, latest_kept, at_store}
@@ -31,8 +29,8 @@ use Rattle.row_verdict.specs.Judged.{first_broken, beside, a_write, a_read}
 use Rattle.row_verdict.specs.Keeping.{stored_early, read_timely, write_timely, delay_kept}
 use Rattle.row_verdict.specs.Kept.{apart_kept}
 use Rattle.row_verdict.specs.QueueLaws.{next_accepted}
-use Rattle.row_verdict.specs.States.{Facts, Stands}
-use Rattle.row_verdict.specs.Tables.{KeptFour, four_came}
+use Rattle.row_verdict.specs.States.{Facts}
+use Rattle.row_verdict.specs.Tables.{four_came}
 use Rattle.row_verdict.specs.Timely.{FindsTimes, first_of_ticks, latest_store}
 use Rattle.row_verdict.specs.VerdictLaws.{HasKeys, Comes, WriteVerdictLaw, ReadVerdictLaw}
 use Rattle.row_verdict.specs.Verdicts.{bank_in}

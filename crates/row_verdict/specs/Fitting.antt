@@ -1,5 +1,5 @@
 -- The queue's rule in the words of what is kept of a bank.
-use Rattle.std.specs.Prelude.{◌≡◌, ℕ, ◌+◌, ◌==◌, ◌&&◌, ◌||◌, Bool, true, false, IsTrue, not, List, [], ◌∷◌, Option, Some, None, length, reverse, map, nat_le, nat_lt}
+use Rattle.std.specs.Prelude.{◌≡◌, ℕ, ◌+◌, ◌==◌, ◌&&◌, ◌||◌, Bool, true, false, IsTrue, not, List, [], ◌∷◌, Option, Some, None, length, reverse, nat_le, nat_lt, count_by, if◌then◌else◌}
 use Rattle.std.specs.List.{list_all, list_any}
 use Rattle.result_rows.specs.declared.Outcome.{Outcome}
 use Rattle.result_rows.specs.declared.Outcome.TheVariants as out
@@ -40,6 +40,25 @@ abbrev pub IsKnown : Twins → List Member → Type 0
 IsKnown Nowhere members = has_twins members ≡ false
 IsKnown (Only line) members = IsTrue (pairs_only line members)
 IsKnown Anywhere members = Unit {0}
+
+-- by that a line may have two members
+abbrev pub may_have_two : Twins → ℕ → Bool
+may_have_two Nowhere line = false
+may_have_two (Only pair) line = pair == line
+may_have_two Anywhere line = true
+
+-- a member is of this line, and isn't merged into a later write of it
+abbrev pub is_staying : ℕ → Member → Bool
+is_staying line m = is_of line m && not m.merged
+
+-- where two of these members may have one line once a write of a line joins, by where they might before
+abbrev pub twins_with : ℕ → List Member → Twins → Twins
+twins_with line members Nowhere = if list_any (is_staying line) members then Only line else Nowhere
+twins_with line members (Only pair) =
+    if pair == line || not (list_any (is_staying line) members) then Only pair
+    else if nat_le (count_by (is_of pair) members) 1 then Only line
+    else Anywhere
+twins_with line members Anywhere = Anywhere
 
 -- a member isn't stored before all of these
 abbrev pub follows : Member → List Member → Bool

@@ -1,10 +1,9 @@
 -- A row's verdict, by what is kept of its bank and known of the rows behind it.
-use Rattle.std.specs.Prelude.{◌≡◌, ℕ, ◌+◌, ◌<◌, ◌^◌, ◌&&◌, ◌||◌, not, Bool, true, IsTrue, if◌then◌else◌, List, [], ◌∷◌, ◌++◌, Option, Some, None, length}
+use Rattle.std.specs.Prelude.{◌≡◌, ℕ, ◌+◌, ◌&&◌, ◌||◌, not, Bool, true, IsTrue, if◌then◌else◌, List, ◌++◌, Option, Some, None, length}
 use Rattle.std.specs.List.{list_any}
 use Rattle.masked_bytes.specs.Masked.{gives_all}
 use Rattle.result_rows.specs.declared.Outcome.{Outcome}
 use Rattle.result_rows.specs.declared.Outcome.TheVariants as out
-use Rattle.row_rules.specs.declared.Asks.{Asks}
 use Rattle.row_rules.specs.declared.Asks.TheVariants.{Reads, Writes, Cuts}
 use Rattle.row_rules.specs.declared.Row.{Row}
 use Rattle.row_rules.specs.Answers.{is_worn}

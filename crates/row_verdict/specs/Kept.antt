@@ -1,5 +1,5 @@
 -- What a checker keeps of a bank, beside the rows that it stands for.
-use Rattle.std.specs.Prelude.{◌≡◌, ℕ, ◌<◌, ◌≤◌, ◌^◌, ◌==◌, ◌&&◌, Bool, true, IsTrue, not, List, [], ◌∷◌, Option, nat_le, nat_lt, if◌then◌else◌, filter, reverse, map}
+use Rattle.std.specs.Prelude.{◌≡◌, ℕ, ◌<◌, ◌≤◌, ◌^◌, ◌==◌, ◌&&◌, Bool, true, IsTrue, not, List, [], ◌∷◌, Option, nat_le, nat_lt, if◌then◌else◌, filter, reverse, map, min}
 use Rattle.std.specs.List.{list_all}
 use Rattle.result_rows.specs.declared.Outcome.{Outcome}
 use Rattle.result_rows.specs.declared.Outcome.TheVariants as out
@@ -62,6 +62,11 @@ ApartKeptLaw =
 abbrev pub ended : ℕ → List Member → Option ℕ → Option ℕ
 ended u [] last_store = last_store
 ended u (m ∷ members) last_store = ended u members (if nat_le m.end u then later_of m.end last_store else last_store)
+
+-- the least of a tick and those at which these are stored
+abbrev pub least_end : ℕ → List Member → ℕ
+least_end first [] = first
+least_end first (m ∷ members) = least_end (min first m.end) members
 
 -- what is kept, as time passes
 abbrev pub SettleKeptLaw : Type 0

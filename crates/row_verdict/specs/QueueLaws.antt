@@ -1,7 +1,7 @@
 -- The rule on the queue is told by what is kept of a bank.
 use Rattle.std.specs.Prelude.{◌≡◌, ℕ, ◌+◌, ◌<◌, ◌≤◌, IsTrue, if◌then◌else◌, List, [], ◌∷◌, ◌++◌, Bool, Option, Some, None, length, nat_lt}
 use Rattle.masked_bytes.specs.Masked.{gives_all}
-use Rattle.row_rules.specs.declared.Asks.TheVariants.{Reads, Writes, Cuts}
+use Rattle.row_rules.specs.declared.Asks.TheVariants.{Reads, Writes}
 use Rattle.row_rules.specs.declared.Row.{Row}
 use Rattle.row_rules.specs.declared.Rules.{Rules}
 use Rattle.row_rules.specs.Rows.{accepted_of}

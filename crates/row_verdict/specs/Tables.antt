@@ -1,5 +1,5 @@
 -- What sorted keys of a whole table tell of a row of it, and what the reads that came tell.
-use Rattle.std.specs.Prelude.{◌≡◌, ℕ, ◌+◌, ◌<◌, ◌≤◌, ◌==◌, Bool, true, false, IsTrue, List, [], ◌∷◌, ◌++◌, Option, Some, None, IsPermutation, reverse, slice_get}
+use Rattle.std.specs.Prelude.{◌≡◌, ℕ, ◌+◌, ◌<◌, ◌≤◌, ◌==◌, Bool, false, IsTrue, List, ◌∷◌, ◌++◌, Option, Some, None, IsPermutation, reverse, slice_get}
 use Rattle.row_rules.specs.declared.Row.{Row}
 use Rattle.row_rules.specs.declared.Rules.{Rules}
 use Rattle.row_rules.specs.Rows.{asks_write}

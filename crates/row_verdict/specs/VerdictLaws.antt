@@ -1,8 +1,8 @@
 -- A row's verdict in the words of the code: what is kept of its bank, sorted keys of the whole table, and what is known of later rows.
-use Rattle.std.specs.Prelude.{◌≡◌, ℕ, ◌+◌, ◌<◌, ◌≤◌, ◌^◌, ◌&&◌, ◌||◌, not, Bool, true, IsTrue, List, [], ◌∷◌, ◌++◌, Option, length, IsPermutation, All}
+use Rattle.std.specs.Prelude.{◌≡◌, ℕ, ◌+◌, ◌<◌, ◌≤◌, ◌^◌, ◌&&◌, ◌||◌, not, Bool, true, IsTrue, List, length, IsPermutation, All}
 use Rattle.masked_bytes.specs.Masked.{gives_all}
 use Rattle.result_rows.specs.declared.Outcome.{Outcome}
-use Rattle.row_rules.specs.declared.Asks.TheVariants.{Reads, Writes, Cuts}
+use Rattle.row_rules.specs.declared.Asks.TheVariants.{Reads, Writes}
 use Rattle.row_rules.specs.declared.Row.{Row}
 use Rattle.row_rules.specs.Answers.{is_worn}
 use Rattle.row_rules.specs.declared.Rules.{Rules}

@@ -1,12 +1,16 @@
 //! What is kept of a bank, as time passes and behind each row.
 
 ghost use Rattle.std.specs.Prelude.{◌≡◌, ◌<◌, ◌^◌, ◌-◌, IfOk, filter, nat_lt};
+ghost use Rattle.std.specs.List.{list_any};
 ghost use Rattle.row_verdict.specs.Banks.{facts_of};
-ghost use Rattle.row_verdict.specs.States as spec;
+ghost use Rattle.row_verdict.specs.Fitting.{is_of};
 ghost use Rattle.row_verdict.specs.Joined.{stays_beside};
+ghost use Rattle.row_verdict.specs.Kept.{least_end};
+ghost use Rattle.row_verdict.specs.Members.{never};
+ghost use Rattle.row_verdict.specs.States as spec;
 
 use crate::members::Member;
-use crate::settling::{last_ended, later_of, let_leave};
+use crate::settling::{Ends, ends_at, later_of, let_leave};
 use result_rows::Outcome;
 use std::alloc::{AllocError, Global};
 
@@ -42,15 +46,18 @@ fn let_go(waits: &mut Vec<u64>, tick: u64)
     );
 }
 
-/// Lets the member leave that is merged into a write of this line.
-fn let_merge(members: &mut Vec<Member>, line: u32)
+/// Lets the member leave that is merged into a write of this line, where the line has members or not.
+fn let_merge(members: &mut Vec<Member>, has_mates: bool, line: u32)
+    requires { has_mates ≡ list_any (is_of line) members.old.items }
     ensures { members.new.items ≡ filter (stays_beside line) members.old.items }
 {
-    members.retain(
-        |member: &Member| -> bool
-            ensures { result ≡ stays_beside line member.now }
-        { !(member.merged && line == member.line) },
-    );
+    if has_mates {
+        members.retain(
+            |member: &Member| -> bool
+                ensures { result ≡ stays_beside line member.now }
+            { !(member.merged && line == member.line) },
+        );
+    }
 }
 
 impl Bank {
@@ -72,26 +79,31 @@ impl Bank {
         }
     }
 
-    /// Lets time pass up to a tick.
-    pub fn settle(&mut self, tick: u64)
-        ensures { facts_of self.new ≡ spec.settled tick (facts_of self.old) }
+    /// Lets time pass up to a tick, and tells when the first of the writes that stay is stored, or never.
+    pub fn settle(&mut self, tick: u64) -> u64
+        ensures facts { facts_of self.new ≡ spec.settled tick (facts_of self.old) }
+        ensures first { result ≡ least_end never self.new.members.items }
     {
-        self.last_store = last_ended(&self.members, tick, self.last_store);
+        let Ends { last, first } = ends_at(&self.members, tick, self.last_store);
+        self.last_store = last;
         let_leave(&mut self.members, tick);
         let_go(&mut self.waits, tick);
+        first
     }
 
-    /// Lets a write pass that would be this member.
+    /// Lets a write pass that would be this member, where its line has members or not.
     pub fn pass_write<const B: usize>(
         &mut self,
         member: Member,
+        has_mates: bool,
         outcome: &Outcome<B>,
     ) -> Result<(), AllocError>
+        requires { has_mates ≡ list_any (is_of member.line) self.old.members.items }
         ensures { IfOk result (λ _. facts_of self.new ≡ spec.after_write member.line member outcome.now (facts_of self.old)) }
     {
         match outcome {
             Outcome::Stored { .. } | Outcome::Merged { .. } | Outcome::Queued { .. } => {
-                let_merge(&mut self.members, member.line);
+                let_merge(&mut self.members, has_mates, member.line);
                 self.members.push(member)?;
             }
             Outcome::Worn { .. } => {

@@ -10,16 +10,14 @@ pub const NEVER: u64 = u64::MAX;
 /// An accepted write that stands in the queue.
 #[derive(Clone, Copy, Debug)]
 pub struct Member {
-    /// Its row and its line.
-    pub row: u32,
+    /// Its line, and whether it is merged into a later write of it.
     pub line: u32,
+    pub merged: bool,
     /// When it arrived.
     pub arrived: u64,
     /// When it is stored, and when it leaves the queue, or never.
     pub end: u64,
     pub leave: u64,
-    /// Whether it is merged into a later one.
-    pub merged: bool,
 }
 
 /// Which lines may have two members in a queue.
@@ -40,12 +38,18 @@ fn ends_elsewhere(member: &Member, tick: u64) -> bool
     tick != member.end
 }
 
-/// Whether a member is stored a distance behind or before this tick.
-fn ends_apart(member: &Member, tick: u64, read: u32) -> bool
-    requires { tick < 2 ^ 60 }
-    ensures { result ≡ spec.ends_apart read tick member.now }
+/// Whether a member is stored before this span of ticks, or behind it.
+fn ends_outside(member: &Member, from: u64, to: u64) -> bool
+    ensures { result ≡ (nat_le to member.now.end || nat_lt member.now.end from) }
 {
-    tick + read as u64 <= member.end || (read as u64 <= tick && member.end <= tick - read as u64)
+    to <= member.end || member.end < from
+}
+
+/// Whether each of these is stored before this span of ticks, or behind it.
+fn all_end_outside(members: &[Member], from: u64, to: u64) -> bool
+    ensures { result ≡ list_all (λ m. nat_le to m.end || nat_lt m.end from) members.now }
+{
+    members.iter().all(|member| ends_outside(member, from, to))
 }
 
 /// Whether none of these is stored at this tick.
@@ -60,7 +64,8 @@ pub fn all_end_apart(members: &[Member], tick: u64, read: u32) -> bool
     requires { tick < 2 ^ 60 }
     ensures { result ≡ list_all (λ m. spec.ends_apart read tick m) members.now }
 {
-    members.iter().all(|member| ends_apart(member, tick, read))
+    let from = (tick + 1).saturating_sub(read as u64);
+    all_end_outside(members, from, tick + read as u64)
 }
 
 /// Whether none of these ticks is that one.

@@ -67,8 +67,19 @@ fn all_precede(all: &[Member], newest: &Member, others: &[Member]) -> bool
         .all(|other| is_apart_or_precedes(all, newest, other))
 }
 
+/// Whether a line may have two members, by what is known.
+fn may_have_two(twins: Twins, line: u32) -> bool
+    ensures { result ≡ spec.may_have_two twins line }
+{
+    match twins {
+        Twins::Nowhere => false,
+        Twins::Only(pair) => pair == line,
+        Twins::Anywhere => true,
+    }
+}
+
 /// Whether at most one of the others is of the newest member's line, and that one precedes it.
-fn finds_few(all: &[Member], newest: &Member, others: &[Member]) -> bool
+fn few_precede(all: &[Member], newest: &Member, others: &[Member]) -> bool
     ensures { result ≡ few_by (spec.is_of newest.now.line) (spec.precedes all.now newest.now) others.now }
 {
     match count_of(others, newest.line) {
@@ -76,6 +87,14 @@ fn finds_few(all: &[Member], newest: &Member, others: &[Member]) -> bool
         1 => all_precede(all, newest, others),
         _ => false,
     }
+}
+
+/// The same, where this is known of the others and the newest.
+fn finds_few(all: &[Member], newest: &Member, others: &[Member], twins: Twins) -> bool
+    requires { IsKnown twins (others.now ++ newest.now ∷ []) }
+    ensures { result ≡ few_by (spec.is_of newest.now.line) (spec.precedes all.now newest.now) others.now }
+{
+    !may_have_two(twins, newest.line) || few_precede(all, newest, others)
 }
 
 /// Whether two of these have one line.
@@ -93,23 +112,21 @@ fn has_twins(members: &[Member]) -> bool
 
 /// Whether a member is of a line, and isn't merged into a later write of it.
 fn is_staying(member: &Member, line: u32) -> bool
-    ensures { result ≡ (spec.is_of line member.now && stays_beside line member.now) }
+    ensures { result ≡ spec.is_staying line member.now }
 {
-    member.line == line && !(member.merged && line == member.line)
+    member.line == line && !member.merged
 }
 
 /// Whether one of these is of a line, and isn't merged into a later write of it.
 fn has_staying(members: &[Member], line: u32) -> bool
-    ensures { result ≡ list_any (λ m. spec.is_of line m && stays_beside line m) members.now }
+    ensures { result ≡ list_any (spec.is_staying line) members.now }
 {
     members.iter().any(|member| is_staying(member, line))
 }
 
 /// What is known once a write of a line joins, where no line but `pair` may have had two members.
 fn only_with(pair: u32, members: &[Member], line: u32) -> Twins
-    requires { IsKnown (twin.Only pair) members.now }
-    ensures joins { (m : Member) → m.line ≡ line → IsKnown result (filter (stays_beside line) members.now ++ m ∷ []) }
-    ensures stays { IsKnown result members.now }
+    ensures { result ≡ spec.twins_with line members.now (twin.Only pair) }
 {
     if pair == line || !has_staying(members, line) {
         Twins::Only(pair)
@@ -122,9 +139,7 @@ fn only_with(pair: u32, members: &[Member], line: u32) -> Twins
 
 /// What is known once a write of a line joins, where no line had two members.
 fn first_with(members: &[Member], line: u32) -> Twins
-    requires { IsKnown twin.Nowhere members.now }
-    ensures joins { (m : Member) → m.line ≡ line → IsKnown result (filter (stays_beside line) members.now ++ m ∷ []) }
-    ensures stays { IsKnown result members.now }
+    ensures { result ≡ spec.twins_with line members.now twin.Nowhere }
 {
     if has_staying(members, line) {
         Twins::Only(line)
@@ -133,16 +148,29 @@ fn first_with(members: &[Member], line: u32) -> Twins
     }
 }
 
-/// What is known once a write of a line joins. It holds too where it is refused.
-pub fn twins_with(twins: Twins, members: &[Member], line: u32) -> Twins
-    requires { IsKnown twins members.now }
-    ensures joins { (m : Member) → m.line ≡ line → IsKnown result (filter (stays_beside line) members.now ++ m ∷ []) }
-    ensures stays { IsKnown result members.now }
+/// What is known once a write joins of a line that has members.
+fn twins_beside(twins: Twins, members: &[Member], line: u32) -> Twins
+    ensures { result ≡ spec.twins_with line members.now twins }
 {
     match twins {
         Twins::Nowhere => first_with(members, line),
         Twins::Only(pair) => only_with(pair, members, line),
         Twins::Anywhere => Twins::Anywhere,
+    }
+}
+
+/// What is known once a write of a line joins, where the line has members or not. It holds too where it is refused.
+pub fn twins_with(twins: Twins, has_mates: bool, members: &[Member], line: u32) -> Twins
+    requires known { IsKnown twins members.now }
+    requires mates { has_mates ≡ list_any (spec.is_of line) members.now }
+    ensures exact { result ≡ spec.twins_with line members.now twins }
+    ensures joins { (m : Member) → m.line ≡ line → IsKnown result (filter (stays_beside line) members.now ++ m ∷ []) }
+    ensures stays { IsKnown result members.now }
+{
+    if has_mates {
+        twins_beside(twins, members, line)
+    } else {
+        twins
     }
 }
 
@@ -188,10 +216,10 @@ fn passes_none(newest: &Member, others: &[Member], twins: Twins) -> bool
 
 /// Whether the newest member finds few of its line among the others, and isn't stored first where two of a line stand.
 fn joins_well(all: &[Member], newest: &Member, others: &[Member], twins: Twins) -> bool
-    requires { IsKnown twins others.now }
+    requires { IsKnown twins (others.now ++ newest.now ∷ []) }
     ensures { result ≡ spec.joins_well all.now newest.now others.now }
 {
-    finds_few(all, newest, others) && passes_none(newest, others, twins)
+    finds_few(all, newest, others, twins) && passes_none(newest, others, twins)
 }
 
 /// Whether these members are in order, where all but the newest are.
@@ -320,7 +348,7 @@ fn is_behind_next(next: Option<u128>, line: u32, member: &Member) -> bool
 }
 
 /// Whether one of these is of this line.
-fn has_line(members: &[Member], line: u32) -> bool
+pub fn has_line(members: &[Member], line: u32) -> bool
     ensures { result ≡ list_any (spec.is_of line) members.now }
 {
     members.iter().any(|member| is_of(member, line))

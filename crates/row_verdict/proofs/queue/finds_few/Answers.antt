@@ -1,11 +1,9 @@
-use Rattle.std.proofs.Common.{◌∙◌, sym}
-use Rattle.row_verdict.specs.Fitting.{is_of, precedes}
-use Rattle.row_verdict.proofs.Pairs.{few_of_none}
+use Rattle.std.proofs.Common.{◌≡◌, sym, ap, not, ◌∙◌, false}
+use Rattle.row_verdict.specs.Fitting.{precedes, may_have_two}
+use Rattle.row_verdict.proofs.Pairs.{few_alone}
 use Rattle.row_verdict.proofs.queue.finds_few.Goals as goal
 
-pub returns-in-0 : goal.returns-in-0
-returns-in-0 c =
-    let others = c.args.others.now in
-    let own = is_of c.args.newest.now.line in
-    let one = precedes c.args.all.now c.args.newest.now in
-    few_of_none own one others (sym c.count_of.ensures ∙ c.in-0.is)
+pub returns-then-not-may_have_two : goal.returns-then-not-may_have_two
+returns-then-not-may_have_two c =
+    let off : may_have_two c.args.twins c.args.newest.now.line ≡ false = sym c.may_have_two.ensures ∙ c.if-not-may_have_two.true in
+    ap not c.if-not-may_have_two.true ∙ few_alone (precedes c.args.all.now c.args.newest.now) c.args.twins c.args.others.now c.args.newest.now c.requires off

@@ -1,12 +1,12 @@
-use Rattle.std.proofs.Common.{◌≡◌, ◌-◌, ◌++◌, [], ◌∷◌, length, Some, sym, ap, ◌∙◌, rules}
+use Rattle.std.proofs.Common.{◌≡◌, ◌-◌, ◌++◌, [], ◌∷◌, length, Some, sym, subst, ap, ◌∙◌, rules}
 use Rattle.std.specs.Prelude.{slice_get, take}
-use Rattle.row_verdict.specs.Fitting.{joins_well, in_order}
+use Rattle.row_verdict.specs.Fitting.{IsKnown, joins_well, in_order}
 use Rattle.row_verdict.proofs.Fits.{order_split, last_split}
-use Rattle.row_verdict.proofs.Pairs.{known-take}
 use Rattle.row_verdict.proofs.queue.in_order.Goals as goal
 
 pub joins_well-requires : goal.joins_well-requires
-joins_well-requires c = known-take c.args.twins (length c.args.members.now - 1) c.args.members.now c.requires
+joins_well-requires c =
+    subst (IsKnown c.args.twins) (sym (last_split c.args.members.now c.in-Some.newest.now c.in-Some.ensures.value)) c.requires
 
 pub returns-in-Some : goal.returns-in-Some
 returns-in-Some c =

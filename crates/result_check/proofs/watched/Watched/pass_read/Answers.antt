@@ -12,5 +12,5 @@ pub invariant_of-self-2 : goal.invariant_of-self-2
 invariant_of-self-2 g c =
     let next = c.self.inside.next in
     let twins = c.self.inside.twins in
-    subst (λ k. IsWatched k twins (facts_of c.pass_read.new.self)) (sym (c.earlier-next.ensures ∙ ap (min next) c.read_at.ensures))
+    subst (λ k. IsWatched k twins (facts_of c.pass_read.new.self)) (sym (c.min-next.ensures ∙ ap (min next) c.read_at.ensures))
     (watched_read next c.args.tick twins c.args.outcome.now (facts_of c.self.inside.bank) (facts_of c.pass_read.new.self) c.self.invariant c.in_ok-pass_read.ensures)

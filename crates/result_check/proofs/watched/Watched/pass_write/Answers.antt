@@ -15,8 +15,8 @@ pub invariant_of-self-2 : goal.invariant_of-self-2
 invariant_of-self-2 g c =
     let m = c.args.member in
     let twins = c.twins_with-twins.result in
-    subst (λ next. IsWatched next twins (facts_of c.pass_write.new.self)) (sym c.earlier-next.ensures)
+    subst (λ next. IsWatched next twins (facts_of c.pass_write.new.self)) (sym c.min-next.ensures)
     (watched_written c.self.inside.next m.line twins m c.args.outcome.now (facts_of c.self.inside.bank) (facts_of c.pass_write.new.self) c.self.invariant.ends
-    (subst (λ (ms : List Member). IsKnown twins (filter (stays_beside m.line) ms ++ m ∷ [])) c.deref.ensures.value (c.twins_with-twins.ensures.joins m refl))
-    (subst (λ (ms : List Member). IsKnown twins ms) c.deref.ensures.value c.twins_with-twins.ensures.stays)
+    (subst (λ (ms : List Member). IsKnown twins (filter (stays_beside m.line) ms ++ m ∷ [])) c.deref-2.ensures.value (c.twins_with-twins.ensures.joins m refl))
+    (subst (λ (ms : List Member). IsKnown twins ms) c.deref-2.ensures.value c.twins_with-twins.ensures.stays)
     c.in_ok-pass_write.ensures)

@@ -5,18 +5,18 @@ use Rattle.row_verdict.specs.Fitting.{IsKnown}
 use Rattle.row_verdict.proofs.Pairs.{known-filter}
 use Rattle.row_verdict.specs.States.{Facts, settled}
 use Rattle.row_verdict.specs.Members.{never}
-use Rattle.result_check.specs.Watching.{NoneEndsBelow, least_end, least_of}
+use Rattle.result_check.specs.Watching.{NoneEndsBelow, least_of}
 use Rattle.result_check.proofs.Watching.{none_below_least, settled_already}
 use Rattle.result_check.proofs.watched.Watched.settle.Goals as goal
 
 pub invariant_of-self : goal.invariant_of-self
 invariant_of-self c = record {
   ends =
-      subst (λ next. NoneEndsBelow next (facts_of c.settle.new.self)) (sym c.earlier-self-inside.ensures)
-      (none_below_least (facts_of c.settle.new.self) c.first_end.result c.first_of.result
-      (c.first_end.ensures ∙ ap (least_end never) c.deref.ensures.value) (c.first_of.ensures ∙ ap (least_of never) c.deref-then-self-tick.ensures.value));
+      subst (λ next. NoneEndsBelow next (facts_of c.settle-first.new.self)) (sym c.min-self-inside.ensures)
+      (none_below_least (facts_of c.settle-first.new.self) c.settle-first.result c.first_of.result
+      c.settle-first.ensures.first (c.first_of.ensures ∙ ap (least_of never) c.deref.ensures.value));
   pairs =
-      subst (λ (f : Facts). IsKnown c.self.inside.twins f.members) (sym c.settle.ensures)
+      subst (λ (f : Facts). IsKnown c.self.inside.twins f.members) (sym c.settle-first.ensures.facts)
       (known-filter (λ m. not (nat_le m.end c.args.tick)) c.self.inside.twins (facts_of c.self.inside.bank).members c.self.invariant.pairs);
 }
 
