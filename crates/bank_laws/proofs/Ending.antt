@@ -12,7 +12,7 @@ use Rattle.bank_shape.specs.declared.answer.WriteAnswer.TheVariants as wrote
 use Rattle.bank_model.specs.Events.{Write}
 use Rattle.bank_model.specs.History.{queue}
 use Rattle.bank_shape.specs.declared.pace.Pace.{Pace}
-use Rattle.bank_model.specs.Timing.{Happens, Core, Regs, TimedEvent, core}
+use Rattle.bank_model.specs.Timing.{Happens, Core, TimedEvent, core}
 use Rattle.bank_model.specs.Lawful.{Lawful, MayCome}
 use Rattle.bank_laws.specs.Outcomes.{on_row, outcome_with, outcome_of, ended}
 use Rattle.bank_laws.specs.Settling.{AreOpen}

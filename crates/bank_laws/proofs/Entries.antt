@@ -41,13 +41,6 @@ module _ {n : ℕ} where
         | false ↦ or_from (e.row == r) _ (neither_first (e.row == r) _ h) (lacks-merged old row bytes given es r (neither_second (e.row == r) _ h) k)
       ]
 
-  pub apart-push : (es : List (Entry n)) (x : Entry n) → RowsApart es → has_row es x.row ≡ false → RowsApart (es ++ x ∷ [])
-  apart-push [] x a h = (refl, tt)
-  apart-push (e ∷ es) x a h = (
-    lacks-push es x e.row a.0 (differ_sym e.row x.row (neither_first (e.row == x.row) _ h)),
-    apart-push es x a.1 (neither_second (e.row == x.row) _ h),
-  )
-
   pub apart-drop : (es : List (Entry n)) → RowsApart es → RowsApart (drop 1 es)
   apart-drop [] a = tt
   apart-drop (e ∷ es) a = a.1

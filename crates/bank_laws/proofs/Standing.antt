@@ -10,7 +10,8 @@ use Rattle.bank_shape.specs.declared.answer.Step.TheVariants as did
 use Rattle.bank_model.specs.Events.{Event, Write, Read, Serve, Begin, Iterate, Cut, RowsBelow}
 use Rattle.bank_model.specs.History.{Awaited, awaited, begun, queue, waits}
 use Rattle.bank_laws.specs.Standing.{has_wait, AreRowsApart, RowLaw}
-use Rattle.bank_laws.proofs.Entries.{differ, lacks-push, lacks-drop, row-begun, lacks-merged, apart-push, apart-drop, apart-begun, apart-merged, no_wait-push, no_wait-drop, waits_apart-push, waits_apart-drop}
+use Rattle.masked_bytes.proofs.Standing.{RowsApart-append}
+use Rattle.bank_laws.proofs.Entries.{differ, lacks-push, lacks-drop, row-begun, lacks-merged, apart-drop, apart-begun, apart-merged, no_wait-push, no_wait-drop, waits_apart-push, waits_apart-drop}
 
 -- a row that is there is no row that isn't
 there : {A : Type 0} (b : Bool) → b ≡ true → b ≡ false → A
@@ -31,7 +32,7 @@ module _ {n : ℕ} where
   accepted es ws x next lt s = record {
     queued_below = λ row h. lacks-push es x row (s.queued_below row (omega arith)) (differ x.row row (omega arith));
     waiting_below = λ row h. s.waiting_below row (omega arith);
-    queued_apart = apart-push es x s.queued_apart (s.queued_below x.row (omega arith));
+    queued_apart = RowsApart-append es x s.queued_apart (s.queued_below x.row (omega arith));
     waiting_apart = s.waiting_apart;
     one_place = λ row h.
         elim (has_row es row) as (λ b. has_row es row ≡ b → has_wait ws row ≡ false) [
