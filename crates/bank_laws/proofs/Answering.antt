@@ -32,29 +32,26 @@ module _ {n : ℕ} where
   head-gone [] row a h = absurd h
   head-gone (e ∷ es) row a h = subst (λ r. has_row es r ≡ false) (sym h) a.0
 
+  own-there : (e : Entry n) (es : List (Entry n)) (at : ℕ) (b : Bool) → cond b (Some e.row) None ≡ Some at
+      → has_row (e ∷ es) at ≡ true
+  own-there e es at true h = let same : e.row ≡ at = cc in or_left (e.row == at) _ (eq-eqb e.row at same)
+  own-there e es at false h = absurd (cc)
+
   pub newest_row-there : (es : List (Entry n)) (line at : ℕ) → newest_row es line ≡ Some at → has_row es at ≡ true
   newest_row-there [] line at h = absurd (cc)
   newest_row-there (e ∷ es) line at h = by (newest_row es line) (λ is. newest_row-there es line at is) refl h
     where
-      own : (b : Bool) → cond b (Some e.row) None ≡ Some at → has_row (e ∷ es) at ≡ true
-      own true h = let same : e.row ≡ at = cc in or_left (e.row == at) _ (eq-eqb e.row at same)
-      own false h = absurd (cc)
-
       by : (r : Option ℕ) → (newest_row es line ≡ Some at → has_row es at ≡ true) → newest_row es line ≡ r → or_this r (cond (eqb e.line line) (Some e.row) None) ≡ Some at → has_row (e ∷ es) at ≡ true
       by (Some row) rest is h = or_right (e.row == at) _ (rest (is ∙ h))
-      by None rest is h = own (eqb e.line line) h
+      by None rest is h = own-there e es at (eqb e.line line) h
 
   pub candidate-there : (busy : Bool) (es : List (Entry n)) (line at : ℕ) → candidate busy es line ≡ Some at → has_row es at ≡ true
   candidate-there busy [] line at h = absurd (cc)
   candidate-there busy (e ∷ es) line at h = by (newest_row es line) refl h
     where
-      own : (b : Bool) → cond b (Some e.row) None ≡ Some at → has_row (e ∷ es) at ≡ true
-      own true h = let same : e.row ≡ at = cc in or_left (e.row == at) _ (eq-eqb e.row at same)
-      own false h = absurd (cc)
-
       by : (r : Option ℕ) → newest_row es line ≡ r → or_this r (cond (not busy && eqb e.line line) (Some e.row) None) ≡ Some at → has_row (e ∷ es) at ≡ true
       by (Some row) is h = or_right (e.row == at) _ (newest_row-there es line at (is ∙ h))
-      by None is h = own (not busy && eqb e.line line) h
+      by None is h = own-there e es at (not busy && eqb e.line line) h
 
 pub first-there : (ws : List Awaited) (row : ℕ) → IsFirst ws row → has_wait ws row ≡ true
 first-there [] row h = absurd h

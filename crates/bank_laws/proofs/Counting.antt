@@ -1,6 +1,6 @@
 -- How many of some rows stand, counted over a list of rows that fall.
 use Rattle.std.proofs.Common.{◌≡◌, ℕ, ◌+◌, ◌<◌, ◌≤◌, ◌==◌, ◌||◌, suc, Bool, true, false, List, [], ◌∷◌, length, refl, sym, ap, ◌∙◌, subst, arith, cond, eqb, eqb-true}
-use Rattle.std.proofs.lemmas.Bool.{eq-eqb, ne_eqb}
+use Rattle.std.proofs.lemmas.Bool.{eq-eqb, ne_eqb, or_left, or_right}
 use Rattle.masked_bytes.specs.declared.entry.Entry.{Entry}
 use Rattle.masked_bytes.specs.Entries.{has_row, RowsApart}
 use Rattle.bank_model.specs.History.{Awaited}
@@ -67,17 +67,11 @@ hits-split a rs (x ∷ xs) apart = by (eqb a x) (among rs x) refl refl (hits-spl
 pub hits-all : (rs xs : List ℕ) (bound : ℕ) → Apart rs → Falling xs bound → ((r : ℕ) → among rs r ≡ true → among xs r ≡ true) → hits (λ x. among rs x) xs ≡ length rs
 hits-all [] xs bound apart f in_it = hits-none xs
 hits-all (a ∷ rs) xs bound apart f in_it =
-    let one : hits (λ x. a == x) xs ≡ 1 = hits-one xs bound a f (in_it a (own (a == a) _ (eq-eqb a a refl))) in
-    let rest : hits (λ x. among rs x) xs ≡ length rs = hits-all rs xs bound apart.1 f (λ r there. in_it r (more (a == r) _ there)) in
+    let one : hits (λ x. a == x) xs ≡ 1 =
+    hits-one xs bound a f (in_it a (or_left (a == a) _ (eq-eqb a a refl))) in
+    let rest : hits (λ x. among rs x) xs ≡ length rs =
+    hits-all rs xs bound apart.1 f (λ r there. in_it r (or_right (a == r) _ there)) in
     hits-split a rs xs apart.0 ∙ omega (arith, one, rest)
-  where
-    own : (b c : Bool) → b ≡ true → (b || c) ≡ true
-    own true c h = refl
-    own false c h = absurd (cc)
-
-    more : (b c : Bool) → c ≡ true → (b || c) ≡ true
-    more true c h = refl
-    more false c h = h
 
 pub hits-same : (p q : ℕ → Bool) (xs : List ℕ) → ((x : ℕ) → p x ≡ q x) → hits p xs ≡ hits q xs
 hits-same p q [] same = refl

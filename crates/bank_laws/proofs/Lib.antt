@@ -14,6 +14,7 @@ pub mod Holding
 pub mod Lines
 pub mod Merging
 pub mod Counting
+pub mod Later
 pub mod Waiting
 pub mod Pending
 pub mod Changing

@@ -167,35 +167,33 @@ module _ {n : ℕ} where
       by (Some row) is h = inr (newest-stands es line at (is ∙ h))
       by None is h = own busy (eqb e.line line) refl h
 
+  -- an entry of another row is not the one that is found
+  own-other : {A : Type 0} (e : Entry n) (at row : ℕ) → (at == row) ≡ false → (b : Bool)
+      → cond b (Some e.row) None ≡ Some at → e.row ≡ row → A
+  own-other e at row ne true h is = let same : e.row ≡ at = cc in no_row at row ne (sym same ∙ is)
+  own-other e at row ne false h is = absurd (cc)
+
   -- it is the newest of its line: another stands before it
   newest-covers : (es : List (Entry n)) (line at row : ℕ) → newest_row es line ≡ Some at → (at == row) ≡ false → Stands es row line → Covered es row line
   newest-covers [] line at row h ne s = absurd s
   newest-covers (e ∷ es) line at row h ne s = by (newest_row es line) (λ is t. newest-covers es line at row is ne t) refl h s
     where
-      own : (b : Bool) → cond b (Some e.row) None ≡ Some at → e.row ≡ row → Covered (e ∷ es) row line
-      own true h is = let same : e.row ≡ at = cc in no_row at row ne (sym same ∙ is)
-      own false h is = absurd (cc)
-
       by : (r : Option ℕ) → (newest_row es line ≡ Some at → Stands es row line → Covered es row line) → newest_row es line ≡ r
           → or_this r (cond (eqb e.line line) (Some e.row) None) ≡ Some at → Stands (e ∷ es) row line → Covered (e ∷ es) row line
       by (Some other) rest is h (inl s) = inl (s.0, s.1, stands-line es at line (newest-stands es line at (is ∙ h)))
       by (Some other) rest is h (inr s) = inr (rest (is ∙ h) s)
-      by None rest is h (inl s) = own (eqb e.line line) h s.0
+      by None rest is h (inl s) = own-other e at row ne (eqb e.line line) h s.0
       by None rest is h (inr s) = absurd (cc (newest-line es line is, stands-line es row line s))
 
   candidate-covers : (busy : Bool) (es : List (Entry n)) (line at row : ℕ) → candidate busy es line ≡ Some at → (at == row) ≡ false → Stands es row line → Covered es row line
   candidate-covers busy [] line at row h ne s = absurd s
   candidate-covers busy (e ∷ es) line at row h ne s = by (newest_row es line) refl h s
     where
-      own : (b : Bool) → cond b (Some e.row) None ≡ Some at → e.row ≡ row → Covered (e ∷ es) row line
-      own true h is = let same : e.row ≡ at = cc in no_row at row ne (sym same ∙ is)
-      own false h is = absurd (cc)
-
       by : (r : Option ℕ) → newest_row es line ≡ r
           → or_this r (cond (not busy && eqb e.line line) (Some e.row) None) ≡ Some at → Stands (e ∷ es) row line → Covered (e ∷ es) row line
       by (Some other) is h (inl s) = inl (s.0, s.1, stands-line es at line (newest-stands es line at (is ∙ h)))
       by (Some other) is h (inr s) = inr (newest-covers es line at row (is ∙ h) ne s)
-      by None is h (inl s) = own (not busy && eqb e.line line) h s.0
+      by None is h (inl s) = own-other e at row ne (not busy && eqb e.line line) h s.0
       by None is h (inr s) = absurd (cc (newest-line es line is, stands-line es row line s))
 
   covered-line : (es : List (Entry n)) (row line : ℕ) → Covered es row line → has_line es line ≡ true

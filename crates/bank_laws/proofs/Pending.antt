@@ -7,6 +7,7 @@ use Rattle.result_rows.specs.declared.Outcome.{Outcome}
 use Rattle.result_rows.specs.declared.Outcome.TheVariants as out
 use Rattle.masked_bytes.specs.Entries.{has_row, candidate}
 use Rattle.masked_bytes.proofs.Rows.{lacks-push, lacks-drop, lacks-merged}
+use Rattle.masked_bytes.proofs.Truth.{implied}
 use Rattle.row_rules.specs.declared.Row.{Row}
 use Rattle.row_rules.specs.Answers.{accepts, is_full, is_merged, is_queued, stored_after}
 use Rattle.row_rules.specs.Rows.{accepted_of}
@@ -28,15 +29,16 @@ use Rattle.bank_laws.specs.Ticks.{ends_action}
 use Rattle.bank_laws.specs.RowLaws.{is_room_fair, QueueLaw}
 use Rattle.bank_laws.proofs.Entries.{either}
 use Rattle.bank_laws.proofs.Standing.{stand_apart}
-use Rattle.bank_laws.proofs.Ticks.{last_tick-rises, last-below}
+use Rattle.bank_laws.proofs.Ticks.{last_tick-rises}
 use Rattle.bank_laws.proofs.Settling.{opens, above_all, lawful_before, step_stays, stays}
 use Rattle.bank_laws.proofs.Fates.{IsLeft, WriteFate, write_fate}
 use Rattle.bank_laws.proofs.Walking.{Passes, walk, rows_after, rows_after-more}
 use Rattle.bank_laws.proofs.Ending.{Onwards, IsOutcome, accepting, own_row, write_outcome, outcome-accepts}
 use Rattle.bank_laws.proofs.Serves.{may_at, onwards_at}
-use Rattle.bank_laws.proofs.Wears.{stored_by, stored_up_to}
+use Rattle.bank_laws.proofs.Wears.{stored_up_to}
+use Rattle.bank_laws.proofs.Later.{EndsAbove, ends_at_row, stored_over}
 use Rattle.bank_laws.proofs.Holding.{bound_law}
-use Rattle.bank_laws.proofs.Lines.{Covered, covered-stands, stands-row}
+use Rattle.bank_laws.proofs.Lines.{Stands, Covered, covered-stands, stands-row}
 use Rattle.bank_laws.proofs.Merging.{Fate, covered-kept, stays_there, spares_covered, FateBy, fate, fate_new}
 use Rattle.bank_laws.proofs.Counting.{among, Falling, falling-more, hits, entries-counted}
 use Rattle.bank_laws.proofs.Waiting.{may_all, cond_length}
@@ -159,27 +161,6 @@ refused_set {n} shape ys tick at line bytes given wrote.Full ref un = let both :
 refused_set {n} shape ys tick at line bytes given wrote.Exhausted ref un = let both : ◌≡◌ {A = Outcome n} (out.Worn tick) out.Unset = sym (own_row at (out.Worn tick) (outcome_of shape ys at)) ∙ un in absurd (cc)
 
 module _ {n m : ℕ} (shape : BankShape) (pace : Pace) (e : ℕ) where
-  pub last-later : (later zs : List (TimedEvent n m)) → 1 ≤ pace.read → 1 ≤ pace.iter → Lawful shape pace e (later ++ zs) → last_tick zs ≤ last_tick (later ++ zs)
-  last-later [] zs r i l = omega arith
-  last-later (y ∷ later) zs r i l =
-      let before : last_tick zs ≤ last_tick (later ++ zs) = last-later later zs r i l.1 in
-      let rises : last_tick (later ++ zs) ≤ y.tick = last_tick-rises shape pace e (later ++ zs) y r i l in
-      omega (arith, before, rises)
-
-  -- what is stored by later events is stored above the last tick
-  pub stored_above : (later zs : List (TimedEvent n m)) (row u p : ℕ) → 1 ≤ pace.read → 1 ≤ pace.iter → Lawful shape pace e (later ++ zs) → (outcome_of shape zs row ≡ out.Stored u p → ⊥)
-      → outcome_of shape (later ++ zs) row ≡ out.Stored u p → last_tick zs < u
-  stored_above [] zs row u p r i l isnt s = absurd (isnt s)
-  stored_above (y ∷ later) zs row u p r i l isnt s =
-      by (stored_by shape pace e (later ++ zs) y y.happens row u p s) (λ s. stored_above later zs row u p r i l.1 isnt s)
-    where
-      by : ((ends_action y.happens ≡ true) × (u ≡ y.tick)) ⊎ (outcome_of shape (later ++ zs) row ≡ out.Stored u p) → (outcome_of shape (later ++ zs) row ≡ out.Stored u p → last_tick zs < u) → last_tick zs < u
-      by (inl now) go =
-          let up : last_tick zs ≤ last_tick (later ++ zs) = last-later later zs r i l.1 in
-          let lt : last_tick (later ++ zs) < y.tick = last-below shape pace e (later ++ zs) y r i l now.0 in
-          omega (arith, up, lt, now.1)
-      by (inr s) go = go s
-
   abbrev pub CoveredOn : List (TimedEvent n m) → ℕ → ℕ → Type 0
   CoveredOn zs row line = Covered (queue shape (core zs)) row line ⊎ ((u : ℕ) × (p : ℕ) × (outcome_of shape zs row ≡ out.Stored u p))
 
@@ -210,111 +191,151 @@ module _ {n m : ℕ} (shape : BankShape) (pace : Pace) (e : ℕ) (all : List (Ti
   left_by t tick (out.Lost at) left above = absurd left
   left_by t tick (out.Cut at) left above = absurd left
 
-  module _ (later : List (TimedEvent n m)) (x : TimedEvent n m) (now : List (TimedEvent n m)) (r : 1 ≤ pace.read) (i : 1 ≤ pace.iter) (l : Lawful shape pace e all) (same : all ≡ later ++ x ∷ now) (arrives : ends_action x.happens ≡ false) where
-    whole : Lawful shape pace e (later ++ x ∷ now)
+  module _ (later now : List (TimedEvent n m)) (t : ℕ) (r : 1 ≤ pace.read) (i : 1 ≤ pace.iter)
+      (l : Lawful shape pace e all) (same : all ≡ later ++ now)
+      (up : last_tick now ≤ t) (ends : EndsAbove t later) where
+    whole : Lawful shape pace e (later ++ now)
     whole = subst (λ (xs : List (TimedEvent n m)). Lawful shape pace e xs) same l
 
-    here : Lawful shape pace e (x ∷ now)
-    here = lawful_before shape pace e later (x ∷ now) whole
-
-    split : (later ++ x ∷ []) ++ now ≡ all
-    split = append_assoc later (x ∷ []) now ∙ sym same
-
-    over : Lawful shape pace e ((later ++ x ∷ []) ++ now)
-    over = subst (λ (xs : List (TimedEvent n m)). Lawful shape pace e xs) (sym split) l
+    here : Lawful shape pace e now
+    here = lawful_before shape pace e later now whole
 
     -- an outcome that is set by now stays to the end
     kept : (row : ℕ) (o : Outcome n) → o ≢ out.Unset → outcome_of shape now row ≡ o → outcome_of shape all row ≡ o
-    kept row o set is = sym (ap (λ xs. outcome_of shape xs row) split) ∙ stays shape pace e (later ++ x ∷ []) now row over (λ un. set (sym is ∙ un)) ∙ is
+    kept row o set is =
+        ap (λ xs. outcome_of shape xs row) same
+        ∙ stays shape pace e later now row whole (λ un. set (sym is ∙ un)) ∙ is
 
-    gone : (row : ℕ) (o : Outcome n) → o ≢ out.Unset → outcome_of shape now row ≡ o → has_row (queue shape (core now)) row ≡ false
-    gone row o set is = either (has_row (queue shape (core now)) row) (λ there. absurd (set (sym is ∙ (opens shape pace e now here.1).queued row there))) (λ f. f)
+    pub gone : (row : ℕ) (o : Outcome n) → o ≢ out.Unset → outcome_of shape now row ≡ o
+        → has_row (queue shape (core now)) row ≡ false
+    gone row o set is =
+        either (has_row (queue shape (core now)) row)
+        (λ there. absurd (set (sym is ∙ (opens shape pace e now here).queued row there))) (λ f. f)
 
-    -- what stands now is stored above this tick
-    above : (row u p : ℕ) → has_row (queue shape (core now)) row ≡ true → outcome_of shape all row ≡ out.Stored u p → x.tick < u
+    -- what stands now is stored above the tick
+    above : (row u p : ℕ) → has_row (queue shape (core now)) row ≡ true
+        → outcome_of shape all row ≡ out.Stored u p → t < u
     above row u p there s =
-        stored_above shape pace e later (x ∷ now) row u p r i whole (λ k. not_yet (stored_by shape pace e now x x.happens row u p k)) (sym (ap (λ xs. outcome_of shape xs row) same) ∙ s)
-      where
-        unset : outcome_of shape now row ≡ out.Unset
-        unset = (opens shape pace e now here.1).queued row there
-
-        not_yet : ((ends_action x.happens ≡ true) × (u ≡ x.tick)) ⊎ (outcome_of shape now row ≡ out.Stored u p) → ⊥
-        not_yet (inl ends) = absurd (cc (arrives, ends.0))
-        not_yet (inr k) = let both : ◌≡◌ {A = Outcome n} (out.Stored u p) out.Unset = sym k ∙ unset in absurd (cc)
+        stored_over shape pace e t later now row u p ends
+        (λ k. let both : ◌≡◌ {A = Outcome n} (out.Stored u p) out.Unset = sym k
+        ∙ (opens shape pace e now here).queued row there in absurd (cc))
+        whole (sym (ap (λ xs. outcome_of shape xs row) same) ∙ s)
 
     -- a write stands by the rows exactly where it stands by the events
-    stands_same : (row line tick : ℕ) (between : List (Row n)) → Fate shape now between row line
-        → stands_by x.tick tick (list_any (accepted_of line) between) (outcome_of shape all row) ≡ has_row (queue shape (core now)) row
-    stands_same row line tick between (inl alone) = subst (λ b. stands_by x.tick tick b (outcome_of shape all row) ≡ true) (sym alone.1) (by last) ∙ sym there
+    pub stands_same : (row line tick : ℕ) (between : List (Row n)) → Fate shape now between row line
+        → stands_by t tick (list_any (accepted_of line) between) (outcome_of shape all row)
+        ≡ has_row (queue shape (core now)) row
+    stands_same row line tick between (inl alone) =
+        subst (λ b. stands_by t tick b (outcome_of shape all row) ≡ true) (sym alone.1) (by last) ∙ sym there
       where
         there : has_row (queue shape (core now)) row ≡ true
         there = stands-row (queue shape (core now)) row line alone.0
 
         last : WriteFate shape all row
-        last = subst (λ (xs : List (TimedEvent n m)). WriteFate shape xs row) split (write_fate shape pace e (later ++ x ∷ []) now row over (inl there))
+        last =
+            subst (λ (xs : List (TimedEvent n m)). WriteFate shape xs row) (sym same)
+            (write_fate shape pace e later now row whole (inl there))
 
-        by : WriteFate shape all row → stands_by x.tick tick false (outcome_of shape all row) ≡ true
-        by (inl end) = ap (stands_by x.tick tick false) ((opens shape pace e all l).queued row end)
-        by (inr left) = left_by x.tick tick (outcome_of shape all row) left (λ u p s. above row u p there s)
+        by : WriteFate shape all row → stands_by t tick false (outcome_of shape all row) ≡ true
+        by (inl end) = ap (stands_by t tick false) ((opens shape pace e all l).queued row end)
+        by (inr left) = left_by t tick (outcome_of shape all row) left (λ u p s. above row u p there s)
     stands_same row line tick between (inr (inl covered)) = by last ∙ sym there
       where
         there : has_row (queue shape (core now)) row ≡ true
         there = stands-row (queue shape (core now)) row line (covered-stands (queue shape (core now)) row line covered.0)
 
         last : CoveredOn shape pace e all row line
-        last = subst (λ (xs : List (TimedEvent n m)). CoveredOn shape pace e xs row line) split (covered_on shape pace e (later ++ x ∷ []) now row line over covered.0)
+        last =
+            subst (λ (xs : List (TimedEvent n m)). CoveredOn shape pace e xs row line) (sym same)
+            (covered_on shape pace e later now row line whole covered.0)
 
-        by : CoveredOn shape pace e all row line → stands_by x.tick tick (list_any (accepted_of line) between) (outcome_of shape all row) ≡ true
-        by (inl c) = ap (stands_by x.tick tick (list_any (accepted_of line) between)) ((opens shape pace e all l).queued row (stands-row (queue shape (core all)) row line (covered-stands (queue shape (core all)) row line c)))
-        by (inr s) = ap (stands_by x.tick tick (list_any (accepted_of line) between)) s.2 ∙ by_stored_later n x.tick tick (list_any (accepted_of line) between) s.0 s.1 (above row s.0 s.1 there s.2)
+        by : CoveredOn shape pace e all row line
+            → stands_by t tick (list_any (accepted_of line) between) (outcome_of shape all row) ≡ true
+        by (inl c) =
+            ap (stands_by t tick (list_any (accepted_of line) between))
+            ((opens shape pace e all l).queued row
+            (stands-row (queue shape (core all)) row line
+            (covered-stands (queue shape (core all)) row line c)))
+        by (inr s) =
+            ap (stands_by t tick (list_any (accepted_of line) between)) s.2
+            ∙ by_stored_later n t tick (list_any (accepted_of line) between) s.0 s.1
+            (above row s.0 s.1 there s.2)
     stands_same row line tick between (inr (inr (inl s))) =
-        let up : s.0 ≤ last_tick now = stored_up_to shape pace e now row s.0 s.1 r i here.1 s.2 in
-        let rises : last_tick now ≤ x.tick = last_tick-rises shape pace e now x r i here in
-        ap (stands_by x.tick tick (list_any (accepted_of line) between)) (kept row (out.Stored s.0 s.1) (λ un. absurd (cc)) s.2)
-        ∙ by_stored_before n x.tick tick (list_any (accepted_of line) between) s.0 s.1 (omega (arith, up, rises)) ∙ sym (gone row (out.Stored s.0 s.1) (λ un. absurd (cc)) s.2)
+        let at_most : s.0 ≤ last_tick now = stored_up_to shape pace e now row s.0 s.1 r i here s.2 in
+        ap (stands_by t tick (list_any (accepted_of line) between))
+        (kept row (out.Stored s.0 s.1) (λ un. absurd (cc)) s.2)
+        ∙ by_stored_before n t tick (list_any (accepted_of line) between) s.0 s.1 (omega (arith, at_most, up))
+        ∙ sym (gone row (out.Stored s.0 s.1) (λ un. absurd (cc)) s.2)
     stands_same row line tick between (inr (inr (inr into))) =
-        ap (stands_by x.tick tick (list_any (accepted_of line) between)) (kept row (out.Merged into.0) (λ un. absurd (cc)) into.1)
+        ap (stands_by t tick (list_any (accepted_of line) between))
+        (kept row (out.Merged into.0) (λ un. absurd (cc)) into.1)
         ∙ ap not (any_merges line into.0 between into.2) ∙ sym (gone row (out.Merged into.0) (λ un. absurd (cc)) into.1)
 
-    -- a refused one does not
-    refused_same : (row tick : ℕ) (any : Bool) → accepts (ended tick (outcome_of shape all row)) ≡ false → outcome_of shape now row ≢ out.Unset
-        → stands_by x.tick tick any (outcome_of shape all row) ≡ has_row (queue shape (core now)) row
-    refused_same row tick any isnt set = by_refused x.tick tick any (outcome_of shape all row) isnt ∙ sym (gone row (outcome_of shape now row) set refl)
+    pub stands_there : (row line : ℕ) (between : List (Row n)) → Fate shape now between row line
+        → has_row (queue shape (core now)) row ≡ true
+        → Stands (queue shape (core now)) row line
+    stands_there row line between (inl alone) there = alone.0
+    stands_there row line between (inr (inl covered)) there =
+        covered-stands (queue shape (core now)) row line covered.0
+    stands_there row line between (inr (inr (inl s))) there =
+        absurd (cc (gone row (out.Stored s.0 s.1) (λ un. absurd (cc)) s.2, there))
+    stands_there row line between (inr (inr (inr into))) there =
+        absurd (cc (gone row (out.Merged into.0) (λ un. absurd (cc)) into.1, there))
 
-    queue_among : (mid ys : List (TimedEvent n m)) → now ≡ mid ++ ys → length (pending x.tick (rows_after shape all mid) (rows_from shape all ys)) ≡ hits (λ r. has_row (queue shape (core now)) r) (writes_in ys)
+    -- a refused one does not
+    pub refused_same : (row tick : ℕ) (any : Bool)
+        → accepts (ended tick (outcome_of shape all row)) ≡ false → outcome_of shape now row ≢ out.Unset
+        → stands_by t tick any (outcome_of shape all row) ≡ has_row (queue shape (core now)) row
+    refused_same row tick any isnt set =
+        by_refused t tick any (outcome_of shape all row) isnt
+        ∙ sym (gone row (outcome_of shape now row) set refl)
+
+    queue_among : (mid ys : List (TimedEvent n m)) → now ≡ mid ++ ys
+        → length (pending t (rows_after shape all mid) (rows_from shape all ys))
+        ≡ hits (λ r. has_row (queue shape (core now)) r) (writes_in ys)
     queue_among mid [] at_split = refl
     queue_among mid (z ∷ ys) at_split =
-        by z.happens z.cancels before.0 (onwards_at shape pace e all (later ++ x ∷ mid) z ys l in_all)
+        by z.happens z.cancels before.0 (onwards_at shape pace e all (later ++ mid) z ys l in_all)
         (λ row line f. stands_same row line z.tick (rows_after shape all mid)
-        (subst (λ (xs : List (TimedEvent n m)). Fate shape xs (rows_after shape all mid) row line) (sym at_split) (fate shape pace e all (later ++ x ∷ []) mid (z ∷ ys) row line l (opens shape pace e all l) in_split f)))
+        (subst (λ (xs : List (TimedEvent n m)). Fate shape xs (rows_after shape all mid) row line)
+        (sym at_split) (fate shape pace e all later mid (z ∷ ys) row line l
+        (opens shape pace e all l) in_split f)))
         (λ row set. subst (λ (xs : List (TimedEvent n m)). outcome_of shape xs row ≢ out.Unset) (sym at_split)
         (λ un. set (sym (stays shape pace e mid (z ∷ ys) row there set) ∙ un)))
-        (subst (λ (rows : List (Row n)). length (pending x.tick rows (rows_from shape all ys)) ≡ hits (λ r. has_row (queue shape (core now)) r) (writes_in ys)) (rows_after-more shape all mid z)
+        (subst (λ (rows : List (Row n)). length (pending t rows (rows_from shape all ys))
+        ≡ hits (λ r. has_row (queue shape (core now)) r) (writes_in ys)) (rows_after-more shape all mid z)
         (queue_among (mid ++ z ∷ []) ys (at_split ∙ sym (append_assoc mid (z ∷ []) ys))))
       where
         there : Lawful shape pace e (mid ++ z ∷ ys)
-        there = subst (λ (xs : List (TimedEvent n m)). Lawful shape pace e xs) at_split here.1
+        there = subst (λ (xs : List (TimedEvent n m)). Lawful shape pace e xs) at_split here
 
         before : Lawful shape pace e (z ∷ ys)
         before = lawful_before shape pace e mid (z ∷ ys) there
 
-        in_split : all ≡ (later ++ x ∷ []) ++ (mid ++ z ∷ ys)
-        in_split = sym split ∙ ap (λ xs. (later ++ x ∷ []) ++ xs) at_split
+        in_split : all ≡ later ++ (mid ++ z ∷ ys)
+        in_split = same ∙ ap (λ xs. later ++ xs) at_split
 
-        in_all : all ≡ (later ++ x ∷ mid) ++ z ∷ ys
-        in_all = same ∙ ap (λ xs. later ++ x ∷ xs) at_split ∙ sym (append_assoc later (x ∷ mid) (z ∷ ys))
+        in_all : all ≡ (later ++ mid) ++ z ∷ ys
+        in_all = in_split ∙ sym (append_assoc later mid (z ∷ ys))
 
         by : (h : Happens n) (cancels : Bool) → MayCome shape pace e ys z h → Onwards shape all ys z.tick h
-            → ((row line : ℕ) → FateBy shape ys z.tick h [] row line → stands_by x.tick z.tick (list_any (accepted_of line) (rows_after shape all mid)) (outcome_of shape all row) ≡ has_row (queue shape (core now)) row)
+            → ((row line : ℕ) → FateBy shape ys z.tick h [] row line
+            → stands_by t z.tick (list_any (accepted_of line) (rows_after shape all mid))
+            (outcome_of shape all row) ≡ has_row (queue shape (core now)) row)
             → ((row : ℕ) → unwrap_or (outcome_with shape ys h z.tick row) (outcome_of shape ys row) ≢ out.Unset → outcome_of shape now row ≢ out.Unset)
-            → length (pending x.tick (row_with shape all h z.tick cancels ++ rows_after shape all mid) (rows_from shape all ys)) ≡ hits (λ r. has_row (queue shape (core now)) r) (writes_in ys)
-            → length (pending x.tick (rows_after shape all mid) (row_with shape all h z.tick cancels ++ rows_from shape all ys)) ≡ hits (λ r. has_row (queue shape (core now)) r) (write_rows h ++ writes_in ys)
+            → length (pending t (row_with shape all h z.tick cancels ++ rows_after shape all mid)
+            (rows_from shape all ys)) ≡ hits (λ r. has_row (queue shape (core now)) r) (writes_in ys)
+            → length (pending t (rows_after shape all mid)
+            (row_with shape all h z.tick cancels ++ rows_from shape all ys))
+            ≡ hits (λ r. has_row (queue shape (core now)) r) (write_rows h ++ writes_in ys)
         by (Core (Write at line bytes given answer)) cancels may on f g ih = cond_length _ _ _ _ _ (kind (accepting answer) refl) ih
           where
             agrees : accepts (ended z.tick (outcome_of shape all at)) ≡ accepting answer
             agrees = outcome-accepts z.tick answer (ended z.tick (outcome_of shape all at)) (write_outcome shape pace e all ys z at line bytes given answer (opens shape pace e all l) may on)
 
-            kind : (b : Bool) → accepting answer ≡ b → stands_by x.tick z.tick (list_any (accepted_of line) (rows_after shape all mid)) (outcome_of shape all at) ≡ has_row (queue shape (core now)) at
+            kind : (b : Bool) → accepting answer ≡ b
+                → stands_by t z.tick (list_any (accepted_of line) (rows_after shape all mid))
+                (outcome_of shape all at) ≡ has_row (queue shape (core now)) at
             kind true acc = f at line (inl (fate_new shape pace e all ys z at line bytes given answer before.1 may acc, refl))
             kind false ref = refused_same at z.tick (list_any (accepted_of line) (rows_after shape all mid)) (agrees ∙ ref) (g at (refused_set shape ys z.tick at line bytes given answer ref))
         by (Core (Read at line answer)) cancels may on f g ih = ih
@@ -326,34 +347,39 @@ module _ {n m : ℕ} (shape : BankShape) (pace : Pace) (e : ℕ) (all : List (Ti
         by (Core (Cut tearing)) false may on f g ih = ih
 
     -- as many writes stand by the rows as by the events
-    pub queue_length : length (pending x.tick [] (rows_from shape all now)) ≡ length (queue shape (core now))
+    pub queue_length : length (pending t [] (rows_from shape all now)) ≡ length (queue shape (core now))
     queue_length =
-        let b = above_all shape pace e now here.1 in
+        let b = above_all shape pace e now here in
         queue_among [] now refl ∙ entries-counted (queue shape (core now)) (writes_in now) b.0 (stand_apart shape (core now) b.0 b.1).queued_apart (writes-fall now b.0 b.1) (queue-asked shape now)
 
   room_at : 1 ≤ pace.read → 1 ≤ pace.iter → Lawful shape pace e all → (later : List (TimedEvent n m)) (x : TimedEvent n m) (ys : List (TimedEvent n m)) → all ≡ later ++ x ∷ ys
       → Passes (is_room_fair shape.writes) (rows_from shape all ys) (row_with shape all x.happens x.tick x.cancels) (rows_after shape all later)
   room_at r i l later x ys same =
-      by x.happens x.cancels (may_at shape pace e all later x ys l same) (onwards_at shape pace e all later x ys l same) (λ arrives. queue_length later x ys r i l same arrives)
+      by x.happens x.cancels (may_at shape pace e all later x ys l same)
+      (onwards_at shape pace e all later x ys l same) counted
     where
       here : Lawful shape pace e (x ∷ ys)
       here = lawful_before shape pace e later (x ∷ ys) (subst (λ (xs : List (TimedEvent n m)). Lawful shape pace e xs) same l)
+
+      counted : ends_action x.happens ≡ false
+          → length (pending x.tick [] (rows_from shape all ys)) ≡ length (queue shape (core ys))
+      counted arrives =
+          queue_length (later ++ x ∷ []) ys x.tick r i l (same ∙ sym (append_assoc later (x ∷ []) ys))
+          (last_tick-rises shape pace e ys x r i here)
+          (ends_at_row shape pace e later ys x r i
+          (subst (λ (xs : List (TimedEvent n m)). Lawful shape pace e xs) same l) arrives)
 
       few : length (pending x.tick [] (rows_from shape all ys)) ≡ length (queue shape (core ys)) → nat_le (length (pending x.tick [] (rows_from shape all ys))) shape.writes ≡ true
       few count =
           let bound : length (queue shape (core ys)) ≤ shape.writes = (bound_law n (most_steps e) shape (core ys) (may_all shape pace e ys here.1)).writes in
           le-leb (length (pending x.tick [] (rows_from shape all ys))) shape.writes (omega (arith, count, bound))
 
-      or_full : (a b : Bool) → (a ≡ true → b ≡ true) → (not a || b) ≡ true
-      or_full true b h = h refl
-      or_full false b h = refl
-
       by : (h : Happens n) (cancels : Bool) → MayCome shape pace e ys x h → Onwards shape all ys x.tick h
           → (ends_action h ≡ false → length (pending x.tick [] (rows_from shape all ys)) ≡ length (queue shape (core ys)))
           → Passes (is_room_fair shape.writes) (rows_from shape all ys) (row_with shape all h x.tick cancels) (rows_after shape all later)
       by (Core (Write row line bytes given answer)) cancels may on count =
           and_from _ _ (few (count refl))
-          (or_full (is_full (ended x.tick (outcome_of shape all row))) _ (λ full.
+          (implied (is_full (ended x.tick (outcome_of shape all row))) _ (λ full.
           let was : answer ≡ wrote.Full =
           full_outcome x.tick answer (ended x.tick (outcome_of shape all row)) (write_outcome shape pace e all ys x row line bytes given answer (opens shape pace e all l) may on) full in
           ap (λ k. k == shape.writes) (count refl) ∙ full-room shape (core ys) line (sym was ∙ may.may.2)))

@@ -63,6 +63,20 @@ module _ {n : ℕ} (shape : BankShape) (h : List (Event n)) where
       by false false None [] fine none empty m = absurd (cc)
       by false false None (e ∷ es) fine none empty m = absurd (cc)
 
+module _ {n : ℕ} where
+  pub ended_stored : (tick : ℕ) (o : Outcome n) (u p : ℕ) → ended tick o ≡ out.Stored u p → o ≡ out.Stored u p
+  ended_stored tick out.Unset u p s = absurd (cc)
+  ended_stored tick (out.Stored at place) u p s = s
+  ended_stored tick (out.Merged at) u p s = s
+  ended_stored tick (out.Queued at) u p s = s
+  ended_stored tick (out.Full at) u p s = s
+  ended_stored tick (out.Worn at) u p s = s
+  ended_stored tick (out.Read at place bytes) u p s = s
+  ended_stored tick (out.Forwarded at bytes) u p s = s
+  ended_stored tick (out.Busy at) u p s = s
+  ended_stored tick (out.Lost at) u p s = s
+  ended_stored tick (out.Cut at) u p s = s
+
 module _ {n m : ℕ} (shape : BankShape) (pace : Pace) (e : ℕ) (all : List (TimedEvent n m)) where
   -- where no row is an accepted write the bank is quiet
   quiet : (later ys : List (TimedEvent n m)) → 1 ≤ shape.psi → Lawful shape pace e all → AreOpen shape all → all ≡ later ++ ys → list_any accepted (rows_from shape all ys) ≡ false
@@ -91,19 +105,6 @@ module _ {n m : ℕ} (shape : BankShape) (pace : Pace) (e : ℕ) (all : List (Ti
       by (Core (Iterate answer)) cancels may on rest none = let is : in_progress (core ys) ≡ false = (rest none).idle in absurd (cc (may.may.0))
       by (Core (Cut tearing)) true may on rest none = let q = rest none in record { queue = q.queue; stored = q.stored; exhausted = q.exhausted; idle = refl }
       by (Core (Cut tearing)) false may on rest none = let q = rest none in record { queue = q.queue; stored = q.stored; exhausted = q.exhausted; idle = refl }
-
-  ended_stored : (tick : ℕ) (o : Outcome n) (u p : ℕ) → ended tick o ≡ out.Stored u p → o ≡ out.Stored u p
-  ended_stored tick out.Unset u p s = absurd (cc)
-  ended_stored tick (out.Stored at place) u p s = s
-  ended_stored tick (out.Merged at) u p s = s
-  ended_stored tick (out.Queued at) u p s = s
-  ended_stored tick (out.Full at) u p s = s
-  ended_stored tick (out.Worn at) u p s = s
-  ended_stored tick (out.Read at place bytes) u p s = s
-  ended_stored tick (out.Forwarded at bytes) u p s = s
-  ended_stored tick (out.Busy at) u p s = s
-  ended_stored tick (out.Lost at) u p s = s
-  ended_stored tick (out.Cut at) u p s = s
 
   stores_fit : (o : Outcome n) (before after : List (Row n)) → ((u p : ℕ) → o ≡ out.Stored u p → (worn_by u before ≡ false) × (worn_by u after ≡ false)) → store_fits o before after ≡ true
   stores_fit out.Unset before after h = refl

@@ -32,12 +32,13 @@ use Rattle.bank_laws.specs.Standing.{has_wait}
 use Rattle.bank_laws.specs.Ticks.{ends_action}
 use Rattle.bank_laws.proofs.Entries.{either, no_wait-push, no_wait-drop}
 use Rattle.bank_laws.proofs.Standing.{stand_apart}
-use Rattle.bank_laws.proofs.Ticks.{last_tick-rises, last-below}
+use Rattle.bank_laws.proofs.Ticks.{last_tick-rises}
 use Rattle.bank_laws.proofs.Answering.{IsFirst, served-first}
 use Rattle.bank_laws.proofs.Settling.{opens, above_all, lawful_before, step_stays, stays}
 use Rattle.bank_laws.proofs.Walking.{Passes, walk, rows_after, rows_after-more}
 use Rattle.bank_laws.proofs.Ending.{Onwards, own_row, own_answer}
 use Rattle.bank_laws.proofs.Serves.{may_at, onwards_at, idle-waits}
+use Rattle.bank_laws.proofs.Later.{EndsAbove, ends_at_row}
 use Rattle.bank_laws.proofs.Counting.{among, Falling, falling-more, hits, waits-counted}
 
 not_and : (a b : Bool) → b ≡ true → (a && not b) ≡ false
@@ -46,7 +47,7 @@ not_and true false h = absurd (cc)
 not_and false b h = refl
 
 -- a read that would cancel finds no read that waits
-cancels-none : (a b c d : Bool) → (a && (b && (c && d))) ≡ true → c ≡ true
+pub cancels-none : (a b c d : Bool) → (a && (b && (c && d))) ≡ true → c ≡ true
 cancels-none true true true d h = refl
 cancels-none true true false d h = absurd (cc)
 cancels-none true false c d h = absurd (cc)
@@ -184,52 +185,59 @@ module _ {n m : ℕ} (shape : BankShape) (pace : Pace) (e : ℕ) (all : List (Ti
       let same = step_stays shape pace e zs x h row l (opens shape pace e zs l) may past.0 in
       inr (subst (λ (o : Outcome n). (o ≢ out.Unset) × ((read_after t o || is_lost o) ≡ true)) (sym same) past)
 
-  onward : (t : ℕ) (later zs : List (TimedEvent n m)) (row : ℕ) → 1 ≤ pace.read → 1 ≤ pace.iter → Lawful shape pace e (later ++ zs) → t ≤ last_tick zs → Onward t zs row
-      → Onward t (later ++ zs) row × (t ≤ last_tick (later ++ zs))
-  onward t [] zs row r i l le o = (o, le)
-  onward t (x ∷ later) zs row r i l le o =
-      let before = onward t later zs row r i l.1 le o in
-      let up : t ≤ last_tick (later ++ zs) = before.1 in
-      let rises : last_tick (later ++ zs) ≤ x.tick = last_tick-rises shape pace e (later ++ zs) x r i l in (
-        onward_step t (later ++ zs) x x.happens row l.1 l.0 (λ is. let lt : last_tick (later ++ zs) < x.tick = last-below shape pace e (later ++ zs) x r i l is in omega (arith, lt, up)) before.0,
-        omega (arith, up, rises),
-      )
+  onward : (t : ℕ) (later zs : List (TimedEvent n m)) (row : ℕ) → EndsAbove t later
+      → Lawful shape pace e (later ++ zs) → Onward t zs row
+      → Onward t (later ++ zs) row
+  onward t [] zs row above l o = o
+  onward t (x ∷ later) zs row above l o =
+      onward_step t (later ++ zs) x x.happens row l.1 l.0 above.0 (onward t later zs row above.1 l.1 o)
 
-  pub comb_true : (a b c : Bool) → (a || b) ≡ true → c ≡ false → (a || (b && not c)) ≡ true
+  comb_true : (a b c : Bool) → (a || b) ≡ true → c ≡ false → (a || (b && not c)) ≡ true
   comb_true true b c h k = refl
   comb_true false true true h k = absurd (cc)
   comb_true false true false h k = refl
   comb_true false false c h k = absurd (cc)
 
-  -- a read awaits its answer by the rows exactly where it waits by the events
-  awaits_same : (later : List (TimedEvent n m)) (x : TimedEvent n m) (now : List (TimedEvent n m)) (between : List (Row n)) (row : ℕ) → 1 ≤ pace.read → 1 ≤ pace.iter → Lawful shape pace e all
-      → waits shape (core all) ≡ [] → all ≡ later ++ x ∷ now → ends_action x.happens ≡ false → ReadState now between row
-      → (read_after x.tick (outcome_of shape all row) || (is_lost (outcome_of shape all row) && not (list_any is_cut between))) ≡ has_wait (waits shape (core now)) row
-  awaits_same later x now between row r i l none same arrives s = by s
+  -- a read awaits its answer by the rows exactly where it waits by the events, at any tick up to the next end
+  -- of an action
+  awaits_same : (later now : List (TimedEvent n m)) (t : ℕ) (between : List (Row n)) (row : ℕ)
+      → Lawful shape pace e all → all ≡ later ++ now
+      → last_tick now ≤ t → EndsAbove t later → waits shape (core all) ≡ [] → ReadState now between row
+      → (read_after t (outcome_of shape all row)
+      || (is_lost (outcome_of shape all row) && not (list_any is_cut between)))
+      ≡ has_wait (waits shape (core now)) row
+  awaits_same later now t between row l same up ends none state = by state
     where
-      whole : Lawful shape pace e (later ++ x ∷ now)
+      whole : Lawful shape pace e (later ++ now)
       whole = subst (λ (xs : List (TimedEvent n m)). Lawful shape pace e xs) same l
 
-      here : Lawful shape pace e (x ∷ now)
-      here = lawful_before shape pace e later (x ∷ now) whole
+      here : Lawful shape pace e now
+      here = lawful_before shape pace e later now whole
 
-      last : Onward x.tick all row → (read_after x.tick (outcome_of shape all row) || is_lost (outcome_of shape all row)) ≡ true
+      last : Onward t all row
+          → (read_after t (outcome_of shape all row) || is_lost (outcome_of shape all row)) ≡ true
       last (inl there) = absurd (subst (λ ws. has_wait ws row ≡ true → ⊥) (sym none) (λ k. absurd (cc)) there)
       last (inr past) = past.1
 
-      by : ReadState now between row → (read_after x.tick (outcome_of shape all row) || (is_lost (outcome_of shape all row) && not (list_any is_cut between))) ≡ has_wait (waits shape (core now)) row
+      by : ReadState now between row
+          → (read_after t (outcome_of shape all row)
+          || (is_lost (outcome_of shape all row) && not (list_any is_cut between)))
+          ≡ has_wait (waits shape (core now)) row
       by (inl w) =
-          let first : Onward x.tick (x ∷ now) row = onward_step x.tick now x x.happens row here.1 here.0 (λ is. absurd (cc (arrives, is))) (inl w.0) in
-          let end = onward x.tick later (x ∷ now) row r i whole (omega arith) first in
-          comb_true (read_after x.tick (outcome_of shape all row)) (is_lost (outcome_of shape all row)) (list_any is_cut between)
-          (last (subst (λ (xs : List (TimedEvent n m)). Onward x.tick xs row) (sym same) end.0)) w.1 ∙ sym w.0
+          comb_true (read_after t (outcome_of shape all row)) (is_lost (outcome_of shape all row))
+          (list_any is_cut between)
+          (last (subst (λ (xs : List (TimedEvent n m)). Onward t xs row) (sym same)
+          (onward t later now row ends whole (inl w.0)))) w.1
+          ∙ sym w.0
       by (inr past) =
-          let split : (later ++ x ∷ []) ++ now ≡ all = append_assoc later (x ∷ []) now ∙ sym same in
           let kept : outcome_of shape all row ≡ outcome_of shape now row =
-          sym (ap (λ xs. outcome_of shape xs row) split) ∙ stays shape pace e (later ++ x ∷ []) now row (subst (λ (xs : List (TimedEvent n m)). Lawful shape pace e xs) (sym split) l) past.set in
-          let gone : has_wait (waits shape (core now)) row ≡ false = either (has_wait (waits shape (core now)) row) (λ there. absurd (past.set ((opens shape pace e now here.1).waiting row there))) (λ is. is) in
-          subst (λ (o : Outcome n). (read_after x.tick o || (is_lost o && not (list_any is_cut between))) ≡ false) (sym kept)
-          (or_from (read_after x.tick (outcome_of shape now row)) _ (past.ticks x.tick (last_tick-rises shape pace e now x r i here)) past.lost)
+          ap (λ xs. outcome_of shape xs row) same ∙ stays shape pace e later now row whole past.set in
+          let gone : has_wait (waits shape (core now)) row ≡ false =
+          either (has_wait (waits shape (core now)) row)
+          (λ there. absurd (past.set ((opens shape pace e now here).waiting row there))) (λ is. is) in
+          subst (λ (o : Outcome n). (read_after t o || (is_lost o && not (list_any is_cut between))) ≡ false)
+          (sym kept)
+          (or_from (read_after t (outcome_of shape now row)) _ (past.ticks t up) past.lost)
           ∙ sym gone
 
 -- the rows of the reads, the newest first
@@ -298,41 +306,67 @@ module _ {n m : ℕ} (shape : BankShape) (pace : Pace) (e : ℕ) (all : List (Ti
   state_new ys tick row line (came.Forwarded bytes) =
       inr (subst (λ (o : Outcome n). IsPast shape pace e all o tick []) (sym (own_row row (out.Forwarded tick bytes) (outcome_of shape ys row))) (record { set = λ is. absurd (cc); ticks = λ t le. refl; lost = refl }))
 
-  waits_among : (later : List (TimedEvent n m)) (x : TimedEvent n m) (now : List (TimedEvent n m)) → 1 ≤ pace.read → 1 ≤ pace.iter → Lawful shape pace e all → waits shape (core all) ≡ [] → all ≡ later ++ x ∷ now → ends_action x.happens ≡ false
-      → (mid ys : List (TimedEvent n m)) → now ≡ mid ++ ys
-      → length (waiting x.tick (rows_after shape all mid) (rows_from shape all ys)) ≡ hits (λ r. has_wait (waits shape (core now)) r) (reads_in ys)
-  waits_among later x now r i l none same arrives mid [] split = refl
-  waits_among later x now r i l none same arrives mid (z ∷ ys) split =
-      by z.happens z.cancels
-      (λ row s. awaits_same shape pace e all later x now (rows_after shape all mid) row r i l none same arrives
-      (subst (λ (xs : List (TimedEvent n m)). ReadState shape pace e all xs (rows_after shape all mid) row) (sym split) (state shape pace e all mid (z ∷ ys) row r i here s)))
-      (subst (λ (rows : List (Row n)). length (waiting x.tick rows (rows_from shape all ys)) ≡ hits (λ r. has_wait (waits shape (core now)) r) (reads_in ys)) (rows_after-more shape all mid z)
-      (waits_among later x now r i l none same arrives (mid ++ z ∷ []) ys (split ∙ sym (append_assoc mid (z ∷ []) ys))))
-    where
-      here : Lawful shape pace e (mid ++ z ∷ ys)
-      here = subst (λ (xs : List (TimedEvent n m)). Lawful shape pace e xs) split (lawful_before shape pace e later (x ∷ now) (subst (λ (xs : List (TimedEvent n m)). Lawful shape pace e xs) same l)).1
+  module _ (later now : List (TimedEvent n m)) (t : ℕ) (r : 1 ≤ pace.read) (i : 1 ≤ pace.iter)
+      (l : Lawful shape pace e all) (same : all ≡ later ++ now)
+      (up : last_tick now ≤ t) (ends : EndsAbove t later) (none : waits shape (core all) ≡ []) where
+    here : Lawful shape pace e now
+    here =
+        lawful_before shape pace e later now
+        (subst (λ (xs : List (TimedEvent n m)). Lawful shape pace e xs) same l)
 
-      by : (h : Happens n) (cancels : Bool)
-          → ((row : ℕ) → StateBy ys z.tick h row → (read_after x.tick (outcome_of shape all row) || (is_lost (outcome_of shape all row) && not (list_any is_cut (rows_after shape all mid)))) ≡ has_wait (waits shape (core now)) row)
-          → length (waiting x.tick (row_with shape all h z.tick cancels ++ rows_after shape all mid) (rows_from shape all ys)) ≡ hits (λ r. has_wait (waits shape (core now)) r) (reads_in ys)
-          → length (waiting x.tick (rows_after shape all mid) (row_with shape all h z.tick cancels ++ rows_from shape all ys)) ≡ hits (λ r. has_wait (waits shape (core now)) r) (read_rows h ++ reads_in ys)
-      by (Core (Write at line bytes given answer)) cancels f ih = ih
-      by (Core (Read at line answer)) cancels f ih = cond_length _ _ _ _ _ (f at (state_new ys z.tick at line answer)) ih
-      by (Core (Serve answer)) cancels f ih = ih
-      by (Regs event) cancels f ih = ih
-      by (Core (Begin answer)) cancels f ih = ih
-      by (Core (Iterate answer)) cancels f ih = ih
-      by (Core (Cut tearing)) true f ih = ih
-      by (Core (Cut tearing)) false f ih = ih
+    waits_among : (mid ys : List (TimedEvent n m)) → now ≡ mid ++ ys
+        → length (waiting t (rows_after shape all mid) (rows_from shape all ys))
+        ≡ hits (λ row. has_wait (waits shape (core now)) row) (reads_in ys)
+    waits_among mid [] split = refl
+    waits_among mid (z ∷ ys) split =
+        by z.happens z.cancels
+        (λ row s. awaits_same shape pace e all later now t (rows_after shape all mid) row l same up ends none
+        (subst (λ (xs : List (TimedEvent n m)). ReadState shape pace e all xs (rows_after shape all mid) row)
+        (sym split) (state shape pace e all mid (z ∷ ys) row r i there s)))
+        (subst (λ (rows : List (Row n)). length (waiting t rows (rows_from shape all ys))
+        ≡ hits (λ row. has_wait (waits shape (core now)) row) (reads_in ys)) (rows_after-more shape all mid z)
+        (waits_among (mid ++ z ∷ []) ys (split ∙ sym (append_assoc mid (z ∷ []) ys))))
+      where
+        there : Lawful shape pace e (mid ++ z ∷ ys)
+        there = subst (λ (xs : List (TimedEvent n m)). Lawful shape pace e xs) split here
 
-  -- as many reads wait by the rows as by the events
+        by : (h : Happens n) (cancels : Bool)
+            → ((row : ℕ) → StateBy ys z.tick h row
+            → (read_after t (outcome_of shape all row)
+            || (is_lost (outcome_of shape all row) && not (list_any is_cut (rows_after shape all mid))))
+            ≡ has_wait (waits shape (core now)) row)
+            → length (waiting t (row_with shape all h z.tick cancels ++ rows_after shape all mid)
+            (rows_from shape all ys)) ≡ hits (λ row. has_wait (waits shape (core now)) row) (reads_in ys)
+            → length (waiting t (rows_after shape all mid)
+            (row_with shape all h z.tick cancels ++ rows_from shape all ys))
+            ≡ hits (λ row. has_wait (waits shape (core now)) row) (read_rows h ++ reads_in ys)
+        by (Core (Write at line bytes given answer)) cancels f ih = ih
+        by (Core (Read at line answer)) cancels f ih =
+            cond_length _ _ _ _ _ (f at (state_new ys z.tick at line answer)) ih
+        by (Core (Serve answer)) cancels f ih = ih
+        by (Regs event) cancels f ih = ih
+        by (Core (Begin answer)) cancels f ih = ih
+        by (Core (Iterate answer)) cancels f ih = ih
+        by (Core (Cut tearing)) true f ih = ih
+        by (Core (Cut tearing)) false f ih = ih
+
+    -- as many reads wait by the rows as by the events
+    pub awaiting_length : length (waiting t [] (rows_from shape all now)) ≡ length (waits shape (core now))
+    awaiting_length =
+        let b = above_all shape pace e now here in
+        waits_among [] now refl
+        ∙ waits-counted (waits shape (core now)) (reads_in now) b.0
+        (stand_apart shape (core now) b.0 b.1).waiting_apart (reads-fall now b.0 b.1) (waits-asked shape now)
+
+  -- so too at a row
   pub waits_length : (later : List (TimedEvent n m)) (x : TimedEvent n m) (ys : List (TimedEvent n m)) → 1 ≤ pace.read → 1 ≤ pace.iter → Lawful shape pace e all → waits shape (core all) ≡ [] → all ≡ later ++ x ∷ ys → ends_action x.happens ≡ false
       → length (waiting x.tick [] (rows_from shape all ys)) ≡ length (waits shape (core ys))
   waits_length later x ys r i l none same arrives =
-      let here : Lawful shape pace e (x ∷ ys) = lawful_before shape pace e later (x ∷ ys) (subst (λ (xs : List (TimedEvent n m)). Lawful shape pace e xs) same l) in
-      let b = above_all shape pace e ys here.1 in
-      waits_among later x ys r i l none same arrives [] ys refl
-      ∙ waits-counted (waits shape (core ys)) (reads_in ys) b.0 (stand_apart shape (core ys) b.0 b.1).waiting_apart (reads-fall ys b.0 b.1) (waits-asked shape ys)
+      let whole : Lawful shape pace e (later ++ x ∷ ys) =
+      subst (λ (xs : List (TimedEvent n m)). Lawful shape pace e xs) same l in
+      awaiting_length (later ++ x ∷ []) ys x.tick r i l (same ∙ sym (append_assoc later (x ∷ []) ys))
+      (last_tick-rises shape pace e ys x r i (lawful_before shape pace e later (x ∷ ys) whole))
+      (ends_at_row shape pace e later ys x r i whole arrives) none
 
   pub read_room : (h : List (Event n)) (line : ℕ) (answer : ReadAnswer n) → answer ≡ read_answer shape h line
       → (answer ≡ came.Busy → (length (waits shape h) == shape.reads) ≡ true) × (answer ≡ came.Waiting → (length (waits shape h) == shape.reads) ≡ false)

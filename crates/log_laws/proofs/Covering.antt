@@ -1,8 +1,8 @@
 -- After any events that a bank allows, the queue's entries give of each line what its writes give, down to the last that was stored.
-use Rattle.std.proofs.Common.{◌≡◌, ℕ, ◌<◌, ◌≤◌, ◌==◌, ◌&&◌, not, Bool, true, false, List, [], ◌∷◌, Option, Some, None, drop, refl, sym, ap, subst, arith, cond, eqb, eqb-true}
+use Rattle.std.proofs.Common.{◌≡◌, ℕ, ◌<◌, ◌≤◌, ◌==◌, Bool, true, false, List, [], ◌∷◌, Some, drop, refl, sym, ap, subst, arith, cond, eqb-true}
 use Rattle.masked_bytes.specs.declared.entry.Entry.{Entry}
 use Rattle.masked_bytes.specs.Masked.{joined, none_given}
-use Rattle.masked_bytes.specs.Entries.{candidate, newest_row, or_this, has_row}
+use Rattle.masked_bytes.specs.Entries.{newest_row, has_row}
 use Rattle.masked_bytes.proofs.Queueing.{candidate-newest}
 use Rattle.bank_shape.specs.declared.BankShape.{BankShape}
 use Rattle.bank_shape.specs.declared.answer.WriteAnswer.TheVariants as wrote

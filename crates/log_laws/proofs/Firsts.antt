@@ -1,5 +1,5 @@
 -- The action that runs began no earlier than the last sense.
-use Rattle.std.proofs.Common.{ℕ, ◌≤◌, ◌&&◌, Bool, true, false, List, Option, Some, None, cond}
+use Rattle.std.proofs.Common.{ℕ, ◌≤◌, Bool, true, false, List, Option, Some, None, cond}
 use Rattle.std.specs.Prelude.{IfSome, nat_lt}
 use Rattle.bank_shape.specs.declared.BankShape.{BankShape}
 use Rattle.bank_shape.specs.declared.answer.ReadAnswer.TheVariants as came

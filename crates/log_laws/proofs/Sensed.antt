@@ -1,5 +1,5 @@
 -- Each row that was stored or read has its sense in the log.
-use Rattle.std.proofs.Common.{◌≡◌, ℕ, ◌+◌, ◌==◌, ◌&&◌, ◌||◌, inl, inr, Bool, true, false, List, [], ◌∷◌, ◌++◌, refl, sym, ap, ◌∙◌, subst, cond, length, append_assoc}
+use Rattle.std.proofs.Common.{◌≡◌, ℕ, ◌+◌, ◌==◌, ◌&&◌, ◌||◌, inl, Bool, true, false, List, [], ◌∷◌, ◌++◌, refl, sym, ap, ◌∙◌, subst, cond, length, append_assoc}
 use Rattle.std.proofs.lemmas.Bool.{or_left}
 use Rattle.std.specs.Prelude.{filter, nat_le, nat_lt}
 use Rattle.std.specs.List.{list_any}
@@ -32,12 +32,13 @@ use Rattle.bank_laws.specs.Outcomes.{outcome_of, ended, row_with, rows_from}
 use Rattle.bank_laws.specs.Settling.{AreOpen}
 use Rattle.bank_laws.specs.Ticks.{ends_action}
 use Rattle.bank_laws.proofs.Ending.{Onwards, own_answer, outcome-may, write_outcome}
-use Rattle.bank_laws.proofs.Fates.{Awaits, IsSettled, ReadFate, awaits-new}
+use Rattle.bank_laws.proofs.Fates.{IsSettled, awaits-new}
 use Rattle.bank_laws.proofs.Serves.{idle-waits, may_at, newest_same, onwards_at}
 use Rattle.bank_laws.proofs.Settling.{opens}
 use Rattle.bank_laws.proofs.Walking.{Passes, walk, rows_after}
 use Rattle.log_laws.specs.Laws.{SensedLaw}
 use Rattle.bank_laws.proofs.Given.{given_of, given-layer}
+use Rattle.bank_laws.proofs.Waiting.{settled_all}
 use Rattle.log_laws.proofs.Reading.{read-sensed}
 use Rattle.log_laws.proofs.Storing.{stored-sensed}
 use Rattle.log_laws.proofs.Uncovering.{cover-same}
@@ -111,10 +112,6 @@ module _ {n m : ℕ} (shape : BankShape) (pace : Pace) (e : ℕ) (all : List (Ti
     waited row line (out.Lost at) is some newest_is settled of = refl
     waited row line (out.Cut at) is some newest_is settled of = absurd settled
 
-    settled_in_end : (row : ℕ) (owed : List ℕ) → waits shape (core all) ≡ [] → ReadFate shape all row owed → IsSettled owed (outcome_of shape all row)
-    settled_in_end row owed none (inl a) = absurd (subst (λ ws. Awaits ws row owed) none a)
-    settled_in_end row owed none (inr s) = s
-
     -- the row of each event has its sense
     sensed_at : waits shape (core all) ≡ [] → Passes (has_sense (decode e) log) (rows_from shape all ys) (row_with shape all x.happens x.tick x.cancels) (rows_after shape all later)
     sensed_at none =
@@ -139,7 +136,7 @@ module _ {n m : ℕ} (shape : BankShape) (pace : Pace) (e : ℕ) (all : List (Ti
         by (Core (Read row line came.Waiting)) cancels is may on old new =
             waited row line (outcome_of shape all row) is
             (waits-some (gives_all (layer_of (queue shape (core ys)) line).given) (length (waits shape (core ys)) == shape.reads) (newest (core ys) line) may.may.1) (old line)
-            (settled_in_end row (newest (core ys) line) none
+            (settled_all shape pace e all row (newest (core ys) line) none
             (on.reads row (newest (core ys) line) (inl (awaits-new (waits shape (core ys)) (awaited row line (newest (core ys) line) (layer_of (queue shape (core ys)) line)))))) refl
         by (Core (Serve answer)) cancels is may on old new = tt
         by (Regs event) cancels is may on old new = tt

@@ -1,6 +1,6 @@
 -- Each event of a lawful history keeps what the senses of a line show.
 use Rattle.std.proofs.Common.{◌≡◌, ℕ, ◌+◌, ◌<◌, ◌≤◌, ◌==◌, ◌&&◌, ◌||◌, ◌⊎◌, inl, inr, Bool, true, false, List, [], ◌∷◌, ◌++◌, Option, Some, None, refl, sym, ap, ◌∙◌, subst, arith, cond, eq-eqb, eqb-true, ◌-◌, ◌^◌}
-use Rattle.masked_bytes.proofs.Truth.{and_first}
+use Rattle.masked_bytes.proofs.Truth.{and_first, or_false}
 use Rattle.std.specs.Prelude.{All, IfSome, IsTrue, is_some, map, nat_le, nat_lt}
 use Rattle.std.proofs.lemmas.Bool.{le-leb, le-ltb, and_right, or_left, or_right}
 use Rattle.std.proofs.lemmas.List.Elements.{All-head}
@@ -58,10 +58,6 @@ goes-spares (Cut tearing) h p = refl
 clash : (shape : BankShape) (line : ℕ) (change : Option ℕ) → change ≡ None → line_of_change shape change ≡ Some line → ⊥
 clash shape line None is some = absurd (cc)
 clash shape line (Some item) is some = absurd (cc)
-
-none_stands : (change : Option ℕ) → change ≡ None → is_some change ≡ true → ⊥
-none_stands None is some = absurd (cc)
-none_stands (Some item) is some = absurd (cc)
 
 -- a change that is written takes nothing's place
 written-line : (shape : BankShape) (line : ℕ) (answer : Keep) (change : Option ℕ) → line_of_change shape (written_by answer change) ≡ Some line → line_of_change shape change ≡ Some line
@@ -507,7 +503,7 @@ module _ {n m : ℕ} (e : ℕ) (shape : BankShape) (pace : Pace) (wears : Bool) 
   stands_idle some = changed-idle shape pace e xs here.1 some
 
   due_line : IsTrue (is_some (change_after shape xs)) → DueHere xs → line_of_change shape (change_after shape xs) ≡ Some line
-  due_line some (inl k) = absurd (none_stands (change_after shape xs) k.0 some)
+  due_line some (inl k) = absurd (cc (ap is_some k.0, some))
   due_line some (inr k) = k.0
 
   busy_line : (event : Keeping) → x.happens ≡ Regs event → BusyHere (x ∷ xs) → (line_of_change shape (change_by shape (core xs) (Regs event) (change_after shape xs)) ≡ Some line) × (keeping_by {n = n} (Regs event) (keeping_after xs) ≡ true)
@@ -526,19 +522,11 @@ module _ {n m : ℕ} (e : ℕ) (shape : BankShape) (pace : Pace) (wears : Bool) 
 
   among_begin : (l : Option ℕ) (answer : Keep) → among line (kept_sensed l (KeepBegin answer)) ≡ is_at l line
   among_begin None answer = refl
-  among_begin (Some at) answer = by (at == line)
-    where
-      by : (b : Bool) → (b || false) ≡ b
-      by true = refl
-      by false = refl
+  among_begin (Some at) answer = or_false (at == line)
 
   among_iterate : (l : Option ℕ) (answer : Keep) → among line (kept_sensed l (KeepIterate answer)) ≡ is_at l line
   among_iterate None answer = refl
-  among_iterate (Some at) answer = by (at == line)
-    where
-      by : (b : Bool) → (b || false) ≡ b
-      by true = refl
-      by false = refl
+  among_iterate (Some at) answer = or_false (at == line)
 
   among_cut : (l : Option ℕ) (tearing : Bool) → among line (kept_sensed l (KeepCut tearing)) ≡ false
   among_cut None tearing = refl
@@ -609,7 +597,7 @@ module _ {n m : ℕ} (e : ℕ) (shape : BankShape) (pace : Pace) (wears : Bool) 
       none = own-lacks line x.senses (ap (among line) comes.lines ∙ among_cut (line_of_change shape (change_after shape xs)) tearing)
 
       due : DueHere xs → DueHere (x ∷ xs)
-      due (inl k) = absurd (none_stands (change_after shape xs) k.0 comes.stands)
+      due (inl k) = absurd (cc (ap is_some k.0, comes.stands))
       due (inr k) = inr (ap (line_of_change shape) (change_is (Regs (KeepCut tearing)) is) ∙ k.0, keeping_is (Regs (KeepCut tearing)) is, halted_is (Regs (KeepCut tearing)) is ∙ k.2)
 
       by : (b : Bool) → is_at x.pulsed line ≡ b → Known (x ∷ xs)

@@ -25,7 +25,7 @@ use Rattle.bank_laws.specs.Settling.{AreOpen}
 use Rattle.bank_laws.specs.Ticks.{ends_action}
 use Rattle.bank_laws.proofs.Entries.{either}
 use Rattle.bank_laws.proofs.Ending.{Onwards, write_outcome, outcome-accepts}
-use Rattle.bank_laws.proofs.Pending.{stored_above}
+use Rattle.bank_laws.proofs.Later.{last-later, stored_above}
 use Rattle.bank_laws.proofs.Serves.{may_at, onwards_at}
 use Rattle.bank_laws.proofs.Settling.{opens, above_all, lawful_before, stays}
 use Rattle.bank_laws.proofs.Ticks.{last_tick-rises}
@@ -36,7 +36,6 @@ use Rattle.log_laws.proofs.Covering.{uncovered, uncovered_by, out_in, fits-after
 use Rattle.log_laws.proofs.Fitting.{fits-given}
 use Rattle.bank_laws.proofs.Given.{given_of}
 use Rattle.log_laws.proofs.Outing.{out-same}
-use Rattle.log_laws.proofs.Unworn.{last-above}
 
 module _ {n : ℕ} where
   stored-ended : (t tick : ℕ) (o : Outcome n) → stored_by t (ended tick o) ≡ stored_by t o
@@ -145,7 +144,9 @@ module _ {n m : ℕ} (shape : BankShape) (pace : Pace) (e : ℕ) (all : List (Ti
         row : (h : Happens n) (cancels : Bool) → y.happens ≡ h → list_any (λ (q : Row n). write_of line q && stored_by x.tick q.outcome) (row_with shape all h y.tick cancels) ≡ false
         row (Core (Write at to bytes given answer)) cancels its =
             let late : stored_by x.tick (outcome_of shape all at) ≡ false =
-            stored-late (pre ++ y ∷ []) (mid ++ x ∷ ys) at x.tick over (last-above shape pace e mid x ys sized.read sized.iter now.1) (ap is_stored (coming at to bytes given answer its)) in
+            stored-late (pre ++ y ∷ []) (mid ++ x ∷ ys) at x.tick over
+            (last-later shape pace e mid (x ∷ ys) sized.read sized.iter now.1)
+            (ap is_stored (coming at to bytes given answer its)) in
             or_from ((to == line) && stored_by x.tick (ended y.tick (outcome_of shape all at))) false (and_right (to == line) _ (stored-ended x.tick y.tick (outcome_of shape all at) ∙ late)) refl
         row (Core (Read at to answer)) cancels its = refl
         row (Core (Serve answer)) cancels its = refl

@@ -19,6 +19,7 @@ use Rattle.bank_laws.specs.Ticks.{ends_action}
 use Rattle.bank_laws.proofs.Entries.{either}
 use Rattle.bank_laws.proofs.Ticks.{last_tick-rises}
 use Rattle.bank_laws.proofs.Wears.{worn_rows-exhausted}
+use Rattle.bank_laws.proofs.Later.{last-later}
 
 any-fewer : {X : Type 0} (p q : X → Bool) (xs : List X) → list_any p xs ≡ false → list_any (λ x. p x && q x) xs ≡ false
 any-fewer p q [] none = refl
@@ -33,14 +34,6 @@ abbrev pub worn_below : {n : ℕ} → ℕ → List (Row n) → Bool
 worn_below tick rows = list_any (λ r. worn_row r && nat_lt r.tick tick) rows
 
 module _ {n m : ℕ} (shape : BankShape) (pace : Pace) (e : ℕ) where
-  -- no later event comes below an event
-  pub last-above : (pre : List (TimedEvent n m)) (x : TimedEvent n m) (xs : List (TimedEvent n m)) → 1 ≤ pace.read → 1 ≤ pace.iter → Lawful shape pace e (pre ++ x ∷ xs) → x.tick ≤ last_tick (pre ++ x ∷ xs)
-  last-above [] x xs r i l = omega arith
-  last-above (y ∷ pre) x xs r i l =
-      let before : x.tick ≤ last_tick (pre ++ x ∷ xs) = last-above pre x xs r i l.1 in
-      let rises : last_tick (pre ++ x ∷ xs) ≤ y.tick = last_tick-rises shape pace e (pre ++ x ∷ xs) y r i l in
-      omega arith
-
   row_late : (all : List (TimedEvent n m)) (t tick : ℕ) (h : Happens n) (cancels : Bool) → nat_lt tick t ≡ false → worn_below t (row_with shape all h tick cancels) ≡ false
   row_late all t tick (Core (Write row line bytes given answer)) cancels late =
       or_from (is_worn (ended tick (outcome_of shape all row)) && nat_lt tick t) false (and_right (is_worn (ended tick (outcome_of shape all row))) _ late) refl
@@ -65,7 +58,7 @@ module _ {n m : ℕ} (shape : BankShape) (pace : Pace) (e : ℕ) where
       → worn_below x.tick (rows_from shape all (x ∷ xs)) ≡ false → worn_below x.tick (rows_from shape all (pre ++ x ∷ xs)) ≡ false
   unworn-on all [] x xs r i l none = none
   unworn-on all (y ∷ pre) x xs r i l none =
-      let above : x.tick ≤ last_tick (pre ++ x ∷ xs) = last-above pre x xs r i l.1 in
+      let above : x.tick ≤ last_tick (pre ++ x ∷ xs) = last-later shape pace e pre (x ∷ xs) r i l.1 in
       let rises : last_tick (pre ++ x ∷ xs) ≤ y.tick = last_tick-rises shape pace e (pre ++ x ∷ xs) y r i l in
       list_any-append (λ (q : Row n). worn_row q && nat_lt q.tick x.tick) (row_with shape all y.happens y.tick y.cancels) (rows_from shape all (pre ++ x ∷ xs))
       ∙ or_from _ _ (row_late all x.tick y.tick y.happens y.cancels (le-ltb y.tick x.tick (omega arith))) (unworn-on all pre x xs r i l.1 none)

@@ -60,7 +60,7 @@ tries-few Plain over ends cancels count most few room more four calm plain = ome
 tries-few Cancel true ends cancels count most few room more four calm plain = omega (arith, few, more, calm refl)
 tries-few Cancel false ends cancels count most few room more four calm plain = omega (arith, room refl, more, four)
 
-bounded : (steps times all most : ℕ) → all ≤ times * most → steps * all ≤ times * steps * most
+pub bounded : (steps times all most : ℕ) → all ≤ times * most → steps * all ≤ times * steps * most
 bounded steps times all most le =
     let more : steps * all ≤ steps * (times * most) = mul-le-mul_left steps le in
     let swap : steps * (times * most) ≡ times * steps * most = grind arith in

@@ -1,13 +1,14 @@
 -- One event pulses one line or none, and a line write takes no more pulses than it may.
-use Rattle.std.proofs.Common.{◌≡◌, ℕ, zero, suc, ◌+◌, ◌*◌, ◌<◌, ◌≤◌, ◌==◌, ◌&&◌, ◌⊎◌, inl, inr, sym, not, Bool, true, false, List, [], ◌∷◌, Option, Some, None, refl, ap, ◌∙◌, subst, arith, cond}
+use Rattle.std.proofs.Common.{◌≡◌, ℕ, zero, suc, ◌+◌, ◌*◌, ◌<◌, ◌≤◌, ◌==◌, ◌⊎◌, inl, inr, sym, not, Bool, true, false, List, [], ◌∷◌, Option, Some, None, refl, ap, ◌∙◌, subst, arith, cond}
 use Rattle.std.specs.Prelude.{is_some}
+use Rattle.std.proofs.lemmas.Bool.{not-true}
 use Rattle.pcm_cells.specs.Device.{counted}
 use Rattle.bank_shape.specs.declared.BankShape.{BankShape}
 use Rattle.bank_shape.specs.declared.answer.Step.{Step}
 use Rattle.bank_shape.specs.declared.answer.Step.TheVariants as did
 use Rattle.bank_model.specs.Events.{Event, Write, Read, Serve, Begin, Iterate, Cut}
-use Rattle.bank_model.specs.History.{goes_on, in_progress, iterated, waits}
-use Rattle.bank_model.specs.After.{work_after, is_ready, may_begin_after}
+use Rattle.bank_model.specs.History.{goes_on, in_progress, iterated}
+use Rattle.bank_model.specs.After.{may_begin_after}
 use Rattle.bank_model.specs.Sensing.{is_at, most_steps, pulses_of, pulsed_by, torn_control}
 use Rattle.bank_shape.specs.declared.pace.Pace.{Pace}
 use Rattle.bank_model.specs.Timing.{Happens, Core, Regs, KeepBegin, KeepIterate, KeepCut, TimedEvent, is_doing, core, core_of}
@@ -24,6 +25,7 @@ use Rattle.bank_laws.proofs.Works.{counted-few, tearing-going}
 use Rattle.place_laws.proofs.Counts.{one_if}
 use Rattle.place_laws.proofs.Moves.{next_product}
 use Rattle.place_laws.proofs.Owners.{once, once-few}
+use Rattle.masked_bytes.proofs.Truth.{and_first}
 
 -- one, where a line was pulsed
 abbrev pub pulse_of : Option ℕ → ℕ
@@ -86,11 +88,7 @@ held_by busy made = cond busy made 0
 
 -- a begin finds no line write in progress
 pub begins-idle : {n : ℕ} (shape : BankShape) (h : List (Event n)) → may_begin_after shape h ≡ true → in_progress h ≡ false
-begins-idle shape h may = by (in_progress h) (is_ready (waits shape h) (work_after shape h)) may
-  where
-    by : (b c : Bool) → (not b && c) ≡ true → b ≡ false
-    by true c may = absurd (cc)
-    by false c may = refl
+begins-idle shape h may = not-true (in_progress h) (and_first (not (in_progress h)) _ may)
 
 pub held-idle : (busy : Bool) (made : ℕ) → busy ≡ false → held_by busy made ≡ 0
 held-idle true made is = absurd (cc)

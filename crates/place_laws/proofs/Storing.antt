@@ -27,6 +27,7 @@ use Rattle.bank_laws.proofs.Lines.{stands-row}
 use Rattle.bank_laws.proofs.Wears.{stored_by, stored_up_to}
 use Rattle.bank_laws.proofs.Waiting.{may_all}
 use Rattle.bank_laws.proofs.Asked.{queue-wrote, wrote-line}
+use Rattle.bank_laws.proofs.Later.{last-later}
 use Rattle.place_laws.proofs.Counts.{one_if, writes_with, stores_with, writes-same, writes-more}
 use Rattle.place_laws.proofs.Working.{IsStoreOf, done-store}
 
@@ -183,13 +184,6 @@ module _ {n m : ℕ} (shape : BankShape) (pace : Pace) (e : ℕ) where
       by (Core (Iterate answer)) may ih = ih
       by (Core (Cut tearing)) may ih = ih
 
-  ticks-over : (later : List (TimedEvent n m)) (z : TimedEvent n m) (zs : List (TimedEvent n m)) → 1 ≤ pace.read → 1 ≤ pace.iter → Lawful shape pace e (later ++ z ∷ zs) → z.tick ≤ last_tick (later ++ z ∷ zs)
-  ticks-over [] z zs r i l = omega arith
-  ticks-over (x ∷ later) z zs r i l =
-      let up : z.tick ≤ last_tick (later ++ z ∷ zs) = ticks-over later z zs r i l.1 in
-      let rises : last_tick (later ++ z ∷ zs) ≤ x.tick = last_tick-rises shape pace e (later ++ z ∷ zs) x r i l in
-      omega (arith, up, rises)
-
   -- what is stored in the end was stored before an event, or at its tick or later
   stored-from : (later : List (TimedEvent n m)) (z : TimedEvent n m) (zs : List (TimedEvent n m)) (row u p : ℕ) → 1 ≤ pace.read → 1 ≤ pace.iter → Lawful shape pace e (later ++ z ∷ zs)
       → outcome_of shape (later ++ z ∷ zs) row ≡ out.Stored u p → (z.tick ≤ u) ⊎ (outcome_of shape zs row ≡ out.Stored u p)
@@ -199,7 +193,9 @@ module _ {n m : ℕ} (shape : BankShape) (pace : Pace) (e : ℕ) where
       by (inl now) = inl (omega (arith, now.1))
       by (inr before) = inr before
   stored-from (x ∷ later) z zs row u p r i l s =
-      by (stored_by shape pace e (later ++ z ∷ zs) x x.happens row u p s) (last_tick-rises shape pace e (later ++ z ∷ zs) x r i l) (ticks-over later z zs r i l.1) (λ s. stored-from later z zs row u p r i l.1 s)
+      by (stored_by shape pace e (later ++ z ∷ zs) x x.happens row u p s)
+      (last_tick-rises shape pace e (later ++ z ∷ zs) x r i l)
+      (last-later shape pace e later (z ∷ zs) r i l.1) (λ s. stored-from later z zs row u p r i l.1 s)
     where
       by : ((ends_action x.happens ≡ true) × (u ≡ x.tick)) ⊎ (outcome_of shape (later ++ z ∷ zs) row ≡ out.Stored u p) → last_tick (later ++ z ∷ zs) ≤ x.tick → z.tick ≤ last_tick (later ++ z ∷ zs)
           → (outcome_of shape (later ++ z ∷ zs) row ≡ out.Stored u p → (z.tick ≤ u) ⊎ (outcome_of shape zs row ≡ out.Stored u p)) → (z.tick ≤ u) ⊎ (outcome_of shape zs row ≡ out.Stored u p)

@@ -1,9 +1,10 @@
 -- A bank that is exhausted has more worn lines than spares.
 use Rattle.std.proofs.Common.{◌≡◌, ℕ, zero, suc, ◌+◌, ◌*◌, ◌/◌, ◌<◌, ◌≤◌, ◌==◌, ◌&&◌, ◌||◌, not, inl, inr, Bool, true, false, List, [], ◌∷◌, Option, Some, None, length, refl, sym, ap, subst, arith, cond}
-use Rattle.std.proofs.lemmas.Bool.{eq-eqb, ne_eqb, le-leb, cases_eq}
+use Rattle.std.proofs.lemmas.Bool.{eq-eqb, ne_eqb, le-leb, cases_eq, not-false}
 use Rattle.std.proofs.lemmas.Nat.{div_below}
 use Rattle.masked_bytes.specs.declared.entry.Entry.{Entry}
 use Rattle.masked_bytes.specs.Entries.{has_row}
+use Rattle.masked_bytes.proofs.Truth.{or_rest}
 use Rattle.pcm_cells.specs.Device.{ArrayState}
 use Rattle.start_gap.specs.Rotation.{move_after}
 use Rattle.spare_pool.specs.Table.{Table, line_from}
@@ -125,24 +126,26 @@ idle-over : {n m : ℕ} (shape : BankShape) (xs : List (TimedEvent n m)) → bus
     → (in_progress (core xs) ≡ false → may_begin_after shape (core xs) ≡ false → has_exhausted (core xs) ≡ true) → is_over shape xs ≡ true
 idle-over shape xs idle none core_over = by (change_after shape xs) idle none
   where
-    stopped : (keeping halted : Bool) → keeping ≡ false → not (keeping || halted) ≡ false → halted ≡ true
-    stopped true halted off is = absurd (cc)
-    stopped false true off is = refl
-    stopped false false off is = absurd (cc)
-
     by : (change : Option ℕ) → busy_by change (keeping_after xs) (in_progress (core xs)) ≡ false
         → ready_by change (keeping_after xs || halted_after xs) (may_begin_after shape (core xs)) ≡ false → over_by change (halted_after xs) (has_exhausted (core xs)) ≡ true
     by None idle none = core_over idle none
-    by (Some item) idle none = stopped (keeping_after xs) (halted_after xs) idle none
+    by (Some item) idle none =
+        or_rest (keeping_after xs) (halted_after xs) idle
+        (not-false (keeping_after xs || halted_after xs) none)
+
+-- in an idle bank no action runs, and none may start
+idle-none : {n m : ℕ} (shape : BankShape) (pace : Pace) (xs : List (TimedEvent n m)) → IsIdle shape pace xs
+    → (busy_after shape xs ≡ false) × (ready_after shape xs ≡ false)
+idle-none shape pace xs idle =
+    none-ready (gives_way pace.policy) (not (is_empty (waits shape (core xs))))
+    (choice_after shape pace xs) idle.chosen
 
 -- so is one in whose queue a row stands
 pub idle-queued : {n m : ℕ} (shape : BankShape) (pace : Pace) (xs : List (TimedEvent n m)) (row : ℕ) → IsIdle shape pace xs → has_row (queue shape (core xs)) row ≡ true → is_over shape xs ≡ true
-idle-queued {n} shape pace xs row idle there = idle-over shape xs none.0 none.1 (λ still never.
+idle-queued {n} shape pace xs row idle there =
+    idle-over shape xs (idle-none shape pace xs idle).0 (idle-none shape pace xs idle).1 (λ still never.
     by (in_progress (core xs)) (has_exhausted (core xs)) (due_after shape (core xs)) (queue shape (core xs)) (waits shape (core xs)) still (idle-waits shape pace xs idle) never there)
   where
-    none : (busy_after shape xs ≡ false) × (ready_after shape xs ≡ false)
-    none = none-ready (gives_way pace.policy) (not (is_empty (waits shape (core xs)))) (choice_after shape pace xs) idle.chosen
-
     by : (busy ex : Bool) (due : Option ℕ) (es : List (Entry n)) (ws : List Awaited) → busy ≡ false → ws ≡ []
         → (not busy && is_ready ws (cond ex Nothing (due_work shape (core xs) due es))) ≡ false → has_row es row ≡ true → ex ≡ true
     by true ex due es ws idle empty ready there = absurd (cc)
@@ -154,12 +157,10 @@ idle-queued {n} shape pace xs row idle there = idle-over shape xs none.0 none.1 
 
 -- and so is one where a move is due
 pub idle-due : {n m : ℕ} (shape : BankShape) (pace : Pace) (xs : List (TimedEvent n m)) (region : ℕ) → IsIdle shape pace xs → due_after shape (core xs) ≡ Some region → is_over shape xs ≡ true
-idle-due {n} shape pace xs region idle due = idle-over shape xs none.0 none.1 (λ still never.
+idle-due {n} shape pace xs region idle due =
+    idle-over shape xs (idle-none shape pace xs idle).0 (idle-none shape pace xs idle).1 (λ still never.
     by (in_progress (core xs)) (has_exhausted (core xs)) (due_after shape (core xs)) still due never)
   where
-    none : (busy_after shape xs ≡ false) × (ready_after shape xs ≡ false)
-    none = none-ready (gives_way pace.policy) (not (is_empty (waits shape (core xs)))) (choice_after shape pace xs) idle.chosen
-
     by : (busy ex : Bool) (due : Option ℕ) → busy ≡ false → due ≡ Some region → (not busy && is_ready (waits shape (core xs)) (cond ex Nothing (due_work shape (core xs) due (queue shape (core xs))))) ≡ false → ex ≡ true
     by true ex due idle is ready = absurd (cc)
     by false true due idle is ready = refl

@@ -23,7 +23,7 @@ use Rattle.bank_laws.proofs.Walking.{rows_after}
 use Rattle.bank_laws.proofs.Ending.{Onwards, accepting, write_outcome, outcome-accepts}
 use Rattle.bank_laws.proofs.Serves.{onwards_at}
 use Rattle.bank_laws.proofs.Wears.{stored_up_to}
-use Rattle.queue_laws.proofs.Stood.{EndsAbove, stored_over}
+use Rattle.bank_laws.proofs.Later.{EndsAbove, stored_over}
 use Rattle.queue_laws.proofs.Floors.{since, floor_of, since-none, since-other, floor-bound, floor-skip, stored_case}
 
 module _ {n : ℕ} where

@@ -1,7 +1,7 @@
 -- What the accepted writes of a line from a row on give, and the row behind the last stored one.
 use Rattle.std.proofs.Common.{◌≡◌, ℕ, ◌<◌, ◌≤◌, ◌==◌, ◌&&◌, ◌⊎◌, inl, inr, Bool, true, false, suc, List, [], ◌∷◌, refl, sym, ap, ◌∙◌, subst, arith, cond, eqb, eqb-true}
 use Rattle.std.specs.Prelude.{nat_le}
-use Rattle.std.proofs.lemmas.Bool.{eq-eqb, le-leb, lt-leb, and_left, and_right}
+use Rattle.std.proofs.lemmas.Bool.{eq-eqb, le-leb, lt-leb, and_left, and_right, and_from}
 use Rattle.result_rows.specs.declared.Outcome.{Outcome}
 use Rattle.result_rows.specs.declared.Outcome.TheVariants as out
 use Rattle.masked_bytes.specs.Masked.{joined, none_given}
@@ -93,14 +93,16 @@ module _ {n : ℕ} where
   floor-above o [] bound row line r a s = absurd a
   floor-above o (Write at l bytes given answer ∷ h) bound row line r a s = by (l == line && is_stored (o at)) refl a (λ a. floor-above o h at row line r.1 a s)
     where
-      both : (a b : Bool) → a ≡ true → b ≡ true → (a && b) ≡ true
-      both true b h k = k
-      both false b h k = h
-
       by : (b : Bool) → (l == line && is_stored (o at)) ≡ b → ((at ≡ row) × (l ≡ line)) ⊎ Wrote h row line → (Wrote h row line → row < floor_of o h line) → row < cond b (suc at) (floor_of o h line)
       by true is (inl k) go = omega (arith, k.0)
       by true is (inr k) go = let less : row < at = wrote-below h at row line r.1 k in omega (arith, less)
-      by false is (inl k) go = absurd (cc (is, both (l == line) (is_stored (o at)) (eq-eqb l line k.1) (subst (λ r. is_stored (o r) ≡ true) (sym k.0) s)))
+      by false is (inl k) go =
+          absurd
+          (cc (
+            is,
+            and_from (l == line) (is_stored (o at)) (eq-eqb l line k.1)
+                (subst (λ r. is_stored (o r) ≡ true) (sym k.0) s),
+          ))
       by false is (inr k) go = go k
   floor-above o (Read at l answer ∷ h) bound row line r a s = floor-above o h at row line r.1 a s
   floor-above o (Serve answer ∷ h) bound row line r a s = floor-above o h bound row line r a s

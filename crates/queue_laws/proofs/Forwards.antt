@@ -33,18 +33,18 @@ use Rattle.bank_laws.proofs.Ending.{Onwards, own_answer}
 use Rattle.bank_laws.proofs.Serves.{may_at, onwards_at, idle-waits}
 use Rattle.bank_laws.proofs.Lines.{Stands, stands-row}
 use Rattle.bank_laws.proofs.Asked.{Wrote}
-use Rattle.bank_laws.proofs.Waiting.{may_all, read_room, fits_busy, fits_waiting, settled_all}
+use Rattle.bank_laws.proofs.Waiting.{may_all, awaiting_length, read_room, fits_busy, fits_waiting, settled_all}
 use Rattle.queue_laws.specs.QueueLaws.{is_forward_fair, ForwardLaw}
 use Rattle.queue_laws.proofs.Written.{items, standing, written}
-use Rattle.queue_laws.proofs.Stood.{EndsAbove, stood_each, pending_is}
-use Rattle.queue_laws.proofs.Awaiting.{awaiting_length}
+use Rattle.queue_laws.proofs.Stood.{stood_each, pending_is}
 use Rattle.bank_laws.proofs.Given.{given-layer}
+use Rattle.bank_laws.proofs.Later.{EndsAbove, ends_at_row}
 use Rattle.queue_laws.proofs.Showing.{HasHead, front-covers, front-head}
 use Rattle.queue_laws.proofs.Floors.{since, floor_of}
 use Rattle.queue_laws.proofs.Covering.{is_covered}
 use Rattle.queue_laws.proofs.Covers.{cover_is}
 use Rattle.queue_laws.proofs.Heads.{HasStore, store-left, store-right, store-from, store-after, LineFirst, IsStoredFirst, line_first, line_is_first, any_entry}
-use Rattle.queue_laws.proofs.Rooms.{ends_at_row, stands_well, behind}
+use Rattle.queue_laws.proofs.Rooms.{stands_well, behind}
 
 module _ {n : ℕ} where
   head-stands : (es : List (Entry n)) (line : ℕ) → HasHead line es → (row : ℕ) × Stands es row line

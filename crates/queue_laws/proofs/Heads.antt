@@ -29,9 +29,9 @@ use Rattle.bank_laws.proofs.Walking.{rows_after}
 use Rattle.bank_laws.proofs.Wears.{stored_by, stored_tick}
 use Rattle.bank_laws.proofs.Lines.{Stands}
 use Rattle.bank_laws.proofs.Asked.{Wrote}
+use Rattle.bank_laws.proofs.Later.{EndsAbove}
 use Rattle.queue_laws.proofs.First.{NoneStored, NoneBelow}
 use Rattle.queue_laws.proofs.Written.{Written, items, standing, Each, written_by, written, IsEntry}
-use Rattle.queue_laws.proofs.Stood.{EndsAbove}
 use Rattle.queue_laws.proofs.Few.{StandsWell, entry_unset, not_stored_ended, not_before_ended}
 use Rattle.queue_laws.proofs.Showing.{HasHead}
 use Rattle.queue_laws.proofs.Covering.{is_covered, Storeless, none_new}

@@ -1,6 +1,6 @@
 -- Entries of one line stand in the order of their rows and of their ticks, and a busy head came before the last tick.
 use Rattle.std.proofs.Common.{◌≡◌, ℕ, ◌<◌, ◌≤◌, ◌==◌, ◌&&◌, ◌⊎◌, inl, inr, not, Bool, true, false, List, [], ◌∷◌, ◌++◌, Option, Some, None, drop, refl, sym, ap, ◌∙◌, subst, arith, cond, eqb, eqb-true}
-use Rattle.std.proofs.lemmas.Bool.{or_left, or_right}
+use Rattle.std.proofs.lemmas.Bool.{or_left, or_right, and_from}
 use Rattle.masked_bytes.proofs.Truth.{and_first, and_second, or_rest}
 use Rattle.masked_bytes.specs.declared.entry.Entry.{Entry}
 use Rattle.masked_bytes.specs.Entries.{has_row, RowsApart, merged, laid_on, newest_row, candidate, or_this}
@@ -240,11 +240,10 @@ module _ {n m : ℕ} (shape : BankShape) (pace : Pace) (e : ℕ) where
     }
 
     still : (k : List (Event n)) → (in_progress (core zs) && is_store (cond (has_exhausted (core zs)) Nothing (due_work shape k (due_after shape (core zs)) (queue shape (core zs))))) ≡ true → head_busy_after shape (core zs) ≡ true
-    still k b = both (in_progress (core zs)) _ (and_first (in_progress (core zs)) _ b) (store-same shape k (core zs) (has_exhausted (core zs)) (due_after shape (core zs)) (queue shape (core zs)) (and_second (in_progress (core zs)) _ b))
-      where
-        both : (a b : Bool) → a ≡ true → b ≡ true → (a && b) ≡ true
-        both true b h k = k
-        both false b h k = h
+    still k b =
+        and_from (in_progress (core zs)) _ (and_first (in_progress (core zs)) _ b)
+        (store-same shape k (core zs) (has_exhausted (core zs)) (due_after shape (core zs))
+        (queue shape (core zs)) (and_second (in_progress (core zs)) _ b))
 
     -- an action that ends is above every tick
     ends : (h : Happens n) → ((row : ℕ) → tick_by row h x.tick (tick_of_row row zs) ≡ tick_of_row row zs) → last_tick zs < x.tick → Leads (λ row. tick_by row h x.tick (tick_of_row row zs)) (queue shape (core_of h (core zs))) → OrderBy zs x h
@@ -259,10 +258,6 @@ module _ {n m : ℕ} (shape : BankShape) (pace : Pace) (e : ℕ) where
 
     came_before : (at line : ℕ) (bytes : List ℕ) (given : List Bool) (answer : WriteAnswer) → MayCome shape pace e zs x (Core (Write at line bytes given answer)) → (row : ℕ) → has_row (queue shape (core zs)) row ≡ true → row < at
     came_before at line bytes given answer may row there = below_among (writes_in zs) at row (writes-fall zs at may.asked) (queue-asked shape zs row there)
-
-    both_true : (a b : Bool) → a ≡ true → b ≡ true → (a && b) ≡ true
-    both_true true b h k = k
-    both_true false b h k = h
 
     own_tick : (at old : ℕ) → cond (eqb at at) x.tick old ≡ x.tick
     own_tick at old = ap (λ b. cond b x.tick old) (eqb-same at)
@@ -286,7 +281,7 @@ module _ {n m : ℕ} (shape : BankShape) (pace : Pace) (e : ℕ) where
           (new_behind at line bytes given may);
       busy = λ b.
           let was : head_busy_after shape (core zs) ≡ true =
-          both_true (in_progress (core zs)) _ (and_first (in_progress (core zs)) _ b)
+          and_from (in_progress (core zs)) _ (and_first (in_progress (core zs)) _ b)
           (store-push shape (Write at line bytes given wrote.Accepted ∷ core zs) (core zs) (has_exhausted (core zs)) (due_after shape (core zs)) (queue shape (core zs)) (record { row = at; line = line; bytes = bytes; given = given })
           (pairs.working (and_first (in_progress (core zs)) _ b)) (and_second (in_progress (core zs)) _ b)) in
           head-push (λ row. cond (eqb at row) x.tick (tick_of_row row zs)) x.tick (queue shape (core zs)) (record { row = at; line = line; bytes = bytes; given = given }) (busy_head was)
@@ -304,7 +299,7 @@ module _ {n m : ℕ} (shape : BankShape) (pace : Pace) (e : ℕ) where
           (leads-same (λ row. cond (eqb at row) x.tick (tick_of_row row zs)) (λ row. tick_of_row row zs) (queue shape (core zs)) (kept (Core (Write at line bytes given (wrote.Merged old))) may) o.leads);
       busy = λ b.
           let was : head_busy_after shape (core zs) ≡ true =
-          both_true (in_progress (core zs)) _ (and_first (in_progress (core zs)) _ b)
+          and_from (in_progress (core zs)) _ (and_first (in_progress (core zs)) _ b)
           (store-merged shape (Write at line bytes given (wrote.Merged old) ∷ core zs) (core zs) (has_exhausted (core zs)) (due_after shape (core zs)) old at bytes given (queue shape (core zs)) (and_second (in_progress (core zs)) _ b)) in
           head-merged (λ row. cond (eqb at row) x.tick (tick_of_row row zs)) x.tick old at line bytes given (queue shape (core zs)) apart
           (subst (λ b. candidate b (queue shape (core zs)) line ≡ Some old) was into)

@@ -1,5 +1,5 @@
 -- What a bank holds at a row, and at any tick between two of its events.
-use Rattle.std.proofs.Common.{◌≡◌, ℕ, ◌<◌, ◌≤◌, ◌||◌, ◌⊎◌, inl, inr, not, Bool, true, false, List, [], ◌∷◌, ◌++◌, Option, Some, None, length, refl, sym, ap, ◌∙◌, subst, arith, cond, append_assoc}
+use Rattle.std.proofs.Common.{◌≡◌, ℕ, ◌<◌, ◌≤◌, ◌⊎◌, inl, inr, Bool, true, false, List, [], ◌∷◌, ◌++◌, Option, Some, None, length, refl, sym, ap, ◌∙◌, subst, arith, cond, append_assoc}
 use Rattle.std.specs.Prelude.{nat_le, filter, All}
 use Rattle.std.proofs.lemmas.Bool.{eq-eqb, le-leb, and_from}
 use Rattle.std.proofs.lemmas.List.Elements.{All-head, All-tail}
@@ -7,6 +7,7 @@ use Rattle.std.proofs.Math.Nat.{eq-or-lt_of_le}
 use Rattle.result_rows.specs.declared.Outcome.TheVariants as out
 use Rattle.masked_bytes.specs.declared.entry.Entry.{Entry}
 use Rattle.masked_bytes.specs.Entries.{has_row, candidate}
+use Rattle.masked_bytes.proofs.Truth.{implied}
 use Rattle.row_rules.specs.declared.Row.{Row}
 use Rattle.row_rules.specs.Answers.{is_full}
 use Rattle.row_rules.specs.Rows.{write_of}
@@ -25,7 +26,7 @@ use Rattle.bank_laws.specs.Laws.{rules_of}
 use Rattle.bank_laws.specs.Outcomes.{outcome_of, ended, row_with, rows_from}
 use Rattle.bank_laws.specs.Room.{RoomLaw}
 use Rattle.bank_laws.specs.Ticks.{ends_action}
-use Rattle.bank_laws.proofs.Ticks.{last_tick-rises, last-below}
+use Rattle.bank_laws.proofs.Ticks.{last_tick-rises}
 use Rattle.bank_laws.proofs.Answering.{IsHead}
 use Rattle.bank_laws.proofs.Settling.{opens, lawful_before}
 use Rattle.bank_laws.proofs.Pairs.{keeps_pairs, no_candidate-head, no_candidate-rest}
@@ -34,15 +35,15 @@ use Rattle.bank_laws.proofs.Ending.{Onwards, write_outcome}
 use Rattle.bank_laws.proofs.Serves.{may_at, onwards_at, idle-waits}
 use Rattle.bank_laws.proofs.Holding.{bound_law}
 use Rattle.bank_laws.proofs.Lines.{Stands, Covered, stands-line}
-use Rattle.bank_laws.proofs.Waiting.{may_all}
-use Rattle.bank_laws.proofs.Pending.{full_outcome, covered_on}
+use Rattle.bank_laws.proofs.Later.{EndsAbove, ends_later, ends_at_row, ends_push}
+use Rattle.bank_laws.proofs.Waiting.{may_all, awaiting_length}
+use Rattle.bank_laws.proofs.Pending.{full_outcome, covered_on, queue_length}
 use Rattle.queue_laws.specs.QueueLaws.{finds_pairs_few, is_refusal_fair, PairsFewLaw, RefusalLaw}
 use Rattle.queue_laws.proofs.Order.{HeadBefore, in_order}
 use Rattle.queue_laws.proofs.First.{First, first, first_now}
 use Rattle.queue_laws.proofs.Written.{standing, written}
-use Rattle.queue_laws.proofs.Stood.{EndsAbove, stood_each, stood_fall, stood_length, pending_is}
+use Rattle.queue_laws.proofs.Stood.{stood_each, stood_fall, pending_is}
 use Rattle.queue_laws.proofs.Few.{StandsWell, pairs_are_few, refusal, HeadAlone}
-use Rattle.queue_laws.proofs.Awaiting.{awaiting_length}
 
 -- a write that is refused as full merges into nothing
 module _ {n : ℕ} (shape : BankShape) where
@@ -55,25 +56,6 @@ module _ {n : ℕ} (shape : BankShape) where
       by false None a = refl
 
 module _ {n m : ℕ} (shape : BankShape) (pace : Pace) (e : ℕ) where
-  -- Ends above a tick
-
-  pub ends_later : (later zs : List (TimedEvent n m)) (t : ℕ) → 1 ≤ pace.read → 1 ≤ pace.iter → Lawful shape pace e (later ++ zs) → t ≤ last_tick zs → EndsAbove t later × (t ≤ last_tick (later ++ zs))
-  ends_later [] zs t r i l le = (tt, le)
-  ends_later (x ∷ later) zs t r i l le =
-      let before : EndsAbove t later × (t ≤ last_tick (later ++ zs)) = ends_later later zs t r i l.1 le in
-      let rises : last_tick (later ++ zs) ≤ x.tick = last_tick-rises shape pace e (later ++ zs) x r i l in (
-        ((λ is. let lt : last_tick (later ++ zs) < x.tick = last-below shape pace e (later ++ zs) x r i l is in omega (arith, lt, before.1)), before.0),
-        omega (arith, before.1, rises),
-      )
-
-  ends_push : (t : ℕ) (later : List (TimedEvent n m)) (x : TimedEvent n m) → EndsAbove t later → (ends_action x.happens ≡ true → t < x.tick) → EndsAbove t (later ++ x ∷ [])
-  ends_push t [] x above own = (own, tt)
-  ends_push t (y ∷ later) x above own = (above.0, ends_push t later x above.1 own)
-
-  -- at a row no action has ended at its tick behind it
-  pub ends_at_row : (later ys : List (TimedEvent n m)) (x : TimedEvent n m) → 1 ≤ pace.read → 1 ≤ pace.iter → Lawful shape pace e (later ++ x ∷ ys) → ends_action x.happens ≡ false → EndsAbove x.tick (later ++ x ∷ [])
-  ends_at_row later ys x r i l arrives = ends_push x.tick later x (ends_later later (x ∷ ys) x.tick r i l (omega arith)).0 (λ is. absurd (cc (arrives, is)))
-
   -- What stands
 
   pub stands_well : (all later now : List (TimedEvent n m)) → 1 ≤ pace.read → 1 ≤ pace.iter → Lawful shape pace e all → all ≡ later ++ now → StandsWell shape all now
@@ -105,7 +87,8 @@ module _ {n m : ℕ} (shape : BankShape) (pace : Pace) (e : ℕ) where
     pub room_between : waits shape (core all) ≡ [] → has_room (rules_of e shape pace) t (rows_from shape all now) ≡ true
     room_between none =
         let bound = bound_law n (most_steps e) shape (core now) (may_all shape pace e now here) in
-        let stand : length (pending t [] (rows_from shape all now)) ≡ length (queue shape (core now)) = stood_length shape pace e all later now t r i l same up ends in
+        let stand : length (pending t [] (rows_from shape all now)) ≡ length (queue shape (core now)) =
+        queue_length shape pace e all later now t r i l same up ends in
         let wait : length (waiting t [] (rows_from shape all now)) ≡ length (waits shape (core now)) = awaiting_length shape pace e all later now t r i l same up ends none in
         and_from (nat_le (length (pending t [] (rows_from shape all now))) shape.writes) _ (le-leb (length (pending t [] (rows_from shape all now))) shape.writes (omega (arith, stand, bound.writes)))
         (and_from (nat_le (length (waiting t [] (rows_from shape all now))) shape.reads) _ (le-leb (length (waiting t [] (rows_from shape all now))) shape.reads (omega (arith, wait, bound.reads))) pairs_at)
@@ -123,7 +106,9 @@ module _ {n m : ℕ} (shape : BankShape) (pace : Pace) (e : ℕ) where
     up_to_row = last_tick-rises shape pace e ys x r i (lawful_before shape pace e later (x ∷ ys) over)
 
     pairs_at_row : ends_action x.happens ≡ false → pairs_few (pending x.tick [] (rows_from shape all ys)) (pending x.tick [] (rows_from shape all ys)) ≡ true
-    pairs_at_row arrives = pairs_at all (later ++ x ∷ []) ys x.tick r i l (behind all later x ys same) up_to_row (ends_at_row later ys x r i over arrives)
+    pairs_at_row arrives =
+        pairs_at all (later ++ x ∷ []) ys x.tick r i l (behind all later x ys same) up_to_row
+        (ends_at_row shape pace e later ys x r i over arrives)
 
     pairs_pass : Passes finds_pairs_few (rows_from shape all ys) (row_with shape all x.happens x.tick x.cancels) (rows_after shape all later)
     pairs_pass = by x.happens x.cancels pairs_at_row
@@ -169,7 +154,7 @@ module _ {n m : ℕ} (shape : BankShape) (pace : Pace) (e : ℕ) where
           → is_refused x.tick (pending x.tick [] (rows_from shape all ys)) (filter (write_of line) (pending x.tick [] (rows_from shape all ys))) ≡ true
       refused arrives line none =
           let up : last_tick ys ≤ x.tick = last_tick-rises shape pace e ys x r i there in
-          let ends = ends_at_row later ys x r i over arrives in
+          let ends = ends_at_row shape pace e later ys x r i over arrives in
           let k = stands_well all (later ++ x ∷ []) ys r i l (behind all later x ys same) in
           let each = stood_each shape pace e all (later ++ x ∷ []) ys x.tick r i l (behind all later x ys same) up ends in
           let fall = stood_fall shape pace e all (later ++ x ∷ []) ys x.tick r i l (behind all later x ys same) up ends in
@@ -177,16 +162,12 @@ module _ {n m : ℕ} (shape : BankShape) (pace : Pace) (e : ℕ) where
           (refusal shape all ys k line x.tick (standing (λ row. has_row (queue shape (core ys)) row) (written shape all ys)) (standing (λ row. has_row (queue shape (core ys)) row) (written shape all ys)) fall.0
           (head_alone all ys line x.tick k r i there.1 up none) each each fall.1)
 
-      or_true : (a b : Bool) → (a ≡ true → b ≡ true) → (not a || b) ≡ true
-      or_true true b h = h refl
-      or_true false b h = refl
-
       by : (h : Happens n) (cancels : Bool) → MayCome shape pace e ys x h → Onwards shape all ys x.tick h
           → (ends_action h ≡ false → (line : ℕ) → candidate (head_busy_after shape (core ys)) (queue shape (core ys)) line ≡ None
           → is_refused x.tick (pending x.tick [] (rows_from shape all ys)) (filter (write_of line) (pending x.tick [] (rows_from shape all ys))) ≡ true)
           → Passes is_refusal_fair (rows_from shape all ys) (row_with shape all h x.tick cancels) (rows_after shape all later)
       by (Core (Write row line bytes given answer)) cancels may on refuse =
-          or_true (is_full (ended x.tick (outcome_of shape all row))) _ (λ full.
+          implied (is_full (ended x.tick (outcome_of shape all row))) _ (λ full.
           let was : answer ≡ wrote.Full = full_outcome x.tick answer (ended x.tick (outcome_of shape all row)) (write_outcome shape pace e all ys x row line bytes given answer (opens shape pace e all l) may on) full in
           refuse refl line (full-none shape (core ys) line (sym was ∙ may.may.2)))
       by (Core (Read row line answer)) cancels may on refuse = refl

@@ -1,9 +1,8 @@
 -- The writes that a row finds are those that stand in the queue, at any tick up to the next end of an action.
-use Rattle.std.proofs.Common.{◌≡◌, ◌≢◌, ℕ, ◌<◌, ◌≤◌, ◌==◌, ◌⊎◌, inl, inr, not, Bool, true, false, List, [], ◌∷◌, ◌++◌, length, refl, sym, ap, ◌∙◌, subst, arith, cond, append_assoc}
+use Rattle.std.proofs.Common.{◌≡◌, ◌≢◌, ℕ, ◌≤◌, ◌==◌, inl, Bool, true, false, List, [], ◌∷◌, ◌++◌, refl, sym, ap, ◌∙◌, subst, cond, append_assoc}
 use Rattle.std.proofs.lemmas.Bool.{or_left}
 use Rattle.std.specs.Prelude.{unwrap_or}
 use Rattle.std.specs.List.{list_any}
-use Rattle.result_rows.specs.declared.Outcome.{Outcome}
 use Rattle.result_rows.specs.declared.Outcome.TheVariants as out
 use Rattle.masked_bytes.specs.Entries.{has_row}
 use Rattle.row_rules.specs.declared.Row.{Row}
@@ -18,38 +17,18 @@ use Rattle.bank_model.specs.Timing.{Happens, Core, Regs, TimedEvent, core, last_
 use Rattle.bank_model.specs.Told.{tick_by, tick_of_row}
 use Rattle.bank_model.specs.Lawful.{Lawful, MayCome}
 use Rattle.bank_laws.specs.Outcomes.{outcome_with, outcome_of, ended, row_with, rows_from}
-use Rattle.bank_laws.specs.Ticks.{ends_action}
-use Rattle.bank_laws.proofs.Entries.{either}
-use Rattle.bank_laws.proofs.Standing.{stand_apart}
 use Rattle.bank_laws.proofs.Settling.{opens, above_all, lawful_before, stays}
 use Rattle.bank_laws.proofs.Pairs.{eqb-same}
-use Rattle.bank_laws.proofs.Fates.{WriteFate, write_fate}
 use Rattle.bank_laws.proofs.Walking.{rows_after, rows_after-more}
 use Rattle.bank_laws.proofs.Ending.{Onwards, accepting, write_outcome, outcome-accepts}
 use Rattle.bank_laws.proofs.Serves.{onwards_at}
-use Rattle.bank_laws.proofs.Wears.{stored_by, stored_up_to}
-use Rattle.bank_laws.proofs.Lines.{Stands, covered-stands, stands-row}
+use Rattle.bank_laws.proofs.Lines.{Stands}
 use Rattle.bank_laws.proofs.Merging.{Fate, FateBy, fate, fate_new}
-use Rattle.bank_laws.proofs.Counting.{among, entries-counted}
-use Rattle.bank_laws.proofs.Pending.{stands_by, by_refused, any_merges, by_stored_later, by_stored_before, write_rows, writes_in, writes-fall, queue-asked, refused_set, CoveredOn, covered_on, left_by}
+use Rattle.bank_laws.proofs.Counting.{among}
+use Rattle.bank_laws.proofs.Pending.{stands_by, write_rows, writes_in, refused_set, gone, stands_same, stands_there, refused_same}
+use Rattle.bank_laws.proofs.Later.{EndsAbove}
 use Rattle.queue_laws.proofs.Order.{tick_stays}
-use Rattle.queue_laws.proofs.Written.{Written, items, standing, Each, NumbersFall, cond_items, cond_each, written_by, written, IsEntry, standing-falls, standing-count}
-
--- each end of an action among these events is above a tick
-abbrev pub EndsAbove : {n m : ℕ} → ℕ → List (TimedEvent n m) → Type 0
-EndsAbove t [] = Unit {0}
-EndsAbove t (x ∷ later) = (ends_action x.happens ≡ true → t < x.tick) × EndsAbove t later
-
-module _ {n m : ℕ} (shape : BankShape) (pace : Pace) (e : ℕ) where
-  -- what is stored by such events is stored above that tick
-  pub stored_over : (t : ℕ) (later zs : List (TimedEvent n m)) (row u p : ℕ) → EndsAbove t later → (outcome_of shape zs row ≡ out.Stored u p → ⊥) → Lawful shape pace e (later ++ zs)
-      → outcome_of shape (later ++ zs) row ≡ out.Stored u p → t < u
-  stored_over t [] zs row u p ends isnt l s = absurd (isnt s)
-  stored_over t (y ∷ later) zs row u p ends isnt l s = by (stored_by shape pace e (later ++ zs) y y.happens row u p s) (λ s. stored_over t later zs row u p ends.1 isnt l.1 s)
-    where
-      by : ((ends_action y.happens ≡ true) × (u ≡ y.tick)) ⊎ (outcome_of shape (later ++ zs) row ≡ out.Stored u p) → (outcome_of shape (later ++ zs) row ≡ out.Stored u p → t < u) → t < u
-      by (inl now) go = let lt : t < y.tick = ends.0 now.0 in omega (arith, lt, now.1)
-      by (inr s) go = go s
+use Rattle.queue_laws.proofs.Written.{Written, items, standing, Each, NumbersFall, cond_items, cond_each, written_by, written, IsEntry, standing-falls}
 
 module _ {n m : ℕ} (shape : BankShape) (pace : Pace) (e : ℕ) (all later now : List (TimedEvent n m)) (t : ℕ) (r : 1 ≤ pace.read) (i : 1 ≤ pace.iter) (l : Lawful shape pace e all) (same : all ≡ later ++ now)
     (up : last_tick now ≤ t) (ends : EndsAbove t later) where
@@ -58,61 +37,6 @@ module _ {n m : ℕ} (shape : BankShape) (pace : Pace) (e : ℕ) (all later now 
 
   pub here : Lawful shape pace e now
   here = lawful_before shape pace e later now whole
-
-  -- an outcome that is set by now stays to the end
-  kept : (row : ℕ) (o : Outcome n) → o ≢ out.Unset → outcome_of shape now row ≡ o → outcome_of shape all row ≡ o
-  kept row o set is = ap (λ xs. outcome_of shape xs row) same ∙ stays shape pace e later now row whole (λ un. set (sym is ∙ un)) ∙ is
-
-  gone : (row : ℕ) (o : Outcome n) → o ≢ out.Unset → outcome_of shape now row ≡ o → has_row (queue shape (core now)) row ≡ false
-  gone row o set is = either (has_row (queue shape (core now)) row) (λ there. absurd (set (sym is ∙ (opens shape pace e now here).queued row there))) (λ f. f)
-
-  -- what stands now is stored above the tick
-  above : (row u p : ℕ) → has_row (queue shape (core now)) row ≡ true → outcome_of shape all row ≡ out.Stored u p → t < u
-  above row u p there s =
-      stored_over shape pace e t later now row u p ends (λ k. let both : ◌≡◌ {A = Outcome n} (out.Stored u p) out.Unset = sym k ∙ (opens shape pace e now here).queued row there in absurd (cc)) whole
-      (sym (ap (λ xs. outcome_of shape xs row) same) ∙ s)
-
-  -- a write stands by the rows exactly where it stands by the events
-  stands_same : (row line tick : ℕ) (between : List (Row n)) → Fate shape now between row line → stands_by t tick (list_any (accepted_of line) between) (outcome_of shape all row) ≡ has_row (queue shape (core now)) row
-  stands_same row line tick between (inl alone) = subst (λ b. stands_by t tick b (outcome_of shape all row) ≡ true) (sym alone.1) (by last) ∙ sym there
-    where
-      there : has_row (queue shape (core now)) row ≡ true
-      there = stands-row (queue shape (core now)) row line alone.0
-
-      last : WriteFate shape all row
-      last = subst (λ (xs : List (TimedEvent n m)). WriteFate shape xs row) (sym same) (write_fate shape pace e later now row whole (inl there))
-
-      by : WriteFate shape all row → stands_by t tick false (outcome_of shape all row) ≡ true
-      by (inl end) = ap (stands_by t tick false) ((opens shape pace e all l).queued row end)
-      by (inr left) = left_by shape pace e all t tick (outcome_of shape all row) left (λ u p s. above row u p there s)
-  stands_same row line tick between (inr (inl covered)) = by last ∙ sym there
-    where
-      there : has_row (queue shape (core now)) row ≡ true
-      there = stands-row (queue shape (core now)) row line (covered-stands (queue shape (core now)) row line covered.0)
-
-      last : CoveredOn shape pace e all row line
-      last = subst (λ (xs : List (TimedEvent n m)). CoveredOn shape pace e xs row line) (sym same) (covered_on shape pace e later now row line whole covered.0)
-
-      by : CoveredOn shape pace e all row line → stands_by t tick (list_any (accepted_of line) between) (outcome_of shape all row) ≡ true
-      by (inl c) = ap (stands_by t tick (list_any (accepted_of line) between)) ((opens shape pace e all l).queued row (stands-row (queue shape (core all)) row line (covered-stands (queue shape (core all)) row line c)))
-      by (inr s) = ap (stands_by t tick (list_any (accepted_of line) between)) s.2 ∙ by_stored_later n t tick (list_any (accepted_of line) between) s.0 s.1 (above row s.0 s.1 there s.2)
-  stands_same row line tick between (inr (inr (inl s))) =
-      let at_most : s.0 ≤ last_tick now = stored_up_to shape pace e now row s.0 s.1 r i here s.2 in
-      ap (stands_by t tick (list_any (accepted_of line) between)) (kept row (out.Stored s.0 s.1) (λ un. absurd (cc)) s.2)
-      ∙ by_stored_before n t tick (list_any (accepted_of line) between) s.0 s.1 (omega (arith, at_most, up)) ∙ sym (gone row (out.Stored s.0 s.1) (λ un. absurd (cc)) s.2)
-  stands_same row line tick between (inr (inr (inr into))) =
-      ap (stands_by t tick (list_any (accepted_of line) between)) (kept row (out.Merged into.0) (λ un. absurd (cc)) into.1)
-      ∙ ap not (any_merges line into.0 between into.2) ∙ sym (gone row (out.Merged into.0) (λ un. absurd (cc)) into.1)
-
-  stands_there : (row line : ℕ) (between : List (Row n)) → Fate shape now between row line → has_row (queue shape (core now)) row ≡ true → Stands (queue shape (core now)) row line
-  stands_there row line between (inl alone) there = alone.0
-  stands_there row line between (inr (inl covered)) there = covered-stands (queue shape (core now)) row line covered.0
-  stands_there row line between (inr (inr (inl s))) there = absurd (cc (gone row (out.Stored s.0 s.1) (λ un. absurd (cc)) s.2, there))
-  stands_there row line between (inr (inr (inr into))) there = absurd (cc (gone row (out.Merged into.0) (λ un. absurd (cc)) into.1, there))
-
-  -- a refused one does not
-  refused_same : (row tick : ℕ) (any : Bool) → accepts (ended tick (outcome_of shape all row)) ≡ false → outcome_of shape now row ≢ out.Unset → stands_by t tick any (outcome_of shape all row) ≡ has_row (queue shape (core now)) row
-  refused_same row tick any isnt set = by_refused t tick any (outcome_of shape all row) isnt ∙ sym (gone row (outcome_of shape now row) set refl)
 
   -- the writes that stand, the newest first
   abbrev pub stood : List (TimedEvent n m) → List (Written n)
@@ -171,12 +95,24 @@ module _ {n m : ℕ} (shape : BankShape) (pace : Pace) (e : ℕ) (all later now 
           refused ref = g at (refused_set shape ys z.tick at line bytes given answer ref)
 
           kind : (b : Bool) → accepting answer ≡ b → stands_by t z.tick (list_any (accepted_of line) (rows_after shape all mid)) (outcome_of shape all at) ≡ has_row (queue shape (core now)) at
-          kind true acc = stands_same at line z.tick (rows_after shape all mid) (fated acc)
-          kind false ref = refused_same at z.tick (list_any (accepted_of line) (rows_after shape all mid)) (agrees ∙ ref) (refused ref)
+          kind true acc =
+              stands_same shape pace e all later now t r i l same up ends at line z.tick
+              (rows_after shape all mid) (fated acc)
+          kind false ref =
+              refused_same shape pace e all later now t r i l same up ends at z.tick
+              (list_any (accepted_of line) (rows_after shape all mid)) (agrees ∙ ref) (refused ref)
 
           own : has_row (queue shape (core now)) at ≡ true → (b : Bool) → accepting answer ≡ b → Stands (queue shape (core now)) at line
-          own stands true acc = stands_there at line (rows_after shape all mid) (fated acc) stands
-          own stands false ref = absurd (cc (gone at (outcome_of shape now at) (refused ref) refl, stands))
+          own stands true acc =
+              stands_there shape pace e all later now t r i l same up ends at line (rows_after shape all mid)
+              (fated acc) stands
+          own stands false ref =
+              absurd
+              (cc (
+                gone shape pace e all later now t r i l same up ends at (outcome_of shape now at)
+                    (refused ref) refl,
+                stands,
+              ))
       by (Core (Read at line answer)) cancels may on f g ticks ih each = (ih, each)
       by (Core (Serve answer)) cancels may on f g ticks ih each = (ih, each)
       by (Regs event) cancels may on f g ticks ih each = (ih, each)
@@ -193,10 +129,3 @@ module _ {n m : ℕ} (shape : BankShape) (pace : Pace) (e : ℕ) (all later now 
 
   pub stood_fall : (bound : ℕ) × NumbersFall (stood now) bound
   stood_fall = let b = above_all shape pace e now here in (b.0, standing-falls shape all (λ row. has_row (queue shape (core now)) row) now b.0 b.1)
-
-  -- as many writes stand by the rows as by the events
-  pub stood_length : length (pending t [] (rows_from shape all now)) ≡ length (queue shape (core now))
-  stood_length =
-      let b = above_all shape pace e now here in
-      ap (λ (rows : List (Row n)). length rows) pending_is ∙ standing-count shape all (λ row. has_row (queue shape (core now)) row) now
-      ∙ entries-counted (queue shape (core now)) (writes_in now) b.0 (stand_apart shape (core now) b.0 b.1).queued_apart (writes-fall now b.0 b.1) (queue-asked shape now)

@@ -1,5 +1,5 @@
 -- Which action runs after a lawful history, since when, and what it fits.
-use Rattle.std.proofs.Common.{◌≡◌, ℕ, ◌+◌, ◌<◌, ◌≤◌, ◌&&◌, not, Bool, true, false, List, [], ◌∷◌, ◌++◌, Option, Some, None, refl, sym, ap, ◌∙◌, arith, cond}
+use Rattle.std.proofs.Common.{◌≡◌, ℕ, ◌+◌, ◌<◌, ◌≤◌, not, Bool, true, false, List, [], ◌∷◌, ◌++◌, Option, Some, None, refl, sym, ap, ◌∙◌, arith, cond}
 use Rattle.std.specs.Prelude.{IfSome, nat_lt, is_some}
 use Rattle.std.proofs.lemmas.Bool.{ltb-false}
 use Rattle.bank_shape.specs.Pausing.{is_cancelling}
@@ -23,6 +23,7 @@ use Rattle.bank_shape.specs.declared.answer.Keep.TheVariants as keep
 use Rattle.bank_laws.proofs.Changing.{changed-idle}
 use Rattle.bank_model.specs.Lawful.{Lawful, MayCome, IsEnd, would_cancel}
 use Rattle.bank_laws.proofs.Ticks.{last_tick-rises}
+use Rattle.masked_bytes.proofs.Truth.{and_first}
 
 -- the first tick of the action that runs, or else the last tick
 abbrev pub since : Option Action → ℕ → ℕ
@@ -98,14 +99,6 @@ fits-reads way busy reads Iterating f = f
 pub some-push : (ws : List Awaited) (w : Awaited) → not (is_empty (ws ++ w ∷ [])) ≡ true
 some-push [] w = refl
 some-push (v ∷ ws) w = refl
-
-pub not_begun : (a b : Bool) → (not a && b) ≡ true → a ≡ false
-not_begun true b h = absurd (cc)
-not_begun false b h = refl
-
-cancels_not : (a b : Bool) → a ≡ false → (a && b) ≡ true → ⊥
-cancels_not true b h k = absurd (cc)
-cancels_not false b h k = absurd (cc)
 
 module _ {n m : ℕ} (shape : BankShape) (pace : Pace) where
   abbrev pub since_of : List (TimedEvent n m) → ℕ
@@ -272,11 +265,12 @@ module _ {n m : ℕ} (shape : BankShape) (pace : Pace) (e : ℕ) where
   not-cancelled xs x (Core (Serve answer)) none may = may.on_time.1
   not-cancelled xs x (Regs (KeepBegin answer)) none may = may.on_time.1
   not-cancelled xs x (Regs (KeepIterate answer)) none may = may.on_time.1
-  not-cancelled xs x (Regs (KeepCut tearing)) none may = absurd (cancels_not (is_cancelling pace.policy) _ none may.on_time.3)
+  not-cancelled xs x (Regs (KeepCut tearing)) none may =
+      absurd (cc (none, and_first (is_cancelling pace.policy) _ may.on_time.3))
   not-cancelled xs x (Core (Begin answer)) none may = may.on_time.1
   not-cancelled xs x (Core (Iterate answer)) none may = may.on_time.1
   not-cancelled xs x (Core (Cut tearing)) none may = by x.cancels may.on_time.2
     where
       by : (b : Bool) → (b ≡ true → would_cancel shape (core xs) pace.policy (running_at shape pace xs x.tick) (cancels_after xs) ≡ true) → b ≡ false
-      by true k = absurd (cancels_not (is_cancelling pace.policy) _ none (k refl))
+      by true k = absurd (cc (none, and_first (is_cancelling pace.policy) _ (k refl)))
       by false k = refl

@@ -16,7 +16,7 @@ use Rattle.bank_model.specs.Lawful.{Lawful}
 use Rattle.bank_laws.specs.Outcomes.{row_with}
 use Rattle.bank_laws.proofs.Ticks.{last_tick-rises}
 use Rattle.bank_laws.proofs.Walking.{rows_after}
-use Rattle.bank_laws.proofs.Pending.{last-later}
+use Rattle.bank_laws.proofs.Later.{last-later}
 
 module _ {n : ℕ} where
   -- without a cut none is below a tick, and the first is among the rows behind

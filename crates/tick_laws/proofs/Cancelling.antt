@@ -36,14 +36,15 @@ use Rattle.bank_laws.proofs.Walking.{rows_after}
 use Rattle.bank_laws.proofs.Fates.{Awaits, IsSettled, ReadFate, awaits-new}
 use Rattle.bank_laws.proofs.Ending.{Onwards}
 use Rattle.bank_laws.proofs.Serves.{may_at, onwards_at}
-use Rattle.bank_laws.proofs.Pending.{stored_above}
+use Rattle.bank_laws.proofs.Later.{stored_above}
+use Rattle.bank_laws.proofs.Quiet.{ended_stored}
 use Rattle.tick_laws.proofs.Actions.{reads_of}
 use Rattle.tick_laws.proofs.Tallies.{stores_by}
 use Rattle.tick_laws.proofs.Counts.{count-cons}
 use Rattle.tick_laws.proofs.StoreTimes.{store_event}
 
 -- what gives way to reads lets none of its line writes start while they wait
-gives : (p : Policy) → is_cancelling p ≡ true → gives_way p ≡ true
+pub gives : (p : Policy) → is_cancelling p ≡ true → gives_way p ≡ true
 gives Pause is = refl
 gives Plain is = absurd (cc)
 gives Cancel is = refl
@@ -182,22 +183,10 @@ module _ {n : ℕ} where
       by true ih = up_to-most a most q.outcome (last_store a rows) ih f.0
       by false ih = ih
 
-  ended-was : (tick : ℕ) (o : Outcome n) (t p : ℕ) → ended tick o ≡ out.Stored t p → o ≡ out.Stored t p
-  ended-was tick out.Unset t p is = absurd (cc)
-  ended-was tick (out.Stored at place) t p is = is
-  ended-was tick (out.Merged at) t p is = is
-  ended-was tick (out.Queued at) t p is = is
-  ended-was tick (out.Full at) t p is = is
-  ended-was tick (out.Worn at) t p is = is
-  ended-was tick (out.Read at place bytes) t p is = is
-  ended-was tick (out.Forwarded at bytes) t p is = is
-  ended-was tick (out.Busy at) t p is = is
-  ended-was tick (out.Lost at) t p is = is
-  ended-was tick (out.Cut at) t p is = is
-
 module _ {n m : ℕ} (shape : BankShape) (all : List (TimedEvent n m)) (a most : ℕ) (f : (row t p : ℕ) → outcome_of shape all row ≡ out.Stored t p → t ≤ a → t ≤ most) where
   own_stored : (h : Happens n) (tick : ℕ) (cancels : Bool) → StoredUpTo a most (row_with shape all h tick cancels)
-  own_stored (Core (Write row line bytes given answer)) tick cancels = ((λ t p is. f row t p (ended-was tick (outcome_of shape all row) t p is)), tt)
+  own_stored (Core (Write row line bytes given answer)) tick cancels =
+      ((λ t p is. f row t p (ended_stored tick (outcome_of shape all row) t p is)), tt)
   own_stored (Core (Read row line answer)) tick cancels = (f row, tt)
   own_stored (Core (Serve answer)) tick cancels = tt
   own_stored (Regs event) tick cancels = tt

@@ -223,11 +223,8 @@ module _ {n m : ℕ} (shape : BankShape) (pace : Pace) (e : ℕ) where
 
     keep_begins : (answer : Keep) → MayCome shape pace e zs y (Regs (KeepBegin answer)) → DelayAt base zs y.tick → y.tick ≤ base + pace.read
     keep_begins answer may d =
-        begin_by (λ h. none_stands h.1 may.stands) (fits_ending Beginning may.on_time.0.0) may.on_time.0.1 (ending Beginning may.on_time.0.0 d)
-      where
-        none_stands : {change : Option ℕ} → change ≡ None → is_some change ≡ true → ⊥
-        none_stands {change = None} is some = absurd (cc)
-        none_stands {change = Some item} is some = absurd (cc)
+        begin_by (λ h. absurd (cc (ap is_some h.1, may.stands)))
+        (fits_ending Beginning may.on_time.0.0) may.on_time.0.1 (ending Beginning may.on_time.0.0 d)
 
     iterates : runs ≡ Some (record { doing = Iterating; first = y.first }) → y.tick ≡ y.first + pace.iter → DelayAt base zs y.tick
         → y.tick ≤ base + (spent pace.read pace.iter (busy_after shape zs) (made_after shape zs) + pace.iter)

@@ -1,8 +1,8 @@
 -- A read is read or lost in time.
-use Rattle.std.proofs.Common.{◌≡◌, ◌≢◌, ℕ, ◌+◌, ◌*◌, ◌<◌, ◌≤◌, ◌==◌, ◌&&◌, ◌||◌, inl, inr, not, Bool, true, false, List, [], ◌∷◌, ◌++◌, Option, Some, None, length, refl, sym, ap, ◌∙◌, subst, arith, cond, append_assoc}
+use Rattle.std.proofs.Common.{◌≡◌, ◌≢◌, ℕ, ◌+◌, ◌*◌, ◌<◌, ◌≤◌, ◌==◌, ◌||◌, inl, inr, not, Bool, true, false, List, [], ◌∷◌, ◌++◌, Option, Some, None, length, refl, sym, ap, ◌∙◌, subst, arith, cond, append_assoc}
 use Rattle.std.specs.Prelude.{nat_le, nat_lt, max}
 use Rattle.std.specs.List.{list_any}
-use Rattle.std.proofs.lemmas.Bool.{le-leb, lt-ltb, eq-eqb, or_from}
+use Rattle.std.proofs.lemmas.Bool.{le-leb, lt-ltb, eq-eqb, or_from, and_from}
 use Rattle.std.proofs.lemmas.List.Folds.{list_any-append, list_all-append}
 use Rattle.result_rows.specs.declared.Outcome.{Outcome}
 use Rattle.result_rows.specs.declared.Outcome.TheVariants as out
@@ -42,14 +42,14 @@ use Rattle.bank_laws.proofs.Answering.{IsFirst, served-first}
 use Rattle.bank_laws.proofs.Walking.{Passes, walk, rows_after}
 use Rattle.bank_laws.proofs.Ending.{Onwards, own_answer}
 use Rattle.bank_laws.proofs.Serves.{may_at, onwards_at, idle-waits}
-use Rattle.bank_laws.proofs.Waiting.{waits_length}
+use Rattle.bank_laws.proofs.Waiting.{waits_length, cancels-none, settled_all}
 use Rattle.tick_laws.specs.TickLaws.{reads_in_time, ReadTimeLaw, count_found, rows_behind, ends_by, FewCancelsLaw}
 use Rattle.tick_laws.proofs.Actions.{since, since-up, FitsAll, running_at-fits}
 use Rattle.tick_laws.proofs.Settings.{SetAt, row_set, setting, unset_before, unset_waits}
 use Rattle.tick_laws.proofs.Turns.{turn, turn-some, turn-new, NotEarly, not_early-new, owes, owes-most}
 use Rattle.tick_laws.proofs.Waits.{Turn, TurnAt, turn_at, TurnBy, step, work_time, few_times, fits_ending, ending, at_end, at_cut, some-reads}
 use Rattle.tick_laws.proofs.Tallies.{stores_by}
-use Rattle.tick_laws.proofs.Cancelling.{stored_at, pending_cancel, idle_few, idle_runs}
+use Rattle.tick_laws.proofs.Cancelling.{stored_at, pending_cancel, idle_few, idle_runs, gives}
 use Rattle.tick_laws.proofs.Afterwards.{none-below, first-behind, rows_after-append, late-cuts}
 
 module _ {n : ℕ} where
@@ -67,19 +67,13 @@ module _ {n : ℕ} where
   in_time rules a most before after (out.Full at) same h = refl
   in_time rules a most before after (out.Worn at) same h = refl
   in_time rules a most before after (out.Read u place bytes) same h =
-      both (nat_le (a + rules.read) u) _ (le-leb (a + rules.read) u h.0) (both (nat_le u (bound rules a before after)) _ (subst (λ k. nat_le u k ≡ true) (sym same) (le-leb u most h.1)) h.2)
-    where
-      both : (a b : Bool) → a ≡ true → b ≡ true → (a && b) ≡ true
-      both true b h k = k
-      both false b h k = h
+      and_from (nat_le (a + rules.read) u) _ (le-leb (a + rules.read) u h.0)
+      (and_from (nat_le u (bound rules a before after)) _
+      (subst (λ k. nat_le u k ≡ true) (sym same) (le-leb u most h.1)) h.2)
   in_time rules a most before after (out.Forwarded at bytes) same h = refl
   in_time rules a most before after (out.Busy at) same h = refl
   in_time rules a most before after (out.Lost u) same h =
-      both (first_cut_at u after) _ h.0 (subst (λ k. nat_lt u k ≡ true) (sym same) (lt-ltb u most h.1))
-    where
-      both : (a b : Bool) → a ≡ true → b ≡ true → (a && b) ≡ true
-      both true b h k = k
-      both false b h k = h
+      and_from (first_cut_at u after) _ h.0 (subst (λ k. nat_lt u k ≡ true) (sym same) (lt-ltb u most h.1))
   in_time rules a most before after (out.Cut at) same h = refl
 
   -- a line write holds up a read that comes no longer than is said
@@ -104,12 +98,21 @@ owes-idle read iter work busy false (Some action) h = by action.doing h
     by Beginning h = absurd (cc)
     by Iterating h = absurd (cc)
 
--- a read that would cancel finds none that waits
-would_find : (a b c d : Bool) → (a && (b && (c && d))) ≡ true → c ≡ true
-would_find true true true d h = refl
-would_find true true false d h = absurd (cc)
-would_find true false c d h = absurd (cc)
-would_find false b c d h = absurd (cc)
+-- where a read that came drops the action that runs, none is left, which fits
+drop_or : {n m : ℕ} (shape : BankShape) (pace : Pace) (ys : List (TimedEvent n m)) (b : Bool)
+    (runs : Option Action)
+    → FitsAll shape pace ys runs
+    → FitsAll shape pace ys (cond b None runs)
+drop_or shape pace ys true runs f = tt
+drop_or shape pace ys false runs f = f
+
+-- a read has an outcome where none waits in the end
+ended_read : {n m : ℕ} (shape : BankShape) (pace : Pace) (e : ℕ) (all : List (TimedEvent n m)) (row : ℕ)
+    (owed : List ℕ)
+    → waits shape (core all) ≡ []
+    → ReadFate shape all row owed → outcome_of shape all row ≢ out.Unset
+ended_read {n} shape pace e all row owed idle fate un =
+    subst (λ (o : Outcome n). IsSettled owed o) un (settled_all shape pace e all row owed idle fate)
 
 uncancelled : {n m : ℕ} (shape : BankShape) (pace : Pace) (e : ℕ) (zs : List (TimedEvent n m)) (s : TimedEvent n m) (h : Happens n) (row : ℕ) → MayCome shape pace e zs s h → has_wait (waits shape (core zs)) row ≡ true → s.cancels ≡ false
 uncancelled shape pace e zs s (Core (Write at line bytes given answer)) row may there = may.on_time.1
@@ -121,7 +124,8 @@ uncancelled shape pace e zs s (Regs (KeepBegin answer)) row may there = may.on_t
 uncancelled shape pace e zs s (Regs (KeepIterate answer)) row may there = may.on_time.1
 uncancelled shape pace e zs s (Regs (KeepCut tearing)) row may there =
     let none : is_empty (waits shape (core zs)) ≡ true =
-    would_find (is_cancelling pace.policy) (is_writing (running_at shape pace zs s.tick)) (is_empty (waits shape (core zs))) (nat_lt (cancels_after zs) most_cancels) may.on_time.3 in
+    cancels-none (is_cancelling pace.policy) (is_writing (running_at shape pace zs s.tick))
+    (is_empty (waits shape (core zs))) (nat_lt (cancels_after zs) most_cancels) may.on_time.3 in
     let some : not (is_empty (waits shape (core zs))) ≡ true = some-reads (waits shape (core zs)) row there in
     absurd (cc (ap not none, some))
 uncancelled shape pace e zs s (Core (Cut tearing)) row may there = by s.cancels may.on_time.2
@@ -129,7 +133,8 @@ uncancelled shape pace e zs s (Core (Cut tearing)) row may there = by s.cancels 
     by : (b : Bool) → (b ≡ true → would_cancel shape (core zs) pace.policy (running_at shape pace zs s.tick) (cancels_after zs) ≡ true) → b ≡ false
     by true would =
         let none : is_empty (waits shape (core zs)) ≡ true =
-        would_find (is_cancelling pace.policy) (is_writing (running_at shape pace zs s.tick)) (is_empty (waits shape (core zs))) (nat_lt (cancels_after zs) most_cancels) (would refl) in
+        cancels-none (is_cancelling pace.policy) (is_writing (running_at shape pace zs s.tick))
+        (is_empty (waits shape (core zs))) (nat_lt (cancels_after zs) most_cancels) (would refl) in
         let some : not (is_empty (waits shape (core zs))) ≡ true = some-reads (waits shape (core zs)) row there in
         absurd (cc (ap not none, some))
     by false would = refl
@@ -204,12 +209,10 @@ module _ {n m : ℕ} (shape : BankShape) (pace : Pace) (e : ℕ) (all : List (Ti
           omega (arith, low, end),
           omega (arith, high, end),
           list_all-append (λ (q : Row n). not (is_cut q) || nat_le s.tick q.tick) (mids ++ []) lates
-              ∙ two _ _ (list_all-append (λ (q : Row n). not (is_cut q) || nat_le s.tick q.tick) mids [] ∙ two _ _ (none-below s.tick mids none) refl) late,
+              ∙ and_from _ _
+              (list_all-append (λ (q : Row n). not (is_cut q) || nat_le s.tick q.tick) mids []
+              ∙ and_from _ _ (none-below s.tick mids none) refl) late,
         )
-      where
-        two : (a b : Bool) → a ≡ true → b ≡ true → (a && b) ≡ true
-        two true b h k = k
-        two false b h k = h
     at_event (Core (Begin (did.Stored at place))) o may whole there none late t is = as_set (Core (Begin (did.Stored at place))) _ o (row_set at row _ o is).1 tt
     at_event (Core (Begin did.More)) o may whole there none late t is = absurd (cc)
     at_event (Core (Begin (did.Moved move))) o may whole there none late t is = absurd (cc)
@@ -283,10 +286,6 @@ module _ {n m : ℕ} (shape : BankShape) (pace : Pace) (e : ℕ) (all : List (Ti
       most : ℕ
       most = x.tick + delay (rules_of e shape pace) pace.policy x.tick (rows_from shape all ys) (rows_after shape all later) + (length (waits shape (core ys)) + 1) * pace.read
 
-      drop_or : (b : Bool) → FitsAll shape pace ys runs → FitsAll shape pace ys (cond b None runs)
-      drop_or true f = tt
-      drop_or false f = f
-
       bound-is : length (waiting x.tick [] (rows_from shape all ys)) ≡ length (waits shape (core ys)) → bound (rules_of e shape pace) x.tick (rows_from shape all ys) (rows_after shape all later) ≡ most
       bound-is count = ap (λ k. x.tick + delay (rules_of e shape pace) pace.policy x.tick (rows_from shape all ys) (rows_after shape all later) + (k + 1) * pace.read) count
 
@@ -313,17 +312,17 @@ module _ {n m : ℕ} (shape : BankShape) (pace : Pace) (e : ℕ) (all : List (Ti
           in_time (rules_of e shape pace) x.tick most (rows_from shape all ys) (rows_after shape all later) (outcome_of shape all row) (bound-is (count refl))
           (go most row (newest (core ys) line) waits_on
           (record {
-            low = not_early-new x.tick row (gives_way pace.policy) (busy_after shape ys) (waits shape (core ys)) v (cond drops None runs) new (drop_or drops (running_at-fits shape pace e ys x.tick));
+            low =
+                not_early-new x.tick row (gives_way pace.policy) (busy_after shape ys)
+                (waits shape (core ys)) v (cond drops None runs) new
+                (drop_or shape pace ys drops runs (running_at-fits shape pace e ys x.tick));
             high = sums _ _ _ x.tick (delay (rules_of e shape pace) pace.policy x.tick (rows_from shape all ys) (rows_after shape all later)) ((length (waits shape (core ys)) + 1) * pace.read) _ top
                 (delay-most (rules_of e shape pace) pace.policy x.tick (rows_from shape all ys) (rows_after shape all later) (busy_after shape ys) (cond drops None runs)
                 (λ cancelling few. owes-idle pace.read pace.iter (work_time pace e) (busy_after shape ys) drops runs (free row line cancelling may refl few)))
                 (turn-new pace.read row (waits shape (core ys)) v new refl);
           })
-          (ended_read row (newest (core ys) line) (on.reads row (newest (core ys) line) (inl waits_on))))
-        where
-          ended_read : (row : ℕ) (owed : List ℕ) → ReadFate shape all row owed → outcome_of shape all row ≢ out.Unset
-          ended_read row owed (inl a) un = subst (λ ws. Awaits ws row owed) idle a
-          ended_read row owed (inr s) un = subst (λ (o : Outcome n). IsSettled owed o) un s
+          (ended_read shape pace e all row (newest (core ys) line) idle
+          (on.reads row (newest (core ys) line) (inl waits_on))))
       by (Core (Serve answer)) cancels may on count top free go = tt
       by (Regs event) cancels may on count top free go = tt
       by (Core (Begin answer)) cancels may on count top free go = tt
@@ -358,17 +357,8 @@ module _ {n m : ℕ} (shape : BankShape) (pace : Pace) (e : ℕ) (all : List (Ti
       most : ℕ
       most = x.tick + (length (waits shape (core ys)) + 1) * pace.read
 
-      drop_or : (b : Bool) → FitsAll shape pace ys runs → FitsAll shape pace ys (cond b None runs)
-      drop_or true f = tt
-      drop_or false f = f
-
       ways : gives_way pace.policy ≡ true
-      ways = by_policy pace.policy cancelling
-        where
-          by_policy : (p : Policy) → is_cancelling p ≡ true → gives_way p ≡ true
-          by_policy Pause is = absurd (cc)
-          by_policy Plain is = absurd (cc)
-          by_policy Cancel is = refl
+      ways = gives pace.policy cancelling
 
       row_of : Happens n → ℕ
       row_of (Core (Read at line answer)) = at
@@ -393,14 +383,14 @@ module _ {n m : ℕ} (shape : BankShape) (pace : Pace) (e : ℕ) (all : List (Ti
           subst (λ k. InTime pace.read x.tick most (rows_after shape all later) (outcome_of shape all k)) (ap row_of is)
           (go most at (newest (core ys) on) waits_on
           (record {
-            low = not_early-new x.tick at (gives_way pace.policy) (busy_after shape ys) (waits shape (core ys)) v (cond drops None runs) new (drop_or drops (running_at-fits shape pace e ys x.tick));
+            low =
+                not_early-new x.tick at (gives_way pace.policy) (busy_after shape ys)
+                (waits shape (core ys)) v (cond drops None runs) new
+                (drop_or shape pace ys drops runs (running_at-fits shape pace e ys x.tick));
             high = sum_few _ _ _ x.tick ((length (waits shape (core ys)) + 1) * pace.read) _ top none (turn-new pace.read at (waits shape (core ys)) v new refl);
           })
-          (ended_read at (newest (core ys) on) (on_.reads at (newest (core ys) on) (inl waits_on))))
-        where
-          ended_read : (row : ℕ) (owed : List ℕ) → ReadFate shape all row owed → outcome_of shape all row ≢ out.Unset
-          ended_read row owed (inl a) un = subst (λ ws. Awaits ws row owed) idle a
-          ended_read row owed (inr s) un = subst (λ (o : Outcome n). IsSettled owed o) un s
+          (ended_read shape pace e all at (newest (core ys) on) idle
+          (on_.reads at (newest (core ys) on) (inl waits_on))))
       by (Core (Serve answer)) is may on_ top go = absurd (cc)
       by (Regs event) is may on_ top go = absurd (cc)
       by (Core (Begin answer)) is may on_ top go = absurd (cc)
@@ -412,16 +402,10 @@ read_time_law n m e shape pace xs sized l idle =
     walk shape xs (reads_in_time (rules_of e shape pace)) [] xs refl (read_at shape pace e xs sized.read sized.iter l (idle-waits shape pace xs idle))
 
 ends-by : {n : ℕ} (read a most : ℕ) (after : List (Row n)) (o : Outcome n) → InTime read a most after o → ends_by read a most o after ≡ true
-ends-by read a most after (out.Read u place bytes) h = both (nat_le (a + read) u) _ (le-leb (a + read) u h.0) (both (nat_le u most) _ (le-leb u most h.1) h.2)
-  where
-    both : (a b : Bool) → a ≡ true → b ≡ true → (a && b) ≡ true
-    both true b h k = k
-    both false b h k = h
-ends-by read a most after (out.Lost u) h = both (first_cut_at u after) _ h.0 (lt-ltb u most h.1)
-  where
-    both : (a b : Bool) → a ≡ true → b ≡ true → (a && b) ≡ true
-    both true b h k = k
-    both false b h k = h
+ends-by read a most after (out.Read u place bytes) h =
+    and_from (nat_le (a + read) u) _ (le-leb (a + read) u h.0)
+    (and_from (nat_le u most) _ (le-leb u most h.1) h.2)
+ends-by read a most after (out.Lost u) h = and_from (first_cut_at u after) _ h.0 (lt-ltb u most h.1)
 ends-by read a most after out.Unset h = refl
 ends-by read a most after (out.Stored at place) h = refl
 ends-by read a most after (out.Merged at) h = refl

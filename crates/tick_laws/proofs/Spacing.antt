@@ -1,7 +1,7 @@
 -- A bank does one action at a time, and serves its reads in the order of their rows.
 use Rattle.std.proofs.Common.{◌≡◌, ℕ, ◌+◌, ◌<◌, ◌≤◌, ◌==◌, ◌⊎◌, inl, inr, not, Bool, true, false, List, [], ◌∷◌, ◌++◌, Some, None, drop, refl, sym, ap, ◌∙◌, arith, cond, eqb, eqb-true}
 use Rattle.std.specs.Prelude.{unwrap_or, nat_le}
-use Rattle.std.proofs.lemmas.Bool.{le-leb, ne_eqb, eq-eqb, or_left, or_right}
+use Rattle.std.proofs.lemmas.Bool.{le-leb, ne_eqb, eq-eqb, or_left, or_right, leb-true, leb-false}
 use Rattle.result_rows.specs.declared.Outcome.{Outcome}
 use Rattle.result_rows.specs.declared.Outcome.TheVariants as out
 use Rattle.row_rules.specs.Ticking.{apart}
@@ -39,14 +39,8 @@ module _ {n : ℕ} where
   waits_rise shape (Read row line came.Waiting ∷ h) next b =
       rising-push (waits shape h) _ (waits_rise shape h row b.1)
       (λ other there. either (nat_le row other)
-      (λ up. absurd (cc ((stand_apart shape h row b.1).waiting_below other (leb_up row other up), there)))
-      (λ down. leb_down row other down))
-    where
-      leb_up : (a b : ℕ) → nat_le a b ≡ true → a ≤ b
-      leb_up a b h = grind arith
-
-      leb_down : (a b : ℕ) → nat_le a b ≡ false → b < a
-      leb_down a b h = grind arith
+      (λ up. absurd (cc ((stand_apart shape h row b.1).waiting_below other (leb-true row other up), there)))
+      (λ down. leb-false row other down))
   waits_rise shape (Read row line came.Busy ∷ h) next b = waits_rise shape h row b.1
   waits_rise shape (Read row line (came.Forwarded bytes) ∷ h) next b = waits_rise shape h row b.1
   waits_rise shape (Serve answer ∷ h) next b = rest (waits shape h) (waits_rise shape h next b)

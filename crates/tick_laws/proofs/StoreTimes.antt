@@ -38,7 +38,8 @@ use Rattle.bank_laws.proofs.Counting.{among, hits}
 use Rattle.bank_laws.proofs.Wears.{exhausted-stores_none}
 use Rattle.bank_laws.proofs.Waiting as waiting
 use Rattle.bank_laws.proofs.Waiting.{waits-asked}
-use Rattle.bank_laws.proofs.Pending.{writes_in, write_rows, queue-asked, last-later}
+use Rattle.bank_laws.proofs.Pending.{writes_in, write_rows, queue-asked}
+use Rattle.bank_laws.proofs.Later.{last-later}
 use Rattle.tick_laws.proofs.Actions.{since-up}
 use Rattle.tick_laws.proofs.Settings.{SetAt, row_set, setting, unset_before, unset_stands}
 use Rattle.tick_laws.proofs.Waits.{work_time}

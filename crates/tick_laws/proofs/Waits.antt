@@ -29,6 +29,7 @@ use Rattle.bank_laws.proofs.Standing.{stand_apart}
 use Rattle.bank_laws.proofs.Settling.{above_all}
 use Rattle.tick_laws.proofs.Actions.{since, since-started, since_of, reads_of, Fits, FitsAll, running_at-fits, iterated-few}
 use Rattle.tick_laws.proofs.Turns.{turn, turn-push, turn-served, owed_by, owes, paid, chosen-reads, owes-started, NotEarly, started-not_early, not_early-push}
+use Rattle.masked_bytes.proofs.Truth.{and_first}
 
 module _ (read iter work bound : ℕ) where
   after_begin : (way busy next : Bool) (count first t : ℕ) → busy ≡ false → first + owed_by read iter work way Beginning + t ≤ bound + paid iter way busy count
@@ -238,12 +239,8 @@ module _ {n m : ℕ} (shape : BankShape) (pace : Pace) (e : ℕ) where
         at_read line (drops_begin shape (core zs) (change_after shape zs) line (running_at shape pace zs y.tick)) (running_at shape pace zs y.tick) _
         (begun (change_after shape zs)) may.on_time.0.2 (running_at-fits shape pace e zs y.tick) there t
       where
-        first_both : (a b : Bool) → (a && b) ≡ true → a ≡ true
-        first_both true b h = refl
-        first_both false b h = h
-
         begun : (change : Option ℕ) → drops_begin shape (core zs) change line (running_at shape pace zs y.tick) ≡ true → is_doing Beginning (running_at shape pace zs y.tick) ≡ true
-        begun None h = first_both (is_doing Beginning (running_at shape pace zs y.tick)) _ h
+        begun None h = and_first (is_doing Beginning (running_at shape pace zs y.tick)) _ h
         begun (Some item) h = absurd (cc)
     step (Core (Read at line came.Busy)) may there still t = record { low = t.low; high = t.high }
     step (Core (Read at line (came.Forwarded bytes))) may there still t = record { low = t.low; high = t.high }
