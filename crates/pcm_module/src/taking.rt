@@ -61,13 +61,7 @@ impl<const B: usize, const M: usize, const E: usize> Module<B, M, E> {
         match event.op {
             EventOp::Read(line) => self.read(array, event.tick, row, line, results),
             EventOp::Write(line, bytes) => {
-                let given = [true; B];
-                let entry = Entry {
-                    row,
-                    line,
-                    bytes,
-                    given,
-                };
+                let entry = Entry::whole(row, line, &bytes);
                 self.write(array, event.tick, entry, results);
             }
             EventOp::Mask(line, bytes, given) => {

@@ -11,7 +11,8 @@ pub write-requires : goal.write-requires
 write-requires g c =
     let layout = c.self.invariant.layout in
     let op = op_for (total_of c.args.self.now.shape) c.args.event.now (Write c.in-Write.line c.in-Write.bytes) c.in-Write.is c.requires.event.op in
-    let some : 0 < g.row.B = omega (arith, layout.shape.0) in (
+    let some : 0 < g.row.B = omega (arith, layout.shape.0) in
+    rw c.whole-entry.ensures.entry (
       module_fits,
       (
         entry_fits g.row.B layout.shape.1,
@@ -43,7 +44,7 @@ returns-in-Read-clause-replays g c =
 
 pub returns-in-Write-clause-replays : goal.returns-in-Write-clause-replays
 returns-in-Write-clause-replays g c =
-    replays_event c.args.row c.args.event.now (Write c.in-Write.line c.in-Write.bytes) c.args.self.now c.write.new.self (g.A.CellArray.state c.args.array.now) (g.A.CellArray.state c.write.new.array) c.args.results.now c.write.new.results c.in-Write.is c.write.ensures.takes
+    replays_event c.args.row c.args.event.now (Write c.in-Write.line c.in-Write.bytes) c.args.self.now c.write.new.self (g.A.CellArray.state c.args.array.now) (g.A.CellArray.state c.write.new.array) c.args.results.now c.write.new.results c.in-Write.is (rw c.whole-entry.ensures.entry at c.write.ensures.takes)
 
 pub returns-in-Mask-clause-replays : goal.returns-in-Mask-clause-replays
 returns-in-Mask-clause-replays g c =
@@ -81,31 +82,31 @@ pub returns-in-Read-clause-going : goal.returns-in-Read-clause-going
 returns-in-Read-clause-going g c = c.read.ensures.takes.going ∙ c.requires.going
 
 pub returns-in-Write-clause-shape : goal.returns-in-Write-clause-shape
-returns-in-Write-clause-shape g c = c.write.ensures.takes.shape
+returns-in-Write-clause-shape g c = (rw c.whole-entry.ensures.entry at c.write.ensures.takes).shape
 
 pub returns-in-Write-clause-seed : goal.returns-in-Write-clause-seed
-returns-in-Write-clause-seed g c = c.write.ensures.takes.seed
+returns-in-Write-clause-seed g c = (rw c.whole-entry.ensures.entry at c.write.ensures.takes).seed
 
 pub returns-in-Write-clause-tick : goal.returns-in-Write-clause-tick
-returns-in-Write-clause-tick g c = c.write.ensures.takes.tick
+returns-in-Write-clause-tick g c = (rw c.whole-entry.ensures.entry at c.write.ensures.takes).tick
 
 pub returns-in-Write-clause-rows : goal.returns-in-Write-clause-rows
-returns-in-Write-clause-rows g c = c.write.ensures.takes.rows
+returns-in-Write-clause-rows g c = (rw c.whole-entry.ensures.entry at c.write.ensures.takes).rows
 
 pub returns-in-Write-clause-table : goal.returns-in-Write-clause-table
-returns-in-Write-clause-table g c = c.write.ensures.takes.table
+returns-in-Write-clause-table g c = (rw c.whole-entry.ensures.entry at c.write.ensures.takes).table
 
 pub returns-in-Write-clause-open : goal.returns-in-Write-clause-open
-returns-in-Write-clause-open g c = c.write.ensures.takes.open_rows
+returns-in-Write-clause-open g c = (rw c.whole-entry.ensures.entry at c.write.ensures.takes).open_rows
 
 pub returns-in-Write-clause-others : goal.returns-in-Write-clause-others
-returns-in-Write-clause-others g c = c.write.ensures.takes.others
+returns-in-Write-clause-others g c = (rw c.whole-entry.ensures.entry at c.write.ensures.takes).others
 
 pub returns-in-Write-clause-stays : goal.returns-in-Write-clause-stays
-returns-in-Write-clause-stays g c = c.write.ensures.takes.stays
+returns-in-Write-clause-stays g c = (rw c.whole-entry.ensures.entry at c.write.ensures.takes).stays
 
 pub returns-in-Write-clause-going : goal.returns-in-Write-clause-going
-returns-in-Write-clause-going g c = c.write.ensures.takes.going ∙ c.requires.going
+returns-in-Write-clause-going g c = (rw c.whole-entry.ensures.entry at c.write.ensures.takes).going ∙ c.requires.going
 
 pub returns-in-Mask-clause-shape : goal.returns-in-Mask-clause-shape
 returns-in-Mask-clause-shape g c = c.write-in-Mask.ensures.takes.shape
