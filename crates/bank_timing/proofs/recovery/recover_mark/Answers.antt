@@ -47,3 +47,21 @@ returns-else-values-ne0-clause-kept g c = λ kept is on.
     let values = read g (goal.at.returns-else-values-ne0-clause-kept g c).After-read_item-values kept is on in
     ap (λ (k : KeptState g.row.B). with_kept c.args.bank.now k)
     (passes-mark kept on.in_range c.args.bank.now.kept c.read_item-values.result is values c.if-values-ne0.false)
+
+pub shape-shape-requires : goal.shape-shape-requires
+shape-shape-requires g c = grind arith
+
+pub overflow_add-shape : goal.overflow_add-shape
+overflow_add-shape g c = grind arith
+
+pub read_item-values-requires : goal.read_item-values-requires
+read_item-values-requires g c = grind arith
+
+pub bounds-values-0 : goal.bounds-values-0
+bounds-values-0 g c = grind arith
+
+pub returns-then-values-ne0-clause-touches : goal.returns-then-values-ne0-clause-touches
+returns-then-values-ne0-clause-touches g c = grind arith
+
+pub returns-else-values-ne0-clause-touches : goal.returns-else-values-ne0-clause-touches
+returns-else-values-ne0-clause-touches g c = grind arith

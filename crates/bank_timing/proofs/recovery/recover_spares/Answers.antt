@@ -85,3 +85,24 @@ returns-clause-touches g c =
     let shape : c.shape-shape.result.now ≡ c.args.bank.now.kept.shape = c.shape-shape.ensures.shape ∙ ap (λ (k : KeptState g.row.B). k.shape) c.kept.ensures.kept in
     let end : c.loop-j.j ≡ c.args.bank.now.kept.shape.spares = omega (arith, c.loop-j-test.false, c.loop-j.auto.j-end, ap (λ (s : BankShape). s.spares) shape) in
     subst (λ (k : ℕ). Touches c.args.tick (numbers_from (c.args.regs.now.base + c.args.bank.now.kept.shape.regions) k) None false (g.A.CellArray.state c.args.array.now) (g.A.CellArray.state c.loop-j.array)) end c.loop-j.invariant.1
+
+pub shape-shape-requires : goal.shape-shape-requires
+shape-shape-requires g c = grind arith
+
+pub overflow_add-shape : goal.overflow_add-shape
+overflow_add-shape g c = grind arith
+
+pub read_item-values-requires : goal.read_item-values-requires
+read_item-values-requires g c = grind arith
+
+pub bounds-values-0 : goal.bounds-values-0
+bounds-values-0 g c = grind arith
+
+pub bounds-values-0-then-values-ne0 : goal.bounds-values-0-then-values-ne0
+bounds-values-0-then-values-ne0 g c = grind arith
+
+pub overflow_sub-values : goal.overflow_sub-values
+overflow_sub-values g c = grind arith
+
+pub loop-j-smaller : goal.loop-j-smaller
+loop-j-smaller g c = grind arith

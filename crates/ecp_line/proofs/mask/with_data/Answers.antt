@@ -10,3 +10,9 @@ returns-clause-data g c n low =
 pub returns-clause-check : goal.returns-clause-check
 returns-clause-check g c n high =
     cell-meta (record { bits = c.copy_from_slice.new.self; meta = c.args.row.now.meta }) n (omega arith) high ∙ sym (cell-meta c.args.row.now n (omega arith) high)
+
+pub copy_from_slice-requires : goal.copy_from_slice-requires
+copy_from_slice-requires g c = grind arith
+
+pub returns-clause-bytes : goal.returns-clause-bytes
+returns-clause-bytes g c = grind arith

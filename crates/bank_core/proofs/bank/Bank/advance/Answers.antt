@@ -32,6 +32,17 @@ done-requires g c =
     let start = ready c.args.self.now view (g.A.CellArray.state c.args.array.now) (running_of c.in-Some.running) same c.self.invariant.in_range c.requires.tied is in
     (search rules, (subst (λ (w : Work). IsTrue (is_some_work w)) (sym c.step-progress.ensures.step.work) start.some, c.step-progress.ensures.step.work ∙ start.next))
 
+pub slot_written-slot-requires : goal.slot_written-slot-requires
+slot_written-slot-requires g c =
+    let few : g.row.B ≤ 128 = c.self.invariant.few_bytes in
+    let layout : IsLayout g.row.B g.row.M g.row.E = c.self.invariant.layout in
+    let view : BankState g.row.B g.row.M g.row.E = record { kept = c.self.inside.kept; running = operation_of c.self.inside.running; waiting = c.self.inside.waiting.items; lost = c.self.inside.lost.items; rows_below = c.self.inside.rows_below } in
+    let same : c.args.self.now ≡ view = cc in
+    let value : c.self.inside.running ≡ Some c.in-Some.running = cc in
+    let is : view.running ≡ Some (running_of c.in-Some.running) = ap (λ r. operation_of r) value in
+    let start = ready c.args.self.now view (g.A.CellArray.state c.args.array.now) (running_of c.in-Some.running) same c.self.invariant.in_range c.requires.tied is in
+    (search rules, c.step-progress.ensures.step.work ∙ start.next)
+
 pub worn-requires : goal.worn-requires
 worn-requires g c =
     let few : g.row.B ≤ 128 = c.self.invariant.few_bytes in
@@ -63,3 +74,18 @@ returns-in-Stored-clause-in_range g c = grind arith
 
 pub returns-in-Worn-clause-in_range : goal.returns-in-Worn-clause-in_range
 returns-in-Worn-clause-in_range g c = grind arith
+
+pub unreachable-requires : goal.unreachable-requires
+unreachable-requires g c = grind arith
+
+pub unreachable-unreachable : goal.unreachable-unreachable
+unreachable-unreachable g c = grind arith
+
+pub invariant_of-self : goal.invariant_of-self
+invariant_of-self g c = grind arith
+
+pub invariant_of-self-in-Stored : goal.invariant_of-self-in-Stored
+invariant_of-self-in-Stored g c = grind arith
+
+pub invariant_of-self-in-Worn : goal.invariant_of-self-in-Worn
+invariant_of-self-in-Worn g c = grind arith

@@ -57,3 +57,6 @@ returns-clause-ran g c = grind arith
 
 pub returns-clause-rests : goal.returns-clause-rests
 returns-clause-rests g c = grind arith
+
+pub next_action-requires : goal.next_action-requires
+next_action-requires g c = timed_fits g.row.B g.row.M g.row.E c.self.invariant.layout

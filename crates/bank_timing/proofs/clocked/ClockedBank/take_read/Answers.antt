@@ -1,7 +1,7 @@
 use Rattle.std.proofs.Common.{arith, ◌≡◌, sym, ◌∙◌}
 use Rattle.bank_shape.specs.declared.answer.ReadAnswer.{ReadAnswer}
 use Rattle.bank_shape.specs.declared.answer.ReadAnswer.TheVariants as came
-use Rattle.bank_timing.proofs.Sizes.{bank_fits, outcome_fits, read_fits, row_fits}
+use Rattle.bank_timing.proofs.Sizes.{bank_fits, outcome_fits, read_fits, row_fits, timed_fits}
 use Rattle.bank_timing.proofs.Views.{clock_of}
 use Rattle.bank_timing.proofs.ReadArrivals.{TakesRead, read-extends, read-unset, read-others, read-clock, read-bound}
 use Rattle.bank_timing.proofs.clocked.ClockedBank.take_read.Given.{Over}
@@ -99,3 +99,6 @@ returns-in-Busy-clause-now g c = grind arith
 
 pub returns-in-Busy-clause-drained : goal.returns-in-Busy-clause-drained
 returns-in-Busy-clause-drained g c = grind arith
+
+pub begins_store_of-drops-requires : goal.begins_store_of-drops-requires
+begins_store_of-drops-requires g c = timed_fits g.row.B g.row.M g.row.E c.self.invariant.layout

@@ -26,3 +26,27 @@ returns-clause-bits g c x low = sym (cell-bits c.loop-entry.row x (omega arith) 
 
 pub returns-clause-bytes : goal.returns-clause-bytes
 returns-clause-bytes g c = decode-is g.row.E c.args.cells.now c.loop-entry.row.bits (omega arith) c.are_bytes.ensures (returns-clause-bits g c)
+
+pub active-entry-end-requires : goal.active-entry-end-requires
+active-entry-end-requires g c = grind arith
+
+pub pointer_of-bit-requires : goal.pointer_of-bit-requires
+pointer_of-bit-requires g c = grind arith
+
+pub replacement_cell-requires-clause-layout : goal.replacement_cell-requires-clause-layout
+replacement_cell-requires-clause-layout g c = grind arith
+
+pub replacement_cell-requires-clause-exists : goal.replacement_cell-requires-clause-exists
+replacement_cell-requires-clause-exists g c = grind arith
+
+pub get-requires : goal.get-requires
+get-requires g c = grind arith
+
+pub set-requires : goal.set-requires
+set-requires g c = grind arith
+
+pub loop-entry-smaller : goal.loop-entry-smaller
+loop-entry-smaller g c = grind arith
+
+pub are_bytes-requires : goal.are_bytes-requires
+are_bytes-requires g c = grind arith

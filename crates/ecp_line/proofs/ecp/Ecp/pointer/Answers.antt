@@ -34,3 +34,30 @@ returns g c =
           c.pointer_cell-first.ensures size c.loop-digit.invariant.masked;
       others = c.loop-digit.invariant.others;
     }
+
+pub zero-mask-requires : goal.zero-mask-requires
+zero-mask-requires g c = grind arith
+
+pub pointer_cell-first-requires-clause-layout : goal.pointer_cell-first-requires-clause-layout
+pointer_cell-first-requires-clause-layout g c = grind arith
+
+pub pointer_cell-first-requires-clause-exists : goal.pointer_cell-first-requires-clause-exists
+pointer_cell-first-requires-clause-exists g c = grind arith
+
+pub width-digit-end-requires : goal.width-digit-end-requires
+width-digit-end-requires g c = grind arith
+
+pub overflow_add-first : goal.overflow_add-first
+overflow_add-first g c = grind arith
+
+pub set-requires : goal.set-requires
+set-requires g c = grind arith
+
+pub overflow_add-first-in-loop-digit : goal.overflow_add-first-in-loop-digit
+overflow_add-first-in-loop-digit g c = grind arith
+
+pub set-requires-in-loop-digit : goal.set-requires-in-loop-digit
+set-requires-in-loop-digit g c = grind arith
+
+pub loop-digit-smaller : goal.loop-digit-smaller
+loop-digit-smaller g c = grind arith

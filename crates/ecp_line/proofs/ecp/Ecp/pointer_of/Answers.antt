@@ -36,3 +36,24 @@ returns-clause-within g c =
     c.loop-digit.invariant ∙ ap (λ (n : ℕ). number (cell c.args.cells.now) n c.loop-digit.digit) c.pointer_cell-first.ensures
     ∙ ap (λ (n : ℕ). number (cell c.args.cells.now) (pointer_cell g.row.B c.args.entry) n) (let w = c.width-digit-end.ensures in let top = c.loop-digit-test.false in let auto = c.loop-digit.auto.digit-end in omega arith) in
     omega arith
+
+pub pointer_cell-first-requires-clause-layout : goal.pointer_cell-first-requires-clause-layout
+pointer_cell-first-requires-clause-layout g c = grind arith
+
+pub pointer_cell-first-requires-clause-exists : goal.pointer_cell-first-requires-clause-exists
+pointer_cell-first-requires-clause-exists g c = grind arith
+
+pub width-digit-end-requires : goal.width-digit-end-requires
+width-digit-end-requires g c = grind arith
+
+pub overflow_add-first : goal.overflow_add-first
+overflow_add-first g c = grind arith
+
+pub get-requires : goal.get-requires
+get-requires g c = grind arith
+
+pub loop-digit-smaller : goal.loop-digit-smaller
+loop-digit-smaller g c = grind arith
+
+pub returns-clause-points : goal.returns-clause-points
+returns-clause-points g c = grind arith

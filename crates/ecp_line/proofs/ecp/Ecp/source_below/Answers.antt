@@ -22,3 +22,18 @@ returns-clause-within g c low =
     let room = full-lt g.row.B g.row.M g.row.E c.requires.layout in
     let order = entries-order g.row.B c.loop-entry.entry g.row.E (let e = c.requires.exist in omega arith) in
     let e = c.loop-entry.invariant in omega arith
+
+pub pointer_of-requires : goal.pointer_of-requires
+pointer_of-requires g c = grind arith
+
+pub replacement_cell-source-requires-clause-layout : goal.replacement_cell-source-requires-clause-layout
+replacement_cell-source-requires-clause-layout g c = grind arith
+
+pub replacement_cell-source-requires-clause-exists : goal.replacement_cell-source-requires-clause-exists
+replacement_cell-source-requires-clause-exists g c = grind arith
+
+pub loop-entry-smaller : goal.loop-entry-smaller
+loop-entry-smaller g c = grind arith
+
+pub returns-clause-is : goal.returns-clause-is
+returns-clause-is g c = grind arith

@@ -1,4 +1,4 @@
-use Rattle.std.proofs.Common.{◌∙◌}
+use Rattle.std.proofs.Common.{arith, ◌∙◌}
 use Rattle.pcm_cells.specs.Rows.{cell}
 use Rattle.ecp_line.proofs.Correcting.{wanted-more}
 use Rattle.ecp_line.proofs.ReadRows.{wanted-start}
@@ -16,3 +16,45 @@ loop-entry-preserved g c =
     c.pointer_of-bit.ensures.points c.pointer_of-bit.ensures.within c.source_below-passed.ensures.is c.replacement_cell-source.ensures c.get.ensures
     (c.get-in-loop-entry.ensures ∙ c.with_data-given.ensures.«data» c.pointer_of-bit.result c.pointer_of-bit.ensures.within)
     c.set.ensures c.set-in-loop-entry.ensures c.set-in-loop-entry-2.ensures c.set-in-loop-entry-3.ensures c.loop-entry.invariant
+
+pub with_data-given-requires : goal.with_data-given-requires
+with_data-given-requires g c = grind arith
+
+pub active-entry-end-requires : goal.active-entry-end-requires
+active-entry-end-requires g c = grind arith
+
+pub pointer_of-bit-requires : goal.pointer_of-bit-requires
+pointer_of-bit-requires g c = grind arith
+
+pub source_below-passed-requires : goal.source_below-passed-requires
+source_below-passed-requires g c = grind arith
+
+pub replacement_cell-source-requires-clause-layout : goal.replacement_cell-source-requires-clause-layout
+replacement_cell-source-requires-clause-layout g c = grind arith
+
+pub replacement_cell-source-requires-clause-exists : goal.replacement_cell-source-requires-clause-exists
+replacement_cell-source-requires-clause-exists g c = grind arith
+
+pub get-requires : goal.get-requires
+get-requires g c = grind arith
+
+pub set-requires : goal.set-requires
+set-requires g c = grind arith
+
+pub set-requires-in-loop-entry : goal.set-requires-in-loop-entry
+set-requires-in-loop-entry g c = grind arith
+
+pub get-requires-in-loop-entry : goal.get-requires-in-loop-entry
+get-requires-in-loop-entry g c = grind arith
+
+pub set-requires-in-loop-entry-2 : goal.set-requires-in-loop-entry-2
+set-requires-in-loop-entry-2 g c = grind arith
+
+pub set-requires-in-loop-entry-3 : goal.set-requires-in-loop-entry-3
+set-requires-in-loop-entry-3 g c = grind arith
+
+pub loop-entry-smaller : goal.loop-entry-smaller
+loop-entry-smaller g c = grind arith
+
+pub returns : goal.returns
+returns g c = grind arith

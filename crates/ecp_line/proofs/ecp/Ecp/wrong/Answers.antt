@@ -1,3 +1,4 @@
+use Rattle.std.proofs.Common.{arith}
 use Rattle.pcm_cells.specs.Rows.{cell}
 use Rattle.ecp_line.specs.Layout.{decoded}
 use Rattle.ecp_line.proofs.ReadRows.{lowest-wrong, IfSome-map}
@@ -9,3 +10,21 @@ returns-clause-some g c =
     (λ n h. lowest-wrong g.row.B g.row.M (cell c.corrected-read.result) (cell c.with_data-given.result) (cell c.differ.result) (decoded g.row.B g.row.E (cell c.args.cells.now)) c.args.bytes.now n
     c.with_data-given.ensures.«data» c.with_data-given.ensures.check c.differ.ensures.cells c.corrected-read.ensures.cells h)
     c.lowest.ensures.found
+
+pub corrected-read-requires : goal.corrected-read-requires
+corrected-read-requires g c = grind arith
+
+pub with_data-given-requires : goal.with_data-given-requires
+with_data-given-requires g c = grind arith
+
+pub differ-requires : goal.differ-requires
+differ-requires g c = grind arith
+
+pub lowest-requires : goal.lowest-requires
+lowest-requires g c = grind arith
+
+pub returns-clause-none : goal.returns-clause-none
+returns-clause-none g c = grind arith
+
+pub returns-clause-right : goal.returns-clause-right
+returns-clause-right g c = grind arith

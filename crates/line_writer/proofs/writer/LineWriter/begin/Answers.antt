@@ -57,3 +57,18 @@ returns-clause-bytes g c = grind arith
 
 pub returns-clause-steps : goal.returns-clause-steps
 returns-clause-steps g c = grind arith
+
+pub meet-requires : goal.meet-requires
+meet-requires g c = grind arith
+
+pub is_none-requires : goal.is_none-requires
+is_none-requires g c = grind arith
+
+pub filling-requires : goal.filling-requires
+filling-requires g c = grind arith
+
+pub returns-then-is_none-clause-bytes : goal.returns-then-is_none-clause-bytes
+returns-then-is_none-clause-bytes g c = grind arith
+
+pub returns-then-is_none-clause-steps : goal.returns-then-is_none-clause-steps
+returns-then-is_none-clause-steps g c = grind arith

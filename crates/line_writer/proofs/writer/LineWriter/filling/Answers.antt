@@ -1,4 +1,4 @@
-use Rattle.std.proofs.Common.{sym, ap, subst, inr}
+use Rattle.std.proofs.Common.{arith, sym, ap, subst, inr}
 use Rattle.std.proofs.lemmas.Bool.{both_ways}
 use Rattle.pcm_cells.specs.Rows.{cell}
 use Rattle.program_verify.specs.declared.prog.Prog.{Prog}
@@ -39,3 +39,27 @@ returns-in-Settled-clause-line g c line h =
       },
       subst (λ (p : Progress). HasBegun p) (sym stored) tt,
     )
+
+pub wanted-want-requires : goal.wanted-want-requires
+wanted-want-requires g c = grind arith
+
+pub new-requires : goal.new-requires
+new-requires g c = grind arith
+
+pub status-requires : goal.status-requires
+status-requires g c = grind arith
+
+pub filled-writer-requires : goal.filled-writer-requires
+filled-writer-requires g c = grind arith
+
+pub returns-in-Going-clause-bytes : goal.returns-in-Going-clause-bytes
+returns-in-Going-clause-bytes g c = grind arith
+
+pub returns-in-Going-clause-steps : goal.returns-in-Going-clause-steps
+returns-in-Going-clause-steps g c = grind arith
+
+pub returns-in-Settled-clause-bytes : goal.returns-in-Settled-clause-bytes
+returns-in-Settled-clause-bytes g c = grind arith
+
+pub returns-in-Settled-clause-steps : goal.returns-in-Settled-clause-steps
+returns-in-Settled-clause-steps g c = grind arith

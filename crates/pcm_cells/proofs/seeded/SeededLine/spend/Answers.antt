@@ -126,3 +126,48 @@ pub returns-clause-others : goal.returns-clause-others
 returns-clause-others g c n apart =
     rw (← c.self.view_is)
     (left_kept c.self.inside.spent c.clear.new.self c.self.inside.left c.set_block-2.new.self n (c.set_block-2.ensures.others n apart) (c.clear.ensures.others n apart))
+
+pub invariant_of-self : goal.invariant_of-self
+invariant_of-self g c = c.self.invariant
+
+pub returns-then-full-changing-eq0-clause-line : goal.returns-then-full-changing-eq0-clause-line
+returns-then-full-changing-eq0-clause-line g c = rw (← c.self.view_is) refl
+
+pub returns-then-full-changing-eq0-clause-limits : goal.returns-then-full-changing-eq0-clause-limits
+returns-then-full-changing-eq0-clause-limits g c = rw (← c.self.view_is) refl
+
+pub returns-then-full-changing-eq0-clause-ends : goal.returns-then-full-changing-eq0-clause-ends
+returns-then-full-changing-eq0-clause-ends g c = rw (← c.self.view_is) refl
+
+pub advance-requires-then-calm : goal.advance-requires-then-calm
+advance-requires-then-calm g c =
+    let few_bytes : g.row.B ≤ 128 = c.requires.shape.1 in
+    let few_check : g.row.M ≤ 16 = c.requires.shape.3 in
+    (search rules, (c.requires.whole, (c.requires.exists, λ i low more. rw (c.clear.ensures.here i low) (omega arith))))
+
+pub invariant_of-self-then-calm : goal.invariant_of-self-then-calm
+invariant_of-self-then-calm g c = (
+  c.self.invariant.0,
+  calm_kept c.self.inside.calm (cell c.self.inside.stuck) (count c.self.inside.left) (count c.set_block.new.self) c.args.block c.are_many-calm.result
+      (search rules) c.self.invariant.1
+      (λ many i low live. rw (c.set_block.ensures.here i low) (c.are_many-calm.ensures many i low (c.block-stuck.ensures i low ∙ live)))
+      c.set_block.ensures.others,
+)
+
+pub returns-then-calm-clause-line : goal.returns-then-calm-clause-line
+returns-then-calm-clause-line g c = rw (← c.self.view_is) refl
+
+pub returns-then-calm-clause-limits : goal.returns-then-calm-clause-limits
+returns-then-calm-clause-limits g c = rw (← c.self.view_is) refl
+
+pub returns-then-calm-clause-ends : goal.returns-then-calm-clause-ends
+returns-then-calm-clause-ends g c = rw (← c.self.view_is) refl
+
+pub returns-clause-line : goal.returns-clause-line
+returns-clause-line g c = rw (← c.self.view_is) refl
+
+pub returns-clause-limits : goal.returns-clause-limits
+returns-clause-limits g c = rw (← c.self.view_is) refl
+
+pub returns-clause-ends : goal.returns-clause-ends
+returns-clause-ends g c = rw (← c.self.view_is) refl
