@@ -18,20 +18,23 @@ const SMALL: BankShape = BankShape {
 };
 
 #[test]
+fn a_full_queue_refuses_or_merges(rt: HostRuntime) -> Result<(), Fail> {
+    let mut kept = Kept::new(rt.alloc(), SMALL)?;
+    let first = kept.accept(Entry::whole(1, 0, &[0x11; 128]), false);
+    let in_flight = kept.accept(Entry::whole(2, 0, &[0x22; 128]), true);
+    let behind = kept.accept(Entry::whole(2, 0, &[0x22; 128]), false);
+    assert_eq!(rt;
+        [first, in_flight, behind],
+        [Accept::Pushed, Accept::Full, Accept::Merged { row: 1, index: 0 }]
+    );
+    Ok(())
+}
+
+#[test]
 fn a_store_makes_a_move_due(rt: HostRuntime) -> Result<(), Fail> {
     let mut kept = Kept::new(rt.alloc(), SMALL)?;
-    assert_eq!(rt;
-        kept.accept(Entry::whole(1, 0, &[0x11; 128]), false),
-        Accept::Pushed
-    );
-    assert_eq!(rt;
-        kept.accept(Entry::whole(2, 0, &[0x22; 128]), true),
-        Accept::Full
-    );
-    assert_eq!(rt;
-        kept.accept(Entry::whole(2, 0, &[0x22; 128]), false),
-        Accept::Merged { row: 1, index: 0 }
-    );
+    let _ = kept.accept(Entry::whole(1, 0, &[0x11; 128]), false);
+    let _ = kept.accept(Entry::whole(2, 0, &[0x22; 128]), false);
     assert_eq!(rt; kept.next_work(), Work::Store { line: 0, slot: 0 });
     assert_eq!(rt; kept.stored(), 2);
     let step = Move {
@@ -41,8 +44,7 @@ fn a_store_makes_a_move_due(rt: HostRuntime) -> Result<(), Fail> {
     };
     assert_eq!(rt; kept.next_work(), Work::Copy { region: 0, step });
     kept.moved();
-    assert_eq!(rt; kept.next_work(), Work::Nothing);
-    assert_eq!(rt; kept.slot_of(3), 4);
+    assert_eq!(rt; (kept.next_work(), kept.slot_of(3)), (Work::Nothing, 4));
     Ok(())
 }
 
@@ -50,59 +52,78 @@ fn a_store_makes_a_move_due(rt: HostRuntime) -> Result<(), Fail> {
 fn the_third_retirement_finds_no_spare(rt: HostRuntime) -> Result<(), Fail> {
     let mut kept: Kept<64> = Kept::new(rt.alloc(), SMALL)?;
     assert!(rt; *kept.shape() == SMALL && kept.is_empty());
-    assert_eq!(rt; kept.retire(4), Ok(5));
-    assert_eq!(rt; kept.retire(4), Ok(6));
-    assert!(rt; !kept.exhausted());
-    assert_eq!(rt; kept.retire(0), Err(NoSpare));
-    assert!(rt; kept.exhausted());
-    assert_eq!(rt; (kept.array_line(0), kept.array_line(4)), (0, 6));
-    assert_eq!(rt; (kept.remap().used(), kept.region(0).counter()), (2, 0));
+    let two = [kept.retire(4), kept.retire(4)];
+    let spent = kept.exhausted();
+    let third = kept.retire(0);
+    assert_eq!(rt; (two, spent), ([Ok(5), Ok(6)], false));
+    assert_eq!(rt; (third, kept.exhausted()), (Err(NoSpare), true));
+    let lines = (kept.array_line(0), kept.array_line(4));
+    let counts = (kept.remap().used(), kept.region(0).counter());
+    assert_eq!(rt; (lines, counts), ((0, 6), (2, 0)));
+    Ok(())
+}
+
+const MASKS: BankShape = BankShape {
+    base: 20,
+    writes: 2,
+    psi: 100,
+    ..SMALL
+};
+
+const FIRST: Entry<8> = Entry {
+    row: 1,
+    line: 3,
+    bytes: [10, 11, 0, 0, 0, 0, 0, 0],
+    given: [true, true, false, false, false, false, false, false],
+};
+
+const SECOND: Entry<8> = Entry {
+    row: 2,
+    line: 3,
+    bytes: [0, 21, 22, 0, 0, 0, 0, 0],
+    given: [false, true, true, false, false, false, false, false],
+};
+
+// The row and the bytes of the oldest write.
+fn head(kept: &Kept<8>) -> Option<(u32, [u8; 8])> {
+    match kept.head() {
+        Some(entry) => Some((entry.row, entry.bytes)),
+        None => None,
+    }
+}
+
+// The row of the second write.
+fn second_row(kept: &Kept<8>) -> Option<u32> {
+    match kept.at(1) {
+        Some(entry) => Some(entry.row),
+        None => None,
+    }
+}
+
+const COMPLETE: [u8; 8] = [10, 21, 22, 93, 94, 95, 96, 97];
+
+#[test]
+fn masked_writes_merge(rt: HostRuntime) -> Result<(), Fail> {
+    let mut kept = Kept::new(rt.alloc(), MASKS)?;
+    let first = kept.accept(FIRST, false);
+    let second = kept.accept(SECOND, false);
+    assert_eq!(rt; [first, second], [Accept::Pushed, Accept::Merged { row: 1, index: 0 }]);
+    kept.complete(&[90, 91, 92, 93, 94, 95, 96, 97]);
+    assert_eq!(rt; head(&kept), Some((2, COMPLETE)));
     Ok(())
 }
 
 #[test]
-fn masked_writes_merge_unless_the_head_is_in_flight(rt: HostRuntime) -> Result<(), Fail> {
-    let shape = BankShape {
-        base: 20,
-        writes: 2,
-        psi: 100,
-        home: Home::Guarded,
-        ..SMALL
-    };
-    let mut kept = Kept::new(rt.alloc(), shape)?;
-    let first = Entry {
-        row: 1,
-        line: 3,
-        bytes: [10, 11, 0, 0, 0, 0, 0, 0],
-        given: [true, true, false, false, false, false, false, false],
-    };
-    let second = Entry {
-        row: 2,
-        line: 3,
-        bytes: [0, 21, 22, 0, 0, 0, 0, 0],
-        given: [false, true, true, false, false, false, false, false],
-    };
-    assert_eq!(rt; kept.accept(first, false), Accept::Pushed);
-    assert_eq!(rt;
-        kept.accept(second, false),
-        Accept::Merged { row: 1, index: 0 }
-    );
+fn masked_writes_merge_behind_a_head_in_flight(rt: HostRuntime) -> Result<(), Fail> {
+    let mut kept = Kept::new(rt.alloc(), MASKS)?;
+    let _ = kept.accept(FIRST, false);
+    let _ = kept.accept(SECOND, false);
     kept.complete(&[90, 91, 92, 93, 94, 95, 96, 97]);
-    let head = kept.head().map(|entry| (entry.row, entry.bytes));
-    assert_eq!(rt; head, Some((2, [10, 21, 22, 93, 94, 95, 96, 97])));
-
-    assert_eq!(rt;
-        kept.accept(Entry { row: 3, ..first }, true),
-        Accept::Pushed
-    );
-    assert_eq!(rt;
-        kept.accept(Entry { row: 4, ..second }, true),
-        Accept::Merged { row: 3, index: 1 }
-    );
-    assert_eq!(rt; kept.len(), 2);
-    assert_eq!(rt; kept.at(1).map(|entry| entry.row), Some(4));
+    let third = kept.accept(Entry { row: 3, ..FIRST }, true);
+    let fourth = kept.accept(Entry { row: 4, ..SECOND }, true);
+    assert_eq!(rt; [third, fourth], [Accept::Pushed, Accept::Merged { row: 3, index: 1 }]);
+    assert_eq!(rt; (kept.len(), second_row(&kept)), (2, Some(4)));
     let (bytes, _) = kept.newest(3);
-    assert_eq!(rt; bytes, [10, 21, 22, 93, 94, 95, 96, 97]);
-    assert_eq!(rt; kept.array_line(3), 23);
+    assert_eq!(rt; (bytes, kept.array_line(3)), (COMPLETE, 23));
     Ok(())
 }

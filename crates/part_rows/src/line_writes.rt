@@ -95,57 +95,64 @@ fn written<const B: usize, const M: usize, const E: usize>(
     Ok((steps, progress, array.sense(3, 0)))
 }
 
+// What a write of ones to a line of 64 bytes with such cells answers: its steps, how it ended, the first byte of cells, and the check bytes.
+fn told(alloc: Global, stuck: &[u16]) -> Result<(u32, Progress, u8, [u8; 8]), AllocError> {
+    let (steps, progress, cells) = written::<64, 8, 6>(alloc, stuck)?;
+    Ok((steps, progress, cells.bits[0], cells.meta))
+}
+
 #[test]
 fn a_perfect_line_takes_one_step(rt: HostRuntime) -> Result<(), Fail> {
     let (steps, progress, cells) = written::<64, 8, 6>(rt.alloc(), &[])?;
-    assert_eq!(rt; steps, 1);
-    assert_eq!(rt; progress, Progress::Stored);
+    assert_eq!(rt; (steps, progress), (1, Progress::Stored));
     assert!(rt; cells.bits == [0xff; 64] && cells.meta == [0; 8]);
     Ok(())
 }
 
 #[test]
-fn one_stuck_cell_takes_one_entry(rt: HostRuntime) -> Result<(), Fail> {
-    let (steps, progress, cells) = written::<64, 8, 6>(rt.alloc(), &[0])?;
-    assert_eq!(rt; steps, 10);
-    assert_eq!(rt; progress, Progress::Stored);
-    assert!(rt; cells.bits[0] == 0xfe && cells.meta == [0, 2, 0, 0, 0, 0, 4, 0]);
+fn a_stuck_cell_takes_an_entry_and_those_of_an_entry_take_another(
+    rt: HostRuntime,
+) -> Result<(), Fail> {
+    let cases: [(&[u16], u32, u8, [u8; 8]); 4] = [
+        (&[0], 10, 0xfe, [0, 2, 0, 0, 0, 0, 4, 0]),
+        // the first replacement cell
+        (&[0, 521], 19, 0xfe, [0, 0, 8, 0, 0, 0, 0x0c, 0]),
+        // a cell of the first pointer
+        (&[1, 512], 28, 0xfd, [0, 6, 8, 0, 0, 0, 0x0c, 0]),
+        (
+            &[0, 1, 2, 3, 4, 5],
+            60,
+            0xc0,
+            [0, 6, 0x28, 0xe0, 0x80, 4, 0x16, 0x18],
+        ),
+    ];
+    for (stuck, steps, first, check) in cases {
+        assert_eq!(rt;
+            told(rt.alloc(), stuck)?,
+            (steps, Progress::Stored, first, check)
+        );
+    }
     Ok(())
 }
 
-#[test]
-fn a_stuck_replacement_cell_takes_a_second_entry(rt: HostRuntime) -> Result<(), Fail> {
-    let (steps, progress, cells) = written::<64, 8, 6>(rt.alloc(), &[0, 521])?;
-    assert_eq!(rt; steps, 19);
-    assert_eq!(rt; progress, Progress::Stored);
-    assert!(rt; cells.bits[0] == 0xfe && cells.meta == [0, 0, 8, 0, 0, 0, 0x0c, 0]);
-    Ok(())
+// How a write of ones to a line of 64 bytes with such cells ends.
+fn ending(alloc: Global, stuck: &[u16]) -> Result<(u32, Progress), AllocError> {
+    let (steps, progress, _) = written::<64, 8, 6>(alloc, stuck)?;
+    Ok((steps, progress))
 }
 
 #[test]
-fn a_stuck_pointer_cell_takes_a_second_entry(rt: HostRuntime) -> Result<(), Fail> {
-    let (steps, progress, cells) = written::<64, 8, 6>(rt.alloc(), &[1, 512])?;
-    assert_eq!(rt; steps, 28);
-    assert_eq!(rt; progress, Progress::Stored);
-    assert!(rt; cells.bits[0] == 0xfd && cells.meta == [0, 6, 8, 0, 0, 0, 0x0c, 0]);
-    Ok(())
-}
-
-#[test]
-fn six_stuck_cells_take_all_entries_and_seven_are_too_many(rt: HostRuntime) -> Result<(), Fail> {
-    let (steps, progress, cells) = written::<64, 8, 6>(rt.alloc(), &[0, 1, 2, 3, 4, 5])?;
-    assert_eq!(rt; steps, 60);
-    assert_eq!(rt; progress, Progress::Stored);
-    assert!(rt; cells.bits[0] == 0xc0 && cells.meta == [0, 6, 0x28, 0xe0, 0x80, 4, 0x16, 0x18]);
-    let (steps, progress, _) = written::<64, 8, 6>(rt.alloc(), &[0, 1, 2, 3, 4, 5, 6])?;
-    assert_eq!(rt; steps, 67);
-    assert_eq!(rt; progress, Progress::Worn(Cause::TooMany));
+fn seven_stuck_cells_are_too_many(rt: HostRuntime) -> Result<(), Fail> {
+    assert_eq!(rt;
+        ending(rt.alloc(), &[0, 1, 2, 3, 4, 5, 6])?,
+        (67, Progress::Worn(Cause::TooMany))
+    );
     Ok(())
 }
 
 #[test]
 fn a_stuck_activity_cell_wears_a_line(rt: HostRuntime) -> Result<(), Fail> {
-    let (_, progress, _) = written::<64, 8, 6>(rt.alloc(), &[0, 562])?;
+    let (_, progress) = ending(rt.alloc(), &[0, 562])?;
     assert_eq!(rt; progress, Progress::Worn(Cause::Activity(562)));
     Ok(())
 }
@@ -153,15 +160,20 @@ fn a_stuck_activity_cell_wears_a_line(rt: HostRuntime) -> Result<(), Fail> {
 #[test]
 fn lines_of_128_bytes_have_eight_entries(rt: HostRuntime) -> Result<(), Fail> {
     let (steps, progress, cells) = written::<128, 16, 8>(rt.alloc(), &[0])?;
-    assert_eq!(rt; steps, 10);
-    assert_eq!(rt; progress, Progress::Stored);
+    assert_eq!(rt; (steps, progress), (10, Progress::Stored));
     assert!(rt; cells.meta == [0, 4, 0, 0, 0, 0, 0, 0, 0, 0x20, 0, 0, 0, 0, 0, 0]);
-    let (steps, progress, _) = written::<128, 16, 8>(rt.alloc(), &[0, 1, 2, 3, 4, 5, 6, 7])?;
-    assert_eq!(rt; steps, 80);
-    assert_eq!(rt; progress, Progress::Stored);
-    let (steps, progress, _) = written::<128, 16, 8>(rt.alloc(), &[0, 1, 2, 3, 4, 5, 6, 7, 8])?;
-    assert_eq!(rt; steps, 87);
-    assert_eq!(rt; progress, Progress::Worn(Cause::TooMany));
+    let cases: [(&[u16], u32, Progress); 2] = [
+        (&[0, 1, 2, 3, 4, 5, 6, 7], 80, Progress::Stored),
+        (
+            &[0, 1, 2, 3, 4, 5, 6, 7, 8],
+            87,
+            Progress::Worn(Cause::TooMany),
+        ),
+    ];
+    for (stuck, steps, end) in cases {
+        let (took, progress, _) = written::<128, 16, 8>(rt.alloc(), stuck)?;
+        assert_eq!(rt; (took, progress), (steps, end));
+    }
     Ok(())
 }
 
@@ -180,10 +192,9 @@ fn a_tear_of_the_last_pointer_leaves_a_line_that_can_be_written(
     array.power_up(rt.alloc(), 7, WEAR)?;
     assert!(rt; tear_after::<_, 64, 8, 6>(&mut array, &[0xff; 64], 57));
     let torn = array.sense(3, 0);
-    assert_eq!(rt; Ecp::<64, 8, 6>::active(&torn), 2);
-    assert_eq!(rt; array.pulses(3), 58);
-    let (steps, progress) = write::<_, 64, 8, 6>(&mut array, &[0xff; 64]);
-    assert_eq!(rt; steps, 39);
-    assert_eq!(rt; progress, Progress::Stored);
+    let active = Ecp::<64, 8, 6>::active(&torn);
+    assert_eq!(rt; (active, array.pulses(3)), (2, 58));
+    let end = write::<_, 64, 8, 6>(&mut array, &[0xff; 64]);
+    assert_eq!(rt; end, (39, Progress::Stored));
     Ok(())
 }

@@ -8,46 +8,95 @@ type Six = Ecp<64, 8, 6>;
 
 type Eight = Ecp<128, 16, 8>;
 
-#[test]
-fn six_entries_replace_the_first_six_bits(rt: HostRuntime) {
+// A line of ones but for its first byte, with these check bytes.
+fn line(first: u8, meta: [u8; 8]) -> Cells<64, 8> {
     let mut cells = Cells {
         bits: [0xff; 64],
-        meta: [0x00, 0x06, 0x28, 0xe0, 0x80, 0x04, 0x16, 0x18],
+        meta,
     };
-    cells.bits[0] = 0xc0;
-    assert_eq!(rt; Six::active(&cells), 6);
-    assert_eq!(rt; Six::source_of(&cells, 3), 551);
-    assert_eq!(rt; Six::source_of(&cells, 6), 6);
-    assert!(rt; Six::decode(&cells) == [0xff; 64]);
-    assert_eq!(rt; Six::wrong(&cells, &[0xff; 64]), None);
-    assert_eq!(rt; Six::wrong(&cells, &[0xfb; 64]), Some(2));
+    cells.bits[0] = first;
+    cells
+}
+
+// Whether a cell of a line is set.
+fn has(cells: &Cells<64, 8>, number: u16) -> bool {
+    number < 576 && cells.get(number)
+}
+
+// How many entries are active, and the cells that these bits are read from.
+fn read_from(cells: &Cells<64, 8>, bits: [u16; 2]) -> (u8, [u16; 2]) {
+    (
+        Six::active(cells),
+        [
+            Six::source_of(cells, bits[0]),
+            Six::source_of(cells, bits[1]),
+        ],
+    )
+}
+
+// The first bit that is read otherwise than in a line of this byte alone.
+fn wrong(cells: &Cells<64, 8>, byte: u8) -> Option<u16> {
+    Six::wrong(cells, &[byte; 64])
+}
+
+// Whether each bit is read as one.
+fn is_all_ones(cells: &Cells<64, 8>) -> bool {
+    Six::decode(cells) == [0xff; 64]
+}
+
+#[test]
+fn six_entries_replace_the_first_six_bits(rt: HostRuntime) {
+    let cells = line(0xc0, [0x00, 0x06, 0x28, 0xe0, 0x80, 0x04, 0x16, 0x18]);
+    assert_eq!(rt; read_from(&cells, [3, 6]), (6, [551, 6]));
+    assert_eq!(rt; [wrong(&cells, 0xff), wrong(&cells, 0xfb)], [None, Some(2)]);
+    assert!(rt; is_all_ones(&cells));
 }
 
 #[test]
 fn the_later_of_two_entries_for_one_bit_counts(rt: HostRuntime) {
-    let mut cells = Cells {
-        bits: [0xff; 64],
-        meta: [0x00, 0x00, 0x08, 0, 0, 0, 0x0c, 0],
-    };
-    cells.bits[0] = 0xfe;
-    assert_eq!(rt; Six::active(&cells), 2);
-    assert_eq!(rt; Six::source_of(&cells, 0), 531);
-    assert!(rt; Six::decode(&cells) == [0xff; 64]);
+    let cells = line(0xfe, [0x00, 0x00, 0x08, 0, 0, 0, 0x0c, 0]);
+    assert_eq!(rt; read_from(&cells, [0, 1]), (2, [531, 1]));
+    assert!(rt; is_all_ones(&cells));
+}
+
+#[test]
+fn zeros_are_wanted_in_the_later_of_two_entries(rt: HostRuntime) {
+    let cells = line(0xfe, [0x00, 0x00, 0x08, 0, 0, 0, 0x0c, 0]);
     let (want, mask) = Six::wanted(&cells, &[0; 64]);
-    assert!(rt; !mask.get(0) && mask.get(1) && mask.get(531) && !mask.get(521));
-    assert!(rt; !want.get(0) && !want.get(1) && !want.get(531));
+    assert_eq!(rt;
+        [
+            has(&mask, 0),
+            has(&mask, 1),
+            has(&mask, 531),
+            has(&mask, 521)
+        ],
+        [false, true, true, false]
+    );
+    assert_eq!(rt;
+        [has(&want, 0), has(&want, 1), has(&want, 531)],
+        [false, false, false]
+    );
 }
 
 #[test]
 fn a_pointer_is_written_lowest_digit_first(rt: HostRuntime) {
     let (want, mask) = Six::pointer(&Cells::zero(), 1, 3);
-    assert!(rt; want.get(522) && want.get(523) && !want.get(524));
-    assert!(rt; mask.get(522) && mask.get(530) && !mask.get(531));
+    assert_eq!(rt;
+        [has(&want, 522), has(&want, 523), has(&want, 524)],
+        [true, true, false]
+    );
+    assert_eq!(rt;
+        [has(&mask, 522), has(&mask, 530), has(&mask, 531)],
+        [true, true, false]
+    );
     assert_eq!(rt; mask.count(), 9);
-    assert_eq!(rt; Six::switch(1), 563);
-    assert_eq!(rt; Six::switch(5), 572);
-    assert_eq!(rt; Six::entry_cells(5).count(), 10);
-    assert_eq!(rt; lowest(&Six::entry_cells(5)), Some(562));
+}
+
+#[test]
+fn an_entry_has_a_switch_and_ten_cells(rt: HostRuntime) {
+    assert_eq!(rt; [Six::switch(1), Six::switch(5)], [563, 572]);
+    let cells = Six::entry_cells(5);
+    assert_eq!(rt; (cells.count(), lowest(&cells)), (10, Some(562)));
 }
 
 #[test]
@@ -55,7 +104,15 @@ fn activity_cells_behind_the_first_gap_are_cleared(rt: HostRuntime) {
     let mut cells = Cells::zero();
     cells.set(562, true);
     let (want, mask) = Six::later(&cells);
-    assert!(rt; want.get(562) && !mask.get(563) && mask.get(564) && mask.get(566));
+    assert_eq!(rt;
+        [
+            has(&want, 562),
+            has(&mask, 563),
+            has(&mask, 564),
+            has(&mask, 566)
+        ],
+        [true, false, true, true]
+    );
     assert_eq!(rt; mask.count(), 3);
 }
 
@@ -63,9 +120,8 @@ fn activity_cells_behind_the_first_gap_are_cleared(rt: HostRuntime) {
 fn lines_of_128_bytes_have_eight_entries(rt: HostRuntime) {
     let mut cells = Cells::<128, 16>::zero();
     cells.set(1112, true);
-    assert_eq!(rt; Eight::active(&cells), 8);
-    assert_eq!(rt; Eight::switch(7), 1112);
-    assert_eq!(rt; Eight::switch(0), 1101);
-    assert_eq!(rt; Eight::source_of(&cells, 0), 1111);
+    let switches = [Eight::switch(7), Eight::switch(0)];
+    let read_from = (Eight::active(&cells), Eight::source_of(&cells, 0));
+    assert_eq!(rt; (switches, read_from), ([1112, 1101], (8, 1111)));
     assert!(rt; Eight::decode(&cells) == [0; 128]);
 }

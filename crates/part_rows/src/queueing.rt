@@ -4,89 +4,97 @@ use protected_queue::accept::Accept;
 use protected_queue::queue::Queue;
 use std::test::*;
 
+// The row, the line and the last byte of a write, if it is one.
+fn told(entry: Option<Entry<64>>) -> Option<(u32, u32, u8)> {
+    match entry {
+        Some(entry) => Some((entry.row, entry.line, entry.bytes[63])),
+        None => None,
+    }
+}
+
 #[test]
 fn merges_unless_the_entry_is_the_head_in_flight(rt: HostRuntime) -> Result<(), Fail> {
     let mut queue = Queue::new(rt.alloc(), 1)?;
     assert!(rt; queue.is_empty() && queue.head().is_none());
+    let first = queue.accept(Entry::whole(1, 0, &[0xaa; 64]), false);
+    let in_flight = queue.accept(Entry::whole(2, 0, &[0xbb; 64]), true);
+    let another = queue.accept(Entry::whole(3, 1, &[0xcc; 64]), false);
+    let merged = queue.accept(Entry::whole(4, 0, &[0xdd; 64]), false);
+    let len = queue.len();
+    let popped = (told(queue.pop()), told(queue.pop()));
     assert_eq!(rt;
-        queue.accept(Entry::whole(1, 0, &[0xaa; 64]), false),
-        Accept::Pushed
+        [first, in_flight, another, merged],
+        [
+            Accept::Pushed,
+            Accept::Full,
+            Accept::Full,
+            Accept::Merged { row: 1, index: 0 }
+        ]
     );
-    assert_eq!(rt;
-        queue.accept(Entry::whole(2, 0, &[0xbb; 64]), true),
-        Accept::Full
-    );
-    assert_eq!(rt;
-        queue.accept(Entry::whole(3, 1, &[0xcc; 64]), false),
-        Accept::Full
-    );
-    assert_eq!(rt;
-        queue.accept(Entry::whole(4, 0, &[0xdd; 64]), false),
-        Accept::Merged { row: 1, index: 0 }
-    );
-    assert_eq!(rt; queue.len(), 1);
-    let head = queue.pop();
-    assert_eq!(rt;
-        head.map(|entry| (entry.row, entry.line, entry.bytes[63])),
-        Some((4, 0, 0xdd))
-    );
-    assert!(rt; queue.pop().is_none());
+    assert_eq!(rt; (len, popped), (1, (Some((4, 0, 0xdd)), None)));
     Ok(())
+}
+
+// The row of the write at a place.
+fn row_at(queue: &Queue<128>, place: usize) -> Option<u32> {
+    match queue.at(place) {
+        Some(entry) => Some(entry.row),
+        None => None,
+    }
 }
 
 #[test]
 fn keeps_two_writes_of_one_line_while_the_older_is_in_flight(rt: HostRuntime) -> Result<(), Fail> {
     let mut queue = Queue::new(rt.alloc(), 256)?;
+    let first = queue.accept(Entry::whole(1, 7, &[0x11; 128]), false);
+    let second = queue.accept(Entry::whole(2, 7, &[0x22; 128]), true);
+    let third = queue.accept(Entry::whole(3, 7, &[0x33; 128]), true);
     assert_eq!(rt;
-        queue.accept(Entry::whole(1, 7, &[0x11; 128]), false),
-        Accept::Pushed
+        [first, second, third],
+        [Accept::Pushed, Accept::Pushed, Accept::Merged { row: 2, index: 1 }]
     );
-    assert_eq!(rt;
-        queue.accept(Entry::whole(2, 7, &[0x22; 128]), true),
-        Accept::Pushed
-    );
-    assert_eq!(rt;
-        queue.accept(Entry::whole(3, 7, &[0x33; 128]), true),
-        Accept::Merged { row: 2, index: 1 }
-    );
-    assert_eq!(rt; queue.at(0).map(|entry| entry.row), Some(1));
-    assert_eq!(rt; queue.at(1).map(|entry| entry.row), Some(3));
-    assert_eq!(rt; queue.at(2).map(|entry| entry.row), None);
+    let rows = [row_at(&queue, 0), row_at(&queue, 1), row_at(&queue, 2)];
+    assert_eq!(rt; rows, [Some(1), Some(3), None]);
     let (bytes, given) = queue.newest(7);
-    assert!(rt; bytes[0] == 0x33 && has_all(&given));
-    let (_, given) = queue.newest(6);
-    assert!(rt; !given[0]);
+    let (_, none) = queue.newest(6);
+    assert!(rt; bytes[0] == 0x33 && has_all(&given) && !none[0]);
     Ok(())
+}
+
+// The bytes of the oldest write.
+fn head_bytes(queue: &Queue<8>) -> Option<[u8; 8]> {
+    match queue.head() {
+        Some(entry) => Some(entry.bytes),
+        None => None,
+    }
 }
 
 #[test]
 fn lays_masked_writes_over_each_other(rt: HostRuntime) -> Result<(), Fail> {
     let mut queue = Queue::new(rt.alloc(), 2)?;
-    let first = Entry {
-        row: 1,
-        line: 3,
-        bytes: [10, 11, 0, 0, 0, 0, 0, 0],
-        given: [true, true, false, false, false, false, false, false],
-    };
-    let second = Entry {
-        row: 2,
-        line: 3,
-        bytes: [0, 21, 22, 0, 0, 0, 0, 0],
-        given: [false, true, true, false, false, false, false, false],
-    };
-    assert_eq!(rt; queue.accept(first, false), Accept::Pushed);
-    assert_eq!(rt;
-        queue.accept(second, false),
-        Accept::Merged { row: 1, index: 0 }
+    let first = queue.accept(
+        Entry {
+            row: 1,
+            line: 3,
+            bytes: [10, 11, 0, 0, 0, 0, 0, 0],
+            given: [true, true, false, false, false, false, false, false],
+        },
+        false,
     );
-    let (bytes, given) = queue.newest(3);
-    assert_eq!(rt; bytes, [10, 21, 22, 0, 0, 0, 0, 0]);
-    assert_eq!(rt;
-        given,
-        [true, true, true, false, false, false, false, false]
+    let second = queue.accept(
+        Entry {
+            row: 2,
+            line: 3,
+            bytes: [0, 21, 22, 0, 0, 0, 0, 0],
+            given: [false, true, true, false, false, false, false, false],
+        },
+        false,
     );
+    assert_eq!(rt; [first, second], [Accept::Pushed, Accept::Merged { row: 1, index: 0 }]);
+    let newest = queue.newest(3);
+    let given = [true, true, true, false, false, false, false, false];
+    assert_eq!(rt; newest, ([10, 21, 22, 0, 0, 0, 0, 0], given));
     queue.complete(&[90, 91, 92, 93, 94, 95, 96, 97]);
-    let head = queue.head().map(|entry| entry.bytes);
-    assert_eq!(rt; head, Some([10, 21, 22, 93, 94, 95, 96, 97]));
+    assert_eq!(rt; head_bytes(&queue), Some([10, 21, 22, 93, 94, 95, 96, 97]));
     Ok(())
 }

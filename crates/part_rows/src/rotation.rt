@@ -4,37 +4,50 @@ ghost use Rattle.std.specs.Prelude.{◌≡◌};
 use region_regs::Region;
 use start_gap::{Move, Registers, find_move};
 
-// The places of lines 0 to 3.
-fn places(registers: &Registers) -> [u32; 4]
+// The places of lines 0 to 3, the start and the gap.
+fn seen(registers: &Registers) -> ([u32; 4], u32, u32)
     requires { registers.now.lines ≡ 4 }
 {
-    [
+    let places = [
         registers.place(0),
         registers.place(1),
         registers.place(2),
         registers.place(3),
-    ]
+    ];
+    (places, registers.start(), registers.gap())
 }
 
 #[test]
 fn four_lines_turn_round_five_places(rt: HostRuntime) {
     let mut registers = Registers::new(4);
-    assert_eq!(rt; places(&registers), [0, 1, 2, 3]);
-    assert_eq!(rt; registers.gap(), 4);
+    let new = seen(&registers);
     registers.advance();
-    assert_eq!(rt; places(&registers), [0, 1, 2, 4]);
-    assert_eq!(rt; registers.gap(), 3);
-    assert_eq!(rt; registers.line_at(3), None);
-    assert_eq!(rt; registers.line_at(4), Some(3));
+    let once = seen(&registers);
+    let lines = (registers.line_at(3), registers.line_at(4));
     registers.advance();
     registers.advance();
     registers.advance();
     registers.advance();
-    assert_eq!(rt; places(&registers), [1, 2, 3, 0]);
-    assert_eq!(rt; (registers.start(), registers.gap()), (1, 4));
+    let round = seen(&registers);
+    assert_eq!(rt; new, ([0, 1, 2, 3], 0, 4));
+    assert_eq!(rt; once, ([0, 1, 2, 4], 0, 3));
+    assert_eq!(rt; lines, (None, Some(3)));
+    assert_eq!(rt; round, ([1, 2, 3, 0], 1, 4));
+}
+
+#[test]
+fn registers_are_made_as_they_stand_after_a_turn(rt: HostRuntime) {
+    let mut registers = Registers::new(4);
+    for _ in 0..5 {
+        registers.advance();
+    }
     assert_eq!(rt; registers, Registers::at(4, 1, 4));
+}
+
+#[test]
+fn a_move_follows_the_gap(rt: HostRuntime) {
     assert_eq!(rt;
-        registers.next_move(),
+        Registers::at(4, 1, 4).next_move(),
         Move {
             line: 2,
             from: 3,
@@ -45,22 +58,24 @@ fn four_lines_turn_round_five_places(rt: HostRuntime) {
 
 #[test]
 fn each_move_of_a_turn_is_found(rt: HostRuntime) {
-    assert_eq!(rt; find_move(4, 7, 0, 2), 7);
-    assert_eq!(rt; find_move(4, 7, 3, 2), 12);
-    assert_eq!(rt; find_move(4, 7, 1, 2), 22);
+    let found = [
+        find_move(4, 7, 0, 2),
+        find_move(4, 7, 3, 2),
+        find_move(4, 7, 1, 2),
+    ];
+    assert_eq!(rt; found, [7, 12, 22]);
 }
 
 #[test]
 fn a_move_is_due_at_the_second_of_two_writes(rt: HostRuntime) {
     let mut region = Region::new(4, 2);
     region.stored();
-    assert!(rt; !region.due());
+    let once = region.due();
     region.stored();
     assert!(rt; region.due());
-    assert_eq!(rt; region.counter(), 2);
+    let twice = region.counter();
     region.moved();
-    assert!(rt; !region.due());
-    assert_eq!(rt; region.counter(), 0);
-    assert_eq!(rt; region.registers().gap(), 3);
+    let moved = (region.due(), region.counter(), region.registers().gap());
+    assert_eq!(rt; (once, twice, moved), (false, 2, (false, 0, 3)));
     assert_eq!(rt; Region::at(4, 2, 1, 3, 0).registers().start(), 3);
 }
