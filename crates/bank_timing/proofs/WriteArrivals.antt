@@ -1,14 +1,14 @@
 -- A write arrives: what becomes of the clock and of the results.
 use Rattle.std.proofs.Common.{◌≡◌, ◌≢◌, ℕ, ◌+◌, ◌<◌, ◌≤◌, ◌==◌, Bool, true, false, List, [], ◌∷◌, ◌++◌, length, ◌⊎◌, inl, inr, refl, sym, ap, subst, ◌∙◌, arith, eqb-true, length-append}
-use Rattle.std.specs.Prelude.{unwrap_or, if◌then◌else◌}
+use Rattle.std.specs.Prelude.{unwrap_or}
 use Rattle.std.proofs.lemmas.List.{length-map}
-use Rattle.std.proofs.lemmas.Bool.{ne_eqb, or_from}
+use Rattle.std.proofs.lemmas.Bool.{ne_eqb}
 use Rattle.pcm_cells.specs.Device.{ArrayState}
 use Rattle.result_rows.specs.declared.Outcome.{Outcome}
 use Rattle.result_rows.specs.declared.Outcome.TheVariants as out
 use Rattle.result_rows.specs.Table.{HasRow, with_outcome}
 use Rattle.masked_bytes.specs.declared.entry.Entry.{Entry}
-use Rattle.masked_bytes.specs.Entries.{has_row, merged, laid_on, candidate, RowsApart}
+use Rattle.masked_bytes.specs.Entries.{has_row, merged, candidate}
 use Rattle.bank_shape.specs.declared.BankShape.{BankShape}
 use Rattle.line_writer.specs.Writing.{most_steps}
 use Rattle.bank_shape.specs.declared.pace.Pace.{Pace}
@@ -21,7 +21,7 @@ use Rattle.bank_model.specs.Timing.{TimedEvent, core}
 use Rattle.bank_laws.specs.Outcomes.{outcome_by}
 use Rattle.bank_laws.proofs.Answering.{candidate-there}
 use Rattle.bank_laws.proofs.Fates.{new-merged}
-use Rattle.bank_laws.proofs.Entries.{lacks-push, lacks-merged}
+use Rattle.bank_laws.proofs.Entries.{lacks-push, lacks-merged, lacks-old}
 use Rattle.bank_shape.specs.declared.waiting.Waiting.{Waiting}
 use Rattle.bank_invariant.specs.State.{BankState}
 use Rattle.bank_invariant.specs.Holds.{Holds}
@@ -51,15 +51,6 @@ write_recorded wrote.Full tick row results = with_outcome results row (out.Full 
 write_recorded wrote.Exhausted tick row results = with_outcome results row (out.Worn tick)
 
 module _ {n : ℕ} where
-  -- the rows of a queue that took a write
-  lacks-old : (old row : ℕ) (bytes : List ℕ) (given : List Bool) (es : List (Entry n)) → RowsApart es → (row == old) ≡ false → has_row (merged old row bytes given es) old ≡ false
-  lacks-old old row bytes given [] a h = refl
-  lacks-old old row bytes given (e ∷ es) a h = by (e.row == old) refl (lacks-old old row bytes given es a.1 h)
-    where
-      by : (b : Bool) → (e.row == old) ≡ b → has_row (merged old row bytes given es) old ≡ false → has_row (if b then laid_on row bytes given e ∷ es else e ∷ merged old row bytes given es) old ≡ false
-      by true is rest = or_from (row == old) _ h (subst (λ (r : ℕ). has_row es r ≡ false) (eqb-true e.row old is) a.0)
-      by false is rest = or_from (e.row == old) _ is rest
-
   -- a row of the queue then is one of before, or the new one
   old-or-new : (before after : List (Entry n)) (row r : ℕ) → (has_row before r ≡ false → (row == r) ≡ false → has_row after r ≡ false) → has_row after r ≡ true
       → (has_row before r ≡ true) ⊎ (r ≡ row)
