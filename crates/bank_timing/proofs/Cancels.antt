@@ -1,7 +1,7 @@
 -- A read cancels what runs of a line write, and then waits: what becomes of the clock and of the array.
 use Rattle.std.proofs.Common.{◌≡◌, ℕ, ◌+◌, ◌<◌, ◌≤◌, ◌&&◌, ◌==◌, not, nat_lt, Bool, true, false, List, [], ◌∷◌, length, map, Option, Some, None, is_some, refl, sym, ap, subst, ◌∙◌, arith, ltb-true}
 use Rattle.masked_bytes.proofs.Truth.{and_first, and_second}
-use Rattle.std.proofs.lemmas.Bool.{false≢true, ne_eqb, lt-ltb}
+use Rattle.std.proofs.lemmas.Bool.{false≢true, ne_eqb, lt-ltb, not-true}
 use Rattle.std.specs.Prelude.{unwrap_or, IsTrue, IfSome, if◌then◌else◌}
 use Rattle.pcm_cells.specs.Device.{ArrayState}
 use Rattle.masked_bytes.specs.Masked.{gives_all}
@@ -69,11 +69,9 @@ module _ {n m e : ℕ} (clock : ClockState n m e) (line : ℕ) (would : IsTrue (
   few-cancels = ltb-true clock.cancels 4 (and_first (nat_lt clock.cancels most_cancels) _ rest-three)
 
   pub lacks-byte : gives_all (layer_of clock.bank.kept.entries line).given ≡ false
-  lacks-byte = by (gives_all (layer_of clock.bank.kept.entries line).given) (and_second (nat_lt clock.cancels most_cancels) _ rest-three)
-    where
-      by : (b : Bool) → not b ≡ true → b ≡ false
-      by true is = absurd (cc)
-      by false is = refl
+  lacks-byte =
+      not-true (gives_all (layer_of clock.bank.kept.entries line).given)
+      (and_second (nat_lt clock.cancels most_cancels) _ rest-three)
 
   module _ (fit : IsFit clock.bank clock.regs clock.action) (tearing : Bool) (tears : tearing ≡ is_doing Iterating clock.action) where
     pub cancel-ready : clock.regs.change ≡ None → IsTrue tearing → IsTrue (is_some clock.bank.running)

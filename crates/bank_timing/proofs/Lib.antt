@@ -10,7 +10,7 @@ mod LineWrites
 mod Begins
 mod Iterations
 mod Keeps
-mod Running
+pub mod Running
 mod ReadArrivals
 mod Cancels
 mod Settling

@@ -1,7 +1,7 @@
 -- A power cut: what becomes of the clock, the array and the results.
 use Rattle.std.proofs.Common.{◌≡◌, ℕ, ◌+◌, ◌<◌, ◌==◌, ◌||◌, ◌&&◌, not, Bool, true, false, List, [], ◌∷◌, length, map, drop, Option, Some, None, is_some, refl, sym, ap, subst, ◌∙◌, arith, eq-eqb}
-use Rattle.masked_bytes.proofs.Truth.{neither_first, neither_second, and_first, and_second}
-use Rattle.std.proofs.lemmas.Bool.{false≢true, eqb-true, ne_eqb, or_right}
+use Rattle.masked_bytes.proofs.Truth.{neither_first, neither_second, and_first, and_second, and_true, and_false}
+use Rattle.std.proofs.lemmas.Bool.{false≢true, eqb-true, ne_eqb, or_right, not-true}
 use Rattle.std.specs.Prelude.{unwrap_or, IsTrue, IfSome, if◌then◌else◌, slice_get}
 use Rattle.pcm_cells.specs.Device.{ArrayState, LineState}
 use Rattle.result_rows.specs.declared.Outcome.{Outcome}
@@ -41,7 +41,7 @@ use Rattle.clock_laws.specs.Cutting.{cut, after_cut}
 use Rattle.clock_laws.specs.Actions.{torn_line as line_torn, LeadsOn as CutEnds}
 use Rattle.clock_laws.specs.Standing.{has_waiting, WaitingApart, AreApart}
 use Rattle.clock_laws.proofs.Tearing.{cut_ends_law}
-use Rattle.clock_laws.proofs.Fitting.{needs_law}
+use Rattle.clock_laws.proofs.Fitting.{needs_law, no_one}
 use Rattle.clock_laws.proofs.Elsewhere.{holds-same}
 use Rattle.clock_laws.proofs.Together.{controls_stay_law, cut_touches_law}
 use Rattle.clock_laws.proofs.Others.{apart_law, same_wait, other_rows_law}
@@ -148,10 +148,6 @@ iterating-fits {n} {m} {e} bank regs (Some a) fit is = iterates a.doing fit is
     iterates Beginning fit is = absurd (cc)
     iterates Iterating fit is = fit
 
-pub not-some : {A : Type 0} (x : Option A) → not (is_some x) ≡ true → x ≡ None
-not-some None is = refl
-not-some (Some a) is = absurd (cc)
-
 -- a cut meets a clock whose action has what it needs: some history leads there over an array, and the rows that stand have no outcome yet
 pub record MeetsCut {n m e : ℕ} (clock : ClockState n m e) (old : ArrayState n m) (results : List (Outcome n)) : Type 0 where
   pub fit : IsFit clock.bank clock.regs clock.action
@@ -222,7 +218,8 @@ module _ {n m e : ℕ} {clock : ClockState n m e} {old : ArrayState n m} {result
   pub cut-ready : (tearing : Bool) → tearing ≡ (iterating && not stands) → IsTrue tearing → IsTrue (is_some clock.bank.running)
   cut-ready tearing is torn =
       let both : (iterating && not stands) ≡ true = sym is ∙ torn in
-      (needs_law n m e clock.bank clock.regs).iterates (not-some clock.regs.change (and_second iterating (not stands) both))
+      (needs_law n m e clock.bank clock.regs).iterates
+      (no_one clock.regs.change (not-true _ (and_second iterating (not stands) both)))
       (iterating-fits clock.bank clock.regs clock.action c.fit (and_first iterating (not stands) both))
 
   pub cut-change-ready : (tearing : Bool) → tearing ≡ (iterating && stands) → IsTrue tearing → IsTrue (is_some clock.regs.writer)
@@ -273,16 +270,8 @@ module _ {n m e : ℕ} {clock : ClockState n m e} {old : ArrayState n m} {result
             (λ line is. third.others line refl ∙ second.others line (change-leaves clock.bank.kept clock.regs between change line cut-control is.1))
 
         tears-same : (change : Option Change) → (iterating && not (is_some change)) ≡ tears_bank (item_of change) clock.action
-        tears-same None = by iterating
-          where
-            by : (b : Bool) → (b && true) ≡ b
-            by true = refl
-            by false = refl
-        tears-same (Some change) = by iterating
-          where
-            by : (b : Bool) → (b && false) ≡ false
-            by true = refl
-            by false = refl
+        tears-same None = and_true iterating
+        tears-same (Some change) = and_false iterating
 
         touched : Touches clock.tick (all_controls clock.bank.kept.shape) (line_torn iterating clock.regs clock.regs.change clock.bank.running) iterating old new
         touched =
@@ -299,10 +288,6 @@ module _ {n m e : ℕ} {clock : ClockState n m e} {old : ArrayState n m} {result
             shape : BankShape
             shape = clock.bank.kept.shape
 
-            and-true : (b : Bool) → (b && true) ≡ b
-            and-true true = refl
-            and-true false = refl
-
             apart_from : (b : Bool) (change : Change) (line : ℕ) → line < controls_from shape
                 → is_at (line_torn b clock.regs (Some change) clock.bank.running) line ≡ false
             apart_from false change line below = refl
@@ -314,7 +299,9 @@ module _ {n m e : ℕ} {clock : ClockState n m e} {old : ArrayState n m} {result
                 → AreStruck shape h (Cut (tears_bank (item_of change) clock.action)) (line_torn iterating clock.regs change clock.bank.running) old new
             by None is line below hit live =
                 let at : ℕ = shape.base + line in
-                let same : work ≡ iterating = work_is ∙ ap (λ (change : Option Change). iterating && not (is_some change)) is ∙ and-true iterating in
+                let same : work ≡ iterating =
+                work_is ∙ ap (λ (change : Option Change). iterating && not (is_some change)) is
+                ∙ and_true iterating in
                 let own : is_at (torn_line work clock.bank.running) at ≡ true =
                 ap (λ (pulsed : Option ℕ). is_at pulsed at) (same_torn work clock.regs clock.bank.running ∙ ap (λ (b : Bool). line_torn b clock.regs None clock.bank.running) same) ∙ hit in
                 subst (λ (l : LineState n m). Strikes old.bounds (iterated h) true (old.line at) l)

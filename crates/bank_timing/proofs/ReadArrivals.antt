@@ -7,6 +7,7 @@ use Rattle.result_rows.specs.declared.Outcome.{Outcome}
 use Rattle.result_rows.specs.declared.Outcome.TheVariants as out
 use Rattle.result_rows.specs.Table.{HasRow, with_outcome}
 use Rattle.masked_bytes.specs.Entries.{layer_of}
+use Rattle.masked_bytes.proofs.Truth.{or_false}
 use Rattle.bank_shape.specs.declared.BankShape.{BankShape}
 use Rattle.reg_lines.specs.Regs.{RegsState}
 use Rattle.bank_shape.specs.declared.answer.ReadAnswer.{ReadAnswer}
@@ -50,10 +51,6 @@ read_recorded came.Busy tick row results = with_outcome results row (out.Busy ti
 pub no-other : (arrives row : ℕ) → row ≢ arrives → ((arrives == row) || false) ≡ false
 no-other arrives row other = ap (λ b. b || false) (ne_eqb arrives row (λ same. other (sym same)))
 
-plain-or : (b : Bool) → (b || false) ≡ true → b ≡ true
-plain-or true h = refl
-plain-or false h = h
-
 -- where the one before isn't the row, it is one behind
 skip-or : {A : Type 0} (b after before : Bool) → (b || after) ≡ true → (b || before) ≡ false → (after ≡ true → before ≡ false → A) → A
 skip-or true after before h k next = absurd (cc)
@@ -61,7 +58,7 @@ skip-or false after before h k next = next h k
 
 module _ {n : ℕ} (w : Waiting n) (row : ℕ) where
   last-pushed : (ws : List (Waiting n)) → has_waiting (ws ++ w ∷ []) row ≡ true → has_waiting ws row ≡ false → row ≡ w.row
-  last-pushed [] there is = sym (eqb-true w.row row (plain-or (w.row == row) there))
+  last-pushed [] there is = sym (eqb-true w.row row (sym (or_false (w.row == row)) ∙ there))
   last-pushed (v ∷ vs) there is = skip-or (v.row == row) (has_waiting (vs ++ w ∷ []) row) (has_waiting vs row) there is (last-pushed vs)
 
   has-pushed : (ws : List (Waiting n)) → has_waiting (ws ++ w ∷ []) row ≡ true → (b : Bool) → has_waiting ws row ≡ b → (has_waiting ws row ≡ true) ⊎ (row ≡ w.row)

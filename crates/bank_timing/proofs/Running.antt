@@ -49,7 +49,9 @@ module _ {n m : ℕ} where
   abbrev Ends : TimedEvent n m → Type 0
   Ends x = EndsAction x
 
-  none-arrives : (added : List (TimedEvent n m)) (row : ℕ) → IsQuiet added → arrives_with added row ≡ false
+  -- none of these is the arrival of a row
+  pub none-arrives : (added : List (TimedEvent n m)) (row : ℕ) → IsQuiet added
+      → arrives_with added row ≡ false
   none-arrives [] row quiet = refl
   none-arrives (x ∷ added) row quiet =
       or_from (is_arrival_of x.happens row) _ (end-brings_none x.happens row (All-head Ends x added quiet)) (none-arrives added row (All-tail Ends x added quiet))

@@ -1,7 +1,7 @@
 -- What an action needs of its bank.
 use Rattle.std.proofs.Common.{◌≡◌, inl, inr, ℕ, ◌<◌, ◌==◌, ◌||◌, ◌&&◌, not, nat_lt, if◌then◌else◌, Bool, true, false, List, [], ◌∷◌, ◌++◌, length, Option, Some, None, is_some, refl, sym, ap, subst, ◌∙◌, arith, ltb-true, lt-ltb}
-use Rattle.std.proofs.lemmas.Bool.{and_from}
-use Rattle.masked_bytes.proofs.Truth.{and_first, and_second, differ_sym}
+use Rattle.std.proofs.lemmas.Bool.{and_from, not-true, not-false, or_parts}
+use Rattle.masked_bytes.proofs.Truth.{and_first, and_second, differ_sym, or_rest}
 use Rattle.std.specs.Prelude.{IfSome}
 use Rattle.std.specs.List.{list_any}
 use Rattle.std.proofs.lemmas.List.{length-append}
@@ -32,7 +32,6 @@ use Rattle.bank_invariant.specs.Writes.{taken}
 use Rattle.clock_laws.specs.State.{is_busy, may_start, or_else, started_at, chosen}
 use Rattle.clock_laws.specs.Arriving.{drops}
 use Rattle.clock_laws.specs.Fitting.{Fits, IsFit, HasEnded, NeedsLaw, ChosenLaw, RestLaw, FitWriteLaw, FitReadLaw}
-use Rattle.clock_laws.proofs.Deciding.{not_false}
 
 -- Choices
 
@@ -63,13 +62,8 @@ chosen_law n m e clock fit =
 
 -- Needs
 
--- neither is where one isn't
-none_of_both : (a b : Bool) → not (a || b) ≡ true → (a ≡ false) × (b ≡ false)
-none_of_both true b is = absurd (cc)
-none_of_both false true is = absurd (cc)
-none_of_both false false is = (refl, refl)
-
-no_one : {A : Type 0} (o : Option A) → is_some o ≡ false → o ≡ None
+-- what isn't some is none
+pub no_one : {A : Type 0} (o : Option A) → is_some o ≡ false → o ≡ None
 no_one None none = refl
 no_one (Some x) none = absurd (cc)
 
@@ -78,7 +72,8 @@ needs_law n m e bank regs = record {
   begins = λ none own. by regs.change (is_some regs.writer || regs.halted) (may_begin bank) none own;
   iterates = λ none own. of_bank regs.change (is_some regs.writer) (is_some bank.running) none own;
   begins_change = λ some own.
-      let none = none_of_both (is_some regs.writer) regs.halted (of_change regs.change (is_some regs.writer || regs.halted) (may_begin bank) some own) in
+      let none = or_parts (is_some regs.writer) regs.halted
+      (not-true _ (of_change regs.change (is_some regs.writer || regs.halted) (may_begin bank) some own)) in
       (no_one regs.writer none.0, none.1);
   iterates_change = λ some own. writes regs.change (is_some regs.writer) (is_some bank.running) some own;
 }
@@ -126,10 +121,6 @@ none-free n Nothing none = refl
 none-free n (Store line slot) none = cc
 none-free n (Copy region step) none = cc
 
-none-runs : {A : Type 0} (o : Option A) → is_some o ≡ false → o ≡ None
-none-runs None none = refl
-none-runs (Some x) none = cc
-
 pub rest_law : RestLaw
 rest_law n m e clock none =
     let idle = none-else clock.action (chosen clock) clock.tick none in
@@ -137,11 +128,6 @@ rest_law n m e clock none =
     let reads : clock.bank.waiting ≡ [] = none-waits clock.bank.waiting no.0 in
     (idle.0, reads, ended clock.regs.change refl reads no.1 no.2)
   where
-    halts : (writing halted : Bool) → writing ≡ false → not (writing || halted) ≡ false → halted ≡ true
-    halts true halted busy ready = absurd (cc)
-    halts false true busy ready = refl
-    halts false false busy ready = absurd (cc)
-
     ended : (change : Option Change) → clock.regs.change ≡ change → clock.bank.waiting ≡ []
         → busy_by (item_of change) (is_some clock.regs.writer) (is_some clock.bank.running) ≡ false
         → ready_by (item_of change) (is_some clock.regs.writer || clock.regs.halted) (may_begin clock.bank) ≡ false → HasEnded clock.bank clock.regs
@@ -149,9 +135,13 @@ rest_law n m e clock none =
         let free : is_free {n = n} [] (next_work clock.bank.kept) ≡ false =
         ap (λ (ws : List (Waiting n)). is_free ws (next_work clock.bank.kept)) (sym reads)
         ∙ ap (λ b. not b && is_free clock.bank.waiting (next_work clock.bank.kept)) (sym busy) ∙ ready in
-        inl (is, none-runs clock.bank.running busy, none-free n (next_work clock.bank.kept) free)
+        inl (is, no_one clock.bank.running busy, none-free n (next_work clock.bank.kept) free)
     ended (Some change) is reads busy ready =
-        inr (ap (λ (change : Option Change). is_some change) is, halts (is_some clock.regs.writer) clock.regs.halted busy ready, none-runs clock.regs.writer busy)
+        inr (
+          ap (λ (change : Option Change). is_some change) is,
+          or_rest (is_some clock.regs.writer) clock.regs.halted busy (not-false _ ready),
+          no_one clock.regs.writer busy,
+        )
 
 -- Writes
 
@@ -199,7 +189,8 @@ any-push at (v ∷ ws) w off none = by (v.line == at) none (any-push at ws w off
 -- a work that may be begun may still be, where the read isn't of the line that it stores
 free-stays : {n : ℕ} (work : Work) (ws : List (Waiting n)) (w : Waiting n) → is_store_of w.line work ≡ false → is_free ws work ≡ true → is_free (ws ++ w ∷ []) work ≡ true
 free-stays Nothing ws w off free = cc
-free-stays (Store line slot) ws w off free = ap (λ b. not b) (any-push line ws w (differ_sym line w.line off) (not_false _ free))
+free-stays (Store line slot) ws w off free =
+    ap (λ b. not b) (any-push line ws w (differ_sym line w.line off) (not-true _ free))
 free-stays (Copy region step) ws w off free = free
 
 fit-waits : {n m e : ℕ} (bank : BankState n m e) (regs : RegsState n m e) (row line first : ℕ) (doing : Doing) → Fits bank regs doing

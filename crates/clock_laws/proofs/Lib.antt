@@ -1,4 +1,3 @@
-pub mod Deciding
 pub mod Ties
 pub mod Ranges
 pub mod Aging

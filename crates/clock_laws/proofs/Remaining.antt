@@ -29,6 +29,8 @@ use Rattle.register_laws.specs.Telling.{item_of}
 use Rattle.bank_model.specs.After.{due_moves}
 use Rattle.bank_model.proofs.Within.{due_moves-few}
 use Rattle.clock_laws.specs.Remaining.{last_attempts, attempts_left, attempt_left, keeping_left, present_left, actions_left, FallingLaw, OneWriteLaw}
+use Rattle.clock_laws.proofs.Stepping.{some_item}
+use Rattle.clock_laws.proofs.Fitting.{no_one}
 
 length-rest : {n : ℕ} (es : List (Entry n)) → 0 < length es → length (drop 1 es) + 1 ≡ length es
 length-rest [] some = grind arith
@@ -191,13 +193,6 @@ falling_law n m e bank regs = record {
 
 pub one_write_law : OneWriteLaw
 one_write_law n m e xs clock array leads stands =
-    none_running clock.bank.running
-    (leads.holds.running ∙ changed-idle clock.bank.kept.shape clock.pace e xs leads.lawful (ap (λ change. is_some change) (sym leads.regs.change) ∙ some clock.regs.change stands))
-  where
-    none_running : (r : Option (Operation n m e)) → is_some r ≡ false → r ≡ None
-    none_running None is = refl
-    none_running (Some op) is = absurd (cc)
-
-    some : (change : Option Change) → is_some change ≡ true → is_some (item_of change) ≡ true
-    some None is = absurd (cc)
-    some (Some change) is = refl
+    no_one clock.bank.running
+    (leads.holds.running ∙ changed-idle clock.bank.kept.shape clock.pace e xs leads.lawful
+    (ap (λ change. is_some change) (sym leads.regs.change) ∙ some_item clock.regs.change stands))

@@ -55,6 +55,11 @@ senses-all shape xs x sensed array own pulses =
     shown-all shape x.tick sensed array (λ sense. (sense.tick ≡ x.tick) × (sense.pulses ≡ pulses_of (x ∷ xs) sense.line)) own
     (λ line is. (refl, pulses-at shape (x ∷ xs) array line pulses is))
 
+-- a change that stands is of an item
+pub some_item : (change : Option Change) → is_some change ≡ true → is_some (item_of change) ≡ true
+some_item None is = absurd (cc)
+some_item (Some change) is = refl
+
 module _ {n m e : ℕ} where
   -- the clock after it, with this bank and these control lines
   abbrev pub clock_at : ClockState n m e → BankState n m e → RegsState n m e → ℕ → Option Action → List ℕ → ℕ → ClockState n m e
@@ -135,7 +140,8 @@ module _ {n m e : ℕ} where
         (kept-sensed-in clock.bank.kept.shape (line_of_change clock.bank.kept.shape (item_of clock.regs.change)) event
         (change-in clock.bank.kept.shape (item_of clock.regs.change) change_known)) in
         record {
-          stands = ap (λ change. is_some change) (sym reached.regs.change) ∙ some clock.regs.change s.stands;
+          stands =
+              ap (λ change. is_some change) (sym reached.regs.change) ∙ some_item clock.regs.change s.stands;
           may = s.may;
           on_time = s.on_time;
           behind = s.behind;
@@ -143,10 +149,6 @@ module _ {n m e : ℕ} where
           senses = senses-all clock.bank.kept.shape xs x sensed new own (pulses-next clock.bank.kept.shape xs x sensed tearing old new reached.pulses s.touches);
           pulsed = s.pulses ∙ ap (λ change. kept_pulsed (line_of_change clock.bank.kept.shape change) event) reached.regs.change;
         }
-      where
-        some : (change : Option Change) → is_some change ≡ true → is_some (item_of change) ≡ true
-        some None is = absurd (cc)
-        some (Some change) is = refl
 
     -- the lines of the bank age on
     pub still-aged : (x : TimedEvent n m) (sensed : List ℕ) (tearing : Bool) → MayCome clock.bank.kept.shape clock.pace e xs x x.happens

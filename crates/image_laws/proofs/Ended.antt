@@ -1,5 +1,5 @@
 -- What is saved of a bank is that of its end: its counters are those of its stores by the rows, and its spares those of its table.
-use Rattle.std.proofs.Common.{◌≡◌, ℕ, ◌+◌, ◌*◌, ◌/◌, ◌%◌, ◌<◌, ◌≤◌, ◌==◌, ◌&&◌, ◌⊎◌, inl, inr, Bool, true, false, List, map, length, get_or, refl, sym, ap, ◌∙◌, subst, arith, eqb-true}
+use Rattle.std.proofs.Common.{◌≡◌, ℕ, ◌+◌, ◌*◌, ◌/◌, ◌%◌, ◌<◌, ◌≤◌, ◌==◌, ◌&&◌, ◌⊎◌, inl, inr, Bool, true, List, map, length, get_or, sym, ap, ◌∙◌, subst, arith, eqb-true}
 use Rattle.std.proofs.lemmas.Bool.{cases_lt, or_cases}
 use Rattle.std.proofs.lemmas.Nat.{mul-le}
 use Rattle.std.proofs.Math.Nat.{div-add-mod}
@@ -35,6 +35,7 @@ use Rattle.pcm_image.specs.Standing.{no_region}
 use Rattle.image_laws.specs.Saving.{head_of, saved_bank, saved_region}
 use Rattle.image_laws.specs.SavedRuns.{SavesEnd}
 use Rattle.image_laws.proofs.Keeping.{registers-saved, slots-saved}
+use Rattle.masked_bytes.proofs.Truth.{and_first}
 
 -- two successive numbers leave different rests
 next-rest : (a k : ℕ) → 2 ≤ k → (a + 1) % k ≡ a % k → ⊥
@@ -74,15 +75,11 @@ moves-near shape worn rows region moves own psi is few near = by moved counted
     count : ℕ
     count = region_stores is_stored shape region rows
 
-    and-first : (a b : Bool) → (a && b) ≡ true → a ≡ true
-    and-first true b is = refl
-    and-first false b is = absurd (cc)
-
     moved : (moves ≡ count / shape.psi) ⊎ (moves + 1 ≡ count / shape.psi)
     moved =
         elim (or_cases (moves == count / shape.psi) (moves + 1 == count / shape.psi && (count % shape.psi == 0 && may_leave shape worn)) is) [
           | inl all ↦ inl (eqb-true moves (count / shape.psi) all)
-          | inr less ↦ inr (eqb-true (moves + 1) (count / shape.psi) (and-first _ _ less))
+          | inr less ↦ inr (eqb-true (moves + 1) (count / shape.psi) (and_first _ _ less))
         ]
 
     counted : (own ≡ count / shape.psi) ⊎ (own + 1 ≡ count / shape.psi)

@@ -17,6 +17,7 @@ use Rattle.bank_laws.specs.Pairs.{has_line, ArePaired}
 use Rattle.bank_laws.proofs.Lines.{Stands, stands-row, stands-line, newest-stands, merged-candidate, merges-stands}
 use Rattle.bank_laws.proofs.Pairs.{keeps_pairs}
 use Rattle.bank_laws.proofs.Standing.{stand_apart}
+use Rattle.bank_laws.proofs.Answering.{head-there}
 use Rattle.queue_laws.specs.EntryLaws.{line_written, given_by, last_write, is_head_begun}
 use Rattle.masked_bytes.proofs.Layering.{laid-again, laid-between}
 use Rattle.masked_bytes.proofs.Queueing.{candidate-newest}
@@ -200,15 +201,13 @@ module _ {n : ℕ} (shape : BankShape) where
         | inr ge ↦ absurd (cc (none row ge, there))
       ]
 
-  first-row : (e : Entry n) (es : List (Entry n)) → has_row (e ∷ es) e.row ≡ true
-  first-row e es = ap (λ b. b || has_row es e.row) (same-row e.row)
-
   -- a write behind the others
   whole-pushed : (h : List (Event n)) (at l : ℕ) (bytes : List ℕ) (given : List Bool) (q : List (Entry n)) → ((r : ℕ) → at ≤ r → has_row q r ≡ false) → (q ≡ [] → ⊥)
       → HeadWhole h q → HeadWhole (Write at l bytes given wrote.Accepted ∷ h) (q ++ record { row = at; line = l; bytes = bytes; given = given } ∷ [])
   whole-pushed h at l bytes given [] none some was = absurd (some refl)
   whole-pushed h at l bytes given (e ∷ es) none some was =
-      whole-behind h e at (Write at l bytes given wrote.Accepted ∷ h) (low-row (e ∷ es) e.row at none (first-row e es)) was
+      whole-behind h e at (Write at l bytes given wrote.Accepted ∷ h)
+      (low-row (e ∷ es) e.row at none (head-there (e ∷ es) e.row refl)) was
 
   -- a write that is merged into one of them
   whole-merged : (h : List (Event n)) (bound at l old : ℕ) (bytes : List ℕ) (given : List Bool) (q : List (Entry n)) → RowsBelow h bound → ((r : ℕ) → at ≤ r → has_row q r ≡ false)
@@ -232,7 +231,9 @@ module _ {n : ℕ} (shape : BankShape) where
           ap (λ under. laid bytes given under) then
           ∙ sym (ap (λ b. cond b (laid bytes given (newest h e.line)) (newest h e.line)) (eq-eqb l e.line its))
           ∙ sym (ap (λ b. newest (cond b now (up_to at h)) e.line) (same-row at))
-      by false other = whole-behind h e at now (low-row (e ∷ es) e.row at none (first-row e es)) was
+      by false other =
+          whole-behind h e at now
+          (low-row (e ∷ es) e.row at none (head-there (e ∷ es) e.row refl)) was
 
   no-newest : (es : List (Entry n)) (line : ℕ) → has_line es line ≡ false → newest_row es line ≡ None
   no-newest es line none = by (newest_row es line) refl
@@ -275,7 +276,9 @@ module _ {n : ℕ} (shape : BankShape) where
   -- what comes behind it leaves it as it is
   whole-same : (h now : List (Event n)) (q : List (Entry n)) → ((row : ℕ) → has_row q row ≡ true → up_to row now ≡ up_to row h) → HeadWhole h q → HeadWhole now q
   whole-same h now [] same was = tt
-  whole-same h now (e ∷ es) same was = was ∙ ap (λ past. newest past e.line) (sym (same e.row (first-row e es)))
+  whole-same h now (e ∷ es) same was =
+      was
+      ∙ ap (λ past. newest past e.line) (sym (same e.row (head-there (e ∷ es) e.row refl)))
 
   unchanged : (h : List (Event n)) (at : ℕ) (whole : List (Event n)) (q : List (Entry n)) → RowsBelow h at → ((r : ℕ) → at ≤ r → has_row q r ≡ false) → (row : ℕ) → has_row q row ≡ true
       → cond (eqb at row) whole (up_to row h) ≡ up_to row h

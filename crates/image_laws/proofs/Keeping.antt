@@ -1,12 +1,11 @@
 -- What is saved of a bank is in range, and has the registers and the table of its end.
 use Rattle.std.proofs.Common.{◌≡◌, ℕ, ◌+◌, ◌*◌, ◌^◌, ◌<◌, ◌≤◌, ◌&&◌, Bool, true, false, nat_le, List, [], ◌∷◌, length, get_or, refl, sym, ap, subst, ◌∙◌, arith}
-use Rattle.std.proofs.lemmas.Bool.{and_from}
+use Rattle.std.proofs.lemmas.Bool.{and_from, le-leb}
 use Rattle.std.specs.Prelude.{All, map, if◌then◌else◌}
 use Rattle.std.proofs.lemmas.List.{length-map}
 use Rattle.std.proofs.lemmas.List.Elements.{All-nil, All-cons, All-from_get_or}
 use Rattle.std.proofs.Math.ListN.{get_or-map}
 use Rattle.std.specs.Int.{is_power_of_two}
-use Rattle.std.proofs.lemmas.Bool.Decides.{nat_tests}
 use Rattle.feistel_map.specs.Log2.{log2}
 use Rattle.masked_bytes.specs.Entries.{AllMasked}
 use Rattle.masked_bytes.specs.declared.entry.Entry.{Entry}
@@ -27,12 +26,10 @@ use Rattle.pcm_image.specs.Standing.{rotation_of, table_of, no_region}
 use Rattle.image_laws.specs.Saving.{head_of, home_number, saved_bank, saved_entry, saved_region}
 use Rattle.image_laws.proofs.Factors.{first-test, second-test, third-test}
 
-le-test : (a b : ℕ) → a ≤ b → nat_le a b ≡ true
-le-test a b h = grind (arith, nat_tests)
-
 within : (least most n : ℕ) → is_power_of_two n ≡ true → least ≤ n → n ≤ most → is_power_between least most n ≡ true
 within least most n power low high =
-    and_from (is_power_of_two n) (nat_le least n && nat_le n most) power (and_from (nat_le least n) (nat_le n most) (le-test least n low) (le-test n most high))
+    and_from (is_power_of_two n) (nat_le least n && nat_le n most) power
+    (and_from (nat_le least n) (nat_le n most) (le-leb least n low) (le-leb n most high))
 
 home-low : (h : Home) → home_number h < 2
 home-low home.Guarded = omega arith
@@ -46,7 +43,7 @@ head-right raw seed is low =
       regions = within 1 16 raw.regions (second-test _ raw.banks raw.regions raw.lines power) is.some_regions is.few_regions;
       lines = and_from (is_power_between 4 4096 raw.lines) (nat_le (raw.banks * raw.regions * raw.lines) 65536)
           (within 4 4096 raw.lines (third-test _ raw.banks raw.regions raw.lines power) is.some_lines is.few_lines)
-          (le-test (raw.banks * raw.regions * raw.lines) 65536 is.few_in_all);
+          (le-leb (raw.banks * raw.regions * raw.lines) 65536 is.few_in_all);
       spares = is.few_spares;
       seed = low;
       home = home-low raw.home;

@@ -2,7 +2,7 @@
 use Rattle.std.proofs.Common.{◌≡◌, ℕ, zero, suc, ◌<◌, ◌==◌, ◌&&◌, ◌||◌, ◌⊎◌, inl, inr, Bool, true, false, List, [], ◌∷◌, ◌++◌, map, filter, length, get_or, Option, Some, None, refl, sym, ap, ◌∙◌, subst, arith, cond, eqb-true, append_assoc}
 use Rattle.std.specs.Prelude.{IfSome}
 use Rattle.std.specs.List.{list_any}
-use Rattle.std.proofs.lemmas.Bool.{eq-eqb, or_cases}
+use Rattle.std.proofs.lemmas.Bool.{eq-eqb, or_cases, or_left, or_right}
 use Rattle.std.proofs.lemmas.List.{length-map}
 use Rattle.std.proofs.Math.ListN.{get_or-map}
 use Rattle.result_rows.specs.declared.Outcome.{Outcome}
@@ -281,14 +281,6 @@ module _ {n m e : ℕ} (pace : Pace) (all : List (TimedEvent n m)) (bank : BankS
     marked = λ mark none. begun-when.1 (mark-exhausted mark) (saved-none none);
   }
 
-  or-left : (a b : Bool) → a ≡ true → (a || b) ≡ true
-  or-left true b is = refl
-  or-left false b is = absurd (cc)
-
-  or-right : (a b : Bool) → b ≡ true → (a || b) ≡ true
-  or-right true b is = refl
-  or-right false b is = is
-
   left-over : has_exhausted (core all) ≡ true → has_work shape.psi table saved ≡ true
   left-over ex = by (due_after shape (core all)) refl
     where
@@ -297,14 +289,17 @@ module _ {n m e : ℕ} (pace : Pace) (all : List (TimedEvent n m)) (bank : BankS
       begun-some (f ∷ fs) own = (f, fs, refl)
 
       by : (due : Option ℕ) → due_after shape (core all) ≡ due → has_work shape.psi table saved ≡ true
-      by (Some region) some = or-right (list_any queued_row table) (is_due shape.psi saved) (due-saved region some)
+      by (Some region) some =
+          or_right (list_any queued_row table) (is_due shape.psi saved)
+          (due-saved region some)
       by None none =
           let b = above_all shape pace e all l in
           let own = queue-own shape (most_steps e) (core all) b.0 (may_all shape pace e all l) b.1 in
           let some =
           begun-some (queue shape (core all))
           (subst (λ (whole : Bool). AreOwn (λ row. line_written row (core all)) (λ row. given_by row (core all)) whole (queue shape (core all))) (begun-when.1 ex none) own) in
-          or-left (list_any queued_row table) (is_due shape.psi saved) (some-queue shape pace e all l some.0 some.1 some.2)
+          or_left (list_any queued_row table) (is_due shape.psi saved)
+          (some-queue shape pace e all l some.0 some.1 some.2)
 
   work-why : has_work shape.psi table saved ≡ true → is_over shape all ≡ true
   work-why is = by (or_cases (list_any queued_row table) (is_due shape.psi saved) is)

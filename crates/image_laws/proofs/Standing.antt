@@ -1,5 +1,5 @@
 -- Each line's newest bytes, by what is saved.
-use Rattle.std.proofs.Common.{◌≡◌, ℕ, ◌+◌, ◌*◌, ◌/◌, ◌%◌, ◌<◌, ◌≤◌, Bool, true, false, ◌==◌, List, [], ◌∷◌, get_or, refl, sym, ap, ◌∙◌, arith}
+use Rattle.std.proofs.Common.{◌≡◌, ℕ, ◌+◌, ◌*◌, ◌/◌, ◌%◌, ◌<◌, ◌==◌, List, [], ◌∷◌, get_or, refl, sym, ap, ◌∙◌, arith}
 use Rattle.std.specs.Prelude.{map}
 use Rattle.std.proofs.lemmas.List.FromFn.{get_or-map-range_with_len}
 use Rattle.std.proofs.Math.ListN.{get_or-map}
@@ -14,16 +14,16 @@ use Rattle.pcm_cells.specs.Device.{ArrayState}
 use Rattle.ecp_line.specs.Reading.{decode}
 use Rattle.bank_shape.specs.declared.BankShape.{BankShape}
 use Rattle.power_recovery.specs.Kept.{KeptState, IsKept, region_at, slot_of as kept_slot, stands_at as kept_at, no_region as no_kept}
+use Rattle.power_recovery.proofs.Placing.{place_by-within}
 use Rattle.module_shape.specs.declared.raw.RawShape.{RawShape}
 use Rattle.module_shape.specs.Addresses.{module_of, bank_shape, array_lines_of}
 use Rattle.bank_invariant.specs.Holds.{stands_for as kept_for}
 use Rattle.pcm_image.specs.Saved.{array_lines_in}
 use Rattle.pcm_image.specs.Standing.{entry_of, own_bytes, slot_of, stands_at}
 use Rattle.image_laws.specs.Saving.{head_of, home_number, saved_bank, saved_cells, saved_entry, saved_of, saved_region}
-use Rattle.std.specs.Prelude.{nat_lt, if◌then◌else◌}
+use Rattle.std.specs.Prelude.{if◌then◌else◌}
 use Rattle.std.proofs.lemmas.Nat.{div_below}
-use Rattle.std.proofs.Math.Nat.{mod-lt}
-use Rattle.start_gap.specs.Rotation.{Rotation, IsRotation}
+use Rattle.start_gap.specs.Rotation.{IsRotation}
 use Rattle.spare_pool.specs.Table.{line_by, used_by}
 use Rattle.spare_pool.proofs.Lines.{line_by-within}
 use Rattle.bank_shape.specs.declared.Home.{Home}
@@ -36,17 +36,6 @@ use Rattle.pcm_image.proofs.Heads.{row_below, slot_below}
 layers-same : {n : ℕ} (es : List (Entry n)) (line : ℕ) → layer_of (map entry_of (map saved_entry es)) line ≡ layer_of es line
 layers-same [] line = refl
 layers-same (e ∷ es) line = ap (λ (l : Layer). if e.line == line then stacked l (layer_by e) else l) (layers-same es line)
-
--- a place of a region
-place-within : (r : Rotation) (line : ℕ) → IsRotation r → place_by r line ≤ r.lines
-place-within r line is = by (nat_lt ((line + r.start) % r.lines) r.gap)
-  where
-    low : (line + r.start) % r.lines < r.lines
-    low = mod-lt (line + r.start) (omega (arith, is.some_lines))
-
-    by : (b : Bool) → (if b then (line + r.start) % r.lines else (line + r.start) % r.lines + 1) ≤ r.lines
-    by true = omega (arith, low)
-    by false = omega (arith, low)
 
 -- the array lines of a bank
 controls-same : (h : Home) (count : ℕ) → (if home_number h == 0 then 0 else count) ≡ if_array h count
@@ -94,7 +83,7 @@ module _ {n m : ℕ} (e : ℕ) (raw : RawShape) (seed : ℕ) (keeps : ℕ → Ke
 
   slot-there : slot_at raw.lines (own / raw.lines) place < kept.table.slots
   slot-there =
-      let low = place-within (region_at kept (own / raw.lines)).rotation (own % raw.lines) of-region in
+      let low = place_by-within (region_at kept (own / raw.lines)).rotation (own % raw.lines) of-region in
       rw slots-are (slot_below raw.regions raw.lines (own / raw.lines) place region-there (omega (arith, low, rotates)))
 
   -- and so is the array line

@@ -2,7 +2,7 @@
 -- line writes of the line, by the rows.
 use Rattle.std.proofs.Common.{◌≡◌, ℕ, zero, suc, ◌+◌, ◌-◌, ◌*◌, ◌/◌, ◌<◌, ◌≤◌, ◌==◌, ◌&&◌, not, Bool, true, false, List, ◌∷◌, [], Option, Some, None, refl, ◌∙◌, arith}
 use Rattle.std.specs.Prelude.{count_by, is_some}
-use Rattle.std.proofs.lemmas.Bool.{eqb-true, eq-eqb}
+use Rattle.std.proofs.lemmas.Bool.{eqb-true, eq-eqb, both_ways}
 use Rattle.std.proofs.lemmas.Nat.{le-div}
 use Rattle.start_gap.specs.Rotation.{gap_after}
 use Rattle.row_rules.specs.declared.Row.{Row}
@@ -39,6 +39,7 @@ use Rattle.lifetime_laws.proofs.Counting.{one, one-few, passing-within}
 use Rattle.lifetime_laws.proofs.Landing.{any, stored_tally, stores-landed}
 use Rattle.lifetime_laws.proofs.Stays.{copies_law}
 use Rattle.lifetime_laws.proofs.Ended.{below_one, gave_tally, cut_tally, works-split, moves-into, gives-once, not-over}
+use Rattle.masked_bytes.proofs.Truth.{and_first}
 
 -- the line writes of an array line that were done or given up
 abbrev ended_tally : {n : ℕ} → BankShape → ℕ → List (Event n) → ℕ
@@ -160,11 +161,9 @@ module _ {n m : ℕ} (shape : BankShape) (pace : Pace) (e at : ℕ) where
       by (Core (Begin answer)) c is may few = omega (arith, few)
       by (Core (Iterate answer)) c is may few = omega (arith, few)
       by (Regs event) c is may few = omega (arith, few)
-      by (Core (Cut tearing)) true is may few = absurd (no (is_cancelling pace.policy) _ plain (may.on_time.2 is))
-        where
-          no : (a b : Bool) → a ≡ false → (a && b) ≡ true → ⊥
-          no true b h k = absurd (cc (h))
-          no false b h k = absurd (cc (k))
+      by (Core (Cut tearing)) true is may few =
+          absurd (both_ways (is_cancelling pace.policy) plain
+          (and_first (is_cancelling pace.policy) _ (may.on_time.2 is)))
       by (Core (Cut tearing)) false is may few = omega (arith, few, one-few (in_progress (core xs) && target_after shape (core xs) == at))
 
 -- all line writes, as often as each may be begun, where one more would end if one is at hand

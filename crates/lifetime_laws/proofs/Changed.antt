@@ -4,7 +4,6 @@ use Rattle.std.proofs.Common.{◌≡◌, ◌⊎◌, inl, inr, ℕ, ◌+◌, ◌*
 use Rattle.std.specs.Prelude.{count_by, nat_lt}
 use Rattle.std.proofs.lemmas.Bool.{ne_eqb, ltb-true, ltb-false, cases_eq}
 use Rattle.std.proofs.lemmas.Nat.{div_below, le-div}
-use Rattle.std.proofs.Math.Nat.{mul-le-mul_left}
 use Rattle.row_rules.specs.declared.Row.{Row}
 use Rattle.row_rules.specs.Answers.{is_stored}
 use Rattle.row_rules.specs.Rows.{is_cut}
@@ -34,7 +33,7 @@ use Rattle.place_laws.proofs.Slots.{begin-retires_none, begin-exhausts_none}
 use Rattle.place_laws.proofs.Storing.{stored-counted, region-stored}
 use Rattle.place_laws.proofs.Tables.{region-all}
 use Rattle.place_laws.proofs.Trying.{cuts_in, exhausted-idle}
-use Rattle.place_laws.proofs.Pulses.{cuts-counted}
+use Rattle.place_laws.proofs.Pulses.{cuts-counted, bounded}
 use Rattle.place_laws.proofs.WornOut.{none-ready}
 use Rattle.place_laws.proofs.Cancels.{cancels-kept}
 use Rattle.log_laws.proofs.Within.{row_line-within, last-within}
@@ -182,12 +181,6 @@ rests-kept : (item : ℕ) (change : Option ℕ) (keeping busy : Bool) (rounds : 
 rests-kept item None keeping busy rounds is = refl
 rests-kept item (Some other) keeping busy rounds is = ap (λ b. cond (other == item && b) rounds 0) is ∙ stops-cond (other == item) rounds
 
-pub as_often : (steps times works most : ℕ) → works ≤ times * most → steps * works ≤ times * steps * most
-as_often steps times works most le =
-    let more : steps * works ≤ steps * (times * most) = mul-le-mul_left steps le in
-    let swap : steps * (times * most) ≡ times * steps * most = grind arith in
-    omega (arith, more, swap)
-
 pub control_pulses_law : ControlPulsesLaw
 control_pulses_law n m e shape pace xs array item sized l idle leaves exists =
     let k : Kept shape pace e item xs = kept shape pace e item sized xs l in
@@ -200,7 +193,8 @@ control_pulses_law n m e shape pace xs array item sized l idle leaves exists =
     (omega (arith, k.made, few, cuts)) k.plain k.cut (omega (arith, k.under, (cancels-kept shape pace e xs l).most))
     (λ holds. let stands : one (is_item item (change_after shape xs) && not (halted_after xs)) ≡ 1 = ap one (k.alone holds) in omega (arith, k.made, stands, few, cuts)) in
     let bound : most_steps e * (k.ended + k.broken) ≤ tries pace.policy * most_steps e * most_kept shape (table_of shape xs) item =
-    as_often (most_steps e) (tries pace.policy) (k.ended + k.broken) (most_kept shape (table_of shape xs) item) works in
+    bounded (most_steps e) (tries pace.policy) (k.ended + k.broken)
+    (most_kept shape (table_of shape xs) item) works in
     let own : (array.line (shape.base + (slots_of shape + shape.spares + item))).pulses ≡ pulses_of xs (shape.base + (slots_of shape + shape.spares + item)) =
     leaves.pulses (slots_of shape + shape.spares + item) (omega (arith, exists)) in
     let turned : control_line shape item ≡ shape.base + (slots_of shape + shape.spares + item) = omega arith in

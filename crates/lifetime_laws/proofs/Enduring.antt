@@ -1,7 +1,7 @@
 -- A line with no cell stuck isn't worn.
 use Rattle.std.proofs.Common.{◌≡◌, ℕ, zero, suc, ◌+◌, ◌*◌, ◌-◌, ◌<◌, ◌≤◌, ◌&&◌, ◌||◌, not, Bool, true, false, refl, ap, ◌∙◌, arith}
 use Rattle.std.specs.Prelude.{nat_lt}
-use Rattle.std.proofs.lemmas.Bool.{false_from_ne_true, le-ltb}
+use Rattle.std.proofs.lemmas.Bool.{false_from_ne_true, le-ltb, or_from}
 use Rattle.pcm_cells.specs.declared.row.Cells.{Cells}
 use Rattle.pcm_cells.specs.Rows.{cell, members}
 use Rattle.ecp_line.specs.Layout.{IsLayout, width, some_below, full_cell, activity_cell}
@@ -14,11 +14,9 @@ use Rattle.bank_shape.specs.Shape.{control_line}
 none-below : (p : ℕ → Bool) (j : ℕ) → ((k : ℕ) → k < j → p k ≡ false) → some_below p j ≡ false
 unfolding some_below
 none-below p zero none = refl
-none-below p (suc j) none = or-none (p j) (some_below p j) (none j (omega arith)) (none-below p j (λ k lt. none k (omega (arith, lt))))
-  where
-    or-none : (a b : Bool) → a ≡ false → b ≡ false → (a || b) ≡ false
-    or-none true b h k = h
-    or-none false b h k = k
+none-below p (suc j) none =
+    or_from (p j) (some_below p j) (none j (omega arith))
+    (none-below p j (λ k lt. none k (omega (arith, lt))))
 
 one_more : (d w : ℕ) → (d + 1) * w ≡ d * w + w
 one_more d w = omega arith

@@ -1,8 +1,8 @@
 -- The pulses of one control line, by the changes of its item.
 use Rattle.std.proofs.Common.{◌≡◌, ℕ, ◌+◌, ◌*◌, ◌<◌, ◌≤◌, ◌==◌, ◌&&◌, not, Bool, true, false, List, [], ◌∷◌, inl, inr, Option, Some, None, refl, sym, ap, ◌∙◌, subst, arith, cond}
-use Rattle.masked_bytes.proofs.Truth.{and_first}
+use Rattle.masked_bytes.proofs.Truth.{and_first, and_second}
 use Rattle.std.specs.Prelude.{is_some}
-use Rattle.std.proofs.lemmas.Bool.{eqb-true, eq-eqb, ne_eqb, cases_eq}
+use Rattle.std.proofs.lemmas.Bool.{eqb-true, eq-eqb, ne_eqb, cases_eq, both_ways}
 use Rattle.spare_pool.specs.Table.{Table}
 use Rattle.spare_pool.proofs.Lines.{line_by-within}
 use Rattle.bank_shape.specs.Pausing.{is_cancelling}
@@ -28,10 +28,11 @@ use Rattle.bank_laws.proofs.Waiting.{may_all}
 use Rattle.place_laws.proofs.Slots.{retired-few}
 use Rattle.place_laws.proofs.Trying.{cuts_in, cuts_power}
 use Rattle.place_laws.proofs.Cancels.{cancels-kept}
+use Rattle.place_laws.proofs.Moves.{next_product}
 use Rattle.log_laws.proofs.Within.{work-own}
 use Rattle.lifetime_laws.proofs.Counting.{one, one-few}
 use Rattle.lifetime_laws.proofs.Ended.{below_one}
-use Rattle.lifetime_laws.proofs.Writing.{pulse-more}
+use Rattle.lifetime_laws.proofs.Writing.{pulsed-more}
 
 -- whether a change is of this item
 abbrev pub is_item : ℕ → Option ℕ → Bool
@@ -59,10 +60,6 @@ pub record IsKept (w pulses rounds changes cuts count : ℕ) (here keeping halte
   pub alone : 1 ≤ held → (here && not halted) ≡ true
   pub plain : cancelling ≡ false → broken ≤ cuts
 
-off-and : (a b : Bool) → a ≡ false → (a && b) ≡ true → ⊥
-off-and true b off is = absurd (cc (off))
-off-and false b off is = absurd (cc (is))
-
 off-cond : (a b : Bool) (r : ℕ) → a ≡ false → cond (a && b) r 0 ≡ 0
 off-cond true b r off = absurd (cc (off))
 off-cond false b r off = refl
@@ -79,13 +76,16 @@ fewer-cond : (b c : Bool) → cond (b && c) 1 0 ≤ one b
 fewer-cond true c = one-few c
 fewer-cond false c = omega arith
 
-next-write : (w k : ℕ) → w * (k + 1) ≡ w * k + w
-next-write w k = grind arith
+-- a pulse that tears nothing
+untorn : (torn : Bool) → (torn ≡ true → false ≡ true) → one torn ≡ 0
+untorn true tears = absurd (cc (tears refl))
+untorn false tears = refl
 
 -- the steps of one event, over plain numbers
 module _ (w p r c q n : ℕ) (here keeping halted cancelling : Bool) (k : IsKept w p r c q n here keeping halted cancelling) where
   off-held : here ≡ false → k.held ≡ 0
-  off-held off = omega (arith, below_one k.held (λ le. off-and here (not halted) off (k.alone le)))
+  off-held off =
+      omega (arith, below_one k.held (λ le. both_ways here off (and_first here (not halted) (k.alone le))))
 
   -- an event that has nothing to do with changes
   kept-passed : (new : ℕ) → new ≤ p → IsKept w new r c (0 + q) n here keeping halted cancelling
@@ -121,8 +121,9 @@ module _ (w p r c q n : ℕ) (here keeping halted cancelling : Bool) (k : IsKept
   kept-cut : (new : ℕ) (torn b : Bool) → (here && keeping) ≡ b → new ≤ p + one torn → (torn ≡ true → b ≡ true) → n ≤ 4 → IsKept w new 0 c (1 + q) 0 here false halted cancelling
   kept-cut new torn true is more tears four =
       let few : p ≤ w * (k.ended + k.broken) + r = subst (λ b. p ≤ w * (k.ended + k.broken) + cond b r 0) is k.few in
-      let room : r + 1 ≤ w = k.room (going here keeping is) in
-      let next : w * (k.ended + (k.broken + 1)) ≡ w * (k.ended + k.broken) + w = ap (λ x. w * x) (omega arith) ∙ next-write w (k.ended + k.broken) in
+      let room : r + 1 ≤ w = k.room (and_second here keeping is) in
+      let next : w * (k.ended + (k.broken + 1)) ≡ w * (k.ended + k.broken) + w =
+      ap (λ x. w * x) (omega arith) ∙ next_product w (k.ended + k.broken) in
       record {
         ended = k.ended;
         broken = k.broken + 1;
@@ -135,17 +136,13 @@ module _ (w p r c q n : ℕ) (here keeping halted cancelling : Bool) (k : IsKept
         alone = λ le. absurd (omega (arith, le));
         plain = λ is. omega (arith, k.plain is);
       }
-    where
-      going : (a b : Bool) → (a && b) ≡ true → b ≡ true
-      going true b is = is
-      going false b is = absurd (cc (is))
   kept-cut new torn false is more tears four =
       let few : p ≤ w * (k.ended + k.broken) + 0 = subst (λ b. p ≤ w * (k.ended + k.broken) + cond b r 0) is k.few in
       record {
         ended = k.ended;
         broken = k.broken;
         held = 0;
-        few = omega (arith, few, more, whole torn tears, stops-cond here 0);
+        few = omega (arith, few, more, untorn torn tears, stops-cond here 0);
         room = λ is. absurd (cc (is));
         made = k.made;
         cut = omega (arith, k.cut, k.under, four);
@@ -153,10 +150,6 @@ module _ (w p r c q n : ℕ) (here keeping halted cancelling : Bool) (k : IsKept
         alone = λ le. absurd (omega (arith, le));
         plain = λ is. omega (arith, k.plain is);
       }
-    where
-      whole : (torn : Bool) → (torn ≡ true → false ≡ true) → one torn ≡ 0
-      whole true tears = absurd (cc (tears refl))
-      whole false tears = refl
 
   -- a cancel of the bank's own line write, while no change stands
   kept-still : (new : ℕ) → new ≤ p → here ≡ false → IsKept w new 0 c (0 + q) (n + 1) here false halted cancelling
@@ -228,7 +221,8 @@ module _ (w p r c q n : ℕ) (here keeping halted cancelling : Bool) (k : IsKept
   -- a change is written, so none stands; or its writing has halted, and it stands for good
   kept-done : (new rounds : ℕ) (b : Bool) → here ≡ b → new ≤ w * (k.ended + k.broken) + cond b w 0 → halted ≡ false → n ≤ 4 → IsKept w new rounds c (0 + q) 0 false false halted cancelling
   kept-done new rounds true is spent fine four =
-      let next : w * (k.ended + 1 + k.broken) ≡ w * (k.ended + k.broken) + w = ap (λ x. w * x) (omega arith) ∙ next-write w (k.ended + k.broken) in
+      let next : w * (k.ended + 1 + k.broken) ≡ w * (k.ended + k.broken) + w =
+      ap (λ x. w * x) (omega arith) ∙ next_product w (k.ended + k.broken) in
       let made : one (here && not halted) ≡ 1 = ap (λ b. one (b && not halted)) is ∙ ap (λ b. one (not b)) fine in
       record {
         ended = k.ended + 1;
@@ -257,7 +251,8 @@ module _ (w p r c q n : ℕ) (here keeping halted cancelling : Bool) (k : IsKept
 
   kept-halts : (new rounds : ℕ) (b : Bool) → here ≡ b → new ≤ w * (k.ended + k.broken) + cond b w 0 → halted ≡ false → n ≤ 4 → IsKept w new rounds c (0 + q) 0 here false true cancelling
   kept-halts new rounds true is spent fine four =
-      let next : w * (k.ended + 1 + k.broken) ≡ w * (k.ended + k.broken) + w = ap (λ x. w * x) (omega arith) ∙ next-write w (k.ended + k.broken) in
+      let next : w * (k.ended + 1 + k.broken) ≡ w * (k.ended + k.broken) + w =
+      ap (λ x. w * x) (omega arith) ∙ next_product w (k.ended + k.broken) in
       let made : one (here && not halted) ≡ 1 = ap (λ b. one (b && not halted)) is ∙ ap (λ b. one (not b)) fine in
       record {
         ended = k.ended + 1;
@@ -291,7 +286,8 @@ module _ (w p r c q n : ℕ) (here keeping halted cancelling : Bool) (k : IsKept
       let few : p ≤ w * (k.ended + k.broken) + r = subst (λ b. p ≤ w * (k.ended + k.broken) + cond b r 0) is k.few in
       let parts = both here keeping is in
       let room : r + 1 ≤ w = k.room parts.1 in
-      let next : w * (k.ended + (k.broken + 1)) ≡ w * (k.ended + k.broken) + w = ap (λ x. w * x) (omega arith) ∙ next-write w (k.ended + k.broken) in
+      let next : w * (k.ended + (k.broken + 1)) ≡ w * (k.ended + k.broken) + w =
+      ap (λ x. w * x) (omega arith) ∙ next_product w (k.ended + k.broken) in
       let stands : (here && not halted) ≡ true = ap (λ b. b && not halted) parts.0 ∙ ap not (fine parts.1) in
       record {
         ended = k.ended;
@@ -315,7 +311,7 @@ module _ (w p r c q n : ℕ) (here keeping halted cancelling : Bool) (k : IsKept
         ended = k.ended;
         broken = k.broken;
         held = k.held;
-        few = omega (arith, few, more, whole torn tears, stops-cond here 0);
+        few = omega (arith, few, more, untorn torn tears, stops-cond here 0);
         room = λ is. absurd (cc (is));
         made = k.made;
         cut = omega (arith, k.cut);
@@ -323,10 +319,6 @@ module _ (w p r c q n : ℕ) (here keeping halted cancelling : Bool) (k : IsKept
         alone = k.alone;
         plain = λ is. omega (arith, k.plain is);
       }
-    where
-      whole : (torn : Bool) → (torn ≡ true → false ≡ true) → one torn ≡ 0
-      whole true tears = absurd (cc (tears refl))
-      whole false tears = refl
 
 -- the control line of an item is pulsed only with a change of that item
 module _ (shape : BankShape) (item : ℕ) where
@@ -406,20 +398,23 @@ module _ {n m : ℕ} (shape : BankShape) (pace : Pace) (e item : ℕ) (sized : I
       four : cancels_after xs ≤ 4
       four = (cancels-kept shape pace e xs l.1).most
 
-      -- the pulses after an event that pulses this line or none
-      more : (o : Option ℕ) → x.pulsed ≡ o → pulses_of (x ∷ xs) at ≤ pulses_of xs at + one (is_at o at)
-      more o is = subst (λ o. pulses_of (x ∷ xs) at ≤ pulses_of xs at + one (is_at o at)) is (pulse-more (is_at x.pulsed at) (pulses_of xs at))
-
       quiet : x.pulsed ≡ None → pulses_of (x ∷ xs) at ≤ pulses_of xs at
-      quiet is = let le : pulses_of (x ∷ xs) at ≤ pulses_of xs at + 0 = more None is in omega (arith, le)
+      quiet is =
+          let le : pulses_of (x ∷ xs) at ≤ pulses_of xs at + 0 = pulsed-more x xs at None is in
+          omega (arith, le)
 
       elsewhere : x.pulsed ≡ Some (target_after shape (core xs)) → pulses_of (x ∷ xs) at ≤ pulses_of xs at
       elsewhere is =
           let off : (target_after shape (core xs) == at) ≡ false = ne_eqb (target_after shape (core xs)) at (λ e. omega (arith, e, target-low xs l.1)) in
-          omega (arith, more (Some (target_after shape (core xs))) is, ap one off)
+          omega (arith, pulsed-more x xs at (Some (target_after shape (core xs))) is, ap one off)
 
       on_change : x.pulsed ≡ line_of_change shape (change_after shape xs) → pulses_of (x ∷ xs) at ≤ pulses_of xs at + one (is_item item (change_after shape xs))
-      on_change is = omega (arith, more (line_of_change shape (change_after shape xs)) is, ap one (its-line shape item (change_after shape xs)))
+      on_change is =
+          omega (
+            arith,
+            pulsed-more x xs at (line_of_change shape (change_after shape xs)) is,
+            ap one (its-line shape item (change_after shape xs)),
+          )
 
       -- the writing of a change that goes on has not halted
       unhalted : keeping_after xs ≡ true → halted_after xs ≡ false
@@ -447,20 +442,29 @@ module _ {n m : ℕ} (shape : BankShape) (pace : Pace) (e item : ℕ) (sized : I
       by (Core (Cut tearing)) false is may k =
           let control = torn_control shape (change_after shape xs) (running_at shape pace xs x.tick) in
           kept-cut _ _ _ _ _ _ _ _ _ _ k (pulses_of (x ∷ xs) at) (is_at (pulsed_by shape (core xs) control (Cut tearing)) at) (is_item item (change_after shape xs) && keeping_after xs) refl
-          (more _ may.pulsed)
+          (pulsed-more x xs at _ may.pulsed)
           (torn-stands shape item (core xs) (change_after shape xs) (keeping_after xs) tearing (running_at shape pace xs x.tick) (target-low xs l.1) may.on_time.4) four
       by (Core (Cut tearing)) true is may k =
           let none : change_after shape xs ≡ None = may.on_time.3 is in
           kept-still _ _ _ _ _ _ _ _ _ _ k (pulses_of (x ∷ xs) at) (off_item none) (none-item item (change_after shape xs) none)
         where
           off_item : change_after shape xs ≡ None → pulses_of (x ∷ xs) at ≤ pulses_of xs at
-          off_item none = untorn (is_at (pulsed_by shape (core xs) (torn_control shape (change_after shape xs) (running_at shape pace xs x.tick)) (Cut tearing)) at) refl
+          off_item none =
+              unpulsed (is_at (pulsed_by shape (core xs)
+              (torn_control shape (change_after shape xs) (running_at shape pace xs x.tick))
+              (Cut tearing)) at) refl
             where
-              untorn : (b : Bool) → is_at (pulsed_by shape (core xs) (torn_control shape (change_after shape xs) (running_at shape pace xs x.tick)) (Cut tearing)) at ≡ b → pulses_of (x ∷ xs) at ≤ pulses_of xs at
-              untorn true torn =
-                  absurd (off-and (is_item item (change_after shape xs)) (keeping_after xs) (none-item item (change_after shape xs) none)
-                  (torn-stands shape item (core xs) (change_after shape xs) (keeping_after xs) tearing (running_at shape pace xs x.tick) (target-low xs l.1) may.on_time.4 torn))
-              untorn false torn = omega (arith, more _ may.pulsed, ap one torn)
+              unpulsed : (b : Bool) → is_at (pulsed_by shape (core xs)
+                  (torn_control shape (change_after shape xs) (running_at shape pace xs x.tick))
+                  (Cut tearing)) at ≡ b → pulses_of (x ∷ xs) at ≤ pulses_of xs at
+              unpulsed true torn =
+                  absurd (both_ways (is_item item (change_after shape xs))
+                  (none-item item (change_after shape xs) none)
+                  (and_first (is_item item (change_after shape xs)) (keeping_after xs)
+                  (torn-stands shape item (core xs) (change_after shape xs) (keeping_after xs) tearing
+                  (running_at shape pace xs x.tick)
+                  (target-low xs l.1) may.on_time.4 torn)))
+              unpulsed false torn = omega (arith, pulsed-more x xs at _ may.pulsed, ap one torn)
       by (Regs (KeepBegin keep.More)) c is may k = kept-writes _ _ _ _ _ _ _ _ _ _ k (pulses_of (x ∷ xs) at) (quiet may.pulsed) may.may.0 (omega arith)
       by (Regs (KeepBegin keep.Done)) c is may k =
           kept-done _ _ _ _ _ _ _ _ _ _ k (pulses_of (x ∷ xs) at) 0 (is_item item (change_after shape xs)) refl
@@ -475,7 +479,8 @@ module _ {n m : ℕ} (shape : BankShape) (pace : Pace) (e item : ℕ) (sized : I
           (spent-iterate _ _ _ _ _ _ _ _ _ _ k (pulses_of (x ∷ xs) at) (on_change may.pulsed) may.may.0 may.may.1) (unhalted may.may.0) four
       by (Regs (KeepCut tearing)) c is may k =
           kept-broken _ _ _ _ _ _ _ _ _ _ k (pulses_of (x ∷ xs) at) (is_at (kept_pulsed (line_of_change shape (change_after shape xs)) (KeepCut tearing)) at)
-          (is_item item (change_after shape xs) && keeping_after xs) refl (more _ may.pulsed) (torn tearing may.may) unhalted (and_first (is_cancelling pace.policy) _ may.on_time.3)
+          (is_item item (change_after shape xs) && keeping_after xs) refl (pulsed-more x xs at _ may.pulsed)
+          (torn tearing may.may) unhalted (and_first (is_cancelling pace.policy) _ may.on_time.3)
         where
           torn : (tearing : Bool) → (tearing ≡ true → keeping_after xs ≡ true) → is_at (kept_pulsed (line_of_change shape (change_after shape xs)) (KeepCut tearing)) at ≡ true
               → (is_item item (change_after shape xs) && keeping_after xs) ≡ true

@@ -32,6 +32,7 @@ use Rattle.lifetime_laws.specs.Endurance.{KeepsControls}
 use Rattle.bank_laws.specs.Laws.{is_worn_at}
 use Rattle.bank_laws.specs.Outcomes.{table_of}
 use Rattle.place_laws.proofs.WornOut.{none-ready}
+use Rattle.place_laws.proofs.Pulses.{bounded}
 use Rattle.bank_model.specs.Sensing.{most_steps, pulses_of}
 use Rattle.lifetime_laws.specs.Spread.{is_stored_on, stores_on, most_at, finding_at, stay}
 use Rattle.bank_model.specs.Works.{works_on, held_on}
@@ -46,7 +47,7 @@ use Rattle.lifetime_laws.proofs.Sound.{sound_rows_law}
 use Rattle.bank_laws.proofs.Works.{idle-held}
 use Rattle.lifetime_laws.proofs.Writing.{pulses_on_law}
 use Rattle.lifetime_laws.proofs.Broken.{works_law}
-use Rattle.lifetime_laws.proofs.Changed.{as_often, control_pulses_law}
+use Rattle.lifetime_laws.proofs.Changed.{control_pulses_law}
 
 -- a bank that rests has no line write of its own in progress: while a change stands none is
 core-rests : (change : Option ℕ) (keeping busy : Bool) → (is_some change ≡ true → busy ≡ false) → busy_by change keeping busy ≡ false → busy ≡ false
@@ -66,7 +67,8 @@ line_pulses_law n m e shape pace xs array slot sized l idle leaves exists =
     let none : held_on shape (shape.base + slot) (core xs) ≡ 0 = rests-held e shape pace xs (shape.base + slot) l idle in
     let few = pulses_on_law n m e shape pace xs (shape.base + slot) l (omega (arith, exists)) in
     let more : most_steps e * works_on shape (shape.base + slot) (core xs) ≤ tries pace.policy * most_steps e * most_works shape (table_of shape xs) slot =
-    as_often (most_steps e) (tries pace.policy) (works_on shape (shape.base + slot) (core xs)) (most_works shape (table_of shape xs) slot) (works_law n m e shape pace xs slot sized l exists) in
+    bounded (most_steps e) (tries pace.policy) (works_on shape (shape.base + slot) (core xs))
+    (most_works shape (table_of shape xs) slot) (works_law n m e shape pace xs slot sized l exists) in
     let same : (array.line (shape.base + slot)).pulses ≡ pulses_of xs (shape.base + slot) = leaves.pulses slot (omega (arith, exists)) in
     omega (arith, few, none, more, same)
 

@@ -21,9 +21,17 @@ use Rattle.lifetime_laws.specs.Works.{PulsesOnLaw}
 use Rattle.lifetime_laws.proofs.Counting.{one}
 
 -- one more pulse, where the line is the one that was pulsed
-pub pulse-more : (b : Bool) (k : ℕ) → cond b (counted k) k ≤ k + one b
+pulse-more : (b : Bool) (k : ℕ) → cond b (counted k) k ≤ k + one b
 pulse-more true k = counted-few k
 pulse-more false k = omega arith
+
+-- the pulses of a line after an event that pulses this line or none
+pub pulsed-more : {n m : ℕ} (x : TimedEvent n m) (xs : List (TimedEvent n m)) (at : ℕ) (o : Option ℕ)
+    → x.pulsed ≡ o
+    → pulses_of (x ∷ xs) at ≤ pulses_of xs at + one (is_at o at)
+pulsed-more x xs at o is =
+    subst (λ o. pulses_of (x ∷ xs) at ≤ pulses_of xs at + one (is_at o at)) is
+    (pulse-more (is_at x.pulsed at) (pulses_of xs at))
 
 next-work : (w works : ℕ) → w * (1 + works) ≡ w * works + w
 next-work w works = omega arith
@@ -84,15 +92,17 @@ module _ {n m : ℕ} (shape : BankShape) (pace : Pace) (e at : ℕ) (low : at < 
       works : ℕ
       works = works_on shape at (core xs)
 
-      -- the pulses after an event that pulses this line or none
-      more : (o : Option ℕ) → x.pulsed ≡ o → pulses_of (x ∷ xs) at ≤ pulses_of xs at + one (is_at o at)
-      more o is = subst (λ o. pulses_of (x ∷ xs) at ≤ pulses_of xs at + one (is_at o at)) is (pulse-more (is_at x.pulsed at) (pulses_of xs at))
-
       quiet : (event : Event n) → spares_work event ≡ true → x.pulsed ≡ None → in_progress (event ∷ core xs) ≡ in_progress (core xs) → iterated (event ∷ core xs) ≡ iterated (core xs)
           → works_on shape at (event ∷ core xs) ≡ works → Few xs → pulses_of (x ∷ xs) at ≤ w * works_on shape at (event ∷ core xs) + held_on shape at (event ∷ core xs)
       quiet event spares none busy count same few =
           let form : w * works_on shape at (event ∷ core xs) ≡ w * works = ap (λ k. w * k) same in
-          omega (arith, few, more None none, form, held-same shape at (core xs) (most_steps e) event (may_all shape pace e xs l.1) spares busy count)
+          omega (
+            arith,
+            few,
+            pulsed-more x xs at None none,
+            form,
+            held-same shape at (core xs) (most_steps e) event (may_all shape pace e xs l.1) spares busy count,
+          )
 
       by : (h : Happens n) → MayCome shape pace e xs x h → Few xs → pulses_of (x ∷ xs) at ≤ w * works_on shape at (core_of h (core xs)) + held_on shape at (core_of h (core xs))
       by (Core (Write row line bytes given answer)) may few = quiet (Write row line bytes given answer) refl may.pulsed refl refl refl few
@@ -101,14 +111,19 @@ module _ {n m : ℕ} (shape : BankShape) (pace : Pace) (e at : ℕ) (low : at < 
       by (Core (Begin answer)) may few =
           let idle : in_progress (core xs) ≡ false = begins-idle shape (core xs) may.may.0 in
           let step : pulses_of (x ∷ xs) at ≤ w * (one (not (goes_on answer) && (target_after shape (core xs) == at)) + works) + cond (goes_on answer && (target_after shape (core xs) == at)) 0 0 =
-          begin-step w works (pulses_of xs at) (pulses_of (x ∷ xs) at) (goes_on answer) (target_after shape (core xs) == at) (omega (arith, few, idle-held shape at (core xs) idle)) (more None may.pulsed) in
+          begin-step w works (pulses_of xs at) (pulses_of (x ∷ xs) at) (goes_on answer)
+          (target_after shape (core xs) == at) (omega (arith, few, idle-held shape at (core xs) idle))
+          (pulsed-more x xs at None may.pulsed) in
           let none : ◌≡◌ {A = ℕ} (cond (goes_on answer && (target_after shape (Begin answer ∷ core xs) == at)) 0 0) (cond (goes_on answer && (target_after shape (core xs) == at)) 0 0) =
           zeros (goes_on answer && (target_after shape (Begin answer ∷ core xs) == at)) (goes_on answer && (target_after shape (core xs) == at)) in
           omega (arith, step, none)
       by (Core (Iterate answer)) may few =
           let busy : in_progress (core xs) ≡ true = may.may.0 in
           let step : pulses_of (x ∷ xs) at ≤ w * (one (not (goes_on answer) && (target_after shape (core xs) == at)) + works) + cond (goes_on answer && (target_after shape (core xs) == at)) (iterated (core xs) + 1) 0 =
-          iterate-step w works (pulses_of xs at) (pulses_of (x ∷ xs) at) (goes_on answer) (target_after shape (core xs) == at) (iterated (core xs)) (omega (arith, few, busy-held shape at (core xs) busy)) (more _ may.pulsed) may.may.2 in
+          iterate-step w works (pulses_of xs at) (pulses_of (x ∷ xs) at) (goes_on answer)
+          (target_after shape (core xs) == at) (iterated (core xs))
+          (omega (arith, few, busy-held shape at (core xs) busy))
+          (pulsed-more x xs at _ may.pulsed) may.may.2 in
           let work : WorkAfter shape (core xs) = working shape (most_steps e) (core xs) (may_all shape pace e xs l.1) busy in
           let held : cond (goes_on answer && (target_after shape (Iterate answer ∷ core xs) == at)) (iterated (core xs) + 1) 0 ≡ cond (goes_on answer && (target_after shape (core xs) == at)) (iterated (core xs) + 1) 0 =
           going-held shape at (core xs) (Iterate answer) answer (iterated (core xs) + 1) (λ goes. (target-same shape (Iterate answer) (core xs) goes work).1) in
@@ -120,10 +135,21 @@ module _ {n m : ℕ} (shape : BankShape) (pace : Pace) (e at : ℕ) (low : at < 
           control = torn_control shape (change_after shape xs) (running_at shape pace xs x.tick)
 
           torn : (b : Bool) → x.pulsed ≡ pulsed_by shape (core xs) control (Cut b) → pulses_of (x ∷ xs) at ≤ pulses_of xs at + one (b && (target_after shape (core xs) == at))
-          torn true is = more _ is
-          torn false is = omega (arith, more control is, ap one (torn-elsewhere shape at low (change_after shape xs) (running_at shape pace xs x.tick)))
+          torn true is = pulsed-more x xs at _ is
+          torn false is =
+              omega (
+                arith,
+                pulsed-more x xs at control is,
+                ap one (torn-elsewhere shape at low (change_after shape xs)
+                    (running_at shape pace xs x.tick)),
+              )
       by (Regs event) may few =
-          omega (arith, few, more _ may.pulsed, ap one (kept-elsewhere shape at low (change_after shape xs) event))
+          omega (
+            arith,
+            few,
+            pulsed-more x xs at _ may.pulsed,
+            ap one (kept-elsewhere shape at low (change_after shape xs) event),
+          )
 
 pub pulses_on_law : PulsesOnLaw
 pulses_on_law n m e shape pace xs at l low = pulses-few shape pace e at low xs l

@@ -11,10 +11,10 @@ use Rattle.row_rules.specs.declared.Asks.{Asks}
 use Rattle.row_rules.specs.declared.Asks.TheVariants.{Reads, Writes, Cuts}
 use Rattle.row_rules.specs.declared.Row.{Row}
 use Rattle.row_rules.specs.Answers.{accepts}
-use Rattle.row_rules.specs.Rows.{each_row, newest}
+use Rattle.row_rules.specs.Rows.{each_row, newest, asks_cut}
 use Rattle.row_rules.specs.Serving.{is_served, may_have, owed}
 use Rattle.row_rules.specs.Table.{is_of, of_bank}
-use Rattle.module_laws.specs.Asking.{row_in, bank_table}
+use Rattle.module_laws.specs.Asking.{row_in, bank_table, asks_in}
 use Rattle.module_laws.specs.Serves.{AreLines, IsOfLines, ServedByBanksLaw}
 
 module _ {n : ℕ} where
@@ -46,9 +46,17 @@ module _ {n : ℕ} where
   may_write tick line other bytes given newest (out.Lost at) = refl
   may_write tick line other bytes given newest (out.Cut at) = refl
 
+module _ {n : ℕ} (bank_of line_in : ℕ → ℕ) where
+  -- in its bank's words a row is a cut where it is one
+  pub cuts-named : (asks : Asks n) → asks_cut (asks_in bank_of line_in asks) ≡ asks_cut asks
+  cuts-named (Reads line) = refl
+  cuts-named (Writes line bytes given) = refl
+  cuts-named Cuts = refl
+
 module _ (banks lines : ℕ) (bank_of line_in : ℕ → ℕ) (known : AreLines banks lines bank_of line_in) where
   -- two lines of one bank are one exactly where their numbers there are
-  same_line : (at line : ℕ) → at < lines → line < lines → bank_of at ≡ bank_of line → (line_in at == line_in line) ≡ (at == line)
+  pub same_line : (at line : ℕ) → at < lines → line < lines → bank_of at ≡ bank_of line
+      → (line_in at == line_in line) ≡ (at == line)
   same_line at line a l same = by (at == line) refl
     where
       by : (b : Bool) → (at == line) ≡ b → (line_in at == line_in line) ≡ b

@@ -21,6 +21,7 @@ use Rattle.reg_lines.specs.declared.Change.{Change}
 use Rattle.clock_laws.specs.Arriving.{cancels_for}
 use Rattle.bank_timing.specs.Cancelling.{cancel_by, cancel_first}
 use Rattle.bank_timing.specs.Extending.{Extends, IsOpen, IsQuiet, EndsAction, outcome_in}
+use Rattle.bank_timing.proofs.Running.{none-arrives}
 use Rattle.bank_laws.specs.Ticks.{ends_action}
 use Rattle.pcm_module.specs.Stepping.{IsStep}
 use Rattle.pcm_module.proofs.Moving.{untouched, open_kept, outcome_at_row}
@@ -43,21 +44,6 @@ module _ {n m : ℕ} where
       by (Core (Iterate answer)) own is = is
       by (Core (Cut tearing)) own is = absurd (cc)
       by (Regs event) own is = is
-
-  -- none of them is the arrival of a row
-  pub own_off : (added : List (TimedEvent n m)) (row : ℕ) → IsQuiet added → arrives_with added row ≡ false
-  own_off [] row by_itself = refl
-  own_off (x ∷ added) row by_itself =
-      or_from (is_arrival_of x.happens row) _ (by x.happens (All-head Ends x added by_itself)) (own_off added row (All-tail Ends x added by_itself))
-    where
-      by : (h : Happens n) → IsTrue (ends_action h) → is_arrival_of h row ≡ false
-      by (Core (Write at line bytes given answer)) own = absurd (cc)
-      by (Core (Read at line answer)) own = absurd (cc)
-      by (Core (Serve answer)) own = refl
-      by (Core (Begin answer)) own = refl
-      by (Core (Iterate answer)) own = refl
-      by (Core (Cut tearing)) own = refl
-      by (Regs event) own = refl
 
   -- a row above those of a history didn't arrive there
   pub below_off : (xs : List (TimedEvent n m)) (bound row : ℕ) → RowsBelow (core xs) bound → bound ≤ row → arrives_with xs row ≡ false
@@ -111,7 +97,8 @@ module _ {n m e : ℕ} (xs added : List (TimedEvent n m)) (first between last : 
   open_on row fresh is =
       open_kept r0 r1 row ext.rows
       (untouched xs first a0 leads added between a1 r0 r1 ext row is.exists
-      (off_append added xs row (own_off added row own) (below_off xs first.bank.rows_below row leads.holds.rows fresh))) is
+      (off_append added xs row (none-arrives added row own)
+      (below_off xs first.bank.rows_below row leads.holds.rows fresh))) is
 
   -- the events of an arrival behind them
   pub extends_on : (arrived : List (TimedEvent n m)) → Extends (added ++ xs) arrived between last a1 a2 r1 r2 → Extends xs (arrived ++ added) first last a0 a2 r0 r2
@@ -137,5 +124,5 @@ module _ {n m e : ℕ} (xs added : List (TimedEvent n m)) (first between last : 
     extends = extends_on arrived next;
     arrives = λ asked is.
         subst (λ (ys : List (TimedEvent n m)). AreAsked ys (a ∷ asked)) (sym (append_assoc arrived added xs)) (arrives asked (own_asked added xs asked own is));
-    alone = λ row other. off_append arrived added row (alone row other) (own_off added row own);
+    alone = λ row other. off_append arrived added row (alone row other) (none-arrives added row own);
   }

@@ -1,8 +1,7 @@
 -- One bank takes a step, and the banks beside it stay.
-use Rattle.std.proofs.Common.{◌≡◌, ◌≢◌, ℕ, ◌+◌, ◌*◌, ◌<◌, ◌≤◌, ◌==◌, ◌&&◌, Bool, true, false, if◌then◌else◌, cond, List, [], ◌∷◌, ◌++◌, map, Option, Some, None, refl, sym, ap, subst, ◌∙◌, inl, inr, eq-eqb, suc, arith}
+use Rattle.std.proofs.Common.{◌≡◌, ◌≢◌, ℕ, ◌+◌, ◌<◌, ◌≤◌, ◌==◌, ◌&&◌, Bool, true, false, if◌then◌else◌, cond, List, [], ◌∷◌, ◌++◌, map, Option, Some, None, refl, sym, ap, subst, ◌∙◌, inl, inr, eq-eqb, arith}
 use Rattle.std.specs.Prelude.{filter, All, IsSomeAnd, slice_get, slice_set}
 use Rattle.std.proofs.lemmas.Bool.{ne_eqb, cases_lt, cases_eq, and_right, or_from}
-use Rattle.std.proofs.Math.Nat.{mul-le-mul_left, mul-suc, mul_comm}
 use Rattle.std.proofs.lemmas.Option.{slice_get_within}
 use Rattle.std.proofs.lemmas.List.Elements.{All-nil, All-cons, All-weaker}
 use Rattle.circular_buffer.proofs.Places.{slice_get-set_same, slice_get-set_other}
@@ -13,6 +12,7 @@ use Rattle.row_rules.specs.Table.{is_of}
 use Rattle.bank_shape.specs.declared.pace.Pace.{Pace}
 use Rattle.bank_model.specs.Timing.{TimedEvent}
 use Rattle.module_shape.specs.Addresses.{ModuleShape, bank_shape, array_lines_of}
+use Rattle.module_shape.proofs.Bounds.{banks_apart}
 use Rattle.clock_laws.specs.State.{ClockState}
 use Rattle.clock_laws.specs.Standing.{arrives_with}
 use Rattle.module_laws.specs.Asking.{Asked, asked_in, asked_of}
@@ -23,18 +23,13 @@ use Rattle.pcm_module.proofs.Naming.{is_numbered, names, not_named, above_all, r
 use Rattle.pcm_module.proofs.Logging.{AreOff}
 use Rattle.pcm_module.proofs.Steps.{own_replays, other_replays}
 
--- the lines of an earlier bank end before those of a later one
-pub ends_before : (a b l : ℕ) → a < b → a * l + l ≤ b * l
-ends_before a b l h =
-    let less : l * (suc a) ≤ l * b = mul-le-mul_left {m = suc a} {n = b} l (omega arith) in
-    omega (arith, less, mul-suc l a, mul_comm l a, mul_comm l b)
-
 -- the lines of two banks of a module are apart
 pub banks_off : (shape : ModuleShape) (bank other : ℕ) → bank ≢ other → AreOff (bank_shape shape bank) (bank_shape shape other)
 banks_off shape bank other apart line there =
     elim (cases_lt bank other) [
-      | inl before ↦ inr (omega (arith, there.0, ends_before bank other (array_lines_of shape) before))
-      | inr after ↦ inl (omega (arith, there.1, ends_before other bank (array_lines_of shape) (omega (arith, apart))))
+      | inl before ↦ inr (omega (arith, there.0, banks_apart bank other (array_lines_of shape) before))
+      | inr after ↦
+          inl (omega (arith, there.1, banks_apart other bank (array_lines_of shape) (omega (arith, apart))))
     ]
 
 -- a function with another value at one place

@@ -6,8 +6,8 @@ use Rattle.bank_shape.specs.declared.BankShape.{BankShape}
 use Rattle.bank_model.specs.Timing.{TimedEvent}
 use Rattle.bank_model.specs.Adding.{Adds, senses_of}
 use Rattle.module_shape.specs.Addresses.{ModuleShape, bank_shape, array_lines_of}
+use Rattle.module_shape.proofs.Bounds.{banks_apart}
 use Rattle.pcm_module.specs.Taking.{StaysBeyond}
-use Rattle.pcm_module.proofs.Banks.{ends_before}
 
 module _ {n m : ℕ} (own : ℕ) where
   pub stays_same : (array : ArrayState n m) → StaysBeyond own array array
@@ -34,7 +34,7 @@ pub stays_by : {n m : ℕ} (shape : ModuleShape) (bank : ℕ) (own : BankShape) 
     → bank < shape.banks → own ≡ bank_shape shape bank → Adds own added before after → StaysBeyond (shape.banks * array_lines_of shape) before after
 stays_by {n = n} {m = m} shape bank own added before after exists is adds =
     let here : Adds (bank_shape shape bank) added before after = subst (λ (s : BankShape). Adds s added before after) is adds in
-    let ends = ends_before bank shape.banks (array_lines_of shape) exists in
+    let ends = banks_apart bank shape.banks (array_lines_of shape) exists in
     record {
       lines = here.lines;
       beyond = λ line above. here.others line (inr (omega (arith, ends, above)));

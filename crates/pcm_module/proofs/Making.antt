@@ -20,6 +20,7 @@ use Rattle.bank_core.specs.Steps.{IsFreshFor}
 use Rattle.module_shape.specs.declared.raw.RawShape.{RawShape}
 use Rattle.module_shape.specs.Limits.{IsShape, total_of}
 use Rattle.module_shape.specs.Addresses.{ModuleShape, module_of, bank_shape, array_lines_of}
+use Rattle.module_shape.proofs.Bounds.{banks_apart}
 use Rattle.module_laws.specs.Asking.{Asked}
 use Rattle.module_laws.specs.Serves.{IsOfLines}
 use Rattle.clock_laws.specs.State.{ClockState}
@@ -29,7 +30,7 @@ use Rattle.run_laws.specs.Runs.{pacing_in}
 use Rattle.pcm_module.specs.State.{ModuleState, first_bank, banks_from}
 use Rattle.pcm_module.specs.Shaped.{IsModule, IsBankOf}
 use Rattle.pcm_module.specs.Replaying.{BankReplays, ReplaysIn, Replays, outcome_so_far}
-use Rattle.pcm_module.proofs.Banks.{at_get, ends_before}
+use Rattle.pcm_module.proofs.Banks.{at_get}
 
 module _ (n m e : ℕ) (raw : RawShape) where
   abbrev one : ℕ → ClockState n m e
@@ -101,7 +102,7 @@ part_fresh : {n m : ℕ} (shape : ModuleShape) (bank : ℕ) (array : ArrayState 
     → IsFreshFor (bank_shape shape bank) array
 part_fresh shape bank array wear h fresh =
     let l : ℕ = array_lines_of shape in
-    let ends : bank * l + l ≤ shape.banks * l = ends_before bank shape.banks l h in
+    let ends : bank * l + l ≤ shape.banks * l = banks_apart bank shape.banks l h in
     record {
       lines = subst (λ k. bank * l + l ≤ k) (sym fresh.count) ends;
       blank = λ line there. fresh.blank (bank * l + line) (omega (arith, there, ends));

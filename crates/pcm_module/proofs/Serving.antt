@@ -2,9 +2,9 @@
 use Rattle.std.proofs.Common.{◌≡◌, ℕ, ◌+◌, ◌<◌, ◌≤◌, Bool, List, length, get_or, Some, refl, sym, ap, subst, ◌∙◌, eq-eqb, inl, inr, arith}
 use Rattle.std.specs.Prelude.{IsSomeAnd, slice_get, slice_set}
 use Rattle.std.proofs.lemmas.Bool.{ne_eqb, cases_eq}
-use Rattle.std.proofs.lemmas.Option.{get_or_from_slice_get}
+use Rattle.std.proofs.lemmas.Option.{slice_get-get_or}
 use Rattle.std.proofs.Math.ListN.{length-set}
-use Rattle.circular_buffer.proofs.Places.{slice_get-some, slice_get-set_same, slice_get-set_other}
+use Rattle.circular_buffer.proofs.Places.{slice_get-set_same, slice_get-set_other}
 use Rattle.pcm_cells.specs.Device.{ArrayState}
 use Rattle.result_rows.specs.declared.Outcome.{Outcome}
 use Rattle.row_rules.specs.declared.Asks.TheVariants.{Reads, Writes}
@@ -31,9 +31,7 @@ use Rattle.pcm_module.proofs.TakenRows.{takes_one}
 
 -- what stands at an index is what a read of it gives
 pub get_is : {X : Type 0} (xs : List X) (i : ℕ) (x : X) → i < length xs → x ≡ get_or xs i x → slice_get xs i ≡ Some x
-get_is xs i x within is =
-    let there = slice_get-some xs i within in
-    there.1 ∙ ap Some (sym (is ∙ get_or_from_slice_get xs i there.0 x there.1))
+get_is xs i x within is = slice_get-get_or xs i x within ∙ ap Some (sym is)
 
 module _ {n m e : ℕ} where
   -- a module stays one with another tick, and another bank of the same shape

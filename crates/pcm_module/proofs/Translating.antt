@@ -12,21 +12,21 @@ use Rattle.bank_invariant.proofs.Retiring.{array_line-apart}
 use Rattle.feistel_map.specs.Network.{Network}
 use Rattle.module_shape.specs.Limits.{total_of}
 use Rattle.module_shape.specs.Addresses.{module_of, bank_shape, lines_of, array_lines_of}
+use Rattle.module_shape.proofs.Bounds.{banks_apart}
 use Rattle.module_laws.specs.Serves.{AreLines}
 use Rattle.clock_laws.specs.State.{ClockState}
 use Rattle.run_laws.specs.Runs.{mixed_line, bank_of_line, line_in_bank}
 use Rattle.pcm_module.specs.State.{ModuleState, bank_at, stands_in}
 use Rattle.pcm_module.specs.Shaped.{IsModule, IsBankOf}
-use Rattle.pcm_module.proofs.Banks.{ends_before}
 use Rattle.pcm_module.proofs.Draining.{at_bank}
 
 -- what stands among the array lines of two banks is of one
 same_bank : (a b l x : ℕ) → a * l ≤ x → x < a * l + l → b * l ≤ x → x < b * l + l → a ≡ b
 same_bank a b l x begin end first last =
     elim (cases_lt a b) [
-      | inl before ↦ absurd (omega (arith, end, first, ends_before a b l before))
+      | inl before ↦ absurd (omega (arith, end, first, banks_apart a b l before))
       | inr more ↦ elim (cases_lt b a) [
-        | inl after ↦ absurd (omega (arith, begin, last, ends_before b a l after))
+        | inl after ↦ absurd (omega (arith, begin, last, banks_apart b a l after))
         | inr less ↦ omega (arith, more, less)
       ]
     ]

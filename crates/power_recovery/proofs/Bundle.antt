@@ -1,19 +1,17 @@
 -- Every event leaves a bundle in range.
-use Rattle.std.proofs.Common.{◌≡◌, ◌≢◌, ℕ, ◌+◌, ◌/◌, ◌%◌, ◌<◌, ◌≤◌, ◌==◌, inl, inr, Bool, true, false, cond, nat_lt, List, [], ◌∷◌, ◌++◌, zero, suc, length, get_or, drop, replicate, slice_get, slice_set, Option, Some, None, refl, sym, subst, ap, ◌∙◌, arith, length-append, eq-eqb, eqb-true, get_or-set_other}
+use Rattle.std.proofs.Common.{◌≡◌, ◌≢◌, ℕ, ◌+◌, ◌/◌, ◌<◌, ◌≤◌, ◌==◌, inl, inr, Bool, true, false, cond, nat_lt, List, [], ◌∷◌, ◌++◌, zero, suc, length, get_or, drop, replicate, slice_get, slice_set, Option, Some, None, refl, sym, subst, ap, ◌∙◌, arith, length-append, eq-eqb, eqb-true, get_or-set_other}
 use Rattle.std.specs.List.{position_from}
 use Rattle.std.proofs.lemmas.Bool.{cases_eq, ltb-true}
 use Rattle.std.proofs.lemmas.List.{length-set, length-replicate, get_or-replicate}
 use Rattle.std.proofs.lemmas.List.Quantifiers.{position-Some}
 use Rattle.std.proofs.lemmas.Grind.{get_or-set_at}
-use Rattle.std.proofs.lemmas.Nat.{mod_below}
 use Rattle.std.proofs.lemmas.Iterator.Adapters.{position_from-zero}
 use Rattle.masked_bytes.specs.Masked.{IsMasked}
 use Rattle.masked_bytes.specs.Entries.{AllMasked, merged_at, completed, candidate_place, head_line}
 use Rattle.masked_bytes.specs.declared.entry.Entry.{Entry}
 use Rattle.masked_bytes.proofs.Queueing.{length-merged_at}
 use Rattle.masked_bytes.proofs.Standing.{AllMasked-append, AllMasked-merged_at, AllMasked-completed}
-use Rattle.start_gap.specs.Rotation.{Rotation, IsRotation, advanced}
-use Rattle.start_gap.proofs.Turning.{advanced-end, advanced-further}
+use Rattle.start_gap.proofs.Places.{advanced-range}
 use Rattle.region_regs.specs.Region.{RegionState, first_region, after_store, after_move}
 use Rattle.spare_pool.specs.Table.{used_by}
 use Rattle.spare_pool.proofs.Lines.{IsTable-retired}
@@ -216,20 +214,14 @@ AreRegions-replaced shape rs at new all each own others = record {
           | inr ne ↦ absurd (others region h ne (ap (λ r. r.counter) (sym (get_or-set_other rs at region new no_region ne)) ∙ e))
         ]
 
-IsRotation-advanced : (r : Rotation) → IsRotation r → IsRotation (advanced r)
-IsRotation-advanced r range =
-    elim (cases_eq r.gap 0) [
-      | inl end ↦
-          let turned : (r.start + 1) % r.lines < r.lines = mod_below (r.start + 1) r.lines (omega (arith, range.some_lines)) in
-          rw (advanced-end r end) (record { some_lines = range.some_lines; few_lines = range.few_lines; start_below = turned; gap_within = omega arith })
-      | inr further ↦
-          rw (advanced-further r further)
-          (record { some_lines = range.some_lines; few_lines = range.few_lines; start_below = range.start_below; gap_within = omega (arith, range.gap_within) })
-    ]
-
 IsRegionOf-moved : (shape : BankShape) (r : RegionState) → IsRegionOf shape r → IsRegionOf shape (after_move r)
 IsRegionOf-moved shape r own = record {
-  in_range = record { rotates = IsRotation-advanced r.rotation own.in_range.rotates; some_writes = own.in_range.some_writes; few_writes = own.in_range.few_writes; counted = omega arith };
+  in_range = record {
+    rotates = advanced-range r.rotation own.in_range.rotates;
+    some_writes = own.in_range.some_writes;
+    few_writes = own.in_range.few_writes;
+    counted = omega arith;
+  };
   rotates = own.rotates;
   stores = own.stores;
 }

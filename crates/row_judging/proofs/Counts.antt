@@ -3,7 +3,7 @@ use Rattle.std.proofs.Common.{◌≡◌, ℕ, ◌+◌, ◌<◌, ◌≤◌, ◌==
 use Rattle.std.specs.Prelude.{nat_le, nat_lt, not, min, max, reverse, filter, count_by}
 use Rattle.std.specs.List.{list_all}
 use Rattle.std.specs.List.Sorted.{IsPermutation}
-use Rattle.std.proofs.lemmas.Bool.{le-leb, lt-leb, lt-ltb, le-ltb, cases_lt, ne_eqb}
+use Rattle.std.proofs.lemmas.Bool.{le-leb, lt-leb, lt-ltb, le-ltb, cases_lt, ne_eqb, or_right}
 use Rattle.std.proofs.lemmas.List.Sorted.{sum_by-IsPermutation, IsPermutation-reverse, IsPermutation-append_left}
 use Rattle.std.proofs.lemmas.List.Sums.{sum_by-append}
 use Rattle.result_rows.specs.declared.Outcome.{Outcome}
@@ -13,7 +13,7 @@ use Rattle.row_rules.specs.Answers.{is_stored, stored_after, stored_by, stored_b
 use Rattle.row_rules.specs.Rows.{asks_write, write_of}
 use Rattle.row_rules.specs.Queueing.{least, store_of, next_store, is_first}
 use Rattle.row_rules.specs.Ticking.{store_up_to, last_store, stores_in}
-use Rattle.masked_bytes.proofs.Truth.{or_false}
+use Rattle.masked_bytes.proofs.Truth.{or_false, and_true}
 use Rattle.row_judging.specs.Standing.{at_end}
 use Rattle.row_judging.specs.Counting.{line_stores, FirstByCountLaw, LastByCountLaw}
 use Rattle.row_judging.proofs.Cuts.{count-cons}
@@ -72,11 +72,7 @@ by_least e v (Some u) = either_least u v e
 
 -- one more
 some_more : (b c : Bool) (j k : ℕ) → c ≡ nat_lt 0 k → j ≡ one_if b + k → (c || b) ≡ nat_lt 0 j
-some_more true c j k is number = or_true c ∙ sym (lt-ltb 0 j (omega (arith, number)))
-  where
-    or_true : (c : Bool) → (c || true) ≡ true
-    or_true true = refl
-    or_true false = refl
+some_more true c j k is number = or_right c true refl ∙ sym (lt-ltb 0 j (omega (arith, number)))
 some_more false c j k is number = or_false c ∙ is ∙ ap (nat_lt 0) (let e : k ≡ j = omega (arith, number) in e)
 
 module _ {n : ℕ} (t line e : ℕ) where
@@ -229,10 +225,6 @@ module _ {n : ℕ} (a d : ℕ) where
           stored true above is number =
               most_of v (last_store a rows) d ∙ ap (λ b. b && nat_le (last_store a rows) d) is
               ∙ none_more above (nat_le (last_store a rows) d) k (stores_in d a rows) ih (number ∙ ap (λ b. one_if b + stores_in d a rows) (and_true above))
-            where
-              and_true : (b : Bool) → (b && true) ≡ b
-              and_true true = refl
-              and_true false = refl
           stored false above is number = none above k number ih
       by true out.Unset k number ih = none true k number ih
       by true (out.Merged v) k number ih = none true k number ih

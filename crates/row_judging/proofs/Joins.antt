@@ -3,7 +3,7 @@ use Rattle.std.proofs.Common.{◌≡◌, ℕ, ◌<◌, ◌≤◌, ◌&&◌, ◌|
 use Rattle.masked_bytes.proofs.Truth.{and_first, and_second}
 use Rattle.std.specs.Prelude.{All, nat_lt, nat_le, not, filter}
 use Rattle.std.specs.List.{list_all, list_any}
-use Rattle.std.proofs.lemmas.Bool.{le-leb, leb-true, lt-ltb, le-ltb, lt-leb, cases_lt, or_from, or_left, or_right}
+use Rattle.std.proofs.lemmas.Bool.{le-leb, leb-true, lt-ltb, le-ltb, lt-leb, cases_lt, or_from, or_left, or_right, not-true}
 use Rattle.std.proofs.lemmas.List.Elements.{All-nil, All-cons, All-head, All-tail}
 use Rattle.std.proofs.lemmas.List.Folds.{list_any-append}
 use Rattle.result_rows.specs.declared.Outcome.{Outcome}
@@ -13,10 +13,6 @@ use Rattle.row_rules.specs.Answers.{is_merged, is_stored, stored_before, stored_
 use Rattle.row_rules.specs.Rows.{accepted_of, line_of}
 use Rattle.row_rules.specs.Queueing.{none_before, is_older, has_few, pairs_few}
 use Rattle.row_judging.specs.Joining.{has_pair, comes_behind, JoinLaw}
-
-not_true : (a : Bool) → not a ≡ true → a ≡ false
-not_true true h = absurd (cc)
-not_true false h = refl
 
 module _ {n : ℕ} where
   -- none of these is stored by u, where none is stored before v, which is above u
@@ -151,7 +147,7 @@ module _ {n : ℕ} where
         let none : none_before older.outcome ps ≡ true = and_second (not (is_merged older.outcome)) _ rest in
         ap (λ b. b && (not (is_merged older.outcome) && none_before older.outcome (new ∷ ps))) lt
         ∙ ap (λ b. b && none_before older.outcome (new ∷ ps)) nm
-        ∙ behind_older older.outcome (not_true (is_merged older.outcome) nm) within none
+        ∙ behind_older older.outcome (not-true (is_merged older.outcome) nm) within none
 
     filter-in : (f : Row n → Bool) (xs : List (Row n)) → All (λ q. IsIn q) xs → All (λ q. IsIn q) (filter f xs)
     filter-in f [] all = all

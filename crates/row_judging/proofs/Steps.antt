@@ -9,7 +9,7 @@ use Rattle.row_rules.specs.declared.Row.{Row}
 use Rattle.row_rules.specs.Answers.{stored_after, stored_by, read_after, read_by, is_queued, is_merged, is_lost}
 use Rattle.row_rules.specs.Rows.{accepted, accepted_of, asks_read, is_cut, line_of}
 use Rattle.row_rules.specs.Queueing.{stands, pending, awaits, waiting}
-use Rattle.masked_bytes.proofs.Truth.{or_false, and_true}
+use Rattle.masked_bytes.proofs.Truth.{or_false, and_true, and_false}
 use Rattle.row_judging.specs.Steps.{stays, stays_behind, waits_on, waits_behind, SettleLaw, StepLaw}
 
 -- a list that is kept by a sharper test, one element more
@@ -24,10 +24,11 @@ over t u v le = by (cases_lt u v)
     by : (u < v) ⊎ (v ≤ u) → nat_lt u v ≡ (nat_lt t v && not (nat_le v u))
     by (inl a) = lt-ltb u v a ∙ sym (ap (λ b. b && not (nat_le v u)) (lt-ltb t v (omega (arith, a, le))) ∙ ap not (lt-leb v u a))
     by (inr a) = le-ltb u v a ∙ sym (ap (λ b. nat_lt t v && not b) (le-leb v u a) ∙ and_false (nat_lt t v))
-      where
-        and_false : (b : Bool) → (b && false) ≡ false
-        and_false true = refl
-        and_false false = refl
+
+-- neither, and not the one nor the other
+not_either : (a b : Bool) → not (a || b) ≡ (not a && not b)
+not_either true b = refl
+not_either false b = refl
 
 or_group : (a b c m : Bool) → m ≡ (b || c) → (a || m) ≡ ((a || b) || c)
 or_group true b c m is = refl
@@ -82,11 +83,7 @@ module _ {n : ℕ} where
   stands_behind : (t : ℕ) (a m l r : Bool) (o : Outcome n) → m ≡ (l || r)
       → (a && (stored_after t o || (is_queued o || (is_merged o && not m)))) ≡ ((a && (stored_after t o || (is_queued o || (is_merged o && not l)))) && not (is_merged o && r))
   stands_behind t false m l r o is = refl
-  stands_behind t true m l r (out.Merged v) is = ap not is ∙ by l r
-    where
-      by : (l r : Bool) → not (l || r) ≡ (not l && not r)
-      by true r = refl
-      by false r = refl
+  stands_behind t true m l r (out.Merged v) is = ap not is ∙ not_either l r
   stands_behind t true m l r (out.Stored v place) is = sym (and_true (nat_lt t v || false))
   stands_behind t true m l r out.Unset is = refl
   stands_behind t true m l r (out.Queued v) is = refl
@@ -101,11 +98,7 @@ module _ {n : ℕ} where
   awaits_behind : (t : ℕ) (a m l r : Bool) (o : Outcome n) → m ≡ (l || r)
       → (a && (read_after t o || (is_lost o && not m))) ≡ ((a && (read_after t o || (is_lost o && not l))) && not (is_lost o && r))
   awaits_behind t false m l r o is = refl
-  awaits_behind t true m l r (out.Lost v) is = ap not is ∙ by l r
-    where
-      by : (l r : Bool) → not (l || r) ≡ (not l && not r)
-      by true r = refl
-      by false r = refl
+  awaits_behind t true m l r (out.Lost v) is = ap not is ∙ not_either l r
   awaits_behind t true m l r (out.Read v place bytes) is = sym (and_true (nat_lt t v || false))
   awaits_behind t true m l r out.Unset is = refl
   awaits_behind t true m l r (out.Stored v place) is = refl

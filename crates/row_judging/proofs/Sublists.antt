@@ -29,18 +29,14 @@ and_weaker : (a b c : Bool) → (b ≡ true → c ≡ true) → (a && b) ≡ tru
 and_weaker true b c up h = up h
 and_weaker false b c up h = h
 
-or_right : (a b c : Bool) → (b ≡ true → c ≡ true) → (a || b) ≡ true → (a || c) ≡ true
-or_right true b c up h = refl
-or_right false b c up h = up h
+or_more : (a b c : Bool) → (b ≡ true → c ≡ true) → (a || b) ≡ true → (a || c) ≡ true
+or_more true b c up h = refl
+or_more false b c up h = up h
 
 not_more : (a b : Bool) → (a ≡ true → b ≡ true) → not b ≡ true → not a ≡ true
 not_more true true up h = h
 not_more true false up h = let k : false ≡ true = up refl in absurd (cc)
 not_more false b up h = refl
-
-or_more : (a b c : Bool) → (b ≡ true → c ≡ true) → (a || b) ≡ true → (a || c) ≡ true
-or_more true b c up h = refl
-or_more false b c up h = up h
 
 -- one element more in front: kept by and_from, by the first, or by none
 sub-step : {A : Type 0} (a b : Bool) (q : A) (ps qs : List A) → (b ≡ true → a ≡ true) → Sub ps qs → Sub (cond a (q ∷ ps) ps) (cond b (q ∷ qs) qs)
@@ -215,7 +211,10 @@ module _ {n : ℕ} where
   waiting-cut t some other [] more = refl
   waiting-cut t some other (q ∷ rows) more =
       sub-step (awaits t some q) (awaits t other q) q (waiting t (q ∷ some) rows) (waiting t (q ∷ other) rows)
-      (λ h. and_weaker (asks_read q.asks) _ _ (λ k. or_right (read_after t q.outcome) _ _ (λ j. and_weaker (is_lost q.outcome) _ _ (not_more (list_any is_cut some) (list_any is_cut other) more) j) k) h)
+      (λ h. and_weaker (asks_read q.asks) _ _
+      (λ k. or_more (read_after t q.outcome) _ _
+      (λ j. and_weaker (is_lost q.outcome) _ _
+      (not_more (list_any is_cut some) (list_any is_cut other) more) j) k) h)
       (waiting-cut t (q ∷ some) (q ∷ other) rows (or_more (is_cut q) (list_any is_cut some) (list_any is_cut other) more))
 
 pub room_behind_cut_law : RoomBehindCutLaw

@@ -14,11 +14,12 @@ use Rattle.row_rules.specs.declared.Asks.{Asks}
 use Rattle.row_rules.specs.declared.Asks.TheVariants.{Reads, Writes, Cuts}
 use Rattle.row_rules.specs.declared.Row.{Row}
 use Rattle.row_rules.specs.Answers.{accepts, is_queued, is_lost, is_busy, is_forwarded, is_answered}
-use Rattle.row_rules.specs.Rows.{each_row, asks_read, asks_cut, is_cut}
+use Rattle.row_rules.specs.Rows.{each_row, asks_read, is_cut}
 use Rattle.row_rules.specs.Table.{is_of, of_bank}
 use Rattle.masked_bytes.specs.Masked.{gives_all}
 use Rattle.run_text.specs.Shortfall.{is_short}
-use Rattle.module_laws.specs.Asking.{asks_in, row_in, bank_table}
+use Rattle.module_laws.specs.Asking.{row_in, bank_table}
+use Rattle.module_laws.proofs.Serving.{cuts-named}
 use Rattle.row_rules.specs.declared.Rules.{Rules}
 use Rattle.row_rules.specs.Queueing.{waiting, queue_fits, cover, is_at_head}
 use Rattle.row_rules.specs.Serving.{may_have}
@@ -171,11 +172,6 @@ reads-kept rules (r ∷ before) after uncut all h = (
 )
 
 module _ {n : ℕ} (bank_of line_in : ℕ → ℕ) (bank : ℕ) where
-  same_cut : (asks : Asks n) → asks_cut (asks_in bank_of line_in asks) ≡ asks_cut asks
-  same_cut (Reads line) = refl
-  same_cut (Writes line bytes given) = refl
-  same_cut Cuts = refl
-
   -- a bank's table has no more cuts than the module's
   pub uncut_in_bank : (rows : List (Row n)) → All Uncut rows → All Uncut (bank_table bank_of line_in bank rows)
   uncut_in_bank [] all = All-nil Uncut
@@ -183,7 +179,9 @@ module _ {n : ℕ} (bank_of line_in : ℕ → ℕ) (bank : ℕ) where
     where
       by : (own : Bool) → All Uncut (bank_table bank_of line_in bank rows)
           → All Uncut (map (row_in bank_of line_in) (cond own (r ∷ of_bank bank_of bank rows) (of_bank bank_of bank rows)))
-      by true ih = All-cons Uncut (row_in bank_of line_in r) (bank_table bank_of line_in bank rows) (same_cut r.asks ∙ All-head Uncut r rows all) ih
+      by true ih =
+          All-cons Uncut (row_in bank_of line_in r) (bank_table bank_of line_in bank rows)
+          (cuts-named bank_of line_in r.asks ∙ All-head Uncut r rows all) ih
       by false ih = ih
 
 -- ---- busy reads

@@ -1,7 +1,7 @@
 -- The ten counts of a table add up to its rows, and some row falls short where a count says so.
 use Rattle.std.proofs.Common.{ℕ, suc, ◌+◌, ◌≡◌, Bool, true, false, ◌||◌, cond, nat_lt, List, [], ◌∷◌, length, count_by, zero-add, ap, sym, ◌∙◌, refl, arith}
 use Rattle.std.specs.List.{list_any}
-use Rattle.std.proofs.lemmas.Bool.{lt-ltb}
+use Rattle.std.proofs.lemmas.Bool.{lt-ltb, or_parts}
 use Rattle.std.proofs.lemmas.List.Sums.{sum_by-cons}
 use Rattle.result_rows.specs.declared.Outcome.{Outcome}
 use Rattle.result_rows.specs.declared.Outcome.TheVariants as out
@@ -70,14 +70,10 @@ module _ {n : ℕ} where
     count-cons is_lost x xs,
   )
 
-neither : (a b : Bool) → (a || b) ≡ false → (a ≡ false) × (b ≡ false)
-neither false b none = (refl, none)
-neither true b none = cc
-
 pub counted-once : EachRowIsCountedOnce
 counted-once n [] set = refl
 counted-once n (x ∷ xs) set =
-    let parts = neither (is_unset x) (list_any is_unset xs) set in
+    let parts = or_parts (is_unset x) (list_any is_unset xs) set in
     let one : one_if is_stored x + one_if is_merged x + one_if is_queued x + one_if is_full x + one_if is_worn x + one_if is_answered x + one_if is_forwarded x + one_if is_busy x + one_if is_lost x + one_if is_cut x ≡ 1 = once x parts.0 in
     let more : rows_counted (counts_of xs) ≡ length xs = counted-once n xs parts.1 in
     counted-cons x xs ∙ ap (λ m. m + rows_counted (counts_of xs)) one ∙ ap (λ m. 1 + m) more ∙ one-more (length xs)

@@ -11,6 +11,7 @@ use Rattle.result_reader.specs.Splitting.{BeginsLine, BeginsWithHeader, BeginRes
 use Rattle.text_check.specs.SplitLaw.{EndsItsLine, SplitLaw}
 use Rattle.text_check.proofs.Plain.{ArePlain, is_broken, is_break, records-ok}
 use Rattle.text_check.proofs.Breaking.{IsBreak, header-behind, header-first}
+use Rattle.masked_bytes.proofs.Truth.{neither_second}
 
 -- ---- a line that ends
 
@@ -55,12 +56,9 @@ within-first (x ∷ h) [] last results behind break whole same =
 within-first (x ∷ h) (y ∷ front) last results behind break whole same =
     let first : y ≡ x = cc in
     let others : (front ++ last ∷ []) ++ results ≡ h ++ behind = cc in
-    let rest = within-first h front last results behind break (or-second (is_break x) (is_broken h) whole) others in
+    let rest = within-first h front last results behind break
+    (neither_second (is_break x) (is_broken h) whole) others in
     (rest.0, ap (λ (c : ℕ). c ∷ front) first ∙ ap (λ (text : List ℕ). x ∷ text) rest.1, rest.2)
-  where
-    or-second : (a b : Bool) → (a || b) ≡ false → b ≡ false
-    or-second false b h = h
-    or-second true b h = absurd (cc)
 
 filled : (rest : List ℕ) (last : ℕ) (results : List ℕ) → (rest ++ last ∷ []) ++ results ≢ []
 filled [] last results same = cc same

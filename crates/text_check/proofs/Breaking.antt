@@ -2,7 +2,7 @@
 use Rattle.std.proofs.Common.{◌≡◌, ℕ, zero, suc, ◌+◌, ◌≤◌, ◌==◌, ◌||◌, Bool, true, false, inl, inr, List, [], ◌∷◌, ◌++◌, length, Some, refl, sym, ap, ◌∙◌, subst, cond, arith}
 use Rattle.std.proofs.lemmas.Bool.{or_left, or_right, or_cases}
 use Rattle.std.specs.Prelude.{◌⊎◌}
-use Rattle.std.specs.List.{list_any}
+use Rattle.std.proofs.lemmas.List.Folds.{list_any-append}
 use Rattle.csv.specs.Machine.{field_after, fields_after, is_end, next_record, step}
 use Rattle.csv.specs.Reading.{default_config, records, records_from, records_next}
 use Rattle.csv.specs.declared.parser.Action.{Action}
@@ -116,17 +116,11 @@ between-step st.InComment c is = absurd is
 abbrev breaks : List (List ℕ) → List ℕ → Bool
 breaks fields field = any_broken fields || is_broken field
 
-any-append : {X : Type 0} (test : X → Bool) (xs ys : List X) → list_any test (xs ++ ys) ≡ (list_any test xs || list_any test ys)
-any-append test [] ys = refl
-any-append test (x ∷ xs) ys = ap (λ (b : Bool). test x || b) (any-append test xs ys) ∙ turn (test x) (list_any test xs) (list_any test ys)
-  where
-    turn : (a b c : Bool) → (a || (b || c)) ≡ ((a || b) || c)
-    turn true b c = refl
-    turn false b c = refl
-
 -- in the record that is ended
 ended-breaks : (fields : List (List ℕ)) (field : List ℕ) → breaks fields field ≡ true → any_broken (fields ++ field ∷ []) ≡ true
-ended-breaks fields field h = any-append is_broken fields (field ∷ []) ∙ ap (λ (b : Bool). any_broken fields || b) (or_false (is_broken field)) ∙ h
+ended-breaks fields field h =
+    list_any-append is_broken fields (field ∷ [])
+    ∙ ap (λ (b : Bool). any_broken fields || b) (or_false (is_broken field)) ∙ h
 
 still-breaks : (a : Action) (c : ℕ) (fields : List (List ℕ)) (field : List ℕ) → is_end a ≡ false → breaks fields field ≡ true
     → breaks (fields_after a fields field) (field_after a c field) ≡ true
@@ -136,7 +130,8 @@ still-breaks act.EndField c fields field on h = or_left (any_broken (fields ++ f
 still-breaks act.Copy c fields field on h =
     elim (or_cases (any_broken fields) (is_broken field) h) [
       | inl one ↦ or_left (any_broken fields) (is_broken (field ++ c ∷ [])) one
-      | inr here ↦ or_right (any_broken fields) (is_broken (field ++ c ∷ [])) (any-append is_break field (c ∷ []) ∙ or_left (is_broken field) (is_broken (c ∷ [])) here)
+      | inr here ↦ or_right (any_broken fields) (is_broken (field ++ c ∷ []))
+          (list_any-append is_break field (c ∷ []) ∙ or_left (is_broken field) (is_broken (c ∷ [])) here)
     ]
 
 -- ---- records
@@ -277,7 +272,8 @@ break-within most s fields field text c break (inr copied) enough plain =
     ∙ ap (λ (a : Action). left most (step default_config s c).0 (fields_after a fields field) (field_after a c field) text) copied.0 in
     let broken : breaks fields (field ++ c ∷ []) ≡ true =
     or_right (any_broken fields) (is_broken (field ++ c ∷ []))
-    (any-append is_break field (c ∷ []) ∙ or_right (is_broken field) (is_broken (c ∷ [])) (or_left (is_break c) false break)) in
+    (list_any-append is_break field (c ∷ [])
+    ∙ or_right (is_broken field) (is_broken (c ∷ [])) (or_left (is_break c) false break)) in
     absurd (never-plain most (step default_config s c).0 fields (field ++ c ∷ []) text copied.1 broken (subst ArePlain joins plain))
 
 break-between : (most : ℕ) (s : State) (text : List ℕ) (c : ℕ) → Skips (step default_config s c) → length (c ∷ text) ≤ most → ArePlain (left most s [] [] (c ∷ text)) → Restarts text

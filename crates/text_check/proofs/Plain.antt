@@ -29,6 +29,8 @@ use Rattle.trace_reader.specs.declared.fault.Kind.{Kind}
 use Rattle.trace_reader.specs.declared.fault.Kind.TheVariants as kind
 use Rattle.trace_reader.specs.declared.fault.ParseFault.{ParseFault}
 use Rattle.trace_reader.specs.declared.fault.ParseFault.TheVariants as fault
+use Rattle.trace_reader.proofs.Lawful.{or_fault-ok}
+use Rattle.trace_reader.proofs.Table.{digit-small}
 
 -- an LF or a CR
 abbrev pub is_break : ℕ → Bool
@@ -76,11 +78,6 @@ hexes-whole (c ∷ text) all =
 
 -- ---- fields
 
--- a step that gave a value had one
-step-ok : {T U : Type 0} (o : Option T) (fault : Kind) (next : T → Result U Kind) (u : U) → or_fault o fault next ≡ Ok u → (x : T) × (o ≡ Some x) × (next x ≡ Ok u)
-step-ok None fault next u h = cc h
-step-ok (Some x) fault next u h = (x, refl, h)
-
 number-whole : (width most value : ℕ) (text : List ℕ) → number_of width most text ≡ Some value → is_broken text ≡ false
 unfolding number_of is_number
 number-whole width most value text h = by (is_number width text && nat_le (digits_value 10 text) most) refl h
@@ -106,12 +103,9 @@ unfolding bytes_of
 bytes-ok n text bytes h = payload-ok n text bytes (decode_sized text n) refl h
 
 -- n bytes, one after the other
-IsBytes-cons : (b : ℕ) (rest : List ℕ) → b < 256 → IsBytes rest → IsBytes (b ∷ rest)
+pub IsBytes-cons : (b : ℕ) (rest : List ℕ) → b < 256 → IsBytes rest → IsBytes (b ∷ rest)
 IsBytes-cons b rest h hs zero = h
 IsBytes-cons b rest h hs (suc i) = hs i
-
-digit-small : (c v : ℕ) → hex_digit_value c ≡ Some v → v < 16
-digit-small c v h = grind (arith, nat_tests)
 
 digit-is : (c v : ℕ) → hex_digit_value c ≡ Some v → is_hex_digit c ≡ true
 digit-is c v h = ap is_some h
@@ -216,7 +210,7 @@ module _ (n lines : ℕ) (line payload : List ℕ) (op : EventOp n) where
   read-ok : read_of n lines line payload ≡ Ok op → OpOk line payload op
   unfolding read_of
   read-ok h =
-      let a = step-ok (line_of lines line) kind.Line _ op h in
+      let a = or_fault-ok (line_of lines line) kind.Line _ op h in
       let b = if-ok (length payload == 0) (Ok (Read a.0)) kind.Payload op a.2 in
       let same : Read a.0 ≡ op = cc b.1 in
       rw (← same) record { line_whole = number-whole 5 _ a.0 line a.1; payload_whole = empty-whole payload b.0; gives = tt }
@@ -224,8 +218,8 @@ module _ (n lines : ℕ) (line payload : List ℕ) (op : EventOp n) where
   write-ok : write_of n lines line payload ≡ Ok op → OpOk line payload op
   unfolding write_of
   write-ok h =
-      let a = step-ok (line_of lines line) kind.Line _ op h in
-      let b = step-ok (bytes_of n payload) kind.Payload _ op a.2 in
+      let a = or_fault-ok (line_of lines line) kind.Line _ op h in
+      let b = or_fault-ok (bytes_of n payload) kind.Payload _ op a.2 in
       let same : Write a.0 b.0 ≡ op = cc b.2 in
       let ok = bytes-ok n payload b.0 b.1 in
       rw (← same) record { line_whole = number-whole 5 _ a.0 line a.1; payload_whole = hexes-whole payload ok.0; gives = (ok.1, ok.2) }
@@ -233,8 +227,8 @@ module _ (n lines : ℕ) (line payload : List ℕ) (op : EventOp n) where
   mask-ok : mask_of n lines line payload ≡ Ok op → OpOk line payload op
   unfolding mask_of
   mask-ok h =
-      let a = step-ok (line_of lines line) kind.Line _ op h in
-      let b = step-ok (masked_of n payload) kind.Payload _ op a.2 in
+      let a = or_fault-ok (line_of lines line) kind.Line _ op h in
+      let b = or_fault-ok (masked_of n payload) kind.Payload _ op a.2 in
       let same : Mask a.0 b.0.bytes b.0.given ≡ op = cc b.2 in
       let ok = masked-ok n payload b.0 b.1 in
       rw (← same) record { line_whole = number-whole 5 _ a.0 line a.1; payload_whole = ok.0; gives = (ok.1, ok.2) }
@@ -292,7 +286,7 @@ event-ok n lines before fields event h = four fields (length fields == 4) refl h
 
     plain : (a b c d : List ℕ) → row_event n lines before (a ∷ b ∷ c ∷ d ∷ []) ≡ Ok event → IsPlain (a ∷ b ∷ c ∷ d ∷ []) × GivesBytes event.op
     plain a b c d q =
-        let s = step-ok (tick_of a) kind.Tick _ event q in
+        let s = or_fault-ok (tick_of a) kind.Tick _ event q in
         let rest = ordered s.0 b c d (nat_lt s.0 before) s.2 in (
           record {
             four = refl;

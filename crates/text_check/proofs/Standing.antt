@@ -1,12 +1,12 @@
 -- The outcomes of a right run may stand in results.
-use Rattle.std.proofs.Common.{◌≡◌, ℕ, zero, suc, ◌+◌, ◌*◌, ◌^◌, ◌<◌, ◌≤◌, ◌==◌, ◌&&◌, Bool, true, false, inl, inr, List, [], ◌∷◌, ◌++◌, length, replicate, Option, Some, None, refl, sym, ap, ◌∙◌, subst, cond, arith, eqb-true, lit<}
+use Rattle.std.proofs.Common.{◌≡◌, ℕ, suc, ◌+◌, ◌*◌, ◌^◌, ◌<◌, ◌≤◌, ◌==◌, ◌&&◌, Bool, true, false, inl, inr, List, [], ◌∷◌, ◌++◌, length, replicate, Option, Some, None, refl, sym, ap, ◌∙◌, subst, cond, arith, eqb-true, lit<}
 use Rattle.masked_bytes.proofs.Truth.{and_first, and_second}
 use Rattle.std.specs.Prelude.{All, if◌then◌else◌, max, reverse}
 use Rattle.std.specs.Option.{ForSome}
 use Rattle.std.proofs.lemmas.Bool.{cases_lt}
 use Rattle.std.proofs.lemmas.Nat.{mul-le}
 use Rattle.std.proofs.lemmas.List.{get_or-replicate, get_or_past, length-replicate, reverse-append, reverse-reverse}
-use Rattle.std.proofs.lemmas.List.Elements.{All-nil, All-cons, All-head, All-tail, All-push, All-same, All-weaker}
+use Rattle.std.proofs.lemmas.List.Elements.{All-nil, All-cons, All-head, All-tail, All-weaker}
 use Rattle.hex.specs.Hex.{IsBytes}
 use Rattle.masked_bytes.specs.Masked.{laid}
 use Rattle.masked_bytes.proofs.Layering.{length-laid}
@@ -41,14 +41,11 @@ use Rattle.end_laws.specs.Ends.{BankEnd}
 use Rattle.run_laws.specs.Runs.{RunsRight, rules_in}
 use Rattle.run_laws.specs.RowsOfRuns.{FewArrayLinesLaw, LinesExist, OwnOutcomesLaw, PlacesExistLaw, op_asked}
 use Rattle.verdict_laws.specs.Ticks.{SoonLaw, longest_among}
+use Rattle.verdict_laws.proofs.Soon.{All-reverse}
 use Rattle.text_check.specs.Checked.{asks_in}
-use Rattle.text_check.proofs.Plain.{AllGiveBytes, GivesBytes}
+use Rattle.text_check.proofs.Plain.{AllGiveBytes, GivesBytes, IsBytes-cons}
 
 -- ---- bytes
-
-IsBytes-cons : (b : ℕ) (rest : List ℕ) → b < 256 → IsBytes rest → IsBytes (b ∷ rest)
-IsBytes-cons b rest h hs zero = h
-IsBytes-cons b rest h hs (suc i) = hs i
 
 laid-bytes : (bytes : List ℕ) (given : List Bool) (under : List ℕ) → IsBytes bytes → IsBytes under → IsBytes (laid bytes given under)
 laid-bytes [] given under h k = k
@@ -135,11 +132,6 @@ module _ {n : ℕ} where
       All-cons HasBytes r before (answered before r.tick r.asks r.outcome all.1 (and_first _ _ h)) (served-bytes before (r ∷ after) all.1 (and_second (is_served before r after) _ h))
 
 -- ---- the rows of events
-
-All-reverse : {X : Type 0} (P : X → Type 0) (xs : List X) → All P xs → All P (reverse xs)
-All-reverse P [] all = all
-All-reverse P (x ∷ xs) all =
-    All-same P (reverse (x ∷ xs)) (reverse xs ++ x ∷ []) (reverse-append (x ∷ []) xs) (All-push P (reverse xs) x (All-reverse P xs (All-tail P x xs all)) (All-head P x xs all))
 
 module _ {n : ℕ} where
   gives : (op : EventOp n) → GivesBytes op → Gives (asks_of op)

@@ -69,7 +69,8 @@ unfolding masked_of
 masked_of-lawful n text m h = masked-lawful-found n (pairs_of text) m h
 
 -- a step that gave a value had one
-or_fault-ok : {T U : Type 0} (o : Option T) (fault : Kind) (next : T → Result U Kind) (u : U) → or_fault o fault next ≡ Ok u → (x : T) × (o ≡ Some x) × (next x ≡ Ok u)
+pub or_fault-ok : {T U : Type 0} (o : Option T) (fault : Kind) (next : T → Result U Kind) (u : U)
+    → or_fault o fault next ≡ Ok u → (x : T) × (o ≡ Some x) × (next x ≡ Ok u)
 or_fault-ok None fault next u h = cc h
 or_fault-ok (Some x) fault next u h = (x, refl, h)
 

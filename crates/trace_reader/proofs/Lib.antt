@@ -1,6 +1,6 @@
 pub mod Numbers
 pub mod Pairs
-mod Table
+pub mod Table
 pub mod Reading
 pub mod Traces
 pub mod Lawful

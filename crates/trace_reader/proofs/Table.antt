@@ -14,7 +14,8 @@ use Rattle.hex.specs.declared.error.FromHexError.{FromHexError}
 use Rattle.hex.specs.declared.error.FromHexError.TheVariants.{InvalidStringLength, OddLength}
 use Rattle.trace_reader.specs.Payload.{bytes_of, value_of}
 
-digit-small : (c v : ℕ) → hex_digit_value c ≡ Some v → v < 16
+-- the value of a hexadecimal digit
+pub digit-small : (c v : ℕ) → hex_digit_value c ≡ Some v → v < 16
 digit-small c v h = grind (arith, nat_tests)
 
 -- a digit's value, or 255

@@ -3,7 +3,7 @@ use Rattle.std.proofs.Common.{◌≡◌, ℕ, ◌<◌, ◌==◌, ◌&&◌, Bool,
 use Rattle.masked_bytes.proofs.Truth.{and_first, and_second}
 use Rattle.std.specs.Prelude.{All}
 use Rattle.std.specs.List.{list_all}
-use Rattle.std.proofs.lemmas.Bool.{ne_eqb, and_from}
+use Rattle.std.proofs.lemmas.Bool.{and_from}
 use Rattle.std.proofs.lemmas.List.Elements.{All-head, All-tail}
 use Rattle.result_rows.specs.declared.Outcome.{Outcome}
 use Rattle.row_rules.specs.declared.Asks.{Asks}
@@ -16,6 +16,7 @@ use Rattle.row_rules.specs.Table.{is_of, of_bank}
 use Rattle.row_verdict.specs.Verdicts.{bank_in, mates, in_bank, all_have_room}
 use Rattle.module_laws.specs.Asking.{asks_in, row_in, bank_table}
 use Rattle.module_laws.specs.Serves.{AreLines, IsOfLines, finds_room_in}
+use Rattle.module_laws.proofs.Serving.{same_line}
 use Rattle.verdict_laws.proofs.Renaming.{IsIn, AreIn, room-named}
 
 -- a line of a bank
@@ -40,13 +41,7 @@ AreBanks banks (bank ∷ some) = (bank < banks) × AreBanks banks some
 module _ (banks lines : ℕ) (bank_of line_in : ℕ → ℕ) (known : AreLines banks lines bank_of line_in) where
   -- no two lines of one bank have one number there
   pub apart : (bank at line : ℕ) → IsOfBank lines bank_of bank at → IsOfBank lines bank_of bank line → (line_in at == line_in line) ≡ (at == line)
-  apart bank at line a l = by (at == line) refl
-    where
-      by : (b : Bool) → (at == line) ≡ b → (line_in at == line_in line) ≡ b
-      by true is = eq-eqb (line_in at) (line_in line) (ap line_in (eqb-true at line is))
-      by false is =
-          ne_eqb (line_in at) (line_in line)
-          (λ e. let yes : (at == line) ≡ true = eq-eqb at line (known.apart at line a.0 l.0 (a.1 ∙ sym l.1) e) in absurd (cc))
+  apart bank at line a l = same_line banks lines bank_of line_in known at line a.0 l.0 (a.1 ∙ sym l.1)
 
 -- the lines of a module, each of which has a bank by the list of banks
 module _ {n : ℕ} (banks lines : ℕ) (bank_of line_in : ℕ → ℕ) (known : AreLines banks lines bank_of line_in)

@@ -2,4 +2,4 @@ mod Renaming
 mod Timing
 mod InBanks
 mod Judged
-mod Soon
+pub mod Soon

@@ -11,10 +11,11 @@ use Rattle.row_rules.specs.declared.Asks.TheVariants.{Reads, Writes, Cuts}
 use Rattle.row_rules.specs.declared.Row.{Row}
 use Rattle.row_rules.specs.Answers.{accepts, is_merged, is_queued, is_stored, is_full, is_lost, stored_after, stored_by, stored_before, read_after}
 use Rattle.row_rules.specs.declared.Rules.{Rules}
-use Rattle.row_rules.specs.Rows.{asks_read, asks_write, asks_cut, asks_write_of, line_of, given_of, accepted_of, write_of, is_cut}
+use Rattle.row_rules.specs.Rows.{asks_read, asks_write, asks_write_of, line_of, given_of, accepted_of, write_of, is_cut}
 use Rattle.row_rules.specs.Queueing as queue
 use Rattle.row_rules.specs.Queueing.{stands, pending, awaits, waiting, unstored, cover, none_before, is_older, has_few, pairs_few, is_refused, merges_at, store_of, next_store, is_first, is_at_head, read_fits, merge_fits, queue_fits, has_room, is_queue_fair}
 use Rattle.module_laws.specs.Asking.{asks_in, row_in}
+use Rattle.module_laws.proofs.Serving.{cuts-named}
 
 module _ {n : ℕ} where
   -- a test of the rows with other numbers is a test of the rows
@@ -40,11 +41,6 @@ module _ {n : ℕ} (bank_of line_in : ℕ → ℕ) where
   writes-named (Writes line bytes given) = refl
   writes-named Cuts = refl
 
-  pub cuts-named : (asks : Asks n) → asks_cut (asks_in bank_of line_in asks) ≡ asks_cut asks
-  cuts-named (Reads line) = refl
-  cuts-named (Writes line bytes given) = refl
-  cuts-named Cuts = refl
-
   given-named : (asks : Asks n) → given_of (asks_in bank_of line_in asks) ≡ given_of asks
   given-named (Reads line) = refl
   given-named (Writes line bytes given) = refl
@@ -59,7 +55,7 @@ module _ {n : ℕ} (bank_of line_in : ℕ → ℕ) where
   awaits-named t between q =
       ap (λ (b : Bool). b && (read_after t q.outcome || (is_lost q.outcome && not (list_any is_cut (map named between))))) (reads-named q.asks)
       ∙ ap (λ (b : Bool). asks_read q.asks && (read_after t q.outcome || (is_lost q.outcome && not b)))
-      (any-same named is_cut is_cut (λ q. cuts-named q.asks) between)
+      (any-same named is_cut is_cut (λ q. cuts-named bank_of line_in q.asks) between)
 
   -- one row more, if it is picked
   picked : (b c : Bool) (q : Row n) (some others : List (Row n)) → b ≡ c → some ≡ map named others → cond b (named q ∷ some) some ≡ map named (cond c (q ∷ others) others)

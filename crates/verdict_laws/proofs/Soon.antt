@@ -211,7 +211,8 @@ module _ {n : ℕ} (rules : Rules) (banks : List ℕ) (last count : ℕ) where
       (row_soon rules banks last count before r.tick after (omega (arith, few)) later early.0 r.asks r.outcome (and_first _ _ h))
       (rows_soon before (r ∷ after) (omega (arith, few)) early.1 (early.0, later) (and_second (keeps_all rules banks before r after) _ h))
 
-All-reverse : {X : Type 0} (P : X → Type 0) (xs : List X) → All P xs → All P (reverse xs)
+-- what holds of each holds of each the other way round
+pub All-reverse : {X : Type 0} (P : X → Type 0) (xs : List X) → All P xs → All P (reverse xs)
 All-reverse P [] all = all
 All-reverse P (x ∷ xs) all =
     All-same P (reverse (x ∷ xs)) (reverse xs ++ x ∷ []) (reverse-append (x ∷ []) xs) (All-push P (reverse xs) x (All-reverse P xs (All-tail P x xs all)) (All-head P x xs all))

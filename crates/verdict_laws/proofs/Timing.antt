@@ -18,7 +18,8 @@ use Rattle.row_rules.specs.Queueing.{waiting}
 use Rattle.row_rules.specs.Ticking.{attempt, longest, store_up_to, last_store, came_since, delay, bound, no_cut_below, first_cut_at, read_in_time, stores_in, reads_in, cuts_to, store_in_time, apart, asks_in_time, is_in_time}
 use Rattle.row_rules.specs.Wearing.{worn_row, worn_by, store_fits, is_wear_final}
 use Rattle.module_laws.specs.Asking.{asks_in, row_in}
-use Rattle.verdict_laws.proofs.Renaming.{any-same, all-same, reads-named, writes-named, cuts-named, waiting-named}
+use Rattle.module_laws.proofs.Serving.{cuts-named}
+use Rattle.verdict_laws.proofs.Renaming.{any-same, all-same, reads-named, writes-named, waiting-named}
 
 count-same : {n : ℕ} (f : Row n → Row n) (test other : Row n → Bool) → ((q : Row n) → test (f q) ≡ other q) → (rows : List (Row n)) → count_by test (map f rows) ≡ count_by other rows
 count-same f test other same [] = refl
