@@ -22,7 +22,6 @@ use Rattle.bank_model.specs.Timing.{TimedEvent, core}
 use Rattle.bank_laws.specs.Outcomes.{outcome_by}
 use Rattle.bank_laws.proofs.Answering.{candidate-there}
 use Rattle.bank_laws.proofs.Holding.{length-merged}
-use Rattle.bank_laws.proofs.Fates.{new-merged}
 use Rattle.bank_shape.specs.declared.waiting.Waiting.{Waiting}
 use Rattle.bank_invariant.specs.State.{BankState}
 use Rattle.bank_invariant.specs.Holds.{Holds}

@@ -1,3 +1,3 @@
 pub mod Prints
-mod Sensing
+pub mod Sensing
 pub mod Whole

@@ -4,11 +4,11 @@ use Rattle.std.specs.Io.KnownBytes.{Appends}
 use Rattle.std.proofs.lemmas.List.{append-nil}
 use Rattle.pcm_io.specs.Giving.{AppendsPrefix}
 use Rattle.pcm_io.specs.Reserved.{Reserved, appended, reserved}
-use Rattle.pcm_io.proofs.ByteLemmas.{Appends-Appends}
+use Rattle.pcm_io.proofs.ByteLemmas.{Appends-Appends, Appends-nothing}
 use Rattle.trace_reader.specs.declared.event.Event.{Event}
 use Rattle.trace_gen.specs.EventText.{event_row, event_rows, trace_header, trace_text}
 use Rattle.run_text.specs.Gathering.{Flushes}
-use Rattle.pcm_top.proofs.Printing.{Appends-nothing, AppendsPrefix-after}
+use Rattle.pcm_top.proofs.Printing.{AppendsPrefix-after}
 
 -- all but these rows are printed: some bytes are gone, some are in the text, and these rows are left
 pub record HasDrawn {n : ℕ} (all left : List (Event n)) (text : Reserved) (before now : Option (List ℕ)) : Type 0 where

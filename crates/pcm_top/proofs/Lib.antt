@@ -5,12 +5,8 @@ pub mod Drawing
 pub mod Telling
 pub mod Deciding
 mod Replaying
-mod Printable
+pub mod Printable
 mod Wearing
 mod Clocks
 mod Saving
-mod Shown
-mod DrawnRuns
 mod Making
-mod Completing
-mod CheckedRuns

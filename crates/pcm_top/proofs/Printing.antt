@@ -5,42 +5,13 @@ use Rattle.std.specs.Io.KnownBytes.{Appends}
 use Rattle.std.proofs.Math.Seq.{drop-cons}
 use Rattle.std.proofs.lemmas.List.{append-nil, drop_all, length-append, take-append-le}
 use Rattle.pcm_io.specs.Giving.{AppendsPrefix}
-use Rattle.pcm_io.proofs.ByteLemmas.{Appends-Appends}
+use Rattle.pcm_io.proofs.ByteLemmas.{Appends-Appends, Appends-AppendsPrefix, Appends-nothing, AppendsPrefix-longer}
 use Rattle.pcm_top.specs.FaultLines.{joined}
-
--- nothing was appended
-pub Appends-nothing : (a : Option (List ℕ)) → Appends a a []
-Appends-nothing None = tt
-Appends-nothing (Some s) = sym (append-nil s)
 
 -- first bytes of a piece behind other bytes are first bytes of the whole
 pub AppendsPrefix-after : (a b c : Option (List ℕ)) (gone piece rest whole : List ℕ) → (gone ++ piece) ++ rest ≡ whole → Appends a b gone → AppendsPrefix b c piece → AppendsPrefix a c whole
 AppendsPrefix-after a b c gone piece rest whole is sent part =
-    let size = length-append gone piece in
-    let all = length-append (gone ++ piece) rest in
-    let front : take (length gone + part.0) whole ≡ gone ++ take part.0 piece = rw (← is) (first_bytes gone piece rest part.0 part.1) in
-    (length gone + part.0, rw (← is) (omega (arith, part.1)), rw front (Appends-Appends a b c gone (take part.0 piece) sent part.2))
-  where
-    first_bytes : (gone piece rest : List ℕ) (n : ℕ) → n ≤ length piece → take (length gone + n) ((gone ++ piece) ++ rest) ≡ gone ++ take n piece
-    first_bytes [] piece rest n within =
-        let e : 0 + n ≡ n = omega arith in
-        rw e (take-append-le n piece rest within)
-    first_bytes (b ∷ gone) piece rest n within =
-        let e : suc (length gone) + n ≡ suc (length gone + n) = omega arith in
-        rw e (ap (λ (xs : List ℕ). b ∷ xs) (first_bytes gone piece rest n within))
-
--- a fact that follows from one of the same answer
-pub on_ok : {T E : Type 0} (r : Result T E) (P Q : Type 0) → OnOk r P → (P → Q) → OnOk r Q
-on_ok (Ok x) P Q h f = f h
-on_ok (Err e) P Q h f = tt
-
-pub on_err : {T E : Type 0} (r : Result T E) (P Q : Type 0) → OnErr r P → (P → Q) → OnErr r Q
-on_err (Ok x) P Q h f = tt
-on_err (Err e) P Q h f = f h
-
-pub on_err_any : {T E : Type 0} (r : Result T E) (P : Type 0) → P → OnErr r P
-on_err_any (Ok x) P h = tt
-on_err_any (Err e) P h = h
+    rw (← is) (AppendsPrefix-longer a c (gone ++ piece) rest (Appends-AppendsPrefix a b c gone piece sent part))
 
 -- an option holds one value
 pub same_value : {A : Type 0} (o : Option A) (x y : A) → o ≡ Some x → o ≡ Some y → x ≡ y

@@ -5,10 +5,10 @@ use Rattle.std.proofs.lemmas.Bool.{cases_eq}
 use Rattle.std.proofs.lemmas.List.{append-nil}
 use Rattle.pcm_io.specs.Giving.{AppendsPrefix}
 use Rattle.pcm_io.specs.Reserved.{Reserved, appended, reserved}
-use Rattle.pcm_io.proofs.ByteLemmas.{Appends-Appends}
+use Rattle.pcm_io.proofs.ByteLemmas.{Appends-Appends, Appends-nothing}
 use Rattle.rotation_reports.specs.Rows.{rows_from}
 use Rattle.run_text.specs.Gathering.{Flushes}
-use Rattle.pcm_top.proofs.Printing.{Appends-nothing, AppendsPrefix-after}
+use Rattle.pcm_top.proofs.Printing.{AppendsPrefix-after}
 
 -- the header and the first i rows are printed: some bytes are gone, and the others are in the text
 pub record HasReported (header : List ℕ) (row : ℕ → List ℕ) (first i : ℕ) (text : Reserved) (before now : Option (List ℕ)) : Type 0 where

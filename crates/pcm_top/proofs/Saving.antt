@@ -24,17 +24,6 @@ use Rattle.pcm_top.specs.Played.{IsPlayed}
 use Rattle.pcm_top.specs.Rows.{rows_of}
 use Rattle.pcm_top.specs.RunText.{HaveRoles, IsRunText}
 
--- an array to which nothing happened
-pub sensed-none : {n m : ℕ} (array : ArrayState n m) → SensedSince array array
-sensed-none {n} {m} array = record {
-  line = λ number. refl;
-  lines = refl;
-  tears = refl;
-  wear = refl;
-  bounds = refl;
-  log = λ log told. (log, [], told, sym (append-nil log), All-nil (λ (s : Sense n m). s ≡ sense_of s.line 0 (array.line s.line)));
-}
-
 -- a value that is there
 there : {X : Type 0} (P : X → Type 0) (o : Option X) (d : X) → IsSomeAnd o P → P (unwrap_or o d)
 there P (Some x) d h = h

@@ -1,33 +1,16 @@
--- What every run that was made is, and what runs of drawn events are.
-use Rattle.std.specs.Prelude.{◌≡◌, ℕ, Bool, IsTrue, IsFalse, List, ◌∷◌, ◌++◌, length, All, Ok}
-use Rattle.std.specs.Io.KnownBytes.{IsAtEnd}
+-- That every run that was made can be printed.
+use Rattle.std.specs.Prelude.{◌≡◌, ℕ, List, length}
 use Rattle.pcm_cells.specs.Device.{ArrayState}
 use Rattle.trace_reader.specs.Events.{AreEventsFor}
 use Rattle.trace_reader.specs.declared.event.Event.{Event}
-use Rattle.trace_gen.specs.declared.mix.Mix.{Mix}
 use Rattle.result_rows.specs.declared.Outcome.{Outcome}
-use Rattle.row_rules.specs.declared.Asks.TheVariants.{Writes}
-use Rattle.row_rules.specs.declared.Row.{Row}
-use Rattle.row_rules.specs.Answers.{accepts, is_lost, is_queued}
 use Rattle.module_shape.specs.declared.raw.RawShape.{RawShape}
 use Rattle.module_shape.specs.Limits.{IsShape, total_of}
 use Rattle.end_laws.specs.Ends.{BankEnd}
 use Rattle.run_laws.specs.Runs.{RunsRight}
-use Rattle.run_laws.specs.RowsOfRuns.{FindsPlace, HasRoom, NoCuts}
 use Rattle.run_text.specs.ResultText.{ArePrintable}
-use Rattle.command_line.specs.Jobs.{IsRun}
-use Rattle.command_line.specs.declared.job.Job.TheVariants.{Run}
-use Rattle.command_line.specs.declared.job.RunJob.{RunJob}
-use Rattle.command_line.specs.declared.job.GenJob.{GenJob}
-use Rattle.command_line.specs.declared.job.Input.TheVariants.{Source, Drawn}
-use Rattle.pcm_top.specs.Jobs.{gen_text}
-use Rattle.pcm_top.specs.Reading.{SourceChange, TakesBytes}
-use Rattle.pcm_top.specs.Calls.{Deed}
 use Rattle.pcm_top.specs.Rows.{rows_of}
 use Rattle.pcm_top.specs.RunText.{HaveRoles}
-use Rattle.pcm_top.specs.Running.{Does, DoesPart, Runs, done_by}
-use Rattle.pcm_top.specs.declared.run.Done.{Done}
-use Rattle.pcm_top.specs.declared.run.Done.TheVariants.{Whole}
 
 -- each row of a right run can be printed, and each array line has a role
 pub record CanBePrinted {n : ℕ} (raw : RawShape) (seed : ℕ)
@@ -41,47 +24,3 @@ PrintableLaw =
     (array : ArrayState n m) (ends : ℕ → BankEnd)
     → IsShape raw → AreEventsFor (total_of raw) 0 events → length outcomes ≡ length events
     → RunsRight e raw seed (rows_of events outcomes) array ends → CanBePrinted raw seed events outcomes ends
-
--- what a run leaves of whichever trace: without a power cut no read is lost; a write that finds room in a
--- bank that isn't worn out and has no worn control line is accepted and leaves the queue; and where no power
--- cut comes and each row finds what it needs, the run is done wholly
-pub record IsComplete {n m : ℕ} (e : ℕ) (raw : RawShape) (seed : ℕ)
-    (array : ArrayState n m) (rows : List (Row n)) (done : Done) : Type 0 where
-  pub none_lost : NoCuts rows → All (λ r. IsFalse (is_lost r.outcome)) rows
-  pub room_taken : (later before : List (Row n)) (r : Row n) (line : ℕ) (bytes : List ℕ) (given : List Bool)
-      → rows ≡ later ++ r ∷ before → r.asks ≡ Writes line bytes given
-      → HasRoom e raw seed array before r.tick line
-      → IsTrue (accepts r.outcome) × IsFalse (is_queued r.outcome)
-  pub whole : NoCuts rows
-      → ((later before : List (Row n)) (r : Row n)
-      → rows ≡ later ++ r ∷ before → FindsPlace e raw seed array before r.tick r.asks)
-      → done ≡ Whole
-
-abbrev pub CompletenessLaw : Type 0
-CompletenessLaw =
-    (n m e : ℕ) (job : RunJob) (s : SourceChange) (array : ArrayState n m) (run : Runs n m e job s array)
-    → IsRun job
-    → IsComplete e job.shape job.seed array (rows_of run.events run.outcomes) (done_by run.outcomes)
-
--- the job of `gen` with the options of a run that draws its events
-abbrev pub gen_with : RunJob → Mix → GenJob
-gen_with job mix = record { line = job.line; shape = job.shape; seed = job.seed; mix = mix }
-
--- the same run of a trace that is read
-abbrev pub run_of_source : RunJob → RunJob
-run_of_source job = record job { input = Source }
-
--- what became of all but the source, over this one
-abbrev pub reading : Deed → SourceChange → Deed
-reading deed source = record deed { source = source }
-
--- what a run of drawn events does is what a run does over a source that holds the text of `gen` with the same
--- options
-abbrev pub DrawnLaw : Type 0
-DrawnLaw =
-    (job : RunJob) (mix : Mix) (deed : Deed) (read : SourceChange)
-    → IsRun job → job.input ≡ Drawn mix
-    → TakesBytes read (gen_text (gen_with job mix)) → IsAtEnd read.left_now
-    → ((done : Done)
-    → Does deed (Ok (Run job)) done → Does (reading deed read) (Ok (Run (run_of_source job))) done)
-    × (DoesPart deed (Ok (Run job)) → DoesPart (reading deed read) (Ok (Run (run_of_source job))))

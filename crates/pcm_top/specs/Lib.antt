@@ -15,6 +15,3 @@ pub mod Statuses
 pub mod Ends
 pub mod Promises
 pub mod Laws
-pub mod Lasting
-pub mod ShownRuns
-pub mod CheckedRuns

@@ -1,16 +1,11 @@
-//! The laws of the program. A law is what a function here ensures; the functions do nothing when they run.
-ghost use Rattle.pcm_top.specs.CheckedRuns.{CheckedLaw};
-ghost use Rattle.pcm_top.specs.Lasting.{LastingLaw, LastingTraceLaw, SeededLastingLaw, SeededTraceLaw};
-ghost use Rattle.pcm_top.specs.Laws.{CompletenessLaw, DrawnLaw, PrintableLaw};
-ghost use Rattle.pcm_top.specs.ShownRuns.{ShownLaw};
+//! That every run that was made can be printed. The law is what the function here ensures; the function does
+//! nothing when it runs.
+ghost use Rattle.pcm_top.specs.Laws.{PrintableLaw};
 
 use run_laws::{
-    array_lines_are_few, array_lines_have_one_role, lasting_traces_live_on, no_row_falls_short,
-    places_are_array_lines, reads_are_not_lost_without_cuts, room_is_taken,
-    rows_have_their_own_outcomes, runs_live_on,
+    array_lines_are_few, array_lines_have_one_role, places_are_array_lines,
+    rows_have_their_own_outcomes,
 };
-use text_check::{printed_results_are_short, right_runs_are_judged_ok};
-use trace_gen::laws::{gen_text_is_short, gen_text_reads_back, generated_events_are_lawful};
 
 /// Each row of a right run can be printed, and each array line has one role.
 pub fn right_runs_can_be_printed()
@@ -20,66 +15,4 @@ pub fn right_runs_can_be_printed()
     places_are_array_lines();
     array_lines_are_few();
     array_lines_have_one_role();
-}
-
-/// Of whichever trace: without a power cut no read is lost; a write that finds room in a bank that isn't worn
-/// out and has no worn control line is accepted and leaves the queue; and where no power cut comes and each
-/// row finds what it needs, the run is done wholly.
-pub fn runs_are_complete()
-    ensures { CompletenessLaw }
-{
-    generated_events_are_lawful();
-    reads_are_not_lost_without_cuts();
-    room_is_taken();
-    no_row_falls_short();
-}
-
-/// What a run of drawn events does is what a run does over a source that holds the text of `gen` with the
-/// same options.
-pub fn drawn_runs_are_runs_of_their_text()
-    ensures { DrawnLaw }
-{
-    gen_text_reads_back();
-    gen_text_is_short();
-}
-
-/// Of whichever trace: over cells that endure more changes than the hot lines of a bank may bring any slot's own line, one a line
-/// write however often cells miss, the bank wears out nowhere: no write is refused for want of a spare or left in the queue, each slot
-/// has its own line, and no spare is used. Start-Gap divides what one hot line brings by the lines of its region.
-pub fn runs_last()
-    ensures { LastingLaw }
-{
-    runs_live_on();
-}
-
-/// So it is where the writes that the trace asks for bring no slot's own line of a bank as many changes, whatever becomes of them.
-pub fn traces_last()
-    ensures { LastingTraceLaw }
-{
-    lasting_traces_live_on();
-}
-
-/// And of every run over the seeded array, as the program makes it, by its options alone: its cells endure as many changes as
-/// `--lo` says; by the run's stores, or by what its trace asks for.
-pub fn seeded_runs_last()
-    ensures stored { SeededLastingLaw }
-    ensures asked { SeededTraceLaw }
-{
-    runs_last();
-    traces_last();
-}
-
-/// What `show` writes of the bytes that a run wrote as its image is each line's newest bytes.
-pub fn images_show_the_newest()
-    ensures { ShownLaw }
-{}
-
-/// What a run wrote as its results, given to `check` behind its trace with the same options, is ok.
-pub fn printed_results_are_ok()
-    ensures { CheckedLaw }
-{
-    gen_text_reads_back();
-    gen_text_is_short();
-    printed_results_are_short();
-    right_runs_are_judged_ok();
 }

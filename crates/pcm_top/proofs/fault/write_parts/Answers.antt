@@ -1,6 +1,7 @@
 use Rattle.std.proofs.Common.{arith, rules}
 use Rattle.std.proofs.lemmas.Grind.{common_steps}
-use Rattle.pcm_top.proofs.Printing.{on_err_any, written-more, written-part}
+use Rattle.run_text.proofs.Gathered.{on_err_any}
+use Rattle.pcm_top.proofs.Printing.{written-more, written-part}
 use Rattle.pcm_top.proofs.fault.write_parts.Goals as goal
 
 pub returns-in_err-write_all : goal.returns-in_err-write_all

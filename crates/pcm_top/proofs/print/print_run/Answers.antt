@@ -1,6 +1,7 @@
 use Rattle.std.proofs.Common.{arith}
-use Rattle.pcm_top.proofs.Printing.{on_err, on_ok}
-use Rattle.pcm_top.proofs.Saving.{image-text, sensed-none}
+use Rattle.run_text.proofs.Gathered.{on_err, on_ok}
+use Rattle.image_text.proofs.Sensing.{sensed-none}
+use Rattle.pcm_top.proofs.Saving.{image-text}
 use Rattle.pcm_top.proofs.Wearing.{wear-text}
 use Rattle.pcm_top.proofs.print.print_run.Goals as goal
 

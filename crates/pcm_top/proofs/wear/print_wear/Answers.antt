@@ -1,7 +1,7 @@
 use Rattle.std.proofs.Common.{◌≡◌, ◌/◌, ap, arith}
 use Rattle.module_shape.specs.Addresses.{array_lines_of, module_of}
 use Rattle.pcm_top.specs.RunText.{bank_with}
-use Rattle.pcm_top.proofs.Printing.{on_err, on_err_any, on_ok}
+use Rattle.run_text.proofs.Gathered.{on_err, on_err_any, on_ok}
 use Rattle.pcm_top.proofs.Wearing.{lines-of-bank, reported-last, reported-more, reported-none, reported-part, reported-whole}
 use Rattle.pcm_top.proofs.wear.print_wear.Goals as goal
 

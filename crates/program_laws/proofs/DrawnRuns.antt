@@ -19,7 +19,7 @@ use Rattle.pcm_top.specs.Reading.{ReadsTrace, SourceChange, TakesBytes, trace_ro
 use Rattle.pcm_top.specs.Calls.{Deed, SinkChange}
 use Rattle.pcm_top.specs.Inputs.{ComeFrom}
 use Rattle.pcm_top.specs.Running.{RunIsWritten, RunIsWrittenInPart, Runs, WritesRun, WritesRunInPart}
-use Rattle.pcm_top.specs.Laws.{DrawnLaw, run_of_source}
+use Rattle.program_laws.specs.Laws.{DrawnLaw, run_of_source}
 use Rattle.pcm_top.specs.declared.run.Done.{Done}
 
 -- the mix of a run that draws its events is in range

@@ -25,9 +25,9 @@ use Rattle.pcm_top.specs.Reading.{SourceChange}
 use Rattle.pcm_top.specs.Inputs.{ComeFrom}
 use Rattle.pcm_top.specs.Rows.{rows_of}
 use Rattle.pcm_top.specs.Running.{done_by}
-use Rattle.pcm_top.specs.Laws.{CompletenessLaw}
+use Rattle.program_laws.specs.Laws.{CompletenessLaw}
 use Rattle.pcm_top.specs.declared.run.Done.TheVariants.{Whole}
-use Rattle.pcm_top.proofs.DrawnRuns.{some-lines}
+use Rattle.program_laws.proofs.DrawnRuns.{some-lines}
 use Rattle.pcm_top.proofs.Printable.{lines-exist, row-of-event}
 
 all-fail : {n : ℕ} (test : Outcome n → Bool) (rows : List (Row n)) → list_any test (map (λ r. r.outcome) rows) ≡ false → All (λ r. test r.outcome ≡ false) rows

@@ -10,7 +10,7 @@ use Rattle.command_line.specs.declared.job.Print.TheVariants.{Results}
 use Rattle.command_line.specs.declared.job.RunJob.{RunJob}
 use Rattle.pcm_top.specs.Calls.{Deed, Gets, GetsPart}
 use Rattle.pcm_top.specs.Jobs.{gen_text}
-use Rattle.pcm_top.specs.Laws.{gen_with}
+use Rattle.program_laws.specs.Laws.{gen_with}
 use Rattle.pcm_top.specs.Reading.{SourceChange}
 use Rattle.pcm_top.specs.Running.{Does, DoesPart, HasCause}
 use Rattle.pcm_top.specs.Statuses.{IsStatusFor}

@@ -1,6 +1,6 @@
 use Rattle.std.proofs.Common.{arith}
-use Rattle.pcm_top.proofs.CheckedRuns.{checked-law}
-use Rattle.pcm_top.proofs.laws.printed_results_are_ok.Goals as goal
+use Rattle.program_laws.proofs.CheckedRuns.{checked-law}
+use Rattle.program_laws.proofs.printed_results_are_ok.Goals as goal
 
 pub returns : goal.returns
 returns c =

@@ -1,5 +1,5 @@
 use Rattle.std.proofs.Common.{arith}
-use Rattle.pcm_top.proofs.laws.runs_last.Goals as goal
+use Rattle.program_laws.proofs.runs_last.Goals as goal
 
 pub returns : goal.returns
 returns c n m e job s array run hot bank is layout exists few =

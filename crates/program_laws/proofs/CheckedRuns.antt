@@ -37,7 +37,7 @@ use Rattle.command_line.specs.declared.job.LineSize.TheVariants.{Bytes64, Bytes1
 use Rattle.command_line.specs.declared.job.Print.{Print}
 use Rattle.command_line.specs.declared.job.Print.TheVariants.{Results}
 use Rattle.command_line.specs.declared.job.RunJob.{RunJob}
-use Rattle.pcm_top.specs.CheckedRuns.{CheckedLaw, IsTraceOf, SaysOk, check_with}
+use Rattle.program_laws.specs.CheckedRuns.{CheckedLaw, IsTraceOf, SaysOk, check_with}
 use Rattle.pcm_top.specs.Calls.{Deed, Gets, GetsPart}
 use Rattle.pcm_top.specs.Checking.{IsCheckFault, TellsVerdict, TellsVerdictInPart, done_on, pointers_in, room_line}
 use Rattle.pcm_top.specs.Inputs.{ComeFrom}
@@ -52,7 +52,7 @@ use Rattle.pcm_top.specs.declared.fault.Fault.TheVariants as fault
 use Rattle.pcm_top.specs.declared.run.Done.{Done}
 use Rattle.pcm_top.specs.declared.run.Done.TheVariants.{Whole}
 use Rattle.pcm_top.proofs.Deciding.{more-go, reads-told}
-use Rattle.pcm_top.proofs.DrawnRuns.{some-lines}
+use Rattle.program_laws.proofs.DrawnRuns.{some-lines}
 
 -- ---- the rows of a run, the oldest first
 

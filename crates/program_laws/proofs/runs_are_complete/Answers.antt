@@ -1,6 +1,6 @@
 use Rattle.std.proofs.Common.{arith}
-use Rattle.pcm_top.proofs.Completing.{completeness}
-use Rattle.pcm_top.proofs.laws.runs_are_complete.Goals as goal
+use Rattle.program_laws.proofs.Completing.{completeness}
+use Rattle.program_laws.proofs.runs_are_complete.Goals as goal
 
 pub returns : goal.returns
 returns c =

@@ -3,7 +3,7 @@ use Rattle.pcm_cells.specs.Device.{CellBounds}
 use Rattle.pcm_cells.specs.Seeded.{seeded_state, bounds_of}
 use Rattle.run_laws.specs.Lasting.{Outlasts, OutlastsAsked}
 use Rattle.pcm_top.specs.Rows.{rows_of}
-use Rattle.pcm_top.proofs.laws.seeded_runs_last.Goals as goal
+use Rattle.program_laws.proofs.seeded_runs_last.Goals as goal
 
 pub returns-clause-stored : goal.returns-clause-stored
 returns-clause-stored c n m e job s array run hot bank is layout exists few =

@@ -17,7 +17,7 @@ use Rattle.command_line.specs.declared.job.Print.{Print}
 use Rattle.pcm_top.specs.Rows.{rows_of}
 use Rattle.pcm_top.specs.RunText.{IsRunText}
 use Rattle.pcm_top.specs.Showing.{shown_header, shown_of, shown_row, shown_text}
-use Rattle.pcm_top.specs.ShownRuns.{IsShown, ShownLaw, newest_text}
+use Rattle.program_laws.specs.ShownRuns.{IsShown, ShownLaw, newest_text}
 
 same-rows : (f g : ℕ → List ℕ) (n : ℕ) → ((l : ℕ) → l < n → f l ≡ g l) → rows_from (shown_row f) 0 n ≡ rows_from (shown_row g) 0 n
 same-rows f g zero same = refl

@@ -1,0 +1,4 @@
+mod Shown
+mod DrawnRuns
+mod Completing
+mod CheckedRuns

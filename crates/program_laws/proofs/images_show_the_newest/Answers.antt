@@ -1,0 +1,5 @@
+use Rattle.program_laws.proofs.Shown.{shown-law}
+use Rattle.program_laws.proofs.images_show_the_newest.Goals as goal
+
+pub returns : goal.returns
+returns c = shown-law

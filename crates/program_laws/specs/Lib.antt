@@ -1,0 +1,4 @@
+pub mod Laws
+pub mod Lasting
+pub mod ShownRuns
+pub mod CheckedRuns
