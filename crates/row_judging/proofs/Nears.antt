@@ -1,14 +1,14 @@
 -- Pairs that are in order stay so as time passes and, but for the newest, behind one row more.
-use Rattle.std.proofs.Common.{◌≡◌, ℕ, ◌≤◌, ◌&&◌, Bool, true, false, List, [], ◌∷◌, inl, inr, refl, sym, ap, ◌∙◌, subst, cond}
-use Rattle.masked_bytes.proofs.Truth.{and_first, and_second}
+use Rattle.std.proofs.Common.{◌≡◌, ℕ, ◌≤◌, Bool, true, false, List, [], ◌∷◌, inl, inr, refl, sym, ap, subst, cond}
+use Rattle.masked_bytes.proofs.Truth.{and_second}
 use Rattle.std.specs.Prelude.{drop, filter}
 use Rattle.row_rules.specs.declared.Row.{Row}
 use Rattle.row_rules.specs.declared.Rules.{Rules}
-use Rattle.row_rules.specs.Queueing.{stands, pending, waiting, pairs_few, has_room}
+use Rattle.row_rules.specs.Queueing.{stands, pending, pairs_few, has_room}
 use Rattle.row_judging.specs.Near.{NearRoom}
 use Rattle.row_judging.specs.Steps.{stays_behind}
 use Rattle.row_judging.proofs.Steps.{step_law}
-use Rattle.row_judging.proofs.Sublists.{Sub, sub-filter, pairs-sub, pending-later}
+use Rattle.row_judging.proofs.Sublists.{Sub, pairs-sub, pending-later}
 
 sub-whole : {A : Type 0} (xs : List A) → Sub xs xs
 sub-whole [] = refl

@@ -1,5 +1,5 @@
 -- The next and the last of a bank's stores, told by how many there are.
-use Rattle.std.specs.Prelude.{◌≡◌, ℕ, ◌==◌, ◌&&◌, ◌||◌, Bool, true, false, IsTrue, List, Option, Some, None, nat_le, nat_lt, count_by}
+use Rattle.std.specs.Prelude.{◌≡◌, ℕ, ◌==◌, ◌&&◌, ◌||◌, List, nat_le, nat_lt, count_by}
 use Rattle.std.specs.List.{list_all}
 use Rattle.row_rules.specs.declared.Row.{Row}
 use Rattle.row_rules.specs.Answers.{stored_after, stored_by}

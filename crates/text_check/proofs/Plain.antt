@@ -1,5 +1,5 @@
 -- Each record of a trace has four fields, and no field has an end of a line in it.
-use Rattle.std.proofs.Common.{◌≡◌, ℕ, zero, suc, ◌+◌, ◌*◌, ◌<◌, ◌≤◌, ◌==◌, eqb-true, lit<, ◌&&◌, ◌||◌, Bool, true, false, List, [], ◌∷◌, length, map, Option, Some, None, refl, sym, ap, ◌∙◌, subst, cond, arith, nat_lt, nat_le, unwrap_or, is_some}
+use Rattle.std.proofs.Common.{◌≡◌, ℕ, zero, suc, ◌+◌, ◌*◌, ◌<◌, ◌==◌, eqb-true, lit<, ◌&&◌, ◌||◌, Bool, true, false, List, [], ◌∷◌, length, map, Option, Some, None, refl, sym, ap, ◌∙◌, subst, arith, nat_lt, nat_le, unwrap_or, is_some}
 use Rattle.std.proofs.lemmas.Bool.{or_from}
 use Rattle.masked_bytes.proofs.Truth.{and_first, and_second}
 use Rattle.std.specs.Prelude.{codes, if◌then◌else◌, not, option_map, Result, Ok, Err}

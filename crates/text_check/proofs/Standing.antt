@@ -1,7 +1,7 @@
 -- The outcomes of a right run may stand in results.
-use Rattle.std.proofs.Common.{◌≡◌, ℕ, suc, ◌+◌, ◌*◌, ◌^◌, ◌<◌, ◌≤◌, ◌==◌, ◌&&◌, Bool, true, false, inl, inr, List, [], ◌∷◌, ◌++◌, length, replicate, Option, Some, None, refl, sym, ap, ◌∙◌, subst, cond, arith, eqb-true, lit<}
+use Rattle.std.proofs.Common.{◌≡◌, ℕ, suc, ◌+◌, ◌*◌, ◌^◌, ◌<◌, ◌≤◌, ◌==◌, ◌&&◌, Bool, true, false, inl, inr, List, [], ◌∷◌, ◌++◌, length, replicate, Some, refl, sym, ap, ◌∙◌, subst, cond, arith, eqb-true, lit<}
 use Rattle.masked_bytes.proofs.Truth.{and_first, and_second}
-use Rattle.std.specs.Prelude.{All, if◌then◌else◌, max, reverse}
+use Rattle.std.specs.Prelude.{All, if◌then◌else◌, reverse}
 use Rattle.std.specs.Option.{ForSome}
 use Rattle.std.proofs.lemmas.Bool.{cases_lt}
 use Rattle.std.proofs.lemmas.Nat.{mul-le}
@@ -22,7 +22,7 @@ use Rattle.trace_reader.specs.declared.event.EventOp.TheVariants.{Read, Write, M
 use Rattle.result_rows.specs.declared.Outcome.{Outcome}
 use Rattle.result_rows.specs.declared.Outcome.TheVariants as out
 use Rattle.result_rows.specs.Outcomes.{bytes_of, op_of, place_of, tick_of}
-use Rattle.result_reader.specs.ResultRows.{AreBytes, EachMayStand, MayStand}
+use Rattle.result_reader.specs.ResultRows.{AreBytes, EachMayStand}
 use Rattle.row_rules.specs.declared.Asks.{Asks}
 use Rattle.row_rules.specs.declared.Asks.TheVariants.{Reads, Writes, Cuts}
 use Rattle.row_rules.specs.declared.Row.{Row}
@@ -30,7 +30,7 @@ use Rattle.row_rules.specs.Answers.{accepts}
 use Rattle.row_rules.specs.Rows.{each_row, newest}
 use Rattle.row_rules.specs.declared.Rules.{Rules}
 use Rattle.row_rules.specs.Serving.{is_served, may_have, owed, same_bytes}
-use Rattle.row_rules.specs.Ticking.{attempt, longest, tries, writings}
+use Rattle.row_rules.specs.Ticking.{attempt, tries, writings}
 use Rattle.row_verdict.specs.Verdicts.{RowsOk, asks_of, rows_with}
 use Rattle.run_text.specs.ResultText.{asked}
 use Rattle.module_shape.specs.declared.raw.RawShape.{RawShape}

@@ -1,5 +1,5 @@
 -- What each row of each bank's table keeps, the row of the module keeps in the table of its bank.
-use Rattle.std.proofs.Common.{◌≡◌, ℕ, ◌<◌, ◌==◌, ◌&&◌, Bool, true, false, List, [], ◌∷◌, map, refl, sym, ap, ◌∙◌, subst, cond, eqb-true, eq-eqb}
+use Rattle.std.proofs.Common.{◌≡◌, ℕ, ◌<◌, ◌==◌, Bool, true, false, List, [], ◌∷◌, map, refl, sym, ap, ◌∙◌, subst, cond, eqb-true, eq-eqb}
 use Rattle.masked_bytes.proofs.Truth.{and_first, and_second}
 use Rattle.std.specs.Prelude.{All}
 use Rattle.std.specs.List.{list_all}
@@ -13,8 +13,8 @@ use Rattle.row_rules.specs.Rows.{RowTest, each_row}
 use Rattle.row_rules.specs.declared.Rules.{Rules}
 use Rattle.row_rules.specs.Queueing.{has_room}
 use Rattle.row_rules.specs.Table.{is_of, of_bank}
-use Rattle.row_verdict.specs.Verdicts.{bank_in, mates, in_bank, all_have_room}
-use Rattle.module_laws.specs.Asking.{asks_in, row_in, bank_table}
+use Rattle.row_verdict.specs.Verdicts.{bank_in, in_bank, all_have_room}
+use Rattle.module_laws.specs.Asking.{row_in, bank_table}
 use Rattle.module_laws.specs.Serves.{AreLines, IsOfLines, finds_room_in}
 use Rattle.module_laws.proofs.Serving.{same_line}
 use Rattle.verdict_laws.proofs.Renaming.{IsIn, AreIn, room-named}

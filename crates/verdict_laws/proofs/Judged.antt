@@ -1,5 +1,5 @@
 -- Each row of a right run keeps each rule.
-use Rattle.std.proofs.Common.{◌≡◌, ℕ, zero, suc, ◌+◌, ◌<◌, ◌&&◌, Bool, true, List, [], ◌∷◌, map, refl, sym, ap, ◌∙◌, subst, arith}
+use Rattle.std.proofs.Common.{◌≡◌, ℕ, zero, suc, ◌+◌, ◌<◌, ◌&&◌, true, List, [], ◌∷◌, map, refl, sym, ◌∙◌, subst, arith}
 use Rattle.masked_bytes.proofs.Truth.{and_first, and_second}
 use Rattle.std.specs.Prelude.{nat_le, reverse}
 use Rattle.std.specs.List.{range_with_len}
@@ -18,12 +18,11 @@ use Rattle.row_rules.specs.Ticking.{is_in_time}
 use Rattle.row_verdict.specs.Judging.{VerdictLaw}
 use Rattle.row_verdict.specs.Verdicts.{bank_in, in_bank, all_have_room, keeps_all}
 use Rattle.module_shape.specs.declared.raw.RawShape.{RawShape}
-use Rattle.module_shape.specs.Limits.{IsShape, total_of}
-use Rattle.module_laws.specs.Serves.{AreLines, IsOfLines}
+use Rattle.module_shape.specs.Limits.{total_of}
+use Rattle.module_laws.specs.Serves.{AreLines}
 use Rattle.end_laws.specs.Ends.{BankEnd}
 use Rattle.run_laws.specs.FinishedLaws.{LinesLaw}
 use Rattle.run_laws.specs.Runs.{bank_of_line, line_in_bank, rules_in, table_in, RunsRight}
-use Rattle.run_laws.specs.RowsOfRuns.{LinesExist}
 use Rattle.verdict_laws.specs.Verdicts.{banks_of, RulesKeptLaw, YesLaw}
 use Rattle.verdict_laws.proofs.Renaming.{queue-named}
 use Rattle.verdict_laws.proofs.Timing.{wear-named, ticks-named}

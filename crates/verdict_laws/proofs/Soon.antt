@@ -1,9 +1,8 @@
 -- By when the outcomes of rows that keep the rules have come.
-use Rattle.std.proofs.Common.{◌≡◌, ℕ, ◌+◌, ◌*◌, ◌<◌, ◌≤◌, ◌==◌, ◌&&◌, ◌||◌, Bool, true, false, List, [], ◌∷◌, ◌++◌, Some, length, refl, sym, ap, ◌∙◌, subst, cond, arith, eqb-true}
+use Rattle.std.proofs.Common.{◌≡◌, ℕ, ◌+◌, ◌*◌, ◌≤◌, ◌==◌, Bool, true, false, List, [], ◌∷◌, ◌++◌, length, refl, ◌∙◌, subst, cond, arith, eqb-true}
 use Rattle.masked_bytes.proofs.Truth.{and_first, and_second}
-use Rattle.std.specs.Prelude.{All, count_by, filter, max, nat_le, nat_lt, not, reverse}
+use Rattle.std.specs.Prelude.{All, filter, max, nat_le, nat_lt, reverse}
 use Rattle.std.specs.Option.{ForSome}
-use Rattle.std.specs.List.{list_all, list_any}
 use Rattle.std.proofs.lemmas.Bool.{leb-true}
 use Rattle.std.proofs.lemmas.Nat.{mul-le}
 use Rattle.std.proofs.lemmas.List.{length-append, length-reverse, reverse-append, reverse-reverse}
@@ -17,14 +16,13 @@ use Rattle.result_rows.specs.Outcomes.{tick_of}
 use Rattle.row_rules.specs.declared.Asks.{Asks}
 use Rattle.row_rules.specs.declared.Asks.TheVariants.{Reads, Writes, Cuts}
 use Rattle.row_rules.specs.declared.Row.{Row}
-use Rattle.row_rules.specs.Answers.{is_full}
-use Rattle.row_rules.specs.Rows.{RowTest, each_row, is_cut, accepted_of, write_of}
+use Rattle.row_rules.specs.Rows.{each_row, is_cut, accepted_of}
 use Rattle.row_rules.specs.declared.Rules.{Rules}
 use Rattle.row_rules.specs.Serving.{is_served, may_have, owed}
 use Rattle.row_rules.specs.Queueing.{awaits, has_room, merges_at, pending, queue_fits, waiting}
-use Rattle.row_rules.specs.Ticking.{asks_in_time, attempt, bound, came_since, cuts_to, delay, first_cut_at, is_in_time, last_store, longest, reads_in, stores_in, tries, writings}
+use Rattle.row_rules.specs.Ticking.{asks_in_time, attempt, bound, came_since, cuts_to, delay, first_cut_at, last_store, longest, reads_in, stores_in, tries, writings}
 use Rattle.row_rules.specs.Table.{of_bank, is_of}
-use Rattle.row_verdict.specs.Verdicts.{all_have_room, bank_in, in_bank, keeps, keeps_all, RowsOk}
+use Rattle.row_verdict.specs.Verdicts.{all_have_room, bank_in, keeps, keeps_all}
 use Rattle.row_verdict.specs.declared.Rule.TheVariants as rule
 use Rattle.verdict_laws.specs.Ticks.{longest_among, SoonLaw}
 

@@ -1,5 +1,5 @@
 -- By when the outcomes of rows have come.
-use Rattle.std.specs.Prelude.{◌≡◌, ℕ, ◌+◌, ◌*◌, ◌≤◌, List, All, length, max}
+use Rattle.std.specs.Prelude.{ℕ, ◌+◌, ◌*◌, ◌≤◌, List, All, length, max}
 use Rattle.std.specs.Option.{ForSome}
 use Rattle.result_rows.specs.Outcomes.{tick_of}
 use Rattle.row_rules.specs.declared.Row.{Row}
