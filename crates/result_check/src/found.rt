@@ -46,7 +46,8 @@ impl Found {
             ≡ self.old.lines.items ++ keys.store_keys (λ line. line) (row_of event.now outcome.now ∷ [])) }
         ensures reads { IfOk result (λ _. self.new.reads.items
             ≡ self.old.reads.items ++ keys.read_keys (bank_in banks.now) (row_of event.now outcome.now ∷ [])) }
-        ensures cuts { IfOk result (λ _. self.new.cuts.items ≡ self.old.cuts.items ++ cut_ticks (row_of event.now outcome.now ∷ [])) }
+        ensures cuts { IfOk result (λ _. self.new.cuts.items
+            ≡ self.old.cuts.items ++ cut_ticks (row_of event.now outcome.now ∷ [])) }
     {
         match event.op {
             EventOp::Write(line, _) | EventOp::Mask(line, _, _) => {

@@ -111,7 +111,8 @@ fn judge_cut<const B: usize>(tick: u64, room: bool, outcome: &Outcome<B>) -> Opt
 
 /// Lets time pass in all banks up to a cut, and the cut come.
 fn cut_all(banks: &mut Vec<Watched>, tick: u64)
-    ensures facts { (bank : ℕ) → facts_in banks.new.items bank ≡ cut_off (settled tick (facts_in banks.old.items bank)) }
+    ensures facts { (bank : ℕ) → facts_in banks.new.items bank
+        ≡ cut_off (settled tick (facts_in banks.old.items bank)) }
     ensures number { length banks.new.items ≡ length banks.old.items }
 {
     for bank in 0..banks.len() {
@@ -208,7 +209,8 @@ impl<const B: usize> Kept<B> {
     fn find_room(&mut self, rules: &Rules, banks: &[u8], tick: u64) -> bool
         requires line { IfSome self.old.joined (λ line. line < length banks.now) }
         requires exist { All (λ bank. bank < length self.old.banks.items) banks.now }
-        ensures room { result ≡ joined_room rules.now banks.now tick (facts_in self.old.banks.items) self.old.joined }
+        ensures room { result
+            ≡ joined_room rules.now banks.now tick (facts_in self.old.banks.items) self.old.joined }
         ensures knows { (from : ℕ) (before : List (Row B)) → from ≤ tick → tick < never
             → Knows rules.now banks.now from self.old.banks.items self.old.joined before
             → Knows rules.now banks.now tick self.new.banks.items self.old.joined before }

@@ -71,7 +71,8 @@ fn pass_rows<const B: usize>(
     requires coming { coming.now ≡ coming_of banks.now (rows_with events.now results.now) }
     requires begun { GoesOn rules.now banks.now (rows_with events.now results.now) 0 found.now 0
         kept.old.banks.items kept.old.joined kept.old.lines.items }
-    ensures exact { IfOk result (λ verdict. verdict ≡ verdict_of rules.now banks.now (rows_with events.now results.now)) }
+    ensures exact { IfOk result (λ verdict. verdict
+        ≡ verdict_of rules.now banks.now (rows_with events.now results.now)) }
 {
     let mut cuts = 0;
     for (i, event) in events.iter().enumerate() {
@@ -100,7 +101,8 @@ pub fn check<const B: usize>(
 ) -> Result<Verdict, AllocError>
     requires small { B ≤ 128 }
     requires checkable { IsCheckable events.now results.now banks.now rules.now }
-    ensures exact { IfOk result (λ verdict. verdict ≡ verdict_of rules.now banks.now (rows_with events.now results.now)) }
+    ensures exact { IfOk result (λ verdict. verdict
+        ≡ verdict_of rules.now banks.now (rows_with events.now results.now)) }
 {
     let found = Found::of(alloc, events, results, banks)?;
     let coming = look_ahead(alloc, events, results, banks)?;

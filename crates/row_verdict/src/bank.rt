@@ -99,7 +99,8 @@ impl Bank {
         outcome: &Outcome<B>,
     ) -> Result<(), AllocError>
         requires { has_mates ≡ list_any (is_of member.line) self.old.members.items }
-        ensures { IfOk result (λ _. facts_of self.new ≡ spec.after_write member.line member outcome.now (facts_of self.old)) }
+        ensures { IfOk result (λ _. facts_of self.new
+            ≡ spec.after_write member.line member outcome.now (facts_of self.old)) }
     {
         match outcome {
             Outcome::Stored { .. } | Outcome::Merged { .. } | Outcome::Queued { .. } => {
@@ -131,7 +132,8 @@ impl Bank {
         outcome: &Outcome<B>,
     ) -> Result<(), AllocError>
         requires { self.old.lost < 2 ^ 32 - 1 }
-        ensures { IfOk result (λ _. facts_of self.new ≡ spec.after_read tick outcome.now (facts_of self.old)) }
+        ensures { IfOk result (λ _. facts_of self.new
+            ≡ spec.after_read tick outcome.now (facts_of self.old)) }
     {
         match outcome {
             Outcome::Read { tick: at, .. } => {

@@ -108,7 +108,8 @@ pub fn write_in_time<const B: usize>(
     requires few_reads { length reads.now ≤ 400_000 }
     requires few_cuts { length cuts.now ≤ 400_000 }
     requires short { IsTrue (is_short outcome.now) }
-    ensures { result ≡ write_timely arrived (at_store (latest_kept rules.now stores.now reads.now cuts.now bank arrived) outcome.now) outcome.now }
+    ensures { let by = latest_kept rules.now stores.now reads.now cuts.now bank arrived in
+        result ≡ write_timely arrived (at_store by outcome.now) outcome.now }
 {
     match outcome {
         Outcome::Stored { tick, .. } => {
@@ -144,7 +145,8 @@ fn read_fits_queue<const B: usize>(
     outcome: &Outcome<B>,
 ) -> bool
     requires { IsNonDecreasing lines.now }
-    ensures { result ≡ queueing.read_fits reads count covered (at_head_kept lines.now line tick members.now) outcome.now }
+    ensures { result
+        ≡ queueing.read_fits reads count covered (at_head_kept lines.now line tick members.now) outcome.now }
 {
     match outcome {
         Outcome::Forwarded { .. } => covered || is_at_head(lines, line, tick, members),
@@ -197,7 +199,8 @@ pub fn judge_write<const B: usize>(
         result ≡ first_broken (serving.may_have tick (asks_of op.now) newest.now outcome.now) room
         (write_fits rules.now.writes tick line f.members ahead.entry.next outcome.now)
         (is_worn outcome.now || (not f.worn && stored_early ahead.entry.worn outcome.now))
-        (write_timely tick (at_store by outcome.now) outcome.now && apart_kept rules.now.read f.members f.waits f.last_answer f.last_store outcome.now) }
+        (write_timely tick (at_store by outcome.now) outcome.now
+        && apart_kept rules.now.read f.members f.waits f.last_answer f.last_store outcome.now) }
 {
     let served = may_have(tick, op, newest, outcome);
     let fits = write_fits(rules.writes, tick, line, &bank.members, ahead.next, outcome);
@@ -251,7 +254,8 @@ pub fn judge_read<const B: usize>(
         result ≡ first_broken (serving.may_have tick (asks_of op.now) kept.now.newest outcome.now) room
         (queueing.read_fits rules.now.reads count covered (at_head_kept keys.entry.lines.now line tick f.members) outcome.now)
         true
-        (read_timely tick rules.now.read by first outcome.now && apart_kept rules.now.read f.members f.waits f.last_answer f.last_store outcome.now) }
+        (read_timely tick rules.now.read by first outcome.now
+        && apart_kept rules.now.read f.members f.waits f.last_answer f.last_store outcome.now) }
 {
     let served = may_have(tick, op, &kept.newest, outcome);
     let count = bank.waits.len() as u32 + bank.lost;

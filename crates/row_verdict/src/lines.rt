@@ -99,8 +99,10 @@ impl<const B: usize> Line<B> {
         given: &[bool; B],
     ) -> Result<(), AllocError>
         ensures newest { IfOk result (λ _. self.new.newest ≡ laid bytes.now given.now self.old.newest) }
-        ensures unclosed { IfOk result (λ _. self.new.unclosed ≡ unclosed_behind B stored given.now self.old.unclosed) }
-        ensures runs { IfOk result (λ _. self.new.runs.items ≡ runs_behind now stored (joined given.now self.old.unclosed) self.old.runs.items) }
+        ensures unclosed { IfOk result (λ _. self.new.unclosed
+            ≡ unclosed_behind B stored given.now self.old.unclosed) }
+        ensures runs { IfOk result (λ _. self.new.runs.items
+            ≡ runs_behind now stored (joined given.now self.old.unclosed) self.old.runs.items) }
     {
         lay_over(bytes, given, &mut self.newest);
         join_given(given, &mut self.unclosed);

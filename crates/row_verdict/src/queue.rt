@@ -53,14 +53,16 @@ fn precedes(all: &[Member], newer: &Member, older: &Member) -> bool
 
 /// Whether a member is of another line than the newest, or precedes it.
 fn is_apart_or_precedes(all: &[Member], newest: &Member, other: &Member) -> bool
-    ensures { result ≡ (not (spec.is_of newest.now.line other.now) || spec.precedes all.now newest.now other.now) }
+    ensures { result
+        ≡ (not (spec.is_of newest.now.line other.now) || spec.precedes all.now newest.now other.now) }
 {
     other.line != newest.line || precedes(all, newest, other)
 }
 
 /// Whether each of these is of another line than the newest, or precedes it.
 fn all_precede(all: &[Member], newest: &Member, others: &[Member]) -> bool
-    ensures { result ≡ list_all (λ o. not (spec.is_of newest.now.line o) || spec.precedes all.now newest.now o) others.now }
+    ensures { result ≡ list_all (λ o. not (spec.is_of newest.now.line o)
+        || spec.precedes all.now newest.now o) others.now }
 {
     others
         .iter()
@@ -164,7 +166,8 @@ pub fn twins_with(twins: Twins, has_mates: bool, members: &[Member], line: u32) 
     requires known { IsKnown twins members.now }
     requires mates { has_mates ≡ list_any (spec.is_of line) members.now }
     ensures exact { result ≡ spec.twins_with line members.now twins }
-    ensures joins { (m : Member) → m.line ≡ line → IsKnown result (filter (stays_beside line) members.now ++ m ∷ []) }
+    ensures joins { (m : Member) → m.line ≡ line
+        → IsKnown result (filter (stays_beside line) members.now ++ m ∷ []) }
     ensures stays { IsKnown result members.now }
 {
     if has_mates {
@@ -255,14 +258,16 @@ pub fn has_room(
 
 /// Whether a member is of another line than a refused write, or came before it and leaves first.
 fn lets_refuse(tick: u64, line: u32, members: &[Member], member: &Member) -> bool
-    ensures { result ≡ (not (spec.is_of line member.now) || (nat_lt member.now.arrived tick && spec.leaves_first members.now member.now)) }
+    ensures { result ≡ (not (spec.is_of line member.now)
+        || (nat_lt member.now.arrived tick && spec.leaves_first members.now member.now)) }
 {
     member.line != line || (member.arrived < tick && leaves_first(members, member))
 }
 
 /// Whether each of these is of another line than a refused write, or came before it and leaves first.
 fn all_let_refuse(tick: u64, line: u32, members: &[Member]) -> bool
-    ensures { result ≡ list_all (λ m. not (spec.is_of line m) || (nat_lt m.arrived tick && spec.leaves_first members.now m)) members.now }
+    ensures { result ≡ list_all (λ m. not (spec.is_of line m)
+        || (nat_lt m.arrived tick && spec.leaves_first members.now m)) members.now }
 {
     members
         .iter()
@@ -325,7 +330,8 @@ fn key_at(keys: &[u128], place: usize) -> Option<u128>
 /// The next of these keys, which don't fall, above this one: so it is at most another exactly where keys lie between the two.
 fn next_key(keys: &[u128], key: u128) -> Option<u128>
     requires { IsNonDecreasing keys.now }
-    ensures { (other : ℕ) → nat_lt (keys_spec.up_to key keys.now) (keys_spec.up_to other keys.now) ≡ comes_by other result }
+    ensures { (other : ℕ) → nat_lt (keys_spec.up_to key keys.now) (keys_spec.up_to other keys.now)
+        ≡ comes_by other result }
 {
     key_at(keys, up_to(keys, key))
 }
