@@ -76,16 +76,13 @@ fn changed(rt: &HostRuntime, bytes: &[u8], changes: &[(usize, u8)]) -> Result<Ve
 fn an_image_that_was_written_is_read(rt: HostRuntime) -> Result<(), Fail> {
     let text = empty_image(&rt)?;
     let bytes = text.bytes();
-    assert_eq!(rt; bytes.len(), 539);
-    assert_eq!(rt; size_of_line(bytes), Ok(64));
-    match read_image::<64, 8>(rt.alloc(), bytes) {
-        Ok(image) => {
-            assert_eq!(rt; (image.banks, image.lines, image.spares), (1, 4, 2));
-            assert_eq!(rt; image.parts.len(), 1);
-            assert_eq!(rt; image.cells.len(), 7);
-        }
-        Err(_) => assert!(rt; false),
-    }
+    assert_eq!(rt; (bytes.len(), size_of_line(bytes)), (539, Ok(64)));
+    let Ok(image) = read_image::<64, 8>(rt.alloc(), bytes) else {
+        panic!(rt; "no image");
+    };
+    let shape = (image.banks, image.lines, image.spares);
+    let lens = (image.parts.len(), image.cells.len());
+    assert_eq!(rt; (shape, lens), ((1, 4, 2), (1, 7)));
     Ok(())
 }
 
@@ -120,17 +117,31 @@ fn the_first_field_that_fails_is_named(rt: HostRuntime) -> Result<(), Fail> {
 #[test]
 fn an_image_has_each_of_its_bytes_and_no_more(rt: HostRuntime) -> Result<(), Fail> {
     let mut text = empty_image(&rt)?;
-    assert_eq!(rt; fault_of(&rt, &[]), Some((0, ImageKind::Short)));
-    assert_eq!(rt; fault_of(&rt, b"PCMIMG01"), Some((8, ImageKind::Short)));
-    if let Some((_, front)) = text.bytes().split_last() {
-        assert_eq!(rt; fault_of(&rt, front), Some((467, ImageKind::Short)));
-    }
+    let nothing = fault_of(&rt, &[]);
+    let magic = fault_of(&rt, b"PCMIMG01");
+    let front = match text.bytes().split_last() {
+        Some((_, front)) => fault_of(&rt, front),
+        None => None,
+    };
     if text.room() >= 4 {
         write_slot(&mut text, 0);
     }
-    assert_eq!(rt; fault_of(&rt, text.bytes()), Some((539, ImageKind::Extra)));
+    let longer = fault_of(&rt, text.bytes());
+    assert_eq!(rt;
+        [nothing, magic, front, longer],
+        [
+            Some((0, ImageKind::Short)),
+            Some((8, ImageKind::Short)),
+            Some((467, ImageKind::Short)),
+            Some((539, ImageKind::Extra))
+        ]
+    );
+    Ok(())
+}
 
-    // The numbers of the largest module alone promise rows that don't follow.
+/// The numbers of the largest module alone promise rows that don't follow.
+#[test]
+fn numbers_alone_are_no_image(rt: HostRuntime) -> Result<(), Fail> {
     let mut alone = Text::new(rt.alloc(), 24)?;
     write_head(&mut alone, 64, 16, 16, 256, 1024, 0, 1);
     assert_eq!(rt; fault_of(&rt, alone.bytes()), Some((24, ImageKind::Short)));
@@ -152,17 +163,23 @@ fn a_byte_that_is_not_given_is_zero(rt: HostRuntime) -> Result<(), Fail> {
     begin(&mut text, 0, &[], &[first_byte(1, 7)]);
     rows(&mut text, 5, &[]);
     let bytes = text.bytes();
-    assert_eq!(rt; bytes.len(), 471);
-    assert_eq!(rt; fault_of(&rt, bytes), None);
+    assert_eq!(rt; (bytes.len(), fault_of(&rt, bytes)), (471, None));
     let other = changed(&rt, bytes, &[(40, 7)])?;
-    assert_eq!(rt;
-        fault_of(&rt, other.as_slice()),
-        Some((103, ImageKind::Entry))
-    );
     let given = changed(&rt, bytes, &[(40, 7), (103, 3)])?;
-    assert_eq!(rt; fault_of(&rt, given.as_slice()), None);
     let far = changed(&rt, bytes, &[(38, 128)])?;
-    assert_eq!(rt; fault_of(&rt, far.as_slice()), Some((35, ImageKind::Entry)));
+    let faults = [
+        fault_of(&rt, other.as_slice()),
+        fault_of(&rt, given.as_slice()),
+        fault_of(&rt, far.as_slice()),
+    ];
+    assert_eq!(rt;
+        faults,
+        [
+            Some((103, ImageKind::Entry)),
+            None,
+            Some((35, ImageKind::Entry))
+        ]
+    );
     Ok(())
 }
 
@@ -183,11 +200,11 @@ fn a_line_is_read_where_its_slot_was_given_a_spare(rt: HostRuntime) -> Result<()
     let mut own = Text::new(rt.alloc(), 1000)?;
     begin(&mut own, 2, &[], &[]);
     rows(&mut own, 7, &[3]);
-    assert_eq!(rt; first_line(&rt, own.bytes()), Some((0xff, 0xff)));
     let mut last = Text::new(rt.alloc(), 1000)?;
     begin(&mut last, 2, &[3, 3], &[]);
     rows(&mut last, 7, &[6]);
-    assert_eq!(rt; first_line(&rt, last.bytes()), Some((0xff, 0xff)));
+    let lines = [first_line(&rt, own.bytes()), first_line(&rt, last.bytes())];
+    assert_eq!(rt; lines, [Some((0xff, 0xff)), Some((0xff, 0xff))]);
     Ok(())
 }
 

@@ -77,30 +77,33 @@ fn a_refused_write_and_a_queued_one_fall_short(rt: HostRuntime) -> Result<(), Fa
     results.set(3, Outcome::Cut { tick: 9 });
     assert!(rt; !any_short(&results), "a row that isn't set");
     results.set(2, Outcome::Full { tick: 0 });
-    assert!(rt; any_short(&results));
     let counts = Counts::of(&results);
     assert_eq!(rt;
         (counts.merged, counts.full, counts.cut, counts.lost),
         (1, 1, 1, 0)
     );
-    assert!(rt; is_short(&Outcome::<64>::Queued { tick: 7 }));
-    assert!(rt; !is_short(&Outcome::<64>::Merged { tick: 7 }));
+    let queued = is_short(&Outcome::<64>::Queued { tick: 7 });
+    let merged = is_short(&Outcome::<64>::Merged { tick: 7 });
+    assert_eq!(rt; (any_short(&results), queued, merged), (true, true, false));
     Ok(())
 }
 
 #[test]
 fn a_sum_of_pulses_stays_at_the_greatest_number(rt: HostRuntime) {
-    assert_eq!(rt; add_pulses(66, 1), 67);
-    assert_eq!(rt; add_pulses(u64::MAX, 1), u64::MAX);
-    assert_eq!(rt; add_pulses(1, u64::MAX), u64::MAX);
+    let sums = [
+        add_pulses(66, 1),
+        add_pulses(u64::MAX, 1),
+        add_pulses(1, u64::MAX),
+    ];
+    assert_eq!(rt; sums, [67, u64::MAX, u64::MAX]);
 }
 
 #[test]
 fn pulses_of_all_lines_are_summed(rt: HostRuntime) -> Result<(), Fail> {
     let mut array: MemArray<64, 8> = MemArray::new();
-    assert_eq!(rt; sum_pulses(&array), 0, "no lines");
+    let none = sum_pulses(&array);
     array.power_up(rt.alloc(), 3, LASTING)?;
-    assert_eq!(rt; sum_pulses(&array), 0);
+    let unpulsed = sum_pulses(&array);
     let ones = Cells {
         bits: [0xff; 64],
         meta: [0; 8],
@@ -108,7 +111,12 @@ fn pulses_of_all_lines_are_summed(rt: HostRuntime) -> Result<(), Fail> {
     overwrite(&mut array, 0, &ones);
     overwrite(&mut array, 2, &ones);
     overwrite(&mut array, 2, &Cells::zero());
-    assert_eq!(rt; sum_pulses(&array), 3);
+    assert_eq!(rt; [none, unpulsed, sum_pulses(&array)], [0, 0, 3]);
+    Ok(())
+}
+
+#[test]
+fn pulses_of_a_wide_line_are_summed(rt: HostRuntime) -> Result<(), Fail> {
     let mut wide: ScriptArray<128, 16> = ScriptArray::new(Vec::new(rt.alloc()));
     wide.power_up(rt.alloc(), 1, LASTING)?;
     let one = Cells {

@@ -49,46 +49,59 @@ fn a_table_gets_its_verdict(rt: HostRuntime) -> Result<(), Fail> {
         place: 3,
         bytes: [0xff; 64],
     };
-    assert_eq!(rt; verdict_on(rt.alloc(), stored, read)?, Verdict::Yes);
+    let right = verdict_on(rt.alloc(), stored, read)?;
     let early = Outcome::Read {
         tick: 104,
         place: 3,
         bytes: [0xff; 64],
     };
-    assert_eq!(rt;
-        verdict_on(rt.alloc(), stored, early)?,
-        Verdict::No {
-            row: 2,
-            rule: Rule::Tick
-        }
-    );
+    let early = verdict_on(rt.alloc(), stored, early)?;
     let other = Outcome::Read {
         tick: 105,
         place: 3,
         bytes: [0xfe; 64],
     };
+    let other = verdict_on(rt.alloc(), stored, other)?;
     assert_eq!(rt;
-        verdict_on(rt.alloc(), stored, other)?,
-        Verdict::No {
-            row: 2,
-            rule: Rule::Serves
-        }
+        [right, early, other],
+        [
+            Verdict::Yes,
+            Verdict::No {
+                row: 2,
+                rule: Rule::Tick
+            },
+            Verdict::No {
+                row: 2,
+                rule: Rule::Serves
+            }
+        ]
     );
+    Ok(())
+}
+
+#[test]
+fn a_write_that_was_not_taken_serves_no_read(rt: HostRuntime) -> Result<(), Fail> {
+    let read = Outcome::Read {
+        tick: 105,
+        place: 3,
+        bytes: [0xff; 64],
+    };
     let worn = Outcome::Worn { tick: 0 };
-    assert_eq!(rt;
-        verdict_on(rt.alloc(), worn, read)?,
-        Verdict::No {
-            row: 2,
-            rule: Rule::Serves
-        }
-    );
+    let worn = verdict_on(rt.alloc(), worn, read)?;
     let cut = Outcome::Cut { tick: 0 };
+    let cut = verdict_on(rt.alloc(), cut, read)?;
     assert_eq!(rt;
-        verdict_on(rt.alloc(), cut, read)?,
-        Verdict::No {
-            row: 1,
-            rule: Rule::Serves
-        }
+        [worn, cut],
+        [
+            Verdict::No {
+                row: 2,
+                rule: Rule::Serves
+            },
+            Verdict::No {
+                row: 1,
+                rule: Rule::Serves
+            }
+        ]
     );
     Ok(())
 }

@@ -1,5 +1,5 @@
-use command_line::{Input, Job, LineSize, Print, Refusal, read_job};
-use module_shape::{Home, Policy};
+use command_line::{Input, Job, LineSize, MovesJob, Print, Refusal, RunJob, read_job};
+use module_shape::{Home, Policy, RawShape};
 use std::alloc::{AllocError, Global};
 use std::test::Fail;
 use trace_gen::Mix;
@@ -13,26 +13,40 @@ fn read(alloc: Global, line: &str) -> Result<Result<Job, Refusal>, AllocError> {
     Ok(read_job(alloc, words.as_slice()))
 }
 
+// The run that a line of words asks for.
+fn run(alloc: Global, line: &str) -> Result<Option<RunJob>, AllocError> {
+    match read(alloc, line)? {
+        Ok(Job::Run(job)) => Ok(Some(job)),
+        _ => Ok(None),
+    }
+}
+
+const DEFAULTS: RawShape = RawShape {
+    banks: 4,
+    regions: 2,
+    lines: 64,
+    spares: 8,
+    writes: 32,
+    reads: 32,
+    psi: 100,
+    read_ticks: 5,
+    iter_ticks: 10,
+    policy: Policy::Pause,
+    home: Home::Guarded,
+};
+
 #[test]
 fn a_run_has_defaults(rt: HostRuntime) -> Result<(), Fail> {
-    let Ok(Job::Run(job)) = read(rt.alloc(), "run")? else {
-        panic!(rt; "no run");
-    };
-    let shape = job.shape.raw();
-    assert_eq!(rt; (shape.banks, shape.regions, shape.lines), (4, 2, 64));
-    assert_eq!(rt; (shape.spares, shape.writes, shape.reads), (8, 32, 32));
+    let job = run(rt.alloc(), "run")?.ok_or("no run")?;
+    assert_eq!(rt; *job.shape.raw(), DEFAULTS);
     assert_eq!(rt;
-        (shape.psi, shape.read_ticks, shape.iter_ticks),
-        (100, 5, 10)
+        (job.line, job.seed, job.print, job.input),
+        (LineSize::Bytes64, 0, Print::Results, Input::Source)
     );
-    assert!(rt; shape.policy == Policy::Pause);
-    assert!(rt; shape.home == Home::Guarded);
-    assert!(rt; job.line == LineSize::Bytes64);
-    assert_eq!(rt; job.seed, 0);
-    assert_eq!(rt; (job.wear.lo, job.wear.hi), (100_000_000, 100_000_000));
-    assert_eq!(rt; job.wear.misses, 0);
-    assert!(rt; job.print == Print::Results);
-    assert!(rt; job.input == Input::Source);
+    assert_eq!(rt;
+        (job.wear.lo, job.wear.hi, job.wear.misses),
+        (100_000_000, 100_000_000, 0)
+    );
     Ok(())
 }
 
@@ -40,16 +54,21 @@ fn a_run_has_defaults(rt: HostRuntime) -> Result<(), Fail> {
 fn the_sizes_of_a_run_are_options(rt: HostRuntime) -> Result<(), Fail> {
     let line =
         "run --banks 2 --regions 1 --lines=16 --line=128 --spares 3 --write-queue 7 --read-queue 6 --psi 9 --read-ticks 4 --iter-ticks 8 --policy plain --registers=array";
-    let Ok(Job::Run(job)) = read(rt.alloc(), line)? else {
-        panic!(rt; "no run");
+    let job = run(rt.alloc(), line)?.ok_or("no run")?;
+    let shape = RawShape {
+        banks: 2,
+        regions: 1,
+        lines: 16,
+        spares: 3,
+        writes: 7,
+        reads: 6,
+        psi: 9,
+        read_ticks: 4,
+        iter_ticks: 8,
+        policy: Policy::Plain,
+        home: Home::Array,
     };
-    let shape = job.shape.raw();
-    assert_eq!(rt; (shape.banks, shape.regions, shape.lines), (2, 1, 16));
-    assert_eq!(rt; (shape.spares, shape.writes, shape.reads), (3, 7, 6));
-    assert_eq!(rt; (shape.psi, shape.read_ticks, shape.iter_ticks), (9, 4, 8));
-    assert!(rt; shape.policy == Policy::Plain);
-    assert!(rt; shape.home == Home::Array);
-    assert!(rt; job.line == LineSize::Bytes128);
+    assert_eq!(rt; (*job.shape.raw(), job.line), (shape, LineSize::Bytes128));
     Ok(())
 }
 
@@ -57,14 +76,12 @@ fn the_sizes_of_a_run_are_options(rt: HostRuntime) -> Result<(), Fail> {
 fn the_cells_and_the_rows_of_a_run_are_options(rt: HostRuntime) -> Result<(), Fail> {
     let line =
         "run --seed 18446744073709551615 --lo 10 --hi 0020 --misses 7 --print wear --input drawn --rows 5 --write-percent 100 --cuts 5 --step 0 --hot 3";
-    let Ok(Job::Run(job)) = read(rt.alloc(), line)? else {
-        panic!(rt; "no run");
-    };
-    assert_eq!(rt; job.seed, 18_446_744_073_709_551_615);
-    assert_eq!(rt; job.wear.seed, 18_446_744_073_709_551_615);
-    assert_eq!(rt; (job.wear.lo, job.wear.hi), (10, 20));
-    assert_eq!(rt; job.wear.misses, 7);
-    assert!(rt; job.print == Print::Wear);
+    let job = run(rt.alloc(), line)?.ok_or("no run")?;
+    assert_eq!(rt;
+        (job.seed, job.wear.seed),
+        (18_446_744_073_709_551_615, 18_446_744_073_709_551_615)
+    );
+    assert_eq!(rt; (job.wear.lo, job.wear.hi, job.wear.misses), (10, 20, 7));
     let mix = Mix {
         rows: 5,
         write_percent: 100,
@@ -72,7 +89,7 @@ fn the_cells_and_the_rows_of_a_run_are_options(rt: HostRuntime) -> Result<(), Fa
         step: 0,
         hot: 3,
     };
-    assert!(rt; job.input == Input::Drawn(mix));
+    assert_eq!(rt; (job.print, job.input), (Print::Wear, Input::Drawn(mix)));
     Ok(())
 }
 
@@ -81,9 +98,6 @@ fn two_dashes_end_the_options(rt: HostRuntime) -> Result<(), Fail> {
     let Ok(Job::Gen(job)) = read(rt.alloc(), "gen --")? else {
         panic!(rt; "no gen");
     };
-    assert!(rt; job.line == LineSize::Bytes64);
-    assert_eq!(rt; job.shape.total(), 512);
-    assert_eq!(rt; job.seed, 0);
     let mix = Mix {
         rows: 1000,
         write_percent: 50,
@@ -91,7 +105,11 @@ fn two_dashes_end_the_options(rt: HostRuntime) -> Result<(), Fail> {
         step: 10,
         hot: 0,
     };
-    assert!(rt; job.mix == mix);
+    assert_eq!(rt;
+        (job.line, job.shape.total(), job.seed),
+        (LineSize::Bytes64, 512, 0)
+    );
+    assert_eq!(rt; job.mix, mix);
     Ok(())
 }
 
@@ -101,31 +119,40 @@ fn a_generated_trace_has_its_options(rt: HostRuntime) -> Result<(), Fail> {
     let Ok(Job::Gen(job)) = read(rt.alloc(), line)? else {
         panic!(rt; "no gen");
     };
-    assert_eq!(rt; job.shape.total(), 4);
-    assert_eq!(rt; (job.mix.rows, job.mix.cuts, job.mix.step), (2, 2, 0));
+    let mix = (job.mix.rows, job.mix.cuts, job.mix.step);
+    assert_eq!(rt; (job.shape.total(), mix), (4, (2, 2, 0)));
     Ok(())
 }
 
 #[test]
-fn a_map_and_moves_are_told(rt: HostRuntime) -> Result<(), Fail> {
+fn a_map_is_told(rt: HostRuntime) -> Result<(), Fail> {
     let Ok(Job::Map(job)) = read(rt.alloc(), "map --spares 2 --seed 7 --from 16781312")? else {
         panic!(rt; "no map");
     };
-    assert_eq!(rt; job.shape.array_lines(), 528);
-    assert_eq!(rt; (job.seed, job.from), (7, 16_781_312));
+    assert_eq!(rt;
+        (job.shape.array_lines(), job.seed, job.from),
+        (528, 7, 16_781_312)
+    );
+    Ok(())
+}
+
+#[test]
+fn moves_are_told(rt: HostRuntime) -> Result<(), Fail> {
     let Ok(Job::Moves(job)) = read(rt.alloc(), "moves --lines=256")? else {
         panic!(rt; "no moves");
     };
-    assert_eq!(rt; (job.lines, job.from), (256, 0));
+    let wanted = MovesJob {
+        lines: 256,
+        from: 0,
+    };
+    assert_eq!(rt; job, wanted);
     Ok(())
 }
 
 #[test]
 fn a_run_may_print_its_image(rt: HostRuntime) -> Result<(), Fail> {
-    let Ok(Job::Run(job)) = read(rt.alloc(), "run --print image")? else {
-        panic!(rt; "no run");
-    };
-    assert!(rt; job.print == Print::Image);
+    let job = run(rt.alloc(), "run --print image")?.ok_or("no run")?;
+    assert_eq!(rt; job.print, Print::Image);
     Ok(())
 }
 
@@ -141,20 +168,22 @@ fn a_saved_module_is_shown(rt: HostRuntime) -> Result<(), Fail> {
 
 #[test]
 fn policies_and_homes_are_named(rt: HostRuntime) -> Result<(), Fail> {
-    let Ok(Job::Run(job)) = read(
-        rt.alloc(),
-        "run --policy cancel --registers guarded --spares 2",
-    )?
-    else {
-        panic!(rt; "no run");
-    };
-    assert!(rt; job.shape.raw().policy == Policy::Cancel);
-    assert!(rt; job.shape.raw().home == Home::Guarded);
+    let line = "run --policy cancel --registers guarded --spares 2";
+    let job = run(rt.alloc(), line)?.ok_or("no run")?;
+    let shape = job.shape.raw();
+    assert_eq!(rt; (shape.policy, shape.home), (Policy::Cancel, Home::Guarded));
+    Ok(())
+}
+
+#[test]
+fn a_map_has_its_registers_in_the_array(rt: HostRuntime) -> Result<(), Fail> {
     let Ok(Job::Map(job)) = read(rt.alloc(), "map --spares 2 --registers array")? else {
         panic!(rt; "no map");
     };
-    assert!(rt; job.shape.raw().home == Home::Array);
-    assert_eq!(rt; job.shape.array_lines(), 548);
+    assert_eq!(rt;
+        (job.shape.raw().home, job.shape.array_lines()),
+        (Home::Array, 548)
+    );
     Ok(())
 }
 
@@ -216,11 +245,12 @@ fn a_check_has_the_defaults_of_a_run(rt: HostRuntime) -> Result<(), Fail> {
     let Ok(Job::Check(job)) = read(rt.alloc(), line)? else {
         panic!(rt; "no check");
     };
-    let shape = job.shape.raw();
-    assert_eq!(rt; (shape.banks, shape.regions, shape.lines), (4, 2, 64));
-    assert_eq!(rt; (shape.spares, shape.writes, shape.reads), (3, 32, 32));
-    assert!(rt; shape.policy == Policy::Cancel);
-    assert!(rt; job.line == LineSize::Bytes128);
-    assert_eq!(rt; job.seed, 7);
+    let shape = RawShape {
+        spares: 3,
+        policy: Policy::Cancel,
+        ..DEFAULTS
+    };
+    assert_eq!(rt; *job.shape.raw(), shape);
+    assert_eq!(rt; (job.line, job.seed), (LineSize::Bytes128, 7));
     Ok(())
 }
