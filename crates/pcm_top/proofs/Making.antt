@@ -30,6 +30,11 @@ ready-itself raw seed rows count module_ array results same ready =
     let seeded = subst (λ s. IsReady raw s count module_ array results) (sym ready.seeded) counted in
     subst (λ r. IsReady r module_.seed count module_ array results) (sym ready.shape) seeded
 
+-- nor does it matter how its rows are counted
+pub ready-for : {n m e : ℕ} (raw : RawShape) (seed rows count : ℕ) (module_ : ModuleState n m e) (array : ArrayState n m) (results : List (Outcome n))
+    → rows ≡ count → IsReady raw seed rows module_ array results → IsReady raw seed count module_ array results
+ready-for raw seed rows count module_ array results same ready = subst (λ c. IsReady raw seed c module_ array results) same ready
+
 module _ {n m e : ℕ} (job : RunJob) (array : ArrayState n m) (events : List (Event n)) (outcomes : List (Outcome n)) (pcm : ModuleState n m e)
     (shape : pcm.shape ≡ job.shape) (seeded : pcm.seed ≡ job.seed) (size : length outcomes ≡ length events)
     (left : (ends : ℕ → BankEnd) × AreEndsOf pcm ends × RunsRight e pcm.shape pcm.seed (rows_of events outcomes) array ends) where

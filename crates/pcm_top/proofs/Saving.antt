@@ -1,10 +1,7 @@
 -- The image of a run that was made.
-use Rattle.std.proofs.Common.{◌≡◌, ℕ, ◌^◌, ◌<◌, List, [], Option, Some, None, refl, sym, subst, reverse}
+use Rattle.std.proofs.Common.{◌≡◌, ℕ, ◌^◌, ◌<◌, List, Option, Some, None, refl, sym, subst, reverse}
 use Rattle.std.specs.Prelude.{IsSomeAnd, slice_get, unwrap_or}
-use Rattle.std.proofs.lemmas.List.{append-nil}
-use Rattle.std.proofs.lemmas.List.Elements.{All-nil}
-use Rattle.pcm_cells.specs.Device.{ArrayState, sense_of}
-use Rattle.pcm_cells.specs.declared.array.Sense.{Sense}
+use Rattle.pcm_cells.specs.Device.{ArrayState}
 use Rattle.trace_reader.specs.declared.event.Event.{Event}
 use Rattle.result_rows.specs.declared.Outcome.{Outcome}
 use Rattle.module_shape.specs.Limits.{IsShape}

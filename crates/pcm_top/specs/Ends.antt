@@ -1,13 +1,15 @@
 -- How the parts of a call end.
-use Rattle.std.specs.Prelude.{◌≡◌, ◌≢◌, ◌≤◌, ℕ, List, false, Result, Err, IfOk, IfErr, OnOk}
+use Rattle.std.specs.Prelude.{◌≡◌, ◌≢◌, ◌≤◌, ℕ, List, false, Result, Err, IfOk, IfErr, OnOk, OnErr}
 use Rattle.pcm_cells.specs.Device.{ArrayState}
+use Rattle.trace_reader.specs.declared.event.Event.{Event}
+use Rattle.pcm_io.specs.declared.WriteFault.{WriteFault}
 use Rattle.command_line.specs.declared.job.CheckJob.{CheckJob}
 use Rattle.command_line.specs.declared.job.LineSize.TheVariants.{Bytes64, Bytes128}
 use Rattle.command_line.specs.declared.job.RunJob.{RunJob}
 use Rattle.pcm_image.specs.declared.ImageFault.{ImageFault}
 use Rattle.pcm_top.specs.Reading.{NeverFails, OnOverflow, SourceChange, trace_room}
 use Rattle.pcm_top.specs.Calls.{AreArraysUntouched, Call, Gets, GetsPart, IsUntouched, Lent, SinkChange, SinkFails, deed_of}
-use Rattle.pcm_top.specs.Inputs.{IsFaultOf, is_source}
+use Rattle.pcm_top.specs.Inputs.{ComeFrom, IsFaultOf, is_source}
 use Rattle.pcm_top.specs.Checking.{IsCheckFault, TellsVerdict, TellsVerdictInPart, room_line}
 use Rattle.pcm_top.specs.Showing.{IsImageFault, IsShowFault, ShowsImage, ShowsImageInPart, ShowsText, ShowsTextInPart}
 use Rattle.pcm_top.specs.FaultLines.{fault_line, status_of}
@@ -77,6 +79,16 @@ pub record EndsCheck {K : Type 0} (n e : ℕ) (job : CheckJob)
   pub ends : Ends (TellsVerdict n e job source out.seen) (TellsVerdictInPart n e job source out.seen)
       (λ fault. IsCheckFault n job fault source) out result
   pub reads : Reads (trace_room room_line) source result
+
+-- how events are played, whichever source they came from: a run of them is made, and its text is written
+pub record Plays (n m e : ℕ) (job : RunJob) (events : List (Event n)) (array : ArrayState n m)
+    (out : SinkChange) (result : Result Done WriteFault) : Type 0 where
+  pub done : IfOk result (λ done. (s : SourceChange) → ComeFrom n job job.input s events
+      → RunIsWritten n m e job s array out done)
+  pub in_part : OnErr result ((s : SourceChange) → ComeFrom n job job.input s events
+      → RunIsWrittenInPart n m e job s array out)
+  pub fault : OnErr result (SinkFails out)
+  pub never_falls : out.faults_before ≤ out.faults_now
 
 -- how a run over lines of n bytes with m check bytes and e error-correcting pointers ends
 pub record EndsRun {A S K : Type 0} (n m e : ℕ) (job : RunJob) (array : Lent A (ArrayState n m))

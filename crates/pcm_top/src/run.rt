@@ -1,9 +1,13 @@
 // The command `run`.
-ghost use Rattle.std.specs.Prelude.{◌≡◌, ◌≤◌};
+ghost use Rattle.std.specs.Prelude.{◌≡◌, ◌≤◌, length, Some};
+ghost use Rattle.pcm_io.specs.Reserved.{reserved};
 ghost use Rattle.ecp_line.specs.Layout.{IsLayout};
 ghost use Rattle.command_line.specs.Jobs.{IsRun};
-ghost use Rattle.pcm_top.specs.Calls.{lent_array, lent_sink, lent_source};
-ghost use Rattle.pcm_top.specs.Ends.{EndsRun};
+ghost use Rattle.module_shape.specs.Limits.{total_of};
+ghost use Rattle.trace_reader.specs.Events.{AreEventsFor};
+ghost use Rattle.pcm_top.specs.Calls.{lent_array, lent_sink, lent_source, sink_change};
+ghost use Rattle.pcm_top.specs.Ends.{EndsRun, Plays};
+ghost use Rattle.pcm_top.specs.Ready.{IsReady};
 ghost use Rattle.pcm_top.specs.Running.{done_by, status_done};
 
 use crate::fault::Fault;
@@ -15,10 +19,12 @@ use crate::replay::replay;
 use command_line::RunJob;
 use image_laws::sensed_runs_stay_right;
 use pcm_cells::CellArray;
-use pcm_io::{Sink, Source};
+use pcm_io::{Sink, Source, Text, WriteFault};
+use pcm_module::Module;
 use result_rows::Results;
-use run_text::any_short;
+use run_text::{TEXT_ROOM, any_short};
 use std::alloc::Global;
+use trace_reader::{Event, MOST_ROWS};
 
 /// How a job was done.
 #[derive(Clone, Copy, Debug, PartialEq, Eq)]
@@ -55,6 +61,35 @@ fn ending<const B: usize>(results: &Results<B>) -> Done
     }
 }
 
+// Replays the events of a job on a module that is ready, and writes what the job asks to see of it.
+fn play<const B: usize, const M: usize, const E: usize, A: CellArray<B, M>, K: Sink>(
+    job: &RunJob,
+    pcm: &mut Module<B, M, E>,
+    array: &mut A,
+    events: &[Event<B>],
+    results: &mut Results<B>,
+    text: &mut Text,
+    out: &mut K,
+) -> Result<Done, WriteFault>
+    requires layout { IsLayout B M E }
+    requires wide { 16 ≤ B }
+    requires job { IsRun job.now }
+    requires events { AreEventsFor (total_of job.now.shape) 0 events.now }
+    requires rows { length events.now ≤ MOST_ROWS }
+    requires ready { IsReady job.now.shape job.now.seed (length events.now)
+        pcm.old (A.state array.old) results.old }
+    requires wear { (A.state array.old).wear ≡ Some job.now.wear }
+    requires text { text.old ≡ reserved TEXT_ROOM }
+    ensures { Plays B M E job.now events.now (A.state array.new)
+        (sink_change K.written K.faults out.old out.new) result }
+{
+    right_runs_can_be_printed();
+    sensed_runs_stay_right();
+    replay(pcm, array, events, results);
+    print_run(job.print, pcm, job.seed, array, events, results, text, out)?;
+    Ok(ending(results))
+}
+
 /// Replays the events of a job on the array, and writes what the job asks to see of it. A line has room for
 /// what a control line keeps.
 pub fn run<const B: usize, const M: usize, const E: usize, A: CellArray<B, M>, S: Source, K: Sink>(
@@ -77,21 +112,16 @@ pub fn run<const B: usize, const M: usize, const E: usize, A: CellArray<B, M>, S
         Ok(taken) => taken,
         Err(_) => return Err(Fault::NoMemory),
     };
-    right_runs_can_be_printed();
-    sensed_runs_stay_right();
-    replay(&mut pcm, array, events.as_slice(), &mut results);
-    let written = print_run(
-        job.print,
-        &pcm,
-        job.seed,
+    match play(
+        job,
+        &mut pcm,
         array,
         events.as_slice(),
-        &results,
+        &mut results,
         &mut text,
         out,
-    );
-    match written {
-        Ok(()) => Ok(ending(&results)),
+    ) {
+        Ok(done) => Ok(done),
         Err(_) => Err(Fault::Write),
     }
 }

@@ -1,0 +1,106 @@
+use Rattle.std.proofs.Common.{◌≡◌, ◌≤◌, length, refl, sym, ◌∙◌, subst, arith, rules}
+use Rattle.module_shape.specs.Limits.{IsShape}
+use Rattle.run_text.proofs.Gathered.{on_err_any}
+use Rattle.trace_reader.proofs.Sizes.{event_fits}
+use Rattle.pcm_top.proofs.Making.{can-print, ready-itself, run-part, run-written}
+use Rattle.pcm_top.proofs.Saving.{right-now}
+use Rattle.pcm_top.proofs.run.play.Goals as goal
+
+pub print_run-requires : goal.print_run-requires
+print_run-requires g c =
+    let job = c.args.job.now in
+    let events = c.args.events.now in
+    let shape : c.replay.new.pcm.shape ≡ job.shape = c.replay.ensures.shape ∙ c.requires.ready.shape in
+    let seeded : c.replay.new.pcm.seed ≡ job.seed = c.replay.ensures.seed ∙ c.requires.ready.seeded in
+    let can =
+    can-print job (g.A.CellArray.state c.replay.new.array) events c.replay.new.results c.replay.new.pcm shape seeded c.replay.ensures.table c.replay.ensures.right
+    c.right_runs_can_be_printed.ensures c.requires.job.shape c.requires.events in (
+      omega arith,
+      (
+        event_fits g.row.B c.requires.layout.shape.1,
+        (
+          omega arith,
+          (
+            c.requires.layout,
+            (
+              c.requires.text,
+              (
+                c.requires.rows,
+                (can.rows, (sym seeded, (subst IsShape (sym shape) c.requires.job.shape, (c.replay.ensures.played, c.replay.ensures.right.2.size)))),
+              ),
+            ),
+          ),
+        ),
+      ),
+    )
+
+pub replay-requires : goal.replay-requires
+replay-requires g c = (
+  omega arith,
+  (
+    event_fits g.row.B c.requires.layout.shape.1,
+    (
+      omega arith,
+      (
+        c.requires.layout,
+        (
+          ready-itself _ _ _ _ _ _ _ refl c.requires.ready,
+          (rw (c.requires.ready.shape) c.requires.events, c.requires.rows),
+        ),
+      ),
+    ),
+  ),
+)
+
+pub returns-in_err-print_run : goal.returns-in_err-print_run
+returns-in_err-print_run g c =
+    let job = c.args.job.now in
+    let events = c.args.events.now in
+    let shape : c.replay.new.pcm.shape ≡ job.shape = c.replay.ensures.shape ∙ c.requires.ready.shape in
+    let seeded : c.replay.new.pcm.seed ≡ job.seed = c.replay.ensures.seed ∙ c.requires.ready.seeded in
+    let size = c.replay.ensures.table in
+    let before = g.A.CellArray.state c.replay.new.array in
+    let array = g.A.CellArray.state c.print_run.new.array in
+    let left = c.replay.ensures.right in
+    let stays =
+    right-now c.replay.new.pcm before array events c.replay.new.results c.replay.ensures.played c.print_run.ensures.sensed
+    c.sensed_runs_stay_right.ensures (subst IsShape (sym shape) c.requires.job.shape) left.0 left.2 in
+    let can =
+    can-print job before events c.replay.new.results c.replay.new.pcm shape seeded size left
+    c.right_runs_can_be_printed.ensures c.requires.job.shape c.requires.events in
+    record {
+      done = search rules;
+      in_part =
+          on_err_any c.from_residual.result _
+          (λ s come.
+          run-part job array events c.replay.new.results c.replay.new.pcm shape seeded size (left.0, left.1, stays) s come
+          (c.print_run.ensures.sensed.wear ∙ c.replay.ensures.wear ∙ c.requires.wear) _ can.roles c.in_err-print_run.ensures.prefix);
+      fault = on_err_any c.from_residual.result _ c.in_err-print_run.ensures.fault;
+      never_falls = c.print_run.ensures.never_falls;
+    }
+
+pub returns : goal.returns
+returns g c =
+    let job = c.args.job.now in
+    let events = c.args.events.now in
+    let shape : c.replay.new.pcm.shape ≡ job.shape = c.replay.ensures.shape ∙ c.requires.ready.shape in
+    let seeded : c.replay.new.pcm.seed ≡ job.seed = c.replay.ensures.seed ∙ c.requires.ready.seeded in
+    let size = c.replay.ensures.table in
+    let before = g.A.CellArray.state c.replay.new.array in
+    let array = g.A.CellArray.state c.print_run.new.array in
+    let left = c.replay.ensures.right in
+    let stays =
+    right-now c.replay.new.pcm before array events c.replay.new.results c.replay.ensures.played c.print_run.ensures.sensed
+    c.sensed_runs_stay_right.ensures (subst IsShape (sym shape) c.requires.job.shape) left.0 left.2 in
+    let can =
+    can-print job before events c.replay.new.results c.replay.new.pcm shape seeded size left
+    c.right_runs_can_be_printed.ensures c.requires.job.shape c.requires.events in
+    record {
+      done =
+          λ s come.
+          run-written job array events c.replay.new.results c.replay.new.pcm shape seeded size (left.0, left.1, stays) s come
+          (c.print_run.ensures.sensed.wear ∙ c.replay.ensures.wear ∙ c.requires.wear) _ c.ending.result c.ending.ensures c.in_ok-print_run.ensures.rows can.roles c.in_ok-print_run.ensures.ok;
+      in_part = tt;
+      fault = tt;
+      never_falls = c.print_run.ensures.never_falls;
+    }
