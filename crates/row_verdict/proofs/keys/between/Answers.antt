@@ -11,3 +11,9 @@ pub returns : goal.returns
 returns c =
     let k = up_to-more c.args.above c.args.key c.args.keys.now c.requires.order in
     omega (arith, k, c.up_to.ensures.number, c.up_to-2.ensures.number)
+
+pub up_to-requires : goal.up_to-requires
+up_to-requires c = grind arith
+
+pub up_to-requires-2 : goal.up_to-requires-2
+up_to-requires-2 c = grind arith

@@ -10,3 +10,6 @@ returns-clause-number c =
     let point = IsPartitionPoint-from_clause (λ x. nat_le x c.args.key) _ _ c.partition_point.ensures.partitioned parted (λ a r q k. search rules) in
     at_place (λ x. nat_le x c.args.key) c.partition_point.result c.args.keys.now c.partition_point.ensures.bound
     (λ k d l. point.0 k d (omega arith) l) (λ k d g l. point.1 k d g l)
+
+pub returns-clause-bound : goal.returns-clause-bound
+returns-clause-bound c = grind arith

@@ -1,4 +1,4 @@
-use Rattle.std.proofs.Common.{◌≡◌, sym, ap, not, ◌∙◌, false}
+use Rattle.std.proofs.Common.{arith, ◌≡◌, sym, ap, not, ◌∙◌, false}
 use Rattle.row_verdict.specs.Fitting.{precedes, may_have_two}
 use Rattle.row_verdict.proofs.Pairs.{few_alone}
 use Rattle.row_verdict.proofs.queue.finds_few.Goals as goal
@@ -7,3 +7,12 @@ pub returns-then-not-may_have_two : goal.returns-then-not-may_have_two
 returns-then-not-may_have_two c =
     let off : may_have_two c.args.twins c.args.newest.now.line ≡ false = sym c.may_have_two.ensures ∙ c.if-not-may_have_two.true in
     ap not c.if-not-may_have_two.true ∙ few_alone (precedes c.args.all.now c.args.newest.now) c.args.twins c.args.others.now c.args.newest.now c.requires off
+
+pub may_have_two-requires : goal.may_have_two-requires
+may_have_two-requires c = grind arith
+
+pub few_precede-requires : goal.few_precede-requires
+few_precede-requires c = grind arith
+
+pub returns-else-not-may_have_two : goal.returns-else-not-may_have_two
+returns-else-not-may_have_two c = grind arith

@@ -1,4 +1,4 @@
-use Rattle.std.proofs.Common.{◌≡◌, ◌-◌, ◌++◌, [], ◌∷◌, length, Some, sym, subst, ap, ◌∙◌, rules}
+use Rattle.std.proofs.Common.{arith, ◌≡◌, ◌-◌, ◌++◌, [], ◌∷◌, length, Some, sym, subst, ap, ◌∙◌, rules}
 use Rattle.std.specs.Prelude.{slice_get, take}
 use Rattle.row_verdict.specs.Fitting.{IsKnown, joins_well, in_order}
 use Rattle.row_verdict.proofs.Fits.{order_split, last_split}
@@ -17,3 +17,6 @@ returns-in-Some c =
     let whole : others ++ newest ∷ [] ≡ all = last_split all newest is in
     let start : c.joins_well.result ≡ joins_well all newest others = search rules in
     start ∙ ap (λ ms. joins_well ms newest others) (sym whole) ∙ order_split others newest ∙ ap in_order whole
+
+pub slice_bounds-others-count : goal.slice_bounds-others-count
+slice_bounds-others-count c = grind arith

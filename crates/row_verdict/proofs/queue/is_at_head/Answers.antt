@@ -1,4 +1,4 @@
-use Rattle.std.proofs.Common.{◌∙◌, ◌==◌, ◌&&◌, ◌||◌, ap, sym}
+use Rattle.std.proofs.Common.{arith, ◌∙◌, ◌==◌, ◌&&◌, ◌||◌, ap, sym}
 use Rattle.std.specs.Prelude.{nat_lt}
 use Rattle.std.specs.List.{list_all}
 use Rattle.row_judging.specs.Keys.{key, up_to}
@@ -20,3 +20,18 @@ returns-then-has_line c =
     (λ (m : Member). ap (λ b. (m.line == line) || ((m.end == never) || b))
     (sym (c.next_key-next.ensures (key line m.end)) ∙ ap (λ k. nat_lt (up_to k stores) (up_to (key line m.end) stores)) c.line_key.ensures)) members
     ∙ ap (λ b. b && list_all (is_behind_store stores line tick) members) c.if-has_line.ensures
+
+pub line_key-requires : goal.line_key-requires
+line_key-requires c = grind arith
+
+pub next_key-next-requires : goal.next_key-next-requires
+next_key-next-requires c = grind arith
+
+pub has_line-requires : goal.has_line-requires
+has_line-requires c = grind arith
+
+pub all_behind_next-requires : goal.all_behind_next-requires
+all_behind_next-requires c = grind arith
+
+pub returns-else-has_line : goal.returns-else-has_line
+returns-else-has_line c = grind arith

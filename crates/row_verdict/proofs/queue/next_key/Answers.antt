@@ -1,4 +1,4 @@
-use Rattle.std.proofs.Common.{◌∙◌, ap, sym}
+use Rattle.std.proofs.Common.{arith, ◌∙◌, ap, sym}
 use Rattle.std.specs.Prelude.{slice_get}
 use Rattle.row_judging.specs.Keys.{up_to}
 use Rattle.row_verdict.specs.Covering.{comes_by}
@@ -11,3 +11,9 @@ returns c = λ other.
     next_comes other (up_to c.args.key keys) keys c.requires
     ∙ ap (λ k. comes_by other (slice_get keys k)) (sym c.up_to.ensures)
     ∙ ap (comes_by other) (sym c.key_at.ensures)
+
+pub up_to-requires : goal.up_to-requires
+up_to-requires c = grind arith
+
+pub key_at-requires : goal.key_at-requires
+key_at-requires c = grind arith

@@ -1,4 +1,4 @@
-use Rattle.std.proofs.Common.{[], ◌∷◌, ◌++◌, sym, subst, ◌∙◌}
+use Rattle.std.proofs.Common.{arith, [], ◌∷◌, ◌++◌, sym, subst, ◌∙◌}
 use Rattle.std.specs.Prelude.{filter}
 use Rattle.row_verdict.specs.Fitting.{IsKnown}
 use Rattle.row_verdict.specs.Joined.{stays_beside}
@@ -23,3 +23,12 @@ returns-else-has_mates-clause-joins c = λ m of.
     subst (λ twins. IsKnown twins (filter (stays_beside c.args.line) c.args.members.now ++ m ∷ []))
     (sym (same_with c.args.line c.args.members.now (sym c.requires.mates ∙ c.if-has_mates.false) c.args.twins))
     (known_with c.args.line c.args.members.now c.args.twins c.requires.known m of)
+
+pub twins_beside-requires : goal.twins_beside-requires
+twins_beside-requires c = grind arith
+
+pub returns-then-has_mates-clause-exact : goal.returns-then-has_mates-clause-exact
+returns-then-has_mates-clause-exact c = grind arith
+
+pub returns-else-has_mates-clause-stays : goal.returns-else-has_mates-clause-stays
+returns-else-has_mates-clause-stays c = grind arith

@@ -1,0 +1,11 @@
+use Rattle.std.proofs.Common.{arith}
+use Rattle.row_verdict.proofs.members.all_end_outside.Goals as goal
+
+pub all-requires-clause-can : goal.all-requires-clause-can
+all-requires-clause-can c = grind arith
+
+pub all-requires-clause-finite : goal.all-requires-clause-finite
+all-requires-clause-finite c = grind arith
+
+pub all-requires-clause-callable : goal.all-requires-clause-callable
+all-requires-clause-callable c = grind arith
