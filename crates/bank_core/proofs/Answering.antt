@@ -77,11 +77,11 @@ module _ {n m e : ℕ} where
       ∙ ap (λ b. cond b came.Busy came.Waiting) (ne_eqb (length bank.waiting) bank.kept.shape.reads (λ e. omega (arith, e, room))))
 
   pub to_refuse : (bank : BankState n m e) (line : ℕ) → gives_all ((layer_of bank.kept.entries line).given) ≡ false → length bank.waiting ≤ bank.kept.shape.reads
-      → (places : ℕ) → places ≡ bank.kept.shape.reads → (length bank.waiting < places → false ≡ true) → ◌≡◌ {A = ReadAnswer n} came.Busy (read_from bank line)
-  to_refuse bank line none few places room full =
-      let all : length bank.waiting ≡ bank.kept.shape.reads = elim (ltb (length bank.waiting) places) as (λ b. ltb (length bank.waiting) places ≡ b → length bank.waiting ≡ bank.kept.shape.reads) [
-        | true ↦ λ is. let no : false ≡ true = full (ltb-true (length bank.waiting) places is) in cc
-        | false ↦ λ is. omega (arith, ltb-false (length bank.waiting) places is, few, room)
+      → (capacity : ℕ) → capacity ≡ bank.kept.shape.reads → (length bank.waiting < capacity → false ≡ true) → ◌≡◌ {A = ReadAnswer n} came.Busy (read_from bank line)
+  to_refuse bank line none few capacity room full =
+      let all : length bank.waiting ≡ bank.kept.shape.reads = elim (ltb (length bank.waiting) capacity) as (λ b. ltb (length bank.waiting) capacity ≡ b → length bank.waiting ≡ bank.kept.shape.reads) [
+        | true ↦ λ is. let no : false ≡ true = full (ltb-true (length bank.waiting) capacity is) in cc
+        | false ↦ λ is. omega (arith, ltb-false (length bank.waiting) capacity is, few, room)
       ] refl in
       sym (ap (λ b. cond b (came.Forwarded (layer_of bank.kept.entries line).bytes) (cond (length bank.waiting == bank.kept.shape.reads) came.Busy came.Waiting)) none
       ∙ ap (λ b. cond b came.Busy came.Waiting) (eq-eqb (length bank.waiting) bank.kept.shape.reads all))
@@ -114,9 +114,9 @@ module _ {n m e : ℕ} where
       stands
 
 module _ {n : ℕ} (m e : ℕ) where
-  pub IsBank-push : (kept : KeptState n) (waiting : List (Waiting n)) (w : Waiting n) (places lost : ℕ) → length waiting < places → w.line < bank_lines kept.shape
-      → IsBank m e kept waiting places lost → IsBank m e kept (waiting ++ w ∷ []) places lost
-  IsBank-push kept waiting w places lost room below is = record {
+  pub IsBank-push : (kept : KeptState n) (waiting : List (Waiting n)) (w : Waiting n) (capacity lost : ℕ) → length waiting < capacity → w.line < bank_lines kept.shape
+      → IsBank m e kept waiting capacity lost → IsBank m e kept (waiting ++ w ∷ []) capacity lost
+  IsBank-push kept waiting w capacity lost room below is = record {
     few_bytes = is.few_bytes;
     layout = is.layout;
     in_range = is.in_range;
@@ -126,9 +126,9 @@ module _ {n : ℕ} (m e : ℕ) where
     known = All-push (λ w. w.line < bank_lines kept.shape) waiting w is.known below;
   }
 
-  pub IsBank-completed : (kept new : KeptState n) (under : List ℕ) (waiting : List (Waiting n)) (places lost : ℕ) → new ≡ completed_kept under kept → IsKept new
-      → IsBank m e kept waiting places lost → IsBank m e new waiting places lost
-  IsBank-completed kept new under waiting places lost same range is =
+  pub IsBank-completed : (kept new : KeptState n) (under : List ℕ) (waiting : List (Waiting n)) (capacity lost : ℕ) → new ≡ completed_kept under kept → IsKept new
+      → IsBank m e kept waiting capacity lost → IsBank m e new waiting capacity lost
+  IsBank-completed kept new under waiting capacity lost same range is =
       let reads : new.shape.reads ≡ kept.shape.reads = ap (λ (k : KeptState n). k.shape.reads) same in
       record {
         few_bytes = is.few_bytes;
@@ -140,8 +140,8 @@ module _ {n : ℕ} (m e : ℕ) where
         known = subst (λ (k : KeptState n). All (λ w. w.line < bank_lines k.shape) waiting) (sym same) is.known;
       }
 
-  pub IsBank-drop : (kept : KeptState n) (waiting : List (Waiting n)) (places lost : ℕ) → IsBank m e kept waiting places lost → IsBank m e kept (drop 1 waiting) places lost
-  IsBank-drop kept waiting places lost is = record {
+  pub IsBank-drop : (kept : KeptState n) (waiting : List (Waiting n)) (capacity lost : ℕ) → IsBank m e kept waiting capacity lost → IsBank m e kept (drop 1 waiting) capacity lost
+  IsBank-drop kept waiting capacity lost is = record {
     few_bytes = is.few_bytes;
     layout = is.layout;
     in_range = is.in_range;

@@ -6,26 +6,26 @@ use Rattle.std.proofs.lemmas.Option.{slice_get_within, get_or_from_slice_get}
 use Rattle.std.proofs.lemmas.List.Folds.{list_any_at, list_any_more}
 use Rattle.bank_shape.specs.declared.waiting.Waiting.{Waiting}
 
-module _ {n : ℕ} (line : ℕ) (ws : List (Waiting n)) (place : ℕ) where
-  pub found_one : (w : Waiting n) → Some w ≡ slice_get ws place → w.line ≡ line → true ≡ list_any (λ w. w.line == line) ws
+module _ {n : ℕ} (line : ℕ) (ws : List (Waiting n)) (index : ℕ) where
+  pub found_one : (w : Waiting n) → Some w ≡ slice_get ws index → w.line ≡ line → true ≡ list_any (λ w. w.line == line) ws
   found_one w is own =
-      let at : get_or ws place w ≡ w = get_or_from_slice_get ws place w w (sym is) in
-      sym (list_any_at (λ w. w.line == line) ws place w (slice_get_within ws place w (sym is)) (ap (λ (v : Waiting n). v.line == line) at ∙ eq-eqb w.line line own))
+      let at : get_or ws index w ≡ w = get_or_from_slice_get ws index w w (sym is) in
+      sym (list_any_at (λ w. w.line == line) ws index w (slice_get_within ws index w (sym is)) (ap (λ (v : Waiting n). v.line == line) at ∙ eq-eqb w.line line own))
 
-  pub none_yet : (w : Waiting n) → Some w ≡ slice_get ws place → w.line ≢ line → list_any (λ w. w.line == line) (take place ws) ≡ false
-      → list_any (λ w. w.line == line) (take (place + 1) ws) ≡ false
+  pub none_yet : (w : Waiting n) → Some w ≡ slice_get ws index → w.line ≢ line → list_any (λ w. w.line == line) (take index ws) ≡ false
+      → list_any (λ w. w.line == line) (take (index + 1) ws) ≡ false
   none_yet w is off none =
-      let at : get_or ws place w ≡ w = get_or_from_slice_get ws place w w (sym is) in
-      list_any_more (λ w. w.line == line) ws place w (slice_get_within ws place w (sym is))
-      ∙ ap (λ b. b || (get_or ws place w).line == line) none
+      let at : get_or ws index w ≡ w = get_or_from_slice_get ws index w w (sym is) in
+      list_any_more (λ w. w.line == line) ws index w (slice_get_within ws index w (sym is))
+      ∙ ap (λ b. b || (get_or ws index w).line == line) none
       ∙ ap (λ (v : Waiting n). v.line == line) at ∙ ne_eqb w.line line off
 
-take_whole : {n : ℕ} (ws : List (Waiting n)) (place : ℕ) → length ws ≤ place → take place ws ≡ ws
+take_whole : {n : ℕ} (ws : List (Waiting n)) (index : ℕ) → length ws ≤ index → take index ws ≡ ws
 take_whole [] zero all = refl
-take_whole [] (suc place) all = refl
+take_whole [] (suc index) all = refl
 take_whole (w ∷ ws) zero all = let no : ⊥ = omega (arith, all) in absurd no
-take_whole (w ∷ ws) (suc place) all = ap (λ xs. w ∷ xs) (take_whole ws place (omega (arith, all)))
+take_whole (w ∷ ws) (suc index) all = ap (λ xs. w ∷ xs) (take_whole ws index (omega (arith, all)))
 
-pub none_at_all : {n : ℕ} (line : ℕ) (ws : List (Waiting n)) (place : ℕ) → length ws ≤ place → list_any (λ w. w.line == line) (take place ws) ≡ false
+pub none_at_all : {n : ℕ} (line : ℕ) (ws : List (Waiting n)) (index : ℕ) → length ws ≤ index → list_any (λ w. w.line == line) (take index ws) ≡ false
     → false ≡ list_any (λ w. w.line == line) ws
-none_at_all line ws place all none = sym none ∙ ap (λ xs. list_any (λ w. w.line == line) xs) (take_whole ws place all)
+none_at_all line ws index all none = sym none ∙ ap (λ xs. list_any (λ w. w.line == line) xs) (take_whole ws index all)

@@ -2,8 +2,8 @@
 use Rattle.std.proofs.Common.{◌≡◌, ℕ, zero, suc, ◌+◌, ◌<◌, ◌≤◌, nat_lt, refl, sym, ap, subst, ◌∙◌, arith, Bool, true, false, if◌then◌else◌, List, [], ◌∷◌, length, slice_get, Option, Some, None}
 use Rattle.std.specs.Prelude.{IsSomeAnd}
 use Rattle.masked_bytes.specs.Masked.{IsMasked}
-use Rattle.masked_bytes.specs.Entries.{candidate_place, merged_at}
-use Rattle.masked_bytes.proofs.Queueing.{newest_place-within, candidate_place-newest}
+use Rattle.masked_bytes.specs.Entries.{candidate_index, merged_at}
+use Rattle.masked_bytes.proofs.Queueing.{newest_index-within, candidate_index-newest}
 use Rattle.masked_bytes.specs.declared.entry.Entry.{Entry}
 use Rattle.protected_queue.specs.declared.accept.Accept.{Accept}
 use Rattle.protected_queue.specs.declared.accept.Accept.TheVariants as became
@@ -39,8 +39,8 @@ module _ {n : ℕ} where
   pub merged_there : (places : ℕ) (busy : Bool) (entry : Entry n) (es : List (Entry n))
       → IsMergedAt (accepted places busy entry es) entry.row (arrived_as (accept_answer places busy es entry.line))
   merged_there places busy entry es =
-      by (candidate_place busy es entry.line)
-      (λ i is. newest_place-within es entry.line i (candidate_place-newest busy es entry.line i is)) (nat_lt (length es) places)
+      by (candidate_index busy es entry.line)
+      (λ i is. newest_index-within es entry.line i (candidate_index-newest busy es entry.line i is)) (nat_lt (length es) places)
     where
       by : (place : Option ℕ) → ((i : ℕ) → place ≡ Some i → i < length es) → (room : Bool)
           → IsMergedAt (accepted_by place room entry es) entry.row (arrived_as (answer_by place room es))

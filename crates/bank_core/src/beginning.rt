@@ -50,8 +50,8 @@ impl<const B: usize, const M: usize, const E: usize> Bank<B, M, E> {
     fn awaits(&self, line: u32) -> bool
         ensures { result ≡ list_any (λ w. w.line == line) self.now.waiting }
     {
-        for place in 0..self.waiting.len() {
-            let Some(read) = self.waiting.get(place) else {
+        for index in 0..self.waiting.len() {
+            let Some(read) = self.waiting.get(index) else {
                 unreachable!()
             };
             if read.line == line {

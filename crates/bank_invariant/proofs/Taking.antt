@@ -4,10 +4,10 @@ use Rattle.std.proofs.lemmas.Bool.{eqb-false, lt-ltb}
 use Rattle.pcm_cells.specs.Device.{ArrayState}
 use Rattle.ecp_line.proofs.Bytes.{length-decode}
 use Rattle.masked_bytes.specs.Masked.{laid, IsMasked}
-use Rattle.masked_bytes.specs.Entries.{Layer, stacked, layer_of, candidate, candidate_place, newest_place, merged, merged_at, row_at, RowsApart, AllMasked}
+use Rattle.masked_bytes.specs.Entries.{Layer, stacked, layer_of, candidate, candidate_index, newest_index, merged, merged_at, row_at, RowsApart, AllMasked}
 use Rattle.masked_bytes.specs.declared.entry.Entry.{Entry}
 use Rattle.masked_bytes.proofs.Layering.{laid-laid}
-use Rattle.masked_bytes.proofs.Queueing.{IsLayer, IsLayer-layer_of, layer_of-append, layer_of-append_other, newest_place-within, candidate_place-newest, candidate-place, candidate-none, merged-row_at}
+use Rattle.masked_bytes.proofs.Queueing.{IsLayer, IsLayer-layer_of, layer_of-append, layer_of-append_other, newest_index-within, candidate_index-newest, candidate-index, candidate-none, merged-row_at}
 use Rattle.masked_bytes.proofs.Standing.{layer_of-merged_at, layer_of-merged_other}
 use Rattle.protected_queue.specs.Queue.{accepted, accepted_by}
 use Rattle.bank_shape.specs.declared.BankShape.{BankShape}
@@ -91,16 +91,16 @@ stands_over {n} line at bytes given es after under before masked all len lies ol
 -- The queue
 
 module _ {n : ℕ} where
-  pub no_place : (busy : Bool) (es : List (Entry n)) (line : ℕ) → candidate busy es line ≡ None → candidate_place busy es line ≡ None
-  no_place busy es line none = by (candidate_place busy es line) (λ i. candidate-place busy es line i)
+  pub no_index : (busy : Bool) (es : List (Entry n)) (line : ℕ) → candidate busy es line ≡ None → candidate_index busy es line ≡ None
+  no_index busy es line none = by (candidate_index busy es line) (λ i. candidate-index busy es line i)
     where
       by : (p : Option ℕ) → ((i : ℕ) → p ≡ Some i → candidate busy es line ≡ Some (row_at es i)) → p ≡ None
       by None at = refl
       by (Some i) at = let some : candidate busy es line ≡ Some (row_at es i) = at i refl in cc
 
-  pub some_place : (busy : Bool) (es : List (Entry n)) (line old : ℕ) → candidate busy es line ≡ Some old
-      → (i : ℕ) × (candidate_place busy es line ≡ Some i) × (row_at es i ≡ old)
-  some_place busy es line old some = by (candidate_place busy es line) (λ i. candidate-place busy es line i) (candidate-none busy es line)
+  pub some_index : (busy : Bool) (es : List (Entry n)) (line old : ℕ) → candidate busy es line ≡ Some old
+      → (i : ℕ) × (candidate_index busy es line ≡ Some i) × (row_at es i ≡ old)
+  some_index busy es line old some = by (candidate_index busy es line) (λ i. candidate-index busy es line i) (candidate-none busy es line)
     where
       by : (p : Option ℕ) → ((i : ℕ) → p ≡ Some i → candidate busy es line ≡ Some (row_at es i)) → (p ≡ None → candidate busy es line ≡ None)
           → (i : ℕ) × (p ≡ Some i) × (row_at es i ≡ old)
@@ -110,7 +110,7 @@ module _ {n : ℕ} where
   appends : (cap : ℕ) (busy : Bool) (entry : Entry n) (es : List (Entry n)) → candidate busy es entry.line ≡ None → length es < cap
       → accepted cap busy entry es ≡ es ++ entry ∷ []
   appends cap busy entry es none room =
-      ap (λ p. accepted_by p (nat_lt (length es) cap) entry es) (no_place busy es entry.line none)
+      ap (λ p. accepted_by p (nat_lt (length es) cap) entry es) (no_index busy es entry.line none)
       ∙ ap (λ b. accepted_by None b entry es) (lt-ltb (length es) cap room)
 
   appended-over : (es : List (Entry n)) (entry : Entry n) → AllMasked es → IsMasked n entry.bytes entry.given
@@ -120,24 +120,24 @@ module _ {n : ℕ} where
     others = λ other apart. layer_of-append_other es entry other apart;
   }
 
-  -- a merge by the row of the entry is one by its place
+  -- a merge by the row of the entry is one by its index
   merges : (cap : ℕ) (busy : Bool) (entry : Entry n) (es : List (Entry n)) (i old : ℕ) → RowsApart es
-      → candidate_place busy es entry.line ≡ Some i → row_at es i ≡ old
+      → candidate_index busy es entry.line ≡ Some i → row_at es i ≡ old
       → accepted cap busy entry es ≡ merged old entry.row entry.bytes entry.given es
   merges cap busy entry es i old apart place row =
-      let there : i < length es = newest_place-within es entry.line i (candidate_place-newest busy es entry.line i place) in
+      let there : i < length es = newest_index-within es entry.line i (candidate_index-newest busy es entry.line i place) in
       ap (λ p. accepted_by p (nat_lt (length es) cap) entry es) place
       ∙ sym (merged-row_at es i entry.row entry.bytes entry.given apart there)
       ∙ ap (λ r. merged r entry.row entry.bytes entry.given es) row
 
-  merges_at : (cap : ℕ) (busy : Bool) (entry : Entry n) (es : List (Entry n)) (i : ℕ) → candidate_place busy es entry.line ≡ Some i
+  merges_at : (cap : ℕ) (busy : Bool) (entry : Entry n) (es : List (Entry n)) (i : ℕ) → candidate_index busy es entry.line ≡ Some i
       → accepted cap busy entry es ≡ merged_at i entry.row entry.bytes entry.given es
   merges_at cap busy entry es i place = ap (λ p. accepted_by p (nat_lt (length es) cap) entry es) place
 
   merged-over : (busy : Bool) (es : List (Entry n)) (entry : Entry n) (i : ℕ) → AllMasked es → IsMasked n entry.bytes entry.given
-      → candidate_place busy es entry.line ≡ Some i → LiesOver entry.line entry.bytes entry.given es (merged_at i entry.row entry.bytes entry.given es)
+      → candidate_index busy es entry.line ≡ Some i → LiesOver entry.line entry.bytes entry.given es (merged_at i entry.row entry.bytes entry.given es)
   merged-over busy es entry i all masked place =
-      let newest : newest_place es entry.line ≡ Some i = candidate_place-newest busy es entry.line i place in
+      let newest : newest_index es entry.line ≡ Some i = candidate_index-newest busy es entry.line i place in
       record {
         own = layer_of-merged_at es entry.line i entry.row entry.bytes entry.given all masked newest;
         others = λ other apart. layer_of-merged_other es entry.line other i entry.row entry.bytes entry.given newest apart;
@@ -248,9 +248,9 @@ merged_law n m e row line old bytes given busy h bank array holds above may stor
     let going : kept.exhausted ≡ false = holds.exhausted ∙ told.0 in
     let found : candidate busy kept.entries line ≡ Some old =
     ap (λ b. candidate b kept.entries line) agrees ∙ ap (λ es. candidate (head_busy_after kept.shape h) es line) holds.entries ∙ told.1 in
-    let at_place = some_place busy kept.entries line old found in
-    let i : ℕ = at_place.0 in
-    let place : candidate_place busy kept.entries line ≡ Some i = at_place.1 in
+    let at_index = some_index busy kept.entries line old found in
+    let i : ℕ = at_index.0 in
+    let place : candidate_index busy kept.entries line ≡ Some i = at_index.1 in
     let Apart : List (Entry n) → Type 0 = λ es. RowsApart es in
     let own_apart : RowsApart kept.entries = subst Apart (sym holds.entries) apart in
     let after : accepted cap busy entry kept.entries ≡ merged_at i row bytes given kept.entries = merges_at cap busy entry kept.entries i place in
@@ -270,7 +270,7 @@ merged_law n m e row line old bytes given busy h bank array holds above may stor
       tied = tied-taken kept array bank.waiting busy entry bank.running storing going holds.tied;
       regions = holds.regions;
       due_last = holds.due_last;
-      entries = merges cap busy entry kept.entries i old own_apart place at_place.2 ∙ ap (λ es. merged old row bytes given es) holds.entries;
+      entries = merges cap busy entry kept.entries i old own_apart place at_index.2 ∙ ap (λ es. merged old row bytes given es) holds.entries;
       table = holds.table;
       exhausted = holds.exhausted;
       rows = (omega arith, RowsBelow-more h bank.rows_below row above holds.rows);

@@ -14,7 +14,7 @@ use Rattle.reg_lines.specs.Values.{values_in}
 use Rattle.reg_lines.specs.Regs.{RegsState, values_by}
 use Rattle.register_laws.specs.Control.{Control}
 use Rattle.register_laws.specs.Recovering.{IsReadable}
-use Rattle.bank_timing.specs.Extending.{first_regs}
+use Rattle.bank_clock.specs.Extending.{first_regs}
 
 pub none-stands : (change : Option Change) → is_some change ≡ false → change ≡ None
 none-stands None same = refl

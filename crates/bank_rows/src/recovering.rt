@@ -7,10 +7,10 @@ ghost use Rattle.bank_model.specs.Timing.{TimedEvent};
 ghost use Rattle.clock_laws.specs.Leads.{Leads};
 
 use crate::rows::{end, powered, write_all};
+use bank_clock::clocked::ClockedBank;
+use bank_clock::recover;
 use bank_core::bank::Bank;
 use bank_shape::{BankShape, Home, Policy};
-use bank_timing::clocked::ClockedBank;
-use bank_timing::recover;
 use pcm_cells::{CellArray, ScriptArray};
 use reg_lines::regs::RegLines;
 use result_rows::Results;

@@ -8,10 +8,10 @@ ghost use Rattle.power_recovery.specs.Slots.{bank_lines};
 ghost use Rattle.bank_model.specs.Timing.{TimedEvent};
 ghost use Rattle.bank_invariant.specs.State.{first_bank};
 ghost use Rattle.clock_laws.specs.Leads.{Leads};
-ghost use Rattle.bank_timing.specs.Extending.{AreOpen, IsOpen};
+ghost use Rattle.bank_clock.specs.Extending.{AreOpen, IsOpen};
 
+use bank_clock::clocked::ClockedBank;
 use bank_shape::{BankShape, Home, Pace, Policy};
-use bank_timing::clocked::ClockedBank;
 use masked_bytes::entry::Entry;
 use pcm_cells::{Act, CellArray, Script, ScriptArray, Wear};
 use result_rows::{Outcome, Results};

@@ -2,8 +2,8 @@
 use Rattle.std.proofs.Common.{◌≡◌, ℕ, ◌+◌, ◌<◌, ◌≤◌, ◌==◌, ◌||◌, nat_lt, Bool, true, false, List, [], ◌∷◌, ◌++◌, length, map, drop, Option, Some, None, refl, sym, ap, subst, ◌∙◌, arith}
 use Rattle.std.proofs.lemmas.List.{map_push, drop-map}
 use Rattle.masked_bytes.specs.declared.entry.Entry.{Entry}
-use Rattle.masked_bytes.specs.Entries.{candidate_place, completed, merged, row_at}
-use Rattle.masked_bytes.proofs.Queueing.{newest_place-within, candidate_place-newest, merged-row_at}
+use Rattle.masked_bytes.specs.Entries.{candidate_index, completed, merged, row_at}
+use Rattle.masked_bytes.proofs.Queueing.{newest_index-within, candidate_index-newest, merged-row_at}
 use Rattle.protected_queue.specs.Queue.{accepted, accepted_by}
 use Rattle.bank_model.specs.History.{Awaited}
 use Rattle.bank_laws.specs.Standing.{has_wait, WaitsApart, AreRowsApart}
@@ -50,7 +50,7 @@ module _ {n : ℕ} where
   rises es ws next bound more apart = rows_from es ws bound (rows.later es (map awaiting_of ws) next bound more (rows_to es ws next apart))
 
   taken : (cap : ℕ) (busy : Bool) (entry : Entry n) (es : List (Entry n)) (ws : List (Waiting n)) → AreApart es ws entry.row → AreApart (accepted cap busy entry es) ws (entry.row + 1)
-  taken cap busy entry es ws apart = by (candidate_place busy es entry.line) (nat_lt (length es) cap) (λ i is. newest_place-within es entry.line i (candidate_place-newest busy es entry.line i is))
+  taken cap busy entry es ws apart = by (candidate_index busy es entry.line) (nat_lt (length es) cap) (λ i is. newest_index-within es entry.line i (candidate_index-newest busy es entry.line i is))
     where
       by : (p : Option ℕ) (room : Bool) → ((i : ℕ) → p ≡ Some i → i < length es) → AreApart (accepted_by p room entry es) ws (entry.row + 1)
       by (Some i) room within =

@@ -33,7 +33,7 @@ use Rattle.register_laws.specs.Control.{Control}
 use Rattle.register_laws.specs.Telling.{item_of}
 use Rattle.clock_laws.specs.State.{ClockState}
 use Rattle.clock_laws.specs.Leads.{Leads, CopiesWhatItSensed}
-use Rattle.clock_laws.specs.Arriving.{WriteLaw, ReadLaw, KeepsWork, arrivals_after, IsPlaceOf, drops, action_after_read, cancels_for}
+use Rattle.clock_laws.specs.Arriving.{WriteLaw, ReadLaw, KeepsWork, arrivals_after, IsIndexOf, drops, action_after_read, cancels_for}
 use Rattle.clock_laws.proofs.Ties.{agrees, same_reads}
 use Rattle.clock_laws.proofs.Controls.{control-kept}
 use Rattle.clock_laws.proofs.Stepping.{follows, stepped, leads-reaches, bank-leads}
@@ -62,24 +62,24 @@ module _ {n : ℕ} (row tick : ℕ) (ticks : ℕ → ℕ) where
       ∙ ap (λ b. map (λ entry. with_row row tick ticks entry.row) es ++ cond b tick (ticks entry.row) ∷ []) (sym (eq-eqb row entry.row (sym is)))
       ∙ sym (map_push (λ entry. with_row row tick ticks entry.row) es entry)
 
-  -- a list of entries has an entry of a row at a place
+  -- a list of entries has an entry of a row at an index
   abbrev HasAt : List (Entry n) → ℕ → ℕ → Type 0
-  HasAt es place at = IsSomeAnd (slice_get es place) (λ entry. entry.row ≡ at)
+  HasAt es index at = IsSomeAnd (slice_get es index) (λ entry. entry.row ≡ at)
 
-  not-at : (es : List (Entry n)) (place : ℕ) → has_row es row ≡ false → HasAt es place row → ⊥
-  not-at [] place none has = has
+  not-at : (es : List (Entry n)) (index : ℕ) → has_row es row ≡ false → HasAt es index row → ⊥
+  not-at [] index none has = has
   not-at (entry ∷ es) zero none has =
       let is : (entry.row == row) ≡ true = eq-eqb entry.row row has in
       let off : (entry.row == row) ≡ false = neither_first (entry.row == row) (has_row es row) none in
       cc
-  not-at (entry ∷ es) (suc place) none has = not-at es place (neither_second (entry.row == row) (has_row es row) none) has
+  not-at (entry ∷ es) (suc index) none has = not-at es index (neither_second (entry.row == row) (has_row es row) none) has
 
   -- one that another is merged into
-  ticks-merged : (old : ℕ) (bytes : List ℕ) (given : List Bool) (es : List (Entry n)) (place : ℕ) → has_row es row ≡ false → HasAt (merged old row bytes given es) place row
-      → slice_set (map (λ entry. ticks entry.row) es) place tick ≡ map (λ entry. with_row row tick ticks entry.row) (merged old row bytes given es)
-  ticks-merged old bytes given [] place none has = absurd has
-  ticks-merged old bytes given (entry ∷ es) place none has =
-      by (entry.row == old) place (λ at. ticks-merged old bytes given es at rest) has
+  ticks-merged : (old : ℕ) (bytes : List ℕ) (given : List Bool) (es : List (Entry n)) (index : ℕ) → has_row es row ≡ false → HasAt (merged old row bytes given es) index row
+      → slice_set (map (λ entry. ticks entry.row) es) index tick ≡ map (λ entry. with_row row tick ticks entry.row) (merged old row bytes given es)
+  ticks-merged old bytes given [] index none has = absurd has
+  ticks-merged old bytes given (entry ∷ es) index none has =
+      by (entry.row == old) index (λ at. ticks-merged old bytes given es at rest) has
     where
       rest : has_row es row ≡ false
       rest = neither_second (entry.row == row) (has_row es row) none
@@ -87,19 +87,19 @@ module _ {n : ℕ} (row tick : ℕ) (ticks : ℕ → ℕ) where
       off : (entry.row == row) ≡ false
       off = neither_first (entry.row == row) (has_row es row) none
 
-      by : (b : Bool) (place : ℕ)
+      by : (b : Bool) (index : ℕ)
           → ((at : ℕ) → HasAt (merged old row bytes given es) at row → slice_set (map (λ entry. ticks entry.row) es) at tick ≡ map (λ entry. with_row row tick ticks entry.row) (merged old row bytes given es))
-          → HasAt (if b then laid_on row bytes given entry ∷ es else entry ∷ merged old row bytes given es) place row
-          → slice_set (ticks entry.row ∷ map (λ entry. ticks entry.row) es) place tick
+          → HasAt (if b then laid_on row bytes given entry ∷ es else entry ∷ merged old row bytes given es) index row
+          → slice_set (ticks entry.row ∷ map (λ entry. ticks entry.row) es) index tick
           ≡ map (λ entry. with_row row tick ticks entry.row) (if b then laid_on row bytes given entry ∷ es else entry ∷ merged old row bytes given es)
       by true zero next has =
           ap (λ rest. tick ∷ rest) (ticks-others es rest)
           ∙ ap (λ b. cond b tick (ticks row) ∷ map (λ entry. with_row row tick ticks entry.row) es) (sym (eq-eqb row row refl))
-      by true (suc place) next has = absurd (not-at es place rest has)
+      by true (suc index) next has = absurd (not-at es index rest has)
       by false zero next has = let is : (entry.row == row) ≡ true = eq-eqb entry.row row has in absurd (cc)
-      by false (suc place) next has =
-          ap (λ b. cond b tick (ticks entry.row) ∷ slice_set (map (λ entry. ticks entry.row) es) place tick) (sym (differ_sym entry.row row off))
-          ∙ ap (λ rest. with_row row tick ticks entry.row ∷ rest) (next place has)
+      by false (suc index) next has =
+          ap (λ b. cond b tick (ticks entry.row) ∷ slice_set (map (λ entry. ticks entry.row) es) index tick) (sym (differ_sym entry.row row off))
+          ∙ ap (λ rest. with_row row tick ticks entry.row ∷ rest) (next index has)
 
 -- Writes and reads
 
@@ -141,21 +141,21 @@ copies-on {n} {m} {e} xs old running x is copying still = by running (subst (λ 
     by (Some op) own = still op own
 
 -- the arrival ticks of the queue after a write
-write-arrived : {n m : ℕ} (shape : BankShape) (xs : List (TimedEvent n m)) (kept : KeptState n) (array : ArrayState n m) (row line place tick : ℕ) (bytes : List ℕ) (given : List Bool) (answer : WriteAnswer) (arrivals : List ℕ)
-    → kept.entries ≡ queue shape (Write row line bytes given answer ∷ core xs) → IsPlaceOf kept row place answer → has_row (queue shape (core xs)) row ≡ false
+write-arrived : {n m : ℕ} (shape : BankShape) (xs : List (TimedEvent n m)) (kept : KeptState n) (array : ArrayState n m) (row line index tick : ℕ) (bytes : List ℕ) (given : List Bool) (answer : WriteAnswer) (arrivals : List ℕ)
+    → kept.entries ≡ queue shape (Write row line bytes given answer ∷ core xs) → IsIndexOf kept row index answer → has_row (queue shape (core xs)) row ≡ false
     → arrivals ≡ map (λ entry. tick_of_row entry.row xs) (queue shape (core xs))
-    → arrivals_after tick place answer arrivals
+    → arrivals_after tick index answer arrivals
     ≡ map (λ entry. tick_of_row entry.row (stepped (Core (Write row line bytes given answer)) tick tick [] None array ∷ xs)) (queue shape (Write row line bytes given answer ∷ core xs))
-write-arrived shape xs kept array row line place tick bytes given wrote.Accepted arrivals entries is_place none before =
+write-arrived shape xs kept array row line index tick bytes given wrote.Accepted arrivals entries is_index none before =
     ap (λ ticks. ticks ++ tick ∷ []) before
     ∙ ticks-accepted row tick (λ at. tick_of_row at xs) (queue shape (core xs)) (record { row = row; line = line; bytes = bytes; given = given }) refl none
-write-arrived {n = n} shape xs kept array row line place tick bytes given (wrote.Merged old) arrivals entries is_place none before =
-    ap (λ ticks. slice_set ticks place tick) before
-    ∙ ticks-merged row tick (λ at. tick_of_row at xs) old bytes given (queue shape (core xs)) place none
-    (subst (λ (es : List (Entry n)). IsSomeAnd (slice_get es place) (λ entry. entry.row ≡ row)) entries is_place)
-write-arrived shape xs kept array row line place tick bytes given wrote.Full arrivals entries is_place none before =
+write-arrived {n = n} shape xs kept array row line index tick bytes given (wrote.Merged old) arrivals entries is_index none before =
+    ap (λ ticks. slice_set ticks index tick) before
+    ∙ ticks-merged row tick (λ at. tick_of_row at xs) old bytes given (queue shape (core xs)) index none
+    (subst (λ (es : List (Entry n)). IsSomeAnd (slice_get es index) (λ entry. entry.row ≡ row)) entries is_index)
+write-arrived shape xs kept array row line index tick bytes given wrote.Full arrivals entries is_index none before =
     before ∙ ticks-others row tick (λ at. tick_of_row at xs) (queue shape (core xs)) none
-write-arrived shape xs kept array row line place tick bytes given wrote.Exhausted arrivals entries is_place none before =
+write-arrived shape xs kept array row line index tick bytes given wrote.Exhausted arrivals entries is_index none before =
     before ∙ ticks-others row tick (λ at. tick_of_row at xs) (queue shape (core xs)) none
 
 -- the action that runs behind a read
@@ -247,10 +247,10 @@ answered_not {n = n} bank line answer is off = by (gives_all (layer_of bank.kept
         absurd (off (subst (λ (a : ReadAnswer n). IsForwarded a) (sym forwarded) tt))
 
 pub write_law : WriteLaw
-write_law n m e row line place bytes given answer xs clock bank array leads below keeps holds is_place =
+write_law n m e row line index bytes given answer xs clock bank array leads below keeps holds is_index =
     let event : Event n = Write row line bytes given answer in
     let x : TimedEvent n m = stepped (Core event) clock.tick clock.tick [] None array in
-    bank-leads xs clock bank clock.regs event clock.tick clock.tick clock.action (arrivals_after clock.tick place answer clock.arrivals) clock.cancels false [] None array array (leads-reaches xs clock array leads)
+    bank-leads xs clock bank clock.regs event clock.tick clock.tick clock.action (arrivals_after clock.tick index answer clock.arrivals) clock.cancels false [] None array array (leads-reaches xs clock array leads)
     (record {
       asked = below;
       on_time = (arrives xs clock array leads x refl refl, refl);
@@ -267,8 +267,8 @@ write_law n m e row line place bytes given answer xs clock bank array leads belo
       taken = keeps.lost ∙ leads.taken;
       runs = leads.told.runs;
       to_come = leads.told.to_come;
-      arrived = write-arrived clock.bank.kept.shape xs bank.kept array row line place clock.tick bytes given answer clock.arrivals
-          (holds.entries ∙ ap (λ (shape : BankShape). queue shape (event ∷ core xs)) keeps.shape) is_place
+      arrived = write-arrived clock.bank.kept.shape xs bank.kept array row line index clock.tick bytes given answer clock.arrivals
+          (holds.entries ∙ ap (λ (shape : BankShape). queue shape (event ∷ core xs)) keeps.shape) is_index
           (none-stands xs clock array leads row below) leads.told.arrived;
       cancels = refl;
       copying = copies-on xs clock.bank.running bank.running x keeps.running leads.copying (λ op own. own);

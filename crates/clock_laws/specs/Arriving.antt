@@ -33,18 +33,18 @@ pub record KeepsWork {n m e : ℕ} (old new : BankState n m e) : Type 0 where
   pub running : new.running ≡ old.running
   pub lost : new.lost ≡ old.lost
 
--- the arrival ticks of the queue after a write at this tick, where its row then has this place in the queue: one that is accepted
+-- the arrival ticks of the queue after a write at this tick, where its row then has this index in the queue: one that is accepted
 -- comes last, and one that is merged brings its own tick
 abbrev pub arrivals_after : ℕ → ℕ → WriteAnswer → List ℕ → List ℕ
-arrivals_after tick place wrote.Accepted arrivals = arrivals ++ tick ∷ []
-arrivals_after tick place (wrote.Merged old) arrivals = slice_set arrivals place tick
-arrivals_after tick place wrote.Full arrivals = arrivals
-arrivals_after tick place wrote.Exhausted arrivals = arrivals
+arrivals_after tick index wrote.Accepted arrivals = arrivals ++ tick ∷ []
+arrivals_after tick index (wrote.Merged old) arrivals = slice_set arrivals index tick
+arrivals_after tick index wrote.Full arrivals = arrivals
+arrivals_after tick index wrote.Exhausted arrivals = arrivals
 
 -- where a row stands in the queue after a write was merged
-abbrev pub IsPlaceOf : {n : ℕ} → KeptState n → ℕ → ℕ → WriteAnswer → Type 0
-IsPlaceOf kept row place (wrote.Merged old) = IsSomeAnd (slice_get kept.entries place) (λ entry. entry.row ≡ row)
-IsPlaceOf kept row place answer = Unit {0}
+abbrev pub IsIndexOf : {n : ℕ} → KeptState n → ℕ → ℕ → WriteAnswer → Type 0
+IsIndexOf kept row index (wrote.Merged old) = IsSomeAnd (slice_get kept.entries index) (λ entry. entry.row ≡ row)
+IsIndexOf kept row index answer = Unit {0}
 
 -- whether a read of a line that begins to wait drops the begin of a store of its line. What is begun while a change stands is no store
 abbrev pub drops : {n : ℕ} → KeptState n → Option Change → ℕ → Option Action → Bool
@@ -59,8 +59,8 @@ action_after_read kept change line answer action = action
 module _ {n m e : ℕ} where
   -- the clock after a write, with this bank
   abbrev pub after_write : ClockState n m e → BankState n m e → ℕ → WriteAnswer → ClockState n m e
-  after_write clock bank place answer =
-      record { bank = bank; regs = clock.regs; pace = clock.pace; tick = clock.tick; action = clock.action; arrivals = arrivals_after clock.tick place answer clock.arrivals; cancels = clock.cancels; drained = clock.drained }
+  after_write clock bank index answer =
+      record { bank = bank; regs = clock.regs; pace = clock.pace; tick = clock.tick; action = clock.action; arrivals = arrivals_after clock.tick index answer clock.arrivals; cancels = clock.cancels; drained = clock.drained }
 
   -- the clock after a read, with this bank
   abbrev pub after_read : ClockState n m e → BankState n m e → ℕ → ReadAnswer n → ClockState n m e
@@ -77,11 +77,11 @@ cancels_for clock line =
 -- a write that arrives now extends the history by its event
 abbrev pub WriteLaw : Type 0
 WriteLaw =
-    (n m e row line place : ℕ) (bytes : List ℕ) (given : List Bool) (answer : WriteAnswer) (xs : List (TimedEvent n m))
+    (n m e row line index : ℕ) (bytes : List ℕ) (given : List Bool) (answer : WriteAnswer) (xs : List (TimedEvent n m))
     (clock : ClockState n m e) (bank : BankState n m e) (array : ArrayState n m)
     → Leads xs clock array → RowsBelow (core xs) row → KeepsWork clock.bank bank
-    → Holds (Write row line bytes given answer ∷ core xs) bank array → IsPlaceOf bank.kept row place answer
-    → Leads (arrival clock.tick (Write row line bytes given answer) ∷ xs) (after_write clock bank place answer) array
+    → Holds (Write row line bytes given answer ∷ core xs) bank array → IsIndexOf bank.kept row index answer
+    → Leads (arrival clock.tick (Write row line bytes given answer) ∷ xs) (after_write clock bank index answer) array
 
 -- so does a read that doesn't cancel, answered as the queue and the waiting reads say
 abbrev pub ReadLaw : Type 0

@@ -13,20 +13,20 @@ bit-zero : (bytes : List ℕ) (n byte : ℕ) → get_or bytes (n / 8) 0 ≡ byte
 bit-zero bytes n byte e h = ap (λ x. eqb (bit_at x (n % 8)) 1) e ∙ ap (λ x. eqb x 1) h
 
 -- the lowest 1 of the first byte that is not 0
-pub lowest-byte : (bytes : List ℕ) (place byte : ℕ) → get_or bytes place 0 ≡ byte → byte ≢ 0 → byte < 256 → ((k : ℕ) → k < place → get_or bytes k 0 ≡ 0)
-    → place < length bytes → (8 * place + trailing_zeros w8 byte < 8 * length bytes) × IsLowest (bit_of bytes) (8 * place + trailing_zeros w8 byte)
-lowest-byte bytes place byte at some small before within =
+pub lowest-byte : (bytes : List ℕ) (index byte : ℕ) → get_or bytes index 0 ≡ byte → byte ≢ 0 → byte < 256 → ((k : ℕ) → k < index → get_or bytes k 0 ≡ 0)
+    → index < length bytes → (8 * index + trailing_zeros w8 byte < 8 * length bytes) × IsLowest (bit_of bytes) (8 * index + trailing_zeros w8 byte)
+lowest-byte bytes index byte at some small before within =
     let (low, one, zeros) = bit_at-trailing_zeros w8 byte (omega arith) small in
     let t : ℕ = trailing_zeros w8 byte in
-    let quotient : (8 * place + t) / 8 ≡ place = omega arith in
-    let rest : (8 * place + t) % 8 ≡ t = omega arith in (
+    let quotient : (8 * index + t) / 8 ≡ index = omega arith in
+    let rest : (8 * index + t) % 8 ≡ t = omega arith in (
       omega arith,
       record {
-        is = ap (λ i. eqb (bit_at (get_or bytes i 0) ((8 * place + t) % 8)) 1) quotient ∙ ap (λ i. eqb (bit_at (get_or bytes place 0) i) 1) rest
+        is = ap (λ i. eqb (bit_at (get_or bytes i 0) ((8 * index + t) % 8)) 1) quotient ∙ ap (λ i. eqb (bit_at (get_or bytes index 0) i) 1) rest
             ∙ ap (λ x. eqb (bit_at x t) 1) at ∙ ap (λ x. eqb x 1) one;
-        below = λ k l. elim (cases_lt (k / 8) place) as (λ _. bit_of bytes k ≡ false) [
+        below = λ k l. elim (cases_lt (k / 8) index) as (λ _. bit_of bytes k ≡ false) [
           | inl earlier ↦ bit-zero bytes k 0 (before (k / 8) earlier) (bit_at-zero (k % 8))
-          | inr le ↦ let same : k / 8 ≡ place = omega arith in bit-zero bytes k byte (ap (λ i. get_or bytes i 0) same ∙ at) (zeros (k % 8) (omega arith))
+          | inr le ↦ let same : k / 8 ≡ index = omega arith in bit-zero bytes k byte (ap (λ i. get_or bytes i 0) same ∙ at) (zeros (k % 8) (omega arith))
         ];
       },
     )

@@ -104,12 +104,12 @@ zeros-more f which more w m w1 m1 q set_w set_m grows before = record {
   others = others-more f w m w1 m1 q false set_w set_m before.others;
 }
 
-pub later-test : (first a place q n : ℕ) → q ≡ first + place → a < place
-    → cond (eqb n q) true (ltb (first + a) n && ltb n (first + place)) ≡ (ltb (first + a) n && ltb n (first + (place + 1)))
-later-test first a place q n at after = grind (arith, nat_tests)
+pub later-test : (first a number q n : ℕ) → q ≡ first + number → a < number
+    → cond (eqb n q) true (ltb (first + a) n && ltb n (first + number)) ≡ (ltb (first + a) n && ltb n (first + (number + 1)))
+later-test first a number q n at after = grind (arith, nat_tests)
 
 pub later-none : (first a n : ℕ) → (ltb (first + a) n && ltb n (first + (a + 1))) ≡ false
 later-none first a n = grind (arith, nat_tests)
 
-pub later-all : (first a place end n : ℕ) → end ≤ place → (place ≤ end) ⊎ (place ≡ a + 1) → (ltb (first + a) n && ltb n (first + place)) ≡ (ltb (first + a) n && ltb n (first + end))
-later-all first a place end n le reason = grind (arith, nat_tests)
+pub later-all : (first a number end n : ℕ) → end ≤ number → (number ≤ end) ⊎ (number ≡ a + 1) → (ltb (first + a) n && ltb n (first + number)) ≡ (ltb (first + a) n && ltb n (first + end))
+later-all first a number end n le reason = grind (arith, nat_tests)

@@ -167,9 +167,9 @@ impl<const B: usize, const M: usize, const E: usize> Ecp<B, M, E> {
         let mut want = *cells;
         let mut mask = Cells::zero();
         let first = Self::pointer_cell(E as u8 - 1);
-        for place in Self::active(cells) + 1..E as u8 - 1 {
-            want.set(first + place as u16, false);
-            mask.set(first + place as u16, true);
+        for number in Self::active(cells) + 1..E as u8 - 1 {
+            want.set(first + number as u16, false);
+            mask.set(first + number as u16, true);
         }
         (want, mask)
     }

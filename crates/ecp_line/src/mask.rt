@@ -16,9 +16,9 @@ fn lowest_bit(bytes: &[u8]) -> Option<u16>
     ensures found { IfSome result (λ n. (n < 8 * length bytes.now) × IsLowest (bit_of bytes.now) n) }
     ensures none { IfNone result ((n : ℕ) → bit_of bytes.now n ≡ false) }
 {
-    for (place, byte) in bytes.iter().enumerate() {
+    for (index, byte) in bytes.iter().enumerate() {
         if *byte != 0 {
-            return Some(8 * place as u16 + byte.trailing_zeros() as u16);
+            return Some(8 * index as u16 + byte.trailing_zeros() as u16);
         }
     }
     None
@@ -33,13 +33,13 @@ pub fn lowest<const B: usize, const M: usize>(row: &Cells<B, M>) -> Option<u16>
     if row.is_none() {
         return None;
     }
-    let Some(place) = lowest_bit(&row.bits) else {
+    let Some(index) = lowest_bit(&row.bits) else {
         return match lowest_bit(&row.meta) {
-            Some(place) => Some(8 * B as u16 + place),
+            Some(index) => Some(8 * B as u16 + index),
             None => None,
         };
     };
-    Some(place)
+    Some(index)
 }
 
 // The row with these data bytes.

@@ -42,7 +42,7 @@ use Rattle.bank_invariant.specs.Holds.{Holds}
 use Rattle.bank_invariant.specs.Bridge.{AgreesWith}
 use Rattle.pcm_image.specs.Saved.{SavedBank}
 use Rattle.pcm_image.specs.Standing.{no_region}
-use Rattle.image_laws.specs.Queued.{QueuedWrite, coming, merging, in_place, by_place, queued_writes}
+use Rattle.image_laws.specs.Queued.{QueuedWrite, coming, merging, queued_after, by_order, queued_writes}
 use Rattle.image_laws.specs.Saving.{saved_bank, saved_entry, saved_region}
 use Rattle.image_laws.specs.SavedRuns.{SavesMark, SavesQueue, has_work, is_due, queued_row}
 use Rattle.image_laws.proofs.Begun.{begun-again, keeps-begun}
@@ -121,24 +121,24 @@ module _ {n : ℕ} where
   abbrev waits_on : QueuedWrite n → Bool
   waits_on w = is_queued w.outcome
 
-  any-placed : (w : QueuedWrite n) (ws : List (QueuedWrite n)) → list_any waits_on (in_place w ws) ≡ (waits_on w || list_any waits_on ws)
+  any-placed : (w : QueuedWrite n) (ws : List (QueuedWrite n)) → list_any waits_on (queued_after w ws) ≡ (waits_on w || list_any waits_on ws)
   any-placed w [] = refl
   any-placed w (old ∷ ws) = by (old.line == w.line) (is_merged old.outcome) refl (any-placed w ws)
     where
-      by : (a b : Bool) → is_merged old.outcome ≡ b → list_any waits_on (in_place w ws) ≡ (waits_on w || list_any waits_on ws)
-          → list_any waits_on (cond (a && b) (merging w old ∷ ws) (old ∷ in_place w ws)) ≡ (waits_on w || (waits_on old || list_any waits_on ws))
+      by : (a b : Bool) → is_merged old.outcome ≡ b → list_any waits_on (queued_after w ws) ≡ (waits_on w || list_any waits_on ws)
+          → list_any waits_on (cond (a && b) (merging w old ∷ ws) (old ∷ queued_after w ws)) ≡ (waits_on w || (waits_on old || list_any waits_on ws))
       by true true is ih = ap (λ b. waits_on w || (b || list_any waits_on ws)) (sym (merged-unqueued old.outcome is))
       by true false is ih = ap (λ b. waits_on old || b) ih ∙ or-swap (waits_on old) (waits_on w) (list_any waits_on ws)
       by false b is ih = ap (λ b. waits_on old || b) ih ∙ or-swap (waits_on old) (waits_on w) (list_any waits_on ws)
 
-  -- a row is queued where a write by its place is
-  any-queued : (rows : List (Row n)) → list_any waits_on (by_place rows) ≡ list_any queued_row rows
+  -- a row is queued where a write by its order is
+  any-queued : (rows : List (Row n)) → list_any waits_on (by_order rows) ≡ list_any queued_row rows
   any-queued [] = refl
   any-queued (r ∷ rows) = by (asks_write r.asks) (accepts r.outcome) refl (any-queued rows)
     where
-      by : (a b : Bool) → accepts r.outcome ≡ b → list_any waits_on (by_place rows) ≡ list_any queued_row rows
-          → list_any waits_on (cond (a && b) (in_place (coming rows r) (by_place rows)) (by_place rows)) ≡ ((a && is_queued r.outcome) || list_any queued_row rows)
-      by true true is ih = any-placed (coming rows r) (by_place rows) ∙ ap (λ b. is_queued r.outcome || b) ih
+      by : (a b : Bool) → accepts r.outcome ≡ b → list_any waits_on (by_order rows) ≡ list_any queued_row rows
+          → list_any waits_on (cond (a && b) (queued_after (coming rows r) (by_order rows)) (by_order rows)) ≡ ((a && is_queued r.outcome) || list_any queued_row rows)
+      by true true is ih = any-placed (coming rows r) (by_order rows) ∙ ap (λ b. is_queued r.outcome || b) ih
       by true false is ih = ih ∙ ap (λ b. b || list_any queued_row rows) (sym (refused-unqueued r.outcome is))
       by false b is ih = ih
 
@@ -183,12 +183,12 @@ module _ {n m : ℕ} (shape : BankShape) (pace : Pace) (e : ℕ) (all : List (Ti
   pub empty-queue : queue shape (core all) ≡ [] → list_any queued_row (table_of shape all) ≡ false
   empty-queue none =
       sym (any-queued (table_of shape all))
-      ∙ filter-none waits_on (by_place (table_of shape all)) ((any-alike shape all pace e l (queue shape (core all)) (queued_writes (table_of shape all)) (queue-alike shape all pace e l)).0 none)
+      ∙ filter-none waits_on (by_order (table_of shape all)) ((any-alike shape all pace e l (queue shape (core all)) (queued_writes (table_of shape all)) (queue-alike shape all pace e l)).0 none)
 
   pub some-queue : (f : Entry n) (fs : List (Entry n)) → queue shape (core all) ≡ f ∷ fs → list_any queued_row (table_of shape all) ≡ true
   some-queue f fs is =
       let some = (any-alike shape all pace e l (queue shape (core all)) (queued_writes (table_of shape all)) (queue-alike shape all pace e l)).1 f fs is in
-      sym (any-queued (table_of shape all)) ∙ filter-some waits_on (by_place (table_of shape all)) some.0 some.1 some.2
+      sym (any-queued (table_of shape all)) ∙ filter-some waits_on (by_order (table_of shape all)) some.0 some.1 some.2
 
   queue-some : list_any queued_row (table_of shape all) ≡ true → (f : Entry n) × (fs : List (Entry n)) × (queue shape (core all) ≡ f ∷ fs)
   queue-some is = by (queue shape (core all)) refl

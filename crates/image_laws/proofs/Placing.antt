@@ -7,7 +7,7 @@ use Rattle.masked_bytes.specs.Entries.{has_row, laid_on, merged, completed_by}
 use Rattle.row_rules.specs.Answers.{is_merged}
 use Rattle.bank_model.specs.History.{begun}
 use Rattle.bank_laws.proofs.Lines.{Stands}
-use Rattle.image_laws.specs.Queued.{QueuedWrite, merging, in_place}
+use Rattle.image_laws.specs.Queued.{QueuedWrite, merging, queued_after}
 
 -- a write with the number of its row
 pub record Numbered (n : ℕ) : Type 0 where
@@ -31,12 +31,12 @@ module _ {n : ℕ} where
   writes [] = []
   writes (w ∷ ws) = w.write ∷ writes ws
 
-  pub writes-put : (w : Numbered n) (ws : List (Numbered n)) → writes (put w ws) ≡ in_place w.write (writes ws)
+  pub writes-put : (w : Numbered n) (ws : List (Numbered n)) → writes (put w ws) ≡ queued_after w.write (writes ws)
   writes-put w [] = refl
   writes-put w (old ∷ ws) = by (fits w.write.line old) (writes-put w ws)
     where
-      by : (b : Bool) → writes (put w ws) ≡ in_place w.write (writes ws)
-          → writes (cond b (merging_as w old ∷ ws) (old ∷ put w ws)) ≡ cond b (merging w.write old.write ∷ writes ws) (old.write ∷ in_place w.write (writes ws))
+      by : (b : Bool) → writes (put w ws) ≡ queued_after w.write (writes ws)
+          → writes (cond b (merging_as w old ∷ ws) (old ∷ put w ws)) ≡ cond b (merging w.write old.write ∷ writes ws) (old.write ∷ queued_after w.write (writes ws))
       by true ih = refl
       by false ih = ap (λ rest. old.write ∷ rest) ih
 

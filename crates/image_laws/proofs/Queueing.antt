@@ -37,7 +37,7 @@ use Rattle.bank_laws.proofs.Waiting.{may_all}
 use Rattle.queue_laws.specs.EntryLaws.{line_written, given_by, is_head_begun}
 use Rattle.queue_laws.proofs.Owned.{IsOwn, AreOwn, EachOwn, queue-own}
 use Rattle.pcm_image.specs.declared.EntryImage.{EntryImage}
-use Rattle.image_laws.specs.Queued.{QueuedWrite, first_again, coming, in_place, by_place, queued_writes, entry_by, entries_by}
+use Rattle.image_laws.specs.Queued.{QueuedWrite, first_again, coming, queued_after, by_order, queued_writes, entry_by, entries_by}
 use Rattle.image_laws.specs.Saving.{saved_entry}
 use Rattle.image_laws.proofs.Begun.{Again}
 use Rattle.image_laws.proofs.Heads.{above, same-row, written-below, HeadWhole, head-whole}
@@ -59,17 +59,17 @@ module _ {n m : ℕ} (shape : BankShape) (all : List (TimedEvent n m)) where
   numbered (x ∷ zs) = numbered_by zs x.happens x.tick (numbered zs)
 
   -- without the numbers they are those of the rows
-  numbered-rows : (zs : List (TimedEvent n m)) → writes (numbered zs) ≡ by_place (rows_from shape all zs)
+  numbered-rows : (zs : List (TimedEvent n m)) → writes (numbered zs) ≡ by_order (rows_from shape all zs)
   numbered-rows [] = refl
   numbered-rows (x ∷ zs) = by x.happens x.cancels (numbered-rows zs)
     where
-      one : (b : Bool) (w : Numbered n) → writes (numbered zs) ≡ by_place (rows_from shape all zs)
-          → writes (cond b (put w (numbered zs)) (numbered zs)) ≡ cond b (in_place w.write (by_place (rows_from shape all zs))) (by_place (rows_from shape all zs))
-      one true w ih = writes-put w (numbered zs) ∙ ap (λ ws. in_place w.write ws) ih
+      one : (b : Bool) (w : Numbered n) → writes (numbered zs) ≡ by_order (rows_from shape all zs)
+          → writes (cond b (put w (numbered zs)) (numbered zs)) ≡ cond b (queued_after w.write (by_order (rows_from shape all zs))) (by_order (rows_from shape all zs))
+      one true w ih = writes-put w (numbered zs) ∙ ap (λ ws. queued_after w.write ws) ih
       one false w ih = ih
 
-      by : (h : Happens n) (cancels : Bool) → writes (numbered zs) ≡ by_place (rows_from shape all zs)
-          → writes (numbered_by zs h x.tick (numbered zs)) ≡ by_place (row_with shape all h x.tick cancels ++ rows_from shape all zs)
+      by : (h : Happens n) (cancels : Bool) → writes (numbered zs) ≡ by_order (rows_from shape all zs)
+          → writes (numbered_by zs h x.tick (numbered zs)) ≡ by_order (row_with shape all h x.tick cancels ++ rows_from shape all zs)
       by (Core (Write row line bytes given answer)) cancels ih =
           one (accepts (ended x.tick (outcome_of shape all row))) (record { row = row; write = coming (rows_from shape all zs) (row_of row x.tick line bytes given) }) ih
       by (Core (Read row line answer)) cancels ih = ih
@@ -80,7 +80,7 @@ module _ {n m : ℕ} (shape : BankShape) (all : List (TimedEvent n m)) where
       by (Core (Cut tearing)) false ih = ih
       by (Regs event) cancels ih = ih
 
-  -- a write by its place is that of its row: its outcome, its line, what it gives, and its line's newest bytes
+  -- a write by its order is that of its row: its outcome, its line, what it gives, and its line's newest bytes
   record IsItem (past : List (Event n)) (w : Numbered n) : Type 0 where
     ends : (tick : ℕ) × (w.write.outcome ≡ ended tick (outcome_of shape all w.row))
     line : line_written w.row past ≡ Some w.write.line
@@ -419,7 +419,7 @@ module _ {n m : ℕ} (shape : BankShape) (all : List (TimedEvent n m)) where
 
     -- In the end
 
-    -- an entry, and a write by its place, are of one line; and what the entry's own writes give, and the newest bytes of its line as the
+    -- an entry, and a write by its order, are of one line; and what the entry's own writes give, and the newest bytes of its line as the
     -- last of them came, are those of the write
     pub record IsAlike (entry : Entry n) (w : QueuedWrite n) : Type 0 where
       line : entry.line ≡ w.line

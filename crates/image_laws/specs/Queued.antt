@@ -32,18 +32,18 @@ module _ {n : ℕ} where
   merging w old = record { line = w.line; gives = stacked w.gives old.gives; newest = w.newest; outcome = w.outcome }
 
   -- a write takes the place of the one that was merged into it, or goes last
-  abbrev pub in_place : QueuedWrite n → List (QueuedWrite n) → List (QueuedWrite n)
-  in_place w [] = w ∷ []
-  in_place w (old ∷ ws) = if old.line == w.line && is_merged old.outcome then merging w old ∷ ws else old ∷ in_place w ws
+  abbrev pub queued_after : QueuedWrite n → List (QueuedWrite n) → List (QueuedWrite n)
+  queued_after w [] = w ∷ []
+  queued_after w (old ∷ ws) = if old.line == w.line && is_merged old.outcome then merging w old ∷ ws else old ∷ queued_after w ws
 
   -- the accepted writes of these rows by their places in the queue, but those that gave their place to a later one
-  abbrev pub by_place : List (Row n) → List (QueuedWrite n)
-  by_place [] = []
-  by_place (r ∷ before) = if accepted r then in_place (coming before r) (by_place before) else by_place before
+  abbrev pub by_order : List (Row n) → List (QueuedWrite n)
+  by_order [] = []
+  by_order (r ∷ before) = if accepted r then queued_after (coming before r) (by_order before) else by_order before
 
   -- those that are queued in the end
   abbrev pub queued_writes : List (Row n) → List (QueuedWrite n)
-  queued_writes rows = filter (λ w. is_queued w.outcome) (by_place rows)
+  queued_writes rows = filter (λ w. is_queued w.outcome) (by_order rows)
 
   -- whether another of these writes is of the first one's line
   abbrev pub first_again : List (QueuedWrite n) → Bool

@@ -94,8 +94,8 @@ fn print_entries<const B: usize, K: Sink>(
     ensures fault { OnErr result (Rose (K.faults out.old) (K.faults out.new)) }
     ensures never_falls { K.faults out.old ≤ K.faults out.new }
 {
-    for place in 0..kept.len() {
-        let Some(entry) = kept.at(place) else {
+    for index in 0..kept.len() {
+        let Some(entry) = kept.at(index) else {
             unreachable!()
         };
         print_entry(&entry_image(entry), text, out)?;

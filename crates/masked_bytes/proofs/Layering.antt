@@ -172,7 +172,7 @@ IsMasked-all_given zero bytes some e = grind arith
 IsMasked-all_given (suc n) bytes some e =
     record { bytes_len = e; given_len = length-replicate (suc n) true; some = refl; others = zero_elsewhere-all_given (suc n) bytes e }
 
--- Loops over the places
+-- Loops over the indices
 
 -- one byte more, where the byte itself is untouched so far
 pub laid-take_next : (bytes : List ℕ) (given : List Bool) (under : List ℕ) (i : ℕ) → length given ≡ length bytes → length under ≡ length bytes → i < length bytes

@@ -2,7 +2,7 @@
 use Rattle.std.proofs.Common.{◌≡◌, ℕ, ◌<◌, List, [], ◌∷◌, ◌++◌, Bool, true, false, ◌||◌, ◌&&◌, ◌==◌, not, if◌then◌else◌, zero, suc, length, replicate, refl, sym, subst, ap, ◌∙◌, arith, slice_get, slice_set, Option, Some, None, eq-eqb, eqb-true}
 use Rattle.std.proofs.lemmas.List.{length-replicate}
 use Rattle.masked_bytes.specs.Masked.{IsMasked}
-use Rattle.masked_bytes.specs.Entries.{Layer, no_layer, stacked, or_this, one_further, layer_by, layer_of, newest_row, newest_place, candidate, candidate_place, laid_on, merged, merged_at, row_at, has_row, RowsApart, AllMasked}
+use Rattle.masked_bytes.specs.Entries.{Layer, no_layer, stacked, or_this, one_further, layer_by, layer_of, newest_row, newest_index, candidate, candidate_index, laid_on, merged, merged_at, row_at, has_row, RowsApart, AllMasked}
 use Rattle.masked_bytes.specs.declared.entry.Entry.{Entry}
 use Rattle.masked_bytes.proofs.Layering.{length-laid, length-joined, laid-none_given, joined-none_given, laid-laid, joined-joined, laid-zeros, joined-none_right}
 
@@ -75,9 +75,9 @@ module _ {n : ℕ} where
   layer_of-append_other (f ∷ es) e line h = rw (layer_of-append_other es e line h)
 
   -- a line with no entry has no layer
-  pub layer_of-none : (es : List (Entry n)) (line : ℕ) → newest_place es line ≡ None → layer_of es line ≡ no_layer n
+  pub layer_of-none : (es : List (Entry n)) (line : ℕ) → newest_index es line ≡ None → layer_of es line ≡ no_layer n
   layer_of-none [] line h = refl
-  layer_of-none (e ∷ es) line h = by (newest_place es line) (e.line == line) (layer_of-none es line) h
+  layer_of-none (e ∷ es) line h = by (newest_index es line) (e.line == line) (layer_of-none es line) h
     where
       by : (p : Option ℕ) (b : Bool) → (p ≡ None → layer_of es line ≡ no_layer n)
           → or_this (one_further p) (if b then Some 0 else None) ≡ None → (if b then stacked (layer_of es line) (layer_by e) else layer_of es line) ≡ no_layer n
@@ -85,12 +85,12 @@ module _ {n : ℕ} where
       by None true ih h = cc
       by None false ih h = ih refl
 
-  -- Places
+  -- Indices
 
   -- the newest entry of a line is there, and is of that line
-  pub newest_place-within : (es : List (Entry n)) (line i : ℕ) → newest_place es line ≡ Some i → i < length es
-  newest_place-within [] line i h = cc
-  newest_place-within (e ∷ es) line i h = by (newest_place es line) (e.line == line) i (newest_place-within es line) h
+  pub newest_index-within : (es : List (Entry n)) (line i : ℕ) → newest_index es line ≡ Some i → i < length es
+  newest_index-within [] line i h = cc
+  newest_index-within (e ∷ es) line i h = by (newest_index es line) (e.line == line) i (newest_index-within es line) h
     where
       by : (p : Option ℕ) (b : Bool) (i : ℕ) → ((j : ℕ) → p ≡ Some j → j < length es)
           → or_this (one_further p) (if b then Some 0 else None) ≡ Some i → i < suc (length es)
@@ -99,9 +99,9 @@ module _ {n : ℕ} where
       by None false i ih h = cc
 
   -- the candidate is the newest entry of its line
-  pub candidate_place-newest : (busy : Bool) (es : List (Entry n)) (line i : ℕ) → candidate_place busy es line ≡ Some i → newest_place es line ≡ Some i
-  candidate_place-newest busy [] line i h = cc
-  candidate_place-newest busy (e ∷ es) line i h = by busy (newest_place es line) (e.line == line) h
+  pub candidate_index-newest : (busy : Bool) (es : List (Entry n)) (line i : ℕ) → candidate_index busy es line ≡ Some i → newest_index es line ≡ Some i
+  candidate_index-newest busy [] line i h = cc
+  candidate_index-newest busy (e ∷ es) line i h = by busy (newest_index es line) (e.line == line) h
     where
       by : (busy : Bool) (p : Option ℕ) (b : Bool)
           → or_this (one_further p) (if not busy && b then Some 0 else None) ≡ Some i → or_this (one_further p) (if b then Some 0 else None) ≡ Some i
@@ -110,9 +110,9 @@ module _ {n : ℕ} where
       by false None b h = h
 
   -- a busy head is no candidate
-  pub candidate_place-busy : (es : List (Entry n)) (line i : ℕ) → candidate_place true es line ≡ Some i → 0 < i
-  candidate_place-busy [] line i h = cc
-  candidate_place-busy (e ∷ es) line i h = by (newest_place es line) h
+  pub candidate_index-busy : (es : List (Entry n)) (line i : ℕ) → candidate_index true es line ≡ Some i → 0 < i
+  candidate_index-busy [] line i h = cc
+  candidate_index-busy (e ∷ es) line i h = by (newest_index es line) h
     where
       by : (p : Option ℕ) → or_this (one_further p) None ≡ Some i → 0 < i
       by (Some j) h = let step : suc j ≡ i = some_same (suc j) i h in omega arith
@@ -128,9 +128,9 @@ module _ {n : ℕ} where
       rw (none refl) (subst (λ (k : ℕ). Some e.row ≡ Some (row_at (e ∷ es) k)) step refl)
   newest_row-step e es None q false i some none h = cc
 
-  pub newest_row-none : (es : List (Entry n)) (line : ℕ) → newest_place es line ≡ None → newest_row es line ≡ None
+  pub newest_row-none : (es : List (Entry n)) (line : ℕ) → newest_index es line ≡ None → newest_row es line ≡ None
   newest_row-none [] line h = refl
-  newest_row-none (e ∷ es) line h = by (newest_place es line) (newest_row es line) (e.line == line) (newest_row-none es line) h
+  newest_row-none (e ∷ es) line h = by (newest_index es line) (newest_row es line) (e.line == line) (newest_row-none es line) h
     where
       by : (p q : Option ℕ) (b : Bool) → (p ≡ None → q ≡ None)
           → or_this (one_further p) (if b then Some 0 else None) ≡ None → or_this q (if b then Some e.row else None) ≡ None
@@ -138,15 +138,15 @@ module _ {n : ℕ} where
       by None q true none h = cc
       by None q false none h = rw (none refl)
 
-  pub newest_row-place : (es : List (Entry n)) (line i : ℕ) → newest_place es line ≡ Some i → newest_row es line ≡ Some (row_at es i)
-  newest_row-place [] line i h = cc
-  newest_row-place (e ∷ es) line i h =
-      newest_row-step e es (newest_place es line) (newest_row es line) (e.line == line) i (newest_row-place es line) (newest_row-none es line) h
+  pub newest_row-index : (es : List (Entry n)) (line i : ℕ) → newest_index es line ≡ Some i → newest_row es line ≡ Some (row_at es i)
+  newest_row-index [] line i h = cc
+  newest_row-index (e ∷ es) line i h =
+      newest_row-step e es (newest_index es line) (newest_row es line) (e.line == line) i (newest_row-index es line) (newest_row-none es line) h
 
-  pub candidate-place : (busy : Bool) (es : List (Entry n)) (line i : ℕ) → candidate_place busy es line ≡ Some i → candidate busy es line ≡ Some (row_at es i)
-  candidate-place busy [] line i h = cc
-  candidate-place busy (e ∷ es) line i h =
-      newest_row-step e es (newest_place es line) (newest_row es line) (not busy && e.line == line) i (newest_row-place es line) (newest_row-none es line) h
+  pub candidate-index : (busy : Bool) (es : List (Entry n)) (line i : ℕ) → candidate_index busy es line ≡ Some i → candidate busy es line ≡ Some (row_at es i)
+  candidate-index busy [] line i h = cc
+  candidate-index busy (e ∷ es) line i h =
+      newest_row-step e es (newest_index es line) (newest_row es line) (not busy && e.line == line) i (newest_row-index es line) (newest_row-none es line) h
 
   -- the entry that a write is merged into is the newest of its line
   pub candidate-newest : (busy : Bool) (es : List (Entry n)) (line old : ℕ) → candidate busy es line ≡ Some old → newest_row es line ≡ Some old
@@ -159,9 +159,9 @@ module _ {n : ℕ} where
       by None true at is = cc
       by None false at is = is
 
-  pub candidate-none : (busy : Bool) (es : List (Entry n)) (line : ℕ) → candidate_place busy es line ≡ None → candidate busy es line ≡ None
+  pub candidate-none : (busy : Bool) (es : List (Entry n)) (line : ℕ) → candidate_index busy es line ≡ None → candidate busy es line ≡ None
   candidate-none busy [] line h = refl
-  candidate-none busy (e ∷ es) line h = by (newest_place es line) (newest_row es line) (not busy && e.line == line) (newest_row-none es line) h
+  candidate-none busy (e ∷ es) line h = by (newest_index es line) (newest_row es line) (not busy && e.line == line) (newest_row-none es line) h
     where
       by : (p q : Option ℕ) (b : Bool) → (p ≡ None → q ≡ None)
           → or_this (one_further p) (if b then Some 0 else None) ≡ None → or_this q (if b then Some e.row else None) ≡ None
@@ -181,7 +181,7 @@ module _ {n : ℕ} where
   length-merged_at (e ∷ es) zero row bytes given = refl
   length-merged_at (e ∷ es) (suc i) row bytes given = ap suc (length-merged_at es i row bytes given)
 
-  -- an entry is written at its place
+  -- an entry is written at its index
   pub merged_at-slice_set : (es : List (Entry n)) (i row : ℕ) (bytes : List ℕ) (given : List Bool) (e : Entry n) → slice_get es i ≡ Some e
       → slice_set es i (laid_on row bytes given e) ≡ merged_at i row bytes given es
   merged_at-slice_set [] i row bytes given e h = cc
@@ -204,7 +204,7 @@ module _ {n : ℕ} where
       by false f = refl
       by true f = let same : row ≡ row_at es i = f refl in let there : has_row es row ≡ true = rw same (has_row-row_at es i within) in cc
 
-  -- where no two entries have one row, the row says the place
+  -- where no two entries have one row, the row says the index
   pub merged-row_at : (es : List (Entry n)) (i row : ℕ) (bytes : List ℕ) (given : List Bool) → RowsApart es → i < length es
       → merged (row_at es i) row bytes given es ≡ merged_at i row bytes given es
   merged-row_at [] i row bytes given apart h = refl

@@ -2,7 +2,7 @@
 use Rattle.std.proofs.Common.{◌≡◌, ℕ, ◌<◌, List, [], ◌∷◌, ◌++◌, Bool, true, false, ◌==◌, if◌then◌else◌, zero, suc, length, refl, sym, subst, ap, ◌∙◌, arith, Option, Some, None, eq-eqb, eqb-true}
 use Rattle.std.proofs.lemmas.List.{length-replicate}
 use Rattle.masked_bytes.specs.Masked.{laid, all_given, IsMasked}
-use Rattle.masked_bytes.specs.Entries.{Layer, no_layer, stacked, or_this, one_further, layer_by, layer_of, newest_place, laid_on, merged_at, completed, head_line, AllMasked}
+use Rattle.masked_bytes.specs.Entries.{Layer, no_layer, stacked, or_this, one_further, layer_by, layer_of, newest_index, laid_on, merged_at, completed, head_line, AllMasked}
 use Rattle.masked_bytes.specs.declared.entry.Entry.{Entry}
 use Rattle.masked_bytes.proofs.Layering.{length-laid, laid-all_given, laid-laid, IsMasked-laid, IsMasked-all_given}
 use Rattle.masked_bytes.proofs.Queueing.{IsLayer, IsLayer-layer_of, stacked-no_layer, append_under, layer_of-none, some_same, IsLayer-layer_by}
@@ -35,11 +35,11 @@ module _ {n : ℕ} where
 
   -- A write merged into the newest entry of its line lies over all that the line's entries give.
   pub layer_of-merged_at : (es : List (Entry n)) (line i row : ℕ) (bytes : List ℕ) (given : List Bool)
-      → AllMasked es → IsMasked n bytes given → newest_place es line ≡ Some i
+      → AllMasked es → IsMasked n bytes given → newest_index es line ≡ Some i
       → let top : Layer = record { bytes = bytes; given = given } in layer_of (merged_at i row bytes given es) line ≡ stacked top (layer_of es line)
   layer_of-merged_at [] line i row bytes given m k h = cc
   layer_of-merged_at (e ∷ es) line i row bytes given m k h =
-      by (newest_place es line) (λ j. layer_of-merged_at es line j row bytes given m.1 k) (layer_of-none es line) h
+      by (newest_index es line) (λ j. layer_of-merged_at es line j row bytes given m.1 k) (layer_of-none es line) h
     where
       top : Layer
       top = record { bytes = bytes; given = given }
@@ -73,10 +73,10 @@ module _ {n : ℕ} where
 
   -- a merge leaves the other lines
   pub layer_of-merged_other : (es : List (Entry n)) (line other i row : ℕ) (bytes : List ℕ) (given : List Bool)
-      → newest_place es line ≡ Some i → (line == other) ≡ false → layer_of (merged_at i row bytes given es) other ≡ layer_of es other
+      → newest_index es line ≡ Some i → (line == other) ≡ false → layer_of (merged_at i row bytes given es) other ≡ layer_of es other
   layer_of-merged_other [] line other i row bytes given h apart = cc
   layer_of-merged_other (e ∷ es) line other i row bytes given h apart =
-      by (newest_place es line) (λ j k. layer_of-merged_other es line other j row bytes given k apart) h
+      by (newest_index es line) (λ j k. layer_of-merged_other es line other j row bytes given k apart) h
     where
       by : (p : Option ℕ) → ((j : ℕ) → p ≡ Some j → layer_of (merged_at j row bytes given es) other ≡ layer_of es other)
           → or_this (one_further p) (if e.line == line then Some 0 else None) ≡ Some i

@@ -21,9 +21,9 @@ abbrev pub or_this : Option ℕ → Option ℕ → Option ℕ
 or_this (Some first) other = Some first
 or_this None other = other
 
--- the same place in a list with one more entry before it
+-- the same index in a list with one more entry before it
 abbrev pub one_further : Option ℕ → Option ℕ
-one_further (Some place) = Some (suc place)
+one_further (Some index) = Some (suc index)
 one_further None = None
 
 module _ {n : ℕ} where
@@ -41,20 +41,20 @@ module _ {n : ℕ} where
   newest_row [] line = None
   newest_row (e ∷ es) line = or_this (newest_row es line) (if e.line == line then Some e.row else None)
 
-  -- its place
-  abbrev pub newest_place : List (Entry n) → ℕ → Option ℕ
-  newest_place [] line = None
-  newest_place (e ∷ es) line = or_this (one_further (newest_place es line)) (if e.line == line then Some 0 else None)
+  -- its index
+  abbrev pub newest_index : List (Entry n) → ℕ → Option ℕ
+  newest_index [] line = None
+  newest_index (e ∷ es) line = or_this (one_further (newest_index es line)) (if e.line == line then Some 0 else None)
 
   -- the row of the entry that a write of a line is merged into: the newest, unless it is the head and that is busy
   abbrev pub candidate : Bool → List (Entry n) → ℕ → Option ℕ
   candidate busy [] line = None
   candidate busy (e ∷ es) line = or_this (newest_row es line) (if not busy && e.line == line then Some e.row else None)
 
-  -- its place
-  abbrev pub candidate_place : Bool → List (Entry n) → ℕ → Option ℕ
-  candidate_place busy [] line = None
-  candidate_place busy (e ∷ es) line = or_this (one_further (newest_place es line)) (if not busy && e.line == line then Some 0 else None)
+  -- its index
+  abbrev pub candidate_index : Bool → List (Entry n) → ℕ → Option ℕ
+  candidate_index busy [] line = None
+  candidate_index busy (e ∷ es) line = or_this (one_further (newest_index es line)) (if not busy && e.line == line then Some 0 else None)
 
   -- these bytes over an entry, which becomes that of their row
   abbrev pub laid_on : ℕ → List ℕ → List Bool → Entry n → Entry n
@@ -66,11 +66,11 @@ module _ {n : ℕ} where
   merged old row bytes given (e ∷ es) =
       if e.row == old then laid_on row bytes given e ∷ es else e ∷ merged old row bytes given es
 
-  -- the entries after a write was merged into that at this place
+  -- the entries after a write was merged into that at this index
   abbrev pub merged_at : ℕ → ℕ → List ℕ → List Bool → List (Entry n) → List (Entry n)
-  merged_at place row bytes given [] = []
+  merged_at index row bytes given [] = []
   merged_at zero row bytes given (e ∷ es) = laid_on row bytes given e ∷ es
-  merged_at (suc place) row bytes given (e ∷ es) = e ∷ merged_at place row bytes given es
+  merged_at (suc index) row bytes given (e ∷ es) = e ∷ merged_at index row bytes given es
 
   -- an entry with every byte given, those that it lacks from these
   abbrev pub completed_by : List ℕ → Entry n → Entry n
@@ -89,11 +89,11 @@ module _ {n : ℕ} where
   head_row [] = 0
   head_row (e ∷ es) = e.row
 
-  -- the row of the entry at a place
+  -- the row of the entry at an index
   abbrev pub row_at : List (Entry n) → ℕ → ℕ
-  row_at [] place = 0
+  row_at [] index = 0
   row_at (e ∷ es) zero = e.row
-  row_at (e ∷ es) (suc place) = row_at es place
+  row_at (e ∷ es) (suc index) = row_at es index
 
   -- whether some entry has this row
   abbrev pub has_row : List (Entry n) → ℕ → Bool

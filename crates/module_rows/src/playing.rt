@@ -4,7 +4,7 @@
 ghost use Rattle.std.specs.Prelude.{◌≡◌, ◌+◌, ◌*◌, ◌<◌, ◌≤◌, ℕ, List, IfOk, IfSome, IsTrue, false};
 ghost use Rattle.trace_reader.specs.Events.{IsOpFor};
 ghost use Rattle.result_rows.specs.declared.Outcome.{Outcome as OutcomeOf};
-ghost use Rattle.bank_timing.specs.Extending.{IsOpen};
+ghost use Rattle.bank_clock.specs.Extending.{IsOpen};
 ghost use Rattle.pcm_module.specs.Replaying.{IsReplayed};
 
 use module_shape::Shape;
@@ -12,7 +12,7 @@ use pcm_cells::{CellArray, Wear};
 use pcm_module::Module;
 use result_rows::{Outcome, Results};
 use std::alloc::{AllocError, Global};
-use trace_reader::{Event, EventOp};
+use trace_reader::{TraceEvent, TraceOp};
 
 const WEAR: Wear = Wear {
     seed: 0,
@@ -44,13 +44,13 @@ pub enum Saw {
 }
 
 // What comes with a call at one of so many lines, if it is one.
-fn op_for(call: Call, lines: u32) -> Option<EventOp<64>>
+fn op_for(call: Call, lines: u32) -> Option<TraceOp<64>>
     ensures { IfSome result (λ op. IsOpFor lines op) }
 {
     match call {
-        Call::Write(line, byte) if line < lines => Some(EventOp::Write(line, [byte; 64])),
-        Call::Read(line) if line < lines => Some(EventOp::Read(line)),
-        Call::Cut => Some(EventOp::Cut),
+        Call::Write(line, byte) if line < lines => Some(TraceOp::Write(line, [byte; 64])),
+        Call::Read(line) if line < lines => Some(TraceOp::Read(line)),
+        Call::Cut => Some(TraceOp::Cut),
         _ => None,
     }
 }
@@ -109,7 +109,7 @@ fn play<A: CellArray<64, 8>>(
     let Some(op) = op_for(call, memory.shape().total()) else {
         return false;
     };
-    memory.event(array, row, &Event { tick, op }, results);
+    memory.event(array, row, &TraceEvent { tick, op }, results);
     true
 }
 

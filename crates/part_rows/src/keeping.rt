@@ -25,7 +25,11 @@ fn a_full_queue_refuses_or_merges(rt: HostRuntime) -> Result<(), Fail> {
     let behind = kept.accept(Entry::whole(2, 0, &[0x22; 128]), false);
     assert_eq!(rt;
         [first, in_flight, behind],
-        [Accept::Pushed, Accept::Full, Accept::Merged { row: 1, index: 0 }]
+        [
+            Accept::Pushed,
+            Accept::Full,
+            Accept::Merged { row: 1, index: 0 }
+        ]
     );
     Ok(())
 }
@@ -107,7 +111,10 @@ fn masked_writes_merge(rt: HostRuntime) -> Result<(), Fail> {
     let mut kept = Kept::new(rt.alloc(), MASKS)?;
     let first = kept.accept(FIRST, false);
     let second = kept.accept(SECOND, false);
-    assert_eq!(rt; [first, second], [Accept::Pushed, Accept::Merged { row: 1, index: 0 }]);
+    assert_eq!(rt;
+        [first, second],
+        [Accept::Pushed, Accept::Merged { row: 1, index: 0 }]
+    );
     kept.complete(&[90, 91, 92, 93, 94, 95, 96, 97]);
     assert_eq!(rt; head(&kept), Some((2, COMPLETE)));
     Ok(())
@@ -121,7 +128,10 @@ fn masked_writes_merge_behind_a_head_in_flight(rt: HostRuntime) -> Result<(), Fa
     kept.complete(&[90, 91, 92, 93, 94, 95, 96, 97]);
     let third = kept.accept(Entry { row: 3, ..FIRST }, true);
     let fourth = kept.accept(Entry { row: 4, ..SECOND }, true);
-    assert_eq!(rt; [third, fourth], [Accept::Pushed, Accept::Merged { row: 3, index: 1 }]);
+    assert_eq!(rt;
+        [third, fourth],
+        [Accept::Pushed, Accept::Merged { row: 3, index: 1 }]
+    );
     assert_eq!(rt; (kept.len(), second_row(&kept)), (2, Some(4)));
     let (bytes, _) = kept.newest(3);
     assert_eq!(rt; (bytes, kept.array_line(3)), (COMPLETE, 23));

@@ -51,7 +51,11 @@ fn keeps_two_writes_of_one_line_while_the_older_is_in_flight(rt: HostRuntime) ->
     let third = queue.accept(Entry::whole(3, 7, &[0x33; 128]), true);
     assert_eq!(rt;
         [first, second, third],
-        [Accept::Pushed, Accept::Pushed, Accept::Merged { row: 2, index: 1 }]
+        [
+            Accept::Pushed,
+            Accept::Pushed,
+            Accept::Merged { row: 2, index: 1 }
+        ]
     );
     let rows = [row_at(&queue, 0), row_at(&queue, 1), row_at(&queue, 2)];
     assert_eq!(rt; rows, [Some(1), Some(3), None]);
@@ -90,7 +94,10 @@ fn lays_masked_writes_over_each_other(rt: HostRuntime) -> Result<(), Fail> {
         },
         false,
     );
-    assert_eq!(rt; [first, second], [Accept::Pushed, Accept::Merged { row: 1, index: 0 }]);
+    assert_eq!(rt;
+        [first, second],
+        [Accept::Pushed, Accept::Merged { row: 1, index: 0 }]
+    );
     let newest = queue.newest(3);
     let given = [true, true, true, false, false, false, false, false];
     assert_eq!(rt; newest, ([10, 21, 22, 0, 0, 0, 0, 0], given));

@@ -53,35 +53,35 @@ or_none true = refl
 or_none false = refl
 
 -- one byte more is read
-pub read_more : (bytes : List ℕ) (block place bits byte i : ℕ) → place < 8 → byte ≡ get_or bytes (8 * block + place) 0
-    → ((j : ℕ) → j < 8 * place → bit_in bits j ≡ bit_of bytes (64 * block + j)) → ((j : ℕ) → 8 * place ≤ j → bit_in bits j ≡ false)
-    → i < 8 * (place + 1) → bit_in (bit_or bits (byte * 2 ^ (8 * place))) i ≡ bit_of bytes (64 * block + i)
-read_more bytes block place bits byte i few is done none within =
-    digit_or bits (byte * 2 ^ (8 * place)) i
-    ∙ elim (cases_lt i (8 * place)) as (λ _. cond (bit_in bits i) true (bit_in (byte * 2 ^ (8 * place)) i) ≡ bit_of bytes (64 * block + i)) [
-      | inl low ↦ rw (shifted_low byte (8 * place) i low) (or_none (bit_in bits i) ∙ done i low)
+pub read_more : (bytes : List ℕ) (block index bits byte i : ℕ) → index < 8 → byte ≡ get_or bytes (8 * block + index) 0
+    → ((j : ℕ) → j < 8 * index → bit_in bits j ≡ bit_of bytes (64 * block + j)) → ((j : ℕ) → 8 * index ≤ j → bit_in bits j ≡ false)
+    → i < 8 * (index + 1) → bit_in (bit_or bits (byte * 2 ^ (8 * index))) i ≡ bit_of bytes (64 * block + i)
+read_more bytes block index bits byte i few is done none within =
+    digit_or bits (byte * 2 ^ (8 * index)) i
+    ∙ elim (cases_lt i (8 * index)) as (λ _. cond (bit_in bits i) true (bit_in (byte * 2 ^ (8 * index)) i) ≡ bit_of bytes (64 * block + i)) [
+      | inl low ↦ rw (shifted_low byte (8 * index) i low) (or_none (bit_in bits i) ∙ done i low)
       | inr high ↦
-          let number : 64 * block + i ≡ 8 * (8 * block + place) + (i - 8 * place) = omega arith in
-          rw (none i high, shifted_high byte (8 * place) i high (pow_pos (8 * place)), number, is)
-          (sym (bit_of_byte bytes (8 * block + place) (i - 8 * place) (omega arith)))
+          let number : 64 * block + i ≡ 8 * (8 * block + index) + (i - 8 * index) = omega arith in
+          rw (none i high, shifted_high byte (8 * index) i high (pow_pos (8 * index)), number, is)
+          (sym (bit_of_byte bytes (8 * block + index) (i - 8 * index) (omega arith)))
     ]
 
 -- and above it there is nothing yet
-pub read_none : (place bits byte i : ℕ) → byte < 2 ^ 8 → ((j : ℕ) → 8 * place ≤ j → bit_in bits j ≡ false)
-    → 8 * (place + 1) ≤ i → bit_in (bit_or bits (byte * 2 ^ (8 * place))) i ≡ false
-read_none place bits byte i small none above =
-    digit_or bits (byte * 2 ^ (8 * place)) i
-    ∙ rw (none i (omega arith), shifted_high byte (8 * place) i (omega arith) (pow_pos (8 * place)))
-    (ap (λ x. eqb x 1) (bit_at_above byte 8 (i - 8 * place) small (omega arith)))
+pub read_none : (index bits byte i : ℕ) → byte < 2 ^ 8 → ((j : ℕ) → 8 * index ≤ j → bit_in bits j ≡ false)
+    → 8 * (index + 1) ≤ i → bit_in (bit_or bits (byte * 2 ^ (8 * index))) i ≡ false
+read_none index bits byte i small none above =
+    digit_or bits (byte * 2 ^ (8 * index)) i
+    ∙ rw (none i (omega arith), shifted_high byte (8 * index) i (omega arith) (pow_pos (8 * index)))
+    (ap (λ x. eqb x 1) (bit_at_above byte 8 (i - 8 * index) small (omega arith)))
 
 -- a byte of a number has its bits
-pub byte_of : (bits place i : ℕ) → i < 8 → bit_in (bit_and (bits / 2 ^ (8 * place)) 255) i ≡ bit_in bits (8 * place + i)
-byte_of bits place i low =
-    let up : ℕ = bits / 2 ^ (8 * place) in
+pub byte_of : (bits index i : ℕ) → i < 8 → bit_in (bit_and (bits / 2 ^ (8 * index)) 255) i ≡ bit_in bits (8 * index + i)
+byte_of bits index i low =
+    let up : ℕ = bits / 2 ^ (8 * index) in
     ap (λ x. bit_in x i) (and_mask up 8)
     ∙ ap (λ x. eqb x 1)
     (sym (bit_at_cat_low (up / 2 ^ 8) 8 (up % 2 ^ 8) i low) ∙ ap (λ x. bit_at x i) (shr_split up 8)
-    ∙ ap (λ x. x % 2) (shr-shr bits (8 * place) i))
+    ∙ ap (λ x. x % 2) (shr-shr bits (8 * index) i))
 
 -- half of a number has its bits
 pub low_half : (bits i : ℕ) → i < 32 → bit_in (bit_and bits 4294967295) i ≡ bit_in bits i
@@ -93,52 +93,52 @@ pub high_half : (bits i : ℕ) → bit_in (bits / 2 ^ 32) i ≡ bit_in bits (32 
 high_half bits i = ap (λ x. eqb (x % 2) 1) (shr-shr bits 32 i)
 
 -- the numbers with one digit 1, in order
-pub one_at : (place : ℕ) → place < 32 → get_or (map (λ k. 2 ^ k) (range_with_len 0 32)) place 0 ≡ 2 ^ place
-one_at place fits = get_or-map-range_with_len (λ k. 2 ^ k) 0 32 place place 0 fits (omega arith)
+pub one_at : (index : ℕ) → index < 32 → get_or (map (λ k. 2 ^ k) (range_with_len 0 32)) index 0 ≡ 2 ^ index
+one_at index fits = get_or-map-range_with_len (λ k. 2 ^ k) 0 32 index index 0 fits (omega arith)
 
 -- a number has a digit where it meets that digit's own number
-pub met_some : (bits place one : ℕ) → one ≡ 2 ^ place → bit_and bits one ≢ 0 → bit_in bits place ≡ true
-met_some bits place one is some =
-    elim (cases_eq (bit_at bits place) 1) as (λ _. bit_in bits place ≡ true) [
+pub met_some : (bits index one : ℕ) → one ≡ 2 ^ index → bit_and bits one ≢ 0 → bit_in bits index ≡ true
+met_some bits index one is some =
+    elim (cases_eq (bit_at bits index) 1) as (λ _. bit_in bits index ≡ true) [
       | inl has ↦ eq-eqb _ 1 has
       | inr other ↦
-          let none : bit_at bits place ≡ 0 = omega (arith, bit_at-lt bits place, other) in
-          absurd (some (ap (bit_and bits) is ∙ and_pow bits place ∙ ap (λ x. x * 2 ^ place) none ∙ omega arith))
+          let none : bit_at bits index ≡ 0 = omega (arith, bit_at-lt bits index, other) in
+          absurd (some (ap (bit_and bits) is ∙ and_pow bits index ∙ ap (λ x. x * 2 ^ index) none ∙ omega arith))
     ]
 
-pub met_none : (bits place one : ℕ) → one ≡ 2 ^ place → bit_and bits one ≡ 0 → bit_in bits place ≡ false
-met_none bits place one is none =
-    elim (cases_eq (bit_at bits place) 1) as (λ _. bit_in bits place ≡ false) [
+pub met_none : (bits index one : ℕ) → one ≡ 2 ^ index → bit_and bits one ≡ 0 → bit_in bits index ≡ false
+met_none bits index one is none =
+    elim (cases_eq (bit_at bits index) 1) as (λ _. bit_in bits index ≡ false) [
       | inl has ↦
-          let power : 1 * 2 ^ place ≡ 0 = ap (λ x. x * 2 ^ place) (sym has) ∙ sym (and_pow bits place) ∙ ap (bit_and bits) (sym is) ∙ none in
-          absurd (omega (arith, power, pow_pos place))
+          let power : 1 * 2 ^ index ≡ 0 = ap (λ x. x * 2 ^ index) (sym has) ∙ sym (and_pow bits index) ∙ ap (bit_and bits) (sym is) ∙ none in
+          absurd (omega (arith, power, pow_pos index))
       | inr other ↦ ne_eqb _ 1 other
     ]
 
 -- one byte more is written
-pub write_more : (bytes : List ℕ) (block place bits byte i : ℕ) → 8 * block + place < length bytes → place < 8
-    → ((j : ℕ) → j < 8 → bit_in byte j ≡ bit_in bits (8 * place + j))
-    → ((j : ℕ) → j < 8 * place → bit_of bytes (64 * block + j) ≡ bit_in bits j)
-    → i < 8 * (place + 1) → bit_of (set bytes (8 * block + place) byte) (64 * block + i) ≡ bit_in bits i
-write_more bytes block place bits byte i within few is done low =
-    elim (cases_lt i (8 * place)) as (λ _. bit_of (set bytes (8 * block + place) byte) (64 * block + i) ≡ bit_in bits i) [
-      | inl before ↦ bit_of_kept bytes (8 * block + place) byte (64 * block + i) (λ e. omega arith) ∙ done i before
+pub write_more : (bytes : List ℕ) (block index bits byte i : ℕ) → 8 * block + index < length bytes → index < 8
+    → ((j : ℕ) → j < 8 → bit_in byte j ≡ bit_in bits (8 * index + j))
+    → ((j : ℕ) → j < 8 * index → bit_of bytes (64 * block + j) ≡ bit_in bits j)
+    → i < 8 * (index + 1) → bit_of (set bytes (8 * block + index) byte) (64 * block + i) ≡ bit_in bits i
+write_more bytes block index bits byte i within few is done low =
+    elim (cases_lt i (8 * index)) as (λ _. bit_of (set bytes (8 * block + index) byte) (64 * block + i) ≡ bit_in bits i) [
+      | inl before ↦ bit_of_kept bytes (8 * block + index) byte (64 * block + i) (λ e. omega arith) ∙ done i before
       | inr here ↦
-          let number : 64 * block + i ≡ 8 * (8 * block + place) + (i - 8 * place) = omega arith in
-          let back : 8 * place + (i - 8 * place) ≡ i = omega arith in
-          rw number (bit_of_written bytes (8 * block + place) byte (i - 8 * place) within (omega arith) ∙ is (i - 8 * place) (omega arith))
+          let number : 64 * block + i ≡ 8 * (8 * block + index) + (i - 8 * index) = omega arith in
+          let back : 8 * index + (i - 8 * index) ≡ i = omega arith in
+          rw number (bit_of_written bytes (8 * block + index) byte (i - 8 * index) within (omega arith) ∙ is (i - 8 * index) (omega arith))
           ∙ ap (bit_in bits) back
     ]
 
 -- without a bit that it has, a number is less
-pub clear_less : (bits place : ℕ) → place < 64 → bit_in bits place ≡ true → bit_and bits (bit_not w64 (1 * 2 ^ place % 2 ^ 64)) < bits
-clear_less bits place fits has =
-    let new : ℕ = bit_and bits (bit_not w64 (1 * 2 ^ place % 2 ^ 64)) in
-    let most : new ≤ bits = and_le_l bits (bit_not w64 (1 * 2 ^ place % 2 ^ 64)) in
+pub clear_less : (bits index : ℕ) → index < 64 → bit_in bits index ≡ true → bit_and bits (bit_not w64 (1 * 2 ^ index % 2 ^ 64)) < bits
+clear_less bits index fits has =
+    let new : ℕ = bit_and bits (bit_not w64 (1 * 2 ^ index % 2 ^ 64)) in
+    let most : new ≤ bits = and_le_l bits (bit_not w64 (1 * 2 ^ index % 2 ^ 64)) in
     elim (cases_eq new bits) as (λ _. new < bits) [
       | inl same ↦
-          let gone : bit_in new place ≡ false = ap (λ x. eqb x 1) (bit_at_clear_same w64 bits place fits) in
-          absurd (true≢false (sym has ∙ ap (λ x. bit_in x place) (sym same) ∙ gone))
+          let gone : bit_in new index ≡ false = ap (λ x. eqb x 1) (bit_at_clear_same w64 bits index fits) in
+          absurd (true≢false (sym has ∙ ap (λ x. bit_in x index) (sym same) ∙ gone))
       | inr apart ↦ omega arith
     ]
 

@@ -15,9 +15,9 @@ bit_of-append a b n h = ap (λ x. eqb (bit_at x (n % 8)) 1) (get_or-append a b 0
 -- and then those of the second
 pub bit_of-append_right : (a b : List ℕ) (size n : ℕ) → length a ≡ size → 8 * size ≤ n → bit_of (a ++ b) n ≡ bit_of b (n - 8 * size)
 bit_of-append_right a b size n e h =
-    let place : n / 8 - size ≡ (n - 8 * size) / 8 = omega arith in
+    let index : n / 8 - size ≡ (n - 8 * size) / 8 = omega arith in
     let low : n % 8 ≡ (n - 8 * size) % 8 = omega arith in
-    ap (λ x. eqb (bit_at x (n % 8)) 1) (get_or-append_right a b size (n / 8) 0 e (omega arith) ∙ ap (λ i. get_or b i 0) place)
+    ap (λ x. eqb (bit_at x (n % 8)) 1) (get_or-append_right a b size (n / 8) 0 e (omega arith) ∙ ap (λ i. get_or b i 0) index)
     ∙ ap (λ i. eqb (bit_at (get_or b ((n - 8 * size) / 8) 0) i) 1) low
 
 -- past the end every bit is false
@@ -30,17 +30,17 @@ pub bit_of-set : (bytes : List ℕ) (number byte : ℕ) (value : Bool) → numbe
     → ((i : ℕ) → i < 8 → i ≢ number % 8 → bit_at byte i ≡ bit_at (get_or bytes (number / 8) 0) i)
     → (n : ℕ) → bit_of (set bytes (number / 8) byte) n ≡ cond (eqb n number) value (bit_of bytes n)
 bit_of-set bytes number byte value within is kept n =
-    let place_in : number / 8 < length bytes = omega arith in
+    let index_in : number / 8 < length bytes = omega arith in
     elim (cases_eq n number) as (λ _. bit_of (set bytes (number / 8) byte) n ≡ cond (eqb n number) value (bit_of bytes n)) [
       | inl same ↦
           rw (same, eq-eqb number number refl)
-          (ap (λ x. eqb (bit_at x (number % 8)) 1) (get_or-set_same bytes (number / 8) byte 0 place_in) ∙ is)
+          (ap (λ x. eqb (bit_at x (number % 8)) 1) (get_or-set_same bytes (number / 8) byte 0 index_in) ∙ is)
       | inr other ↦
           rw (ne_eqb n number other)
           (elim (cases_eq (n / 8) (number / 8)) as (λ _. bit_of (set bytes (number / 8) byte) n ≡ bit_of bytes n) [
             | inl row ↦
                 ap (λ x. eqb (bit_at (get_or (set bytes (number / 8) byte) x 0) (n % 8)) 1) row
-                ∙ ap (λ x. eqb (bit_at x (n % 8)) 1) (get_or-set_same bytes (number / 8) byte 0 place_in)
+                ∙ ap (λ x. eqb (bit_at x (n % 8)) 1) (get_or-set_same bytes (number / 8) byte 0 index_in)
                 ∙ ap (λ x. eqb x 1) (kept (n % 8) (omega arith) (omega arith))
                 ∙ ap (λ x. eqb (bit_at (get_or bytes x 0) (n % 8)) 1) (sym row)
             | inr apart ↦ ap (λ x. eqb (bit_at x (n % 8)) 1) (get_or-set_other bytes (number / 8) (n / 8) byte 0 apart)
@@ -154,14 +154,14 @@ bytes_from_bits a b len small_a small_b same =
     (λ k h.
     same_from_bits_below 8 _ _ (small_a k h) (small_b k (omega arith))
     (λ i low.
-    let place : (8 * k + i) / 8 ≡ k = omega arith in
+    let index : (8 * k + i) / 8 ≡ k = omega arith in
     let digit : (8 * k + i) % 8 ≡ i = omega arith in
     let here : eqb (bit_at (get_or a k 0) i) 1 ≡ eqb (bit_at (get_or b k 0) i) 1 =
-    ap (λ x. eqb (bit_at (get_or a x 0) i) 1) (sym place)
+    ap (λ x. eqb (bit_at (get_or a x 0) i) 1) (sym index)
     ∙ ap (λ x. eqb (bit_at (get_or a ((8 * k + i) / 8) 0) x) 1) (sym digit)
     ∙ same (8 * k + i)
     ∙ ap (λ x. eqb (bit_at (get_or b ((8 * k + i) / 8) 0) x) 1) digit
-    ∙ ap (λ x. eqb (bit_at (get_or b x 0) i) 1) place in
+    ∙ ap (λ x. eqb (bit_at (get_or b x 0) i) 1) index in
     same_digit _ _ (bit_at-lt (get_or a k 0) i) (bit_at-lt (get_or b k 0) i) here))
 
 -- equal where exactly one is never so
@@ -181,11 +181,11 @@ pub some_bit_of : (bytes : List ℕ) (k : ℕ) → k < length bytes → get_or b
     → (n : ℕ) × (n < 8 * length bytes) × (bit_of bytes n ≡ true)
 some_bit_of bytes k within small other =
     let (i, low, is) = some_bit (get_or bytes k 0) small other in
-    let place : (8 * k + i) / 8 ≡ k = omega arith in
+    let index : (8 * k + i) / 8 ≡ k = omega arith in
     let digit : (8 * k + i) % 8 ≡ i = omega arith in (
       8 * k + i,
       omega arith,
-      ap (λ x. eqb (bit_at (get_or bytes x 0) ((8 * k + i) % 8)) 1) place
+      ap (λ x. eqb (bit_at (get_or bytes x 0) ((8 * k + i) % 8)) 1) index
           ∙ ap (λ x. eqb (bit_at (get_or bytes k 0) x) 1) digit ∙ eq-eqb _ 1 is,
     )
 
@@ -200,8 +200,8 @@ no_bit_of bytes zeros n =
 -- a byte that is 0 has no bit
 pub no_bit_in : (bytes : List ℕ) (k : ℕ) → eqb (get_or bytes k 0) 0 ≡ true → (n : ℕ) → 8 * k ≤ n → n < 8 * k + 8 → bit_of bytes n ≡ false
 no_bit_in bytes k clear n low high =
-    let place : n / 8 ≡ k = omega arith in
-    ap (λ x. eqb (bit_at (get_or bytes x 0) (n % 8)) 1) place
+    let index : n / 8 ≡ k = omega arith in
+    ap (λ x. eqb (bit_at (get_or bytes x 0) (n % 8)) 1) index
     ∙ ap (λ x. eqb (bit_at x (n % 8)) 1) (eqb-true _ _ clear) ∙ ap (λ x. eqb x 1) (bit_at-zero (n % 8))
 
 -- the greater of two binary digits
@@ -255,9 +255,9 @@ swapped false false = refl
 -- bit i of byte k
 pub bit_of_byte : (bytes : List ℕ) (k i : ℕ) → i < 8 → bit_of bytes (8 * k + i) ≡ bit_in (get_or bytes k 0) i
 bit_of_byte bytes k i h =
-    let place : (8 * k + i) / 8 ≡ k = omega arith in
+    let index : (8 * k + i) / 8 ≡ k = omega arith in
     let low : (8 * k + i) % 8 ≡ i = omega arith in
-    ap (λ x. eqb (bit_at (get_or bytes x 0) ((8 * k + i) % 8)) 1) place ∙ ap (λ x. eqb (bit_at (get_or bytes k 0) x) 1) low
+    ap (λ x. eqb (bit_at (get_or bytes x 0) ((8 * k + i) % 8)) 1) index ∙ ap (λ x. eqb (bit_at (get_or bytes k 0) x) 1) low
 
 -- a byte is written
 pub bit_of_written : (bytes : List ℕ) (k byte i : ℕ) → k < length bytes → i < 8 → bit_of (set bytes k byte) (8 * k + i) ≡ bit_in byte i

@@ -15,15 +15,15 @@ flat_at (row ∷ rows) n eights =
     let eight : length row ≡ 8 = eights 0 (omega arith) in
     elim (cases_lt n 8) as (λ _. get_or (row ++ flat_map (λ x. x) rows) n 0 ≡ count_in (row ∷ rows) n) [
       | inl low ↦
-          let place : n / 8 ≡ 0 = omega arith in
+          let index : n / 8 ≡ 0 = omega arith in
           let number : n % 8 ≡ n = omega arith in
-          get_or-append row (flat_map (λ x. x) rows) 0 n (omega (arith, eight)) ∙ rw (place, number) refl
+          get_or-append row (flat_map (λ x. x) rows) 0 n (omega (arith, eight)) ∙ rw (index, number) refl
       | inr high ↦
-          let place : n / 8 ≡ suc ((n - 8) / 8) = omega arith in
+          let index : n / 8 ≡ suc ((n - 8) / 8) = omega arith in
           let number : n % 8 ≡ (n - 8) % 8 = omega arith in
           get_or-append_right row (flat_map (λ x. x) rows) 8 n 0 eight high
           ∙ flat_at rows (n - 8) (λ k h. eights (suc k) (omega (arith, h)))
-          ∙ rw (place, number) refl
+          ∙ rw (index, number) refl
     ]
 
 -- the numbers of the first rows come first
@@ -33,9 +33,9 @@ count_in-append a b n h = ap (λ row. get_or row (n % 8) 0) (get_or-append a b [
 -- and then those of the others
 pub count_in-append_right : (a b : List (List ℕ)) (size n : ℕ) → length a ≡ size → 8 * size ≤ n → count_in (a ++ b) n ≡ count_in b (n - 8 * size)
 count_in-append_right a b size n e h =
-    let place : n / 8 - size ≡ (n - 8 * size) / 8 = omega arith in
+    let index : n / 8 - size ≡ (n - 8 * size) / 8 = omega arith in
     let low : n % 8 ≡ (n - 8 * size) % 8 = omega arith in
-    ap (λ row. get_or row (n % 8) 0) (get_or-append_right a b size (n / 8) [] e (omega arith) ∙ ap (λ i. get_or b i []) place)
+    ap (λ row. get_or row (n % 8) 0) (get_or-append_right a b size (n / 8) [] e (omega arith) ∙ ap (λ i. get_or b i []) index)
     ∙ ap (λ i. get_or (get_or b ((n - 8 * size) / 8) []) i 0) low
 
 pub count-bits : {B M : ℕ} (counts : Counts B M) (n : ℕ) → length counts.bits ≡ B → n < 8 * B → count counts n ≡ count_in counts.bits n
@@ -106,8 +106,8 @@ block_count-bits counts block i len whole within low = count-bits counts (64 * b
 pub block_count-meta : {B M : ℕ} (counts : Counts B M) (block i : ℕ) → length counts.bits ≡ B → B % 8 ≡ 0 → B ≤ 8 * block
     → count counts (64 * block + i) ≡ count_in counts.meta (64 * (block - B / 8) + i)
 block_count-meta {B} {M} counts block i len whole from =
-    let place : 64 * block + i - 8 * B ≡ 64 * (block - B / 8) + i = omega arith in
-    count-meta counts (64 * block + i) len (omega arith) ∙ ap (count_in counts.meta) place
+    let index : 64 * block + i - 8 * B ≡ 64 * (block - B / 8) + i = omega arith in
+    count-meta counts (64 * block + i) len (omega arith) ∙ ap (count_in counts.meta) index
 
 -- the other blocks stay where a block of the data cells is written
 pub kept_count-bits : {B M : ℕ} (old new : Counts B M) (block n : ℕ) → length old.bits ≡ B → length new.bits ≡ B → new.meta ≡ old.meta
@@ -125,6 +125,6 @@ kept_count-meta {B} {M} old new block n len len_new bits whole from others apart
     elim (cases_lt n (8 * B)) as (λ _. count new n ≡ count old n) [
       | inl low ↦ count-bits new n len_new low ∙ ap (λ x. count_in x n) bits ∙ sym (count-bits old n len low)
       | inr high ↦
-          let place : (n - 8 * B) / 64 ≢ block - B / 8 = λ e. apart (omega arith) in
-          count-meta new n len_new high ∙ others (n - 8 * B) place ∙ sym (count-meta old n len high)
+          let index : (n - 8 * B) / 64 ≢ block - B / 8 = λ e. apart (omega arith) in
+          count-meta new n len_new high ∙ others (n - 8 * B) index ∙ sym (count-meta old n len high)
     ]

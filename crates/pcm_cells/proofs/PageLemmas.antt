@@ -47,9 +47,9 @@ bytes_size bit from n = length-map-range_with_len (λ k. number_from bit (8 * k)
 
 bytes_bit : (bit : ℕ → Bool) (from n i : ℕ) → i < 8 * n → bit_of (bytes_from bit from n) i ≡ bit (8 * from + i)
 bytes_bit bit from n i h =
-    let place : 8 * (from + i / 8) + i % 8 ≡ 8 * from + i = omega arith in
+    let index : 8 * (from + i / 8) + i % 8 ≡ 8 * from + i = omega arith in
     ap (λ x. eqb (bit_at x (i % 8)) 1) (bytes_at bit from n (i / 8) (omega (arith, h)))
-    ∙ number_bit bit (8 * (from + i / 8)) 8 (i % 8) (omega arith) ∙ ap bit place
+    ∙ number_bit bit (8 * (from + i / 8)) 8 (i % 8) (omega arith) ∙ ap bit index
 
 pub row_of-cell : (B M : ℕ) (bit : ℕ → Bool) (n : ℕ) → n < 8 * (B + M) → cell (row_of B M bit) n ≡ bit n
 unfolding row_of

@@ -76,10 +76,10 @@ pub page_seen-none : {B M : ℕ} (drawn : LifeLine B M) (pages : List (LifeLine 
 unfolding page_seen
 page_seen-none drawn pages = refl
 
-pub page_seen-some : {B M : ℕ} (drawn : LifeLine B M) (pages : List (LifeLine B M)) (page place : ℕ) → page ≡ place + 1
-    → page_seen drawn pages page ≡ get_or pages place drawn
+pub page_seen-some : {B M : ℕ} (drawn : LifeLine B M) (pages : List (LifeLine B M)) (page index : ℕ) → page ≡ index + 1
+    → page_seen drawn pages page ≡ get_or pages index drawn
 unfolding page_seen
-page_seen-some drawn pages page place is = let e : page ≡ suc place = omega (arith, is) in ap (page_seen drawn pages) e
+page_seen-some drawn pages page index is = let e : page ≡ suc index = omega (arith, is) in ap (page_seen drawn pages) e
 
 -- a line without a page is as it is drawn
 pub seen-none : {B M : ℕ} (wear : Wear) (table : List ℕ) (pages : List (LifeLine B M)) (line : ℕ) → slice_index table line ≡ 0
@@ -87,16 +87,16 @@ pub seen-none : {B M : ℕ} (wear : Wear) (table : List ℕ) (pages : List (Life
 seen-none {B} {M} wear table pages line none = ap (page_seen (drawn_line B M wear line) pages) none ∙ page_seen-none (drawn_line B M wear line) pages
 
 -- and one with a page is as it says
-pub seen-some : {B M : ℕ} (wear : Wear) (table : List ℕ) (pages : List (LifeLine B M)) (line place : ℕ) → slice_index table line ≡ place + 1
-    → line_seen wear table pages line ≡ get_or pages place (drawn_line B M wear line)
-seen-some {B} {M} wear table pages line place is = page_seen-some (drawn_line B M wear line) pages (slice_index table line) place is
+pub seen-some : {B M : ℕ} (wear : Wear) (table : List ℕ) (pages : List (LifeLine B M)) (line index : ℕ) → slice_index table line ≡ index + 1
+    → line_seen wear table pages line ≡ get_or pages index (drawn_line B M wear line)
+seen-some {B} {M} wear table pages line index is = page_seen-some (drawn_line B M wear line) pages (slice_index table line) index is
 
--- the page at a line's place is what it is read as
-pub seen_at : {B M : ℕ} (wear : Wear) (table : List ℕ) (pages : List (LifeLine B M)) (capacity line place : ℕ) (page : LifeLine B M)
-    → IsPaging table pages capacity → slice_index table line ≡ place + 1 → page ≡ get_or pages place page → line_seen wear table pages line ≡ page
-seen_at {B} {M} wear table pages capacity line place page paging at is =
-    seen-some wear table pages line place at
-    ∙ get_or_default pages place (drawn_line B M wear line) page (omega (arith, paging.made line, at)) ∙ sym is
+-- the page at a line's index is what it is read as
+pub seen_at : {B M : ℕ} (wear : Wear) (table : List ℕ) (pages : List (LifeLine B M)) (capacity line index : ℕ) (page : LifeLine B M)
+    → IsPaging table pages capacity → slice_index table line ≡ index + 1 → page ≡ get_or pages index page → line_seen wear table pages line ≡ page
+seen_at {B} {M} wear table pages capacity line index page paging at is =
+    seen-some wear table pages line index at
+    ∙ get_or_default pages index (drawn_line B M wear line) page (omega (arith, paging.made line, at)) ∙ sym is
 
 -- what the table says of a line
 pub told : (table : List ℕ) (line page : ℕ) → line < length table → page ≡ get_or table line page → slice_index table line ≡ page
@@ -106,7 +106,7 @@ seen_more : {B M : ℕ} (drawn : LifeLine B M) (pages : List (LifeLine B M)) (pa
     → page_seen drawn (pages ++ page ∷ []) n ≡ page_seen drawn pages n
 unfolding page_seen
 seen_more drawn pages page zero h = refl
-seen_more drawn pages page (suc place) h = get_or-append pages (page ∷ []) drawn place (omega (arith, h))
+seen_more drawn pages page (suc index) h = get_or-append pages (page ∷ []) drawn index (omega (arith, h))
 
 -- a page that is made is the line's own
 pub made_seen : {B M : ℕ} (wear : Wear) (table : List ℕ) (pages : List (LifeLine B M)) (page : LifeLine B M) (line : ℕ) → line < length table
@@ -123,18 +123,18 @@ made_others {B} {M} wear table pages page line capacity n paging apart =
     ap (page_seen (drawn_line B M wear n) (pages ++ page ∷ [])) (get_or-set_other table line n (length pages + 1) 0 apart)
     ∙ seen_more (drawn_line B M wear n) pages page (slice_index table n) (paging.made n)
 
-seen_written : {B M : ℕ} (drawn : LifeLine B M) (pages : List (LifeLine B M)) (page : LifeLine B M) (place n : ℕ) → n ≢ place + 1
-    → page_seen drawn (set pages place page) n ≡ page_seen drawn pages n
+seen_written : {B M : ℕ} (drawn : LifeLine B M) (pages : List (LifeLine B M)) (page : LifeLine B M) (index n : ℕ) → n ≢ index + 1
+    → page_seen drawn (set pages index page) n ≡ page_seen drawn pages n
 unfolding page_seen
-seen_written drawn pages page place zero h = refl
-seen_written drawn pages page place (suc k) h = get_or-set_other pages place k page drawn (λ e. h (omega (arith, e)))
+seen_written drawn pages page index zero h = refl
+seen_written drawn pages page index (suc k) h = get_or-set_other pages index k page drawn (λ e. h (omega (arith, e)))
 
 -- a page is written, and the other lines stay
-pub written_others : {B M : ℕ} (wear : Wear) (table : List ℕ) (pages : List (LifeLine B M)) (page : LifeLine B M) (line place capacity n : ℕ)
-    → IsPaging table pages capacity → slice_index table line ≡ place + 1 → n ≢ line
-    → line_seen wear table (set pages place page) n ≡ line_seen wear table pages n
-written_others {B} {M} wear table pages page line place capacity n paging is apart =
-    seen_written (drawn_line B M wear n) pages page place (slice_index table n)
+pub written_others : {B M : ℕ} (wear : Wear) (table : List ℕ) (pages : List (LifeLine B M)) (page : LifeLine B M) (line index capacity n : ℕ)
+    → IsPaging table pages capacity → slice_index table line ≡ index + 1 → n ≢ line
+    → line_seen wear table (set pages index page) n ≡ line_seen wear table pages n
+written_others {B} {M} wear table pages page line index capacity n paging is apart =
+    seen_written (drawn_line B M wear n) pages page index (slice_index table n)
     (λ e. apart (paging.apart n line (e ∙ sym is) (λ none. absurd (omega (arith, e, none)))))
 
 -- as many lines as the table has

@@ -35,15 +35,15 @@ number_not_full false false true e = omega arith
 number_not_full false false false e = omega arith
 
 -- a number as the sum of its digits
-pub number_of_places : (low middle high : Bool) → cond low 1 0 + 2 * cond middle 1 0 + 4 * cond high 1 0 ≡ number_of low middle high
-number_of_places true true true = refl
-number_of_places true true false = refl
-number_of_places true false true = refl
-number_of_places true false false = refl
-number_of_places false true true = refl
-number_of_places false true false = refl
-number_of_places false false true = refl
-number_of_places false false false = refl
+pub number_by_digits : (low middle high : Bool) → cond low 1 0 + 2 * cond middle 1 0 + 4 * cond high 1 0 ≡ number_of low middle high
+number_by_digits true true true = refl
+number_by_digits true true false = refl
+number_by_digits true false true = refl
+number_by_digits true false false = refl
+number_by_digits false true true = refl
+number_by_digits false true false = refl
+number_by_digits false false true = refl
+number_by_digits false false false = refl
 
 -- no number is above 7
 pub digit_few : {B M : ℕ} (digits : Digits B M) (n : ℕ) → digit digits n ≤ 7

@@ -156,8 +156,8 @@ block-bits row block i len whole within low = cell-bits row (64 * block + i) len
 pub block-meta : {B M : ℕ} (row : Cells B M) (block i : ℕ) → length row.bits ≡ B → B % 8 ≡ 0 → B ≤ 8 * block
     → cell row (64 * block + i) ≡ bit_of row.meta (64 * (block - B / 8) + i)
 block-meta {B} {M} row block i len whole from =
-    let place : 64 * block + i - 8 * B ≡ 64 * (block - B / 8) + i = omega arith in
-    cell-meta row (64 * block + i) len (omega arith) ∙ ap (bit_of row.meta) place
+    let index : 64 * block + i - 8 * B ≡ 64 * (block - B / 8) + i = omega arith in
+    cell-meta row (64 * block + i) len (omega arith) ∙ ap (bit_of row.meta) index
 
 -- a block of data bytes is written
 pub kept-bits : {B M : ℕ} (old new : Cells B M) (block n : ℕ) → length old.bits ≡ B → length new.bits ≡ B → new.meta ≡ old.meta
@@ -176,6 +176,6 @@ kept-meta {B} {M} old new block n len len_new bits whole from others apart =
     elim (cases_lt n (8 * B)) as (λ _. cell new n ≡ cell old n) [
       | inl low ↦ cell-bits new n len_new low ∙ ap (λ bytes. bit_of bytes n) bits ∙ sym (cell-bits old n len low)
       | inr high ↦
-          let place : (n - 8 * B) / 64 ≢ block - B / 8 = λ e. apart (omega arith) in
-          cell-meta new n len_new high ∙ others (n - 8 * B) place ∙ sym (cell-meta old n len high)
+          let index : (n - 8 * B) / 64 ≢ block - B / 8 = λ e. apart (omega arith) in
+          cell-meta new n len_new high ∙ others (n - 8 * B) index ∙ sym (cell-meta old n len high)
     ]

@@ -42,7 +42,7 @@ highest_bit word h =
     let e : word / 2 ^ 63 ≡ word / 2 ^ 63 % 2 = omega arith in
     ap (λ x. eqb x 1) e
 
--- one item more has what its place asks for
+-- one item more has what its index asks for
 pub pushed_more : {X : Type 0} (P : ℕ → X → Type 0) (xs ys : List X) (y d : X) (i : ℕ) → length xs ≡ i → ys ≡ xs ++ y ∷ [] → P i y
     → ((k : ℕ) → k < i → P k (get_or xs k d)) → (k : ℕ) → k < i + 1 → P k (get_or ys k d)
 pushed_more {X} P xs ys y d i len is new below k h =

@@ -47,10 +47,10 @@ pub record HaveSameLife {B M : ℕ} (a b : LifeLine B M) : Type 0 where
   pub line : a.line ≡ b.line
   pub cells : (n : ℕ) → seeded_cell a n ≡ seeded_cell b n
 
--- a line whose table has 0 is as it is drawn; else its page is that at one place less
+-- a line whose table has 0 is as it is drawn; else its page is that at one index less
 unfoldable pub page_seen : {B M : ℕ} → LifeLine B M → List (LifeLine B M) → ℕ → LifeLine B M
 page_seen drawn pages zero = drawn
-page_seen drawn pages (suc place) = slice_index_or pages place drawn
+page_seen drawn pages (suc index) = slice_index_or pages index drawn
 
 -- the line with this number
 abbrev pub line_seen : {B M : ℕ} → Wear → List ℕ → List (LifeLine B M) → ℕ → LifeLine B M
@@ -59,7 +59,7 @@ line_seen {B} {M} wear table pages line = page_seen (drawn_line B M wear line) p
 -- 1 for a line without a page
 abbrev pub free : ℕ → ℕ
 free zero = 1
-free (suc place) = 0
+free (suc index) = 0
 
 -- each line has no page or one of its own, and there is room for those that are missing
 pub record IsPaging {X : Type 0} (table : List ℕ) (pages : List X) (capacity : ℕ) : Type 0 where

@@ -9,8 +9,8 @@ pub(crate) fn read_block(bytes: &[u8], block: usize) -> u64
     ensures { (i : ℕ) → i < 64 → bit_in result i ≡ bit_of bytes.now (64 * block + i) }
 {
     let mut bits = 0;
-    for place in 0..8 {
-        bits |= (bytes[8 * block + place] as u64) << (8 * place);
+    for index in 0..8 {
+        bits |= (bytes[8 * block + index] as u64) << (8 * index);
     }
     bits
 }
@@ -20,8 +20,8 @@ pub(crate) fn write_block(bytes: &mut [u8], block: usize, bits: u64)
     ensures here { (i : ℕ) → i < 64 → bit_of bytes.new (64 * block + i) ≡ bit_in bits i }
     ensures others { (n : ℕ) → n / 64 ≢ block → bit_of bytes.new n ≡ bit_of bytes.old n }
 {
-    for place in 0..8 {
-        bytes[8 * block + place] = (bits >> (8 * place) & 0xff) as u8;
+    for index in 0..8 {
+        bytes[8 * block + index] = (bits >> (8 * index) & 0xff) as u8;
     }
 }
 
@@ -52,23 +52,23 @@ pub(crate) fn reached(tearing: bool, bits: u64) -> u64
 }
 
 // The number with this bit too, if the value is true.
-fn joined(bits: u64, place: u32, value: bool) -> u64
-    requires { place < 64 }
-    ensures is { bit_in bits place ≡ false → bit_in result place ≡ value }
-    ensures kept { (i : ℕ) → i ≢ place → bit_in result i ≡ bit_in bits i }
+fn joined(bits: u64, index: u32, value: bool) -> u64
+    requires { index < 64 }
+    ensures is { bit_in bits index ≡ false → bit_in result index ≡ value }
+    ensures kept { (i : ℕ) → i ≢ index → bit_in result i ≡ bit_in bits i }
 {
-    if value { bits | 1 << place } else { bits }
+    if value { bits | 1 << index } else { bits }
 }
 
 // The number without this bit, which it has.
-fn cleared(bits: u64, place: u32) -> u64
-    requires fits { place < 64 }
-    requires has { bit_in bits place ≡ true }
-    ensures is { bit_in result place ≡ false }
-    ensures kept { (i : ℕ) → i < 64 → i ≢ place → bit_in result i ≡ bit_in bits i }
+fn cleared(bits: u64, index: u32) -> u64
+    requires fits { index < 64 }
+    requires has { bit_in bits index ≡ true }
+    ensures is { bit_in result index ≡ false }
+    ensures kept { (i : ℕ) → i < 64 → i ≢ index → bit_in result i ≡ bit_in bits i }
     ensures less { result < bits }
 {
-    bits & !(1 << place)
+    bits & !(1 << index)
 }
 
 // Takes one from each count that is in the mask, and answers those of them that were at most one.
@@ -80,11 +80,11 @@ pub(crate) fn spend(left: &mut [u32; 64], mask: u64) -> u64
     let mut last = 0;
     let mut rest = mask;
     while rest != 0 {
-        let place = rest.trailing_zeros();
-        let count = &mut left[place as usize];
-        last = joined(last, place, *count <= 1);
+        let index = rest.trailing_zeros();
+        let count = &mut left[index as usize];
+        last = joined(last, index, *count <= 1);
         *count = count.saturating_sub(1);
-        rest = cleared(rest, place);
+        rest = cleared(rest, index);
     }
     last
 }
@@ -97,20 +97,20 @@ fn halves(bits: u64) -> (u32, u32)
     ((bits & 0xffff_ffff) as u32, (bits >> 32) as u32)
 }
 
-// At each place the number whose only digit 1 is there. By a table, since a shift by the place has no lanes.
+// At each index the number whose only digit 1 is there. By a table, since a shift by the index has no lanes.
 const ONES: [u32; 32] = [
     1, 2, 4, 8, 0x10, 0x20, 0x40, 0x80, 0x100, 0x200, 0x400, 0x800, 0x1000, 0x2000, 0x4000, 0x8000,
     0x10000, 0x20000, 0x40000, 0x80000, 0x100000, 0x200000, 0x400000, 0x800000, 0x1000000,
     0x2000000, 0x4000000, 0x8000000, 0x10000000, 0x20000000, 0x40000000, 0x80000000,
 ];
 
-// The digit that a number has at a place.
-fn digit_at(bits: u32, place: u32) -> u32
-    requires { place < 32 }
-    ensures is { result ≡ (if bit_in bits place then 1 else 0) }
+// The digit that a number has at an index.
+fn digit_at(bits: u32, index: u32) -> u32
+    requires { index < 32 }
+    ensures is { result ≡ (if bit_in bits index then 1 else 0) }
     ensures few { result ≤ 1 }
 {
-    if bits & ONES[place as usize] != 0 {
+    if bits & ONES[index as usize] != 0 {
         1
     } else {
         0
@@ -125,9 +125,9 @@ fn level_half(left: &mut [u32; 64], first: usize, low: u32, middle: u32, high: u
     ensures before { (n : ℕ) → n < first → slice_index left.new n ≡ slice_index left.old n }
     ensures after { (n : ℕ) → first + 32 ≤ n → slice_index left.new n ≡ slice_index left.old n }
 {
-    for place in 0..32 {
-        let less = digit_at(low, place) + 2 * digit_at(middle, place) + 4 * digit_at(high, place);
-        let count = &mut left[first + place as usize];
+    for index in 0..32 {
+        let less = digit_at(low, index) + 2 * digit_at(middle, index) + 4 * digit_at(high, index);
+        let count = &mut left[first + index as usize];
         *count = count.saturating_sub(less);
     }
 }
@@ -142,12 +142,12 @@ pub(crate) fn level(left: &mut [u32; 64], low: u64, middle: u64, high: u64)
     level_half(left, 32, low.1, middle.1, high.1);
 }
 
-// Whether the number has the digit 0 at a place.
-fn lacks(bits: u64, place: u32) -> bool
-    requires { place < 64 }
-    ensures { result ≡ not (bit_in bits place) }
+// Whether the number has the digit 0 at an index.
+fn lacks(bits: u64, index: u32) -> bool
+    requires { index < 64 }
+    ensures { result ≡ not (bit_in bits index) }
 {
-    bits >> place & 1 == 0
+    bits >> index & 1 == 0
 }
 
 // Whether each count is at least eight.
@@ -155,8 +155,8 @@ fn are_all_many(left: &[u32; 64]) -> bool
     ensures { IsTrue result → (i : ℕ) → i < 64 → 8 ≤ slice_index left.now i }
 {
     let mut few = false;
-    for place in 0..64 {
-        few |= left[place] < 8;
+    for index in 0..64 {
+        few |= left[index] < 8;
     }
     !few
 }
@@ -169,8 +169,8 @@ pub(crate) fn are_many(left: &[u32; 64], mask: u64) -> bool
         return true;
     }
     let mut few = false;
-    for place in 0..64 {
-        few |= (left[place as usize] < 8) & lacks(mask, place);
+    for index in 0..64 {
+        few |= (left[index as usize] < 8) & lacks(mask, index);
     }
     !few
 }

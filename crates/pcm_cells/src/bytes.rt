@@ -10,15 +10,15 @@ pub(crate) fn bit(bytes: &[u8], number: usize) -> bool
     bytes[number / 8] >> (number % 8) & 1 == 1
 }
 
-fn with_bit(byte: u8, place: usize, value: bool) -> u8
-    requires { place < 8 }
-    ensures is { nat_eq (bit_at result place) 1 ≡ value }
-    ensures kept { (i : ℕ) → i < 8 → i ≢ place → bit_at result i ≡ bit_at byte i }
+fn with_bit(byte: u8, index: usize, value: bool) -> u8
+    requires { index < 8 }
+    ensures is { nat_eq (bit_at result index) 1 ≡ value }
+    ensures kept { (i : ℕ) → i < 8 → i ≢ index → bit_at result i ≡ bit_at byte i }
 {
     if value {
-        byte | 1 << place
+        byte | 1 << index
     } else {
-        byte & !(1 << place)
+        byte & !(1 << index)
     }
 }
 

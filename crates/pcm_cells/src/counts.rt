@@ -27,8 +27,8 @@ fn write_counts(rows: &mut [[u32; 8]], block: usize, counts: &[u32; 64])
     ensures here { (i : ℕ) → i < 64 → count_in rows.new (64 * block + i) ≡ slice_index counts.now i }
     ensures others { (n : ℕ) → n / 64 ≢ block → count_in rows.new n ≡ count_in rows.old n }
 {
-    for place in 0..8 {
-        let from = 8 * place;
+    for index in 0..8 {
+        let from = 8 * index;
         let row = [
             counts[from],
             counts[from + 1],
@@ -39,7 +39,7 @@ fn write_counts(rows: &mut [[u32; 8]], block: usize, counts: &[u32; 64])
             counts[from + 6],
             counts[from + 7],
         ];
-        rows[8 * block + place] = row;
+        rows[8 * block + index] = row;
     }
 }
 

@@ -16,7 +16,7 @@ use std::alloc::{AllocError, Global};
 #[derive(Drop)]
 pub(crate) struct Pages<const B: usize, const M: usize> {
     wear: Wear,
-    // Of each line: 0, or one more than the place of its page.
+    // Of each line: 0, or one more than the index of its page.
     table: Vec<u32>,
     // With room for as many as lines.
     pages: Vec<SeededLine<B, M>>,
@@ -72,7 +72,7 @@ impl<const B: usize, const M: usize> Pages<B, M> {
         }
     }
 
-    // Draws the words of a line without a page, and answers the place of its page.
+    // Draws the words of a line without a page, and answers the index of its page.
     fn make_page(&mut self, line: u32) -> usize
         requires exists { line < length self.old.table.items }
         requires none { slice_index self.old.table.items line ≡ 0 }
@@ -83,13 +83,13 @@ impl<const B: usize, const M: usize> Pages<B, M> {
         ensures lines { length self.new.table.items ≡ length self.old.table.items }
         ensures wear { self.new.wear ≡ self.old.wear }
     {
-        let place = self.pages.len();
+        let index = self.pages.len();
         self.pages.push_reserved(SeededLine::drawn(self.wear, line));
-        self.table[line as usize] = place as u32 + 1;
-        place
+        self.table[line as usize] = index as u32 + 1;
+        index
     }
 
-    // The place of the line's page, which is made where there is none yet.
+    // The index of the line's page, which is made where there is none yet.
     fn page(&mut self, line: u32) -> usize
         requires exists { line < length self.old.table.items }
         requires shape { IsShape B M }
@@ -117,8 +117,8 @@ impl<const B: usize, const M: usize> Pages<B, M> {
         ensures lines { length self.new.table.items ≡ length self.old.table.items }
         ensures wear { self.new.wear ≡ self.old.wear }
     {
-        let place = self.page(line);
-        let page = &mut self.pages[place];
+        let index = self.page(line);
+        let page = &mut self.pages[index];
         page.wear(tearing, mask, want);
     }
 }

@@ -32,11 +32,11 @@ impl<const B: usize, const M: usize> Cells<B, M> {
         requires { number < 8 * (B + M) }
         ensures { result ≡ cell self.now number }
     {
-        let place = number as usize;
-        if place / 8 < B {
-            bit(&self.bits, place)
+        let index = number as usize;
+        if index / 8 < B {
+            bit(&self.bits, index)
         } else {
-            bit(&self.meta, place - 8 * B)
+            bit(&self.meta, index - 8 * B)
         }
     }
 
@@ -45,11 +45,11 @@ impl<const B: usize, const M: usize> Cells<B, M> {
         requires { number < 8 * (B + M) }
         ensures { (n : ℕ) → cell self.new n ≡ (if nat_eq n number then value else cell self.old n) }
     {
-        let place = number as usize;
-        if place / 8 < B {
-            set_bit(&mut self.bits, place, value);
+        let index = number as usize;
+        if index / 8 < B {
+            set_bit(&mut self.bits, index, value);
         } else {
-            set_bit(&mut self.meta, place - 8 * B, value);
+            set_bit(&mut self.meta, index - 8 * B, value);
         }
     }
 

@@ -39,7 +39,7 @@ lt_true a b h = grind (arith, nat_tests)
 true_lt : (a b : ℕ) → nat_lt a b ≡ true → a < b
 true_lt a b h = grind (arith, nat_tests)
 
--- a fact of each, by place and by recursion
+-- a fact of each, by index and by recursion
 all_at : {X : Type 0} (P : X → Type 0) (xs : List X) (d : X) → ((i : ℕ) → i < length xs → P (get_or xs i d)) → AllByRecursion P xs
 all_at P [] d h = tt
 all_at P (x ∷ xs) d h = (h 0 (omega arith), all_at P xs d (λ i lt. h (suc i) (omega (arith, lt))))

@@ -14,7 +14,7 @@ use std::alloc::{AllocError, Global};
 use std::io::Write;
 use std::marker::Model;
 
-/// A place that bytes are written to, call by call. Each call may fail.
+/// Where bytes are written to, call by call. Each call may fail.
 pub trait Sink {
     // The bytes that were written, where they are told.
     ghost written: { Self → Option (List ℕ) };

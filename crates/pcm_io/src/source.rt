@@ -13,7 +13,7 @@ use crate::unread::Unread;
 use std::io::Read;
 use std::marker::Model;
 
-/// A place that bytes are read from, call by call. Each call may fail.
+/// Where bytes are read from, call by call. Each call may fail.
 pub trait Source {
     // The bytes that are left, where they are told.
     ghost left: { Self → Option (List ℕ) };

@@ -19,9 +19,9 @@ use Rattle.clock_laws.proofs.Extending.{both_added_law}
 use Rattle.module_laws.specs.Asking.{Asked, AreAsked, IsAsked}
 use Rattle.reg_lines.specs.declared.Change.{Change}
 use Rattle.clock_laws.specs.Arriving.{cancels_for}
-use Rattle.bank_timing.specs.Cancelling.{cancel_by, cancel_first}
-use Rattle.bank_timing.specs.Extending.{Extends, IsOpen, IsQuiet, EndsAction, outcome_in}
-use Rattle.bank_timing.proofs.Running.{none-arrives}
+use Rattle.bank_clock.specs.Cancelling.{cancel_by, cancel_first}
+use Rattle.bank_clock.specs.Extending.{Extends, IsOpen, IsQuiet, EndsAction, outcome_in}
+use Rattle.bank_clock.proofs.Running.{none-arrives}
 use Rattle.bank_laws.specs.Ticks.{ends_action}
 use Rattle.pcm_module.specs.Stepping.{IsStep}
 use Rattle.pcm_module.proofs.Moving.{untouched, open_kept, outcome_at_row}

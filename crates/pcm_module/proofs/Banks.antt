@@ -16,7 +16,7 @@ use Rattle.module_shape.proofs.Bounds.{banks_apart}
 use Rattle.clock_laws.specs.State.{ClockState}
 use Rattle.clock_laws.specs.Standing.{arrives_with}
 use Rattle.module_laws.specs.Asking.{Asked, asked_in, asked_of}
-use Rattle.bank_timing.specs.Extending.{outcome_in}
+use Rattle.bank_clock.specs.Extending.{outcome_in}
 use Rattle.pcm_module.specs.Stepping.{IsAt, IsStep}
 use Rattle.pcm_module.specs.Replaying.{BankReplays, RowsFall, outcome_so_far}
 use Rattle.pcm_module.proofs.Naming.{is_numbered, names, not_named, above_all, rows_of_bank_all, All-both}

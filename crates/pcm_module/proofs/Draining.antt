@@ -17,8 +17,8 @@ use Rattle.clock_laws.specs.State.{ClockState}
 use Rattle.clock_laws.specs.Leads.{Leads}
 use Rattle.clock_laws.specs.Standing.{has_waiting, arrives_with}
 use Rattle.module_laws.specs.Asking.{Asked}
-use Rattle.bank_timing.specs.Extending.{LeavesOthers, outcome_in}
-use Rattle.bank_timing.specs.Draining.{Drains}
+use Rattle.bank_clock.specs.Extending.{LeavesOthers, outcome_in}
+use Rattle.bank_clock.specs.Draining.{Drains}
 use Rattle.end_laws.specs.Ends.{BankEnd}
 use Rattle.end_laws.specs.EndLaws.{IsEndOf}
 use Rattle.run_laws.specs.Runs.{pacing_in, bank_of_line, line_in_bank}

@@ -32,8 +32,8 @@ use Rattle.clock_laws.proofs.Settled.{settled_law}
 use Rattle.clock_laws.proofs.Elsewhere.{elsewhere_law}
 use Rattle.module_laws.specs.Asking.{Asked, AreAsked}
 use Rattle.module_laws.specs.Serves.{last_outcome, AreRecorded}
-use Rattle.bank_timing.specs.Extending.{outcome_in}
-use Rattle.bank_timing.specs.Draining.{Drains}
+use Rattle.bank_clock.specs.Extending.{outcome_in}
+use Rattle.bank_clock.specs.Draining.{Drains}
 use Rattle.pcm_module.specs.Replaying.{BankReplays, IsLogged, RowsFall, outcome_so_far}
 use Rattle.pcm_module.specs.Draining.{IsDrained}
 use Rattle.pcm_module.proofs.Standing.{stands_not}

@@ -25,7 +25,7 @@ use Rattle.module_laws.specs.Asking.{Asked}
 use Rattle.module_laws.specs.Serves.{IsOfLines}
 use Rattle.clock_laws.specs.State.{ClockState}
 use Rattle.clock_laws.specs.Leads.{Leads}
-use Rattle.bank_timing.specs.Extending.{first_clock, outcome_in}
+use Rattle.bank_clock.specs.Extending.{first_clock, outcome_in}
 use Rattle.run_laws.specs.Runs.{pacing_in}
 use Rattle.pcm_module.specs.State.{ModuleState, first_bank, banks_from}
 use Rattle.pcm_module.specs.Shaped.{IsModule, IsBankOf}

@@ -21,7 +21,7 @@ use Rattle.clock_laws.specs.Standing.{has_waiting, is_arrival_of, arrives_with}
 use Rattle.clock_laws.proofs.Recording.{whole_outcome_law}
 use Rattle.clock_laws.proofs.Others.{other_rows_law}
 use Rattle.module_laws.specs.Asking.{Asked, AreAsked}
-use Rattle.bank_timing.specs.Extending.{Extends, IsOpen, outcome_in}
+use Rattle.bank_clock.specs.Extending.{Extends, IsOpen, outcome_in}
 use Rattle.pcm_module.proofs.Standing.{StandsNot, stands_not}
 use Rattle.pcm_module.proofs.Naming.{names, not_named}
 

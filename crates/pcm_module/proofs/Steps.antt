@@ -18,7 +18,7 @@ use Rattle.clock_laws.specs.Leads.{Leads}
 use Rattle.clock_laws.specs.Standing.{has_waiting, arrives_with}
 use Rattle.clock_laws.proofs.Elsewhere.{elsewhere_law}
 use Rattle.module_laws.specs.Asking.{Asked}
-use Rattle.bank_timing.specs.Extending.{Extends, outcome_in}
+use Rattle.bank_clock.specs.Extending.{Extends, outcome_in}
 use Rattle.pcm_module.specs.Stepping.{IsAt, IsStep}
 use Rattle.pcm_module.specs.Replaying.{BankReplays, IsLogged, outcome_so_far}
 use Rattle.pcm_module.proofs.Naming.{is_numbered, names, not_named, of_named, All-both}

@@ -23,7 +23,7 @@ use Rattle.clock_laws.specs.Leads.{Leads}
 use Rattle.clock_laws.specs.Standing.{has_waiting}
 use Rattle.module_laws.specs.Asking.{Asked, asked_in, AreAsked}
 use Rattle.module_laws.specs.Serves.{IsOfLines}
-use Rattle.bank_timing.specs.Extending.{IsOpen, outcome_in}
+use Rattle.bank_clock.specs.Extending.{IsOpen, outcome_in}
 use Rattle.run_laws.specs.Runs.{pacing_in, bank_of_line, line_in_bank}
 use Rattle.pcm_module.specs.State.{ModuleState, bank_at, first_bank}
 use Rattle.pcm_module.specs.Stepping.{IsAt, IsStep}

@@ -12,7 +12,7 @@ use Rattle.module_laws.specs.Asking.{Asked, AreAsked}
 use Rattle.module_laws.specs.Serves.{AreRecorded}
 use Rattle.clock_laws.specs.State.{ClockState}
 use Rattle.clock_laws.specs.Leads.{Leads}
-use Rattle.bank_timing.specs.Extending.{outcome_in, last_tick}
+use Rattle.bank_clock.specs.Extending.{outcome_in, last_tick}
 use Rattle.run_laws.specs.Runs.{pacing_in}
 use Rattle.pcm_module.specs.State.{ModuleState, StandsNowhere}
 use Rattle.pcm_module.specs.Replaying.{IsLogged, Replays, ReplaysIn, IsReplayed, asked_in_bank}

@@ -19,7 +19,7 @@ use Rattle.module_laws.specs.Asking.{Asked, asked_of, AreAsked}
 use Rattle.module_laws.specs.Serves.{TicksFall, IsOfLines}
 use Rattle.clock_laws.specs.State.{ClockState}
 use Rattle.clock_laws.specs.Leads.{Leads}
-use Rattle.bank_timing.specs.Extending.{AreOpen, outcome_in}
+use Rattle.bank_clock.specs.Extending.{AreOpen, outcome_in}
 use Rattle.run_laws.specs.Runs.{pacing_in, bank_of_line, line_in_bank}
 use Rattle.pcm_module.specs.State.{ModuleState}
 

@@ -6,7 +6,7 @@ use Rattle.bank_model.specs.Timing.{TimedEvent}
 use Rattle.module_laws.specs.Asking.{Asked, AreAsked}
 use Rattle.clock_laws.specs.State.{ClockState}
 use Rattle.clock_laws.specs.Standing.{arrives_with}
-use Rattle.bank_timing.specs.Extending.{Extends, AreOpen}
+use Rattle.bank_clock.specs.Extending.{Extends, AreOpen}
 
 -- a bank is at a tick, and takes rows from a bound on; of the rows that stand there none has an outcome
 pub record IsAt {n m e : ℕ} (tick rows : ℕ) (clock : ClockState n m e) (results : List (Outcome n)) : Type 0 where

@@ -7,7 +7,7 @@ use Rattle.result_rows.specs.Table.{HasRow}
 use Rattle.bank_model.specs.Timing.{TimedEvent}
 use Rattle.module_shape.specs.Addresses.{module_of, array_lines_of}
 use Rattle.module_laws.specs.Asking.{Asked}
-use Rattle.bank_timing.specs.Extending.{IsOpen, outcome_in}
+use Rattle.bank_clock.specs.Extending.{IsOpen, outcome_in}
 use Rattle.pcm_module.specs.State.{ModuleState, StandsNowhere}
 use Rattle.pcm_module.specs.Replaying.{Replays}
 

@@ -7,10 +7,10 @@ ghost use Rattle.row_rules.specs.declared.Asks.TheVariants.{Reads, Writes, Cuts}
 ghost use Rattle.power_recovery.specs.Slots.{bank_lines};
 ghost use Rattle.bank_model.specs.Timing.{TimedEvent};
 ghost use Rattle.clock_laws.specs.Leads.{Leads};
-ghost use Rattle.bank_timing.specs.Extending.{AreOpen, IsOpen, last_tick};
+ghost use Rattle.bank_clock.specs.Extending.{AreOpen, IsOpen, last_tick};
 ghost use Rattle.pcm_module.specs.Stepping.{IsAt, IsStep};
 
-use bank_timing::clocked::ClockedBank;
+use bank_clock::clocked::ClockedBank;
 use masked_bytes::entry::Entry;
 use pcm_cells::CellArray;
 use result_rows::Results;

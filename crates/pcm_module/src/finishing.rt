@@ -5,7 +5,7 @@ ghost use Rattle.result_rows.specs.Table.{HasRow};
 ghost use Rattle.bank_model.specs.Timing.{TimedEvent};
 ghost use Rattle.module_shape.specs.Addresses.{module_of, array_lines_of};
 ghost use Rattle.module_laws.specs.Asking.{Asked, row_with};
-ghost use Rattle.bank_timing.specs.Extending.{outcome_in};
+ghost use Rattle.bank_clock.specs.Extending.{outcome_in};
 ghost use Rattle.end_laws.specs.Ends.{BankEnd};
 ghost use Rattle.run_laws.specs.Runs.{RunsRight};
 ghost use Rattle.run_laws.specs.Finishing.{IsFinished};
@@ -15,7 +15,7 @@ ghost use Rattle.pcm_module.specs.Taking.{StaysBeyond};
 ghost use Rattle.pcm_module.specs.Draining.{MayFinish, AreDrained};
 
 use crate::side_by_side::Module;
-use bank_timing::clocked::ClockedBank;
+use bank_clock::clocked::ClockedBank;
 use pcm_cells::CellArray;
 use result_rows::Results;
 use run_laws::finished_runs_are_right;

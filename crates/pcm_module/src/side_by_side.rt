@@ -12,7 +12,7 @@ ghost use Rattle.run_laws.specs.Runs.{bank_of_line, line_in_bank};
 ghost use Rattle.pcm_module.specs.State.{banks_from, bank_at, stands_in};
 ghost use Rattle.pcm_module.specs.Replaying.{Replays};
 
-use bank_timing::clocked::ClockedBank;
+use bank_clock::clocked::ClockedBank;
 use feistel_map::Feistel;
 use module_shape::{BankLine, Shape};
 use power_recovery::kept::Kept;

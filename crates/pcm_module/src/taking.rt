@@ -8,7 +8,7 @@ ghost use Rattle.bank_model.specs.Timing.{TimedEvent};
 ghost use Rattle.module_shape.specs.Limits.{total_of};
 ghost use Rattle.module_shape.specs.Addresses.{module_of, array_lines_of};
 ghost use Rattle.module_laws.specs.Asking.{Asked};
-ghost use Rattle.bank_timing.specs.Extending.{IsOpen, outcome_in, last_tick};
+ghost use Rattle.bank_clock.specs.Extending.{IsOpen, outcome_in, last_tick};
 ghost use Rattle.pcm_module.specs.Asking.{asked_by};
 ghost use Rattle.pcm_module.specs.State.{StandsNowhere};
 ghost use Rattle.pcm_module.specs.Replaying.{Replays, IsReplayed};
@@ -19,7 +19,7 @@ use crate::side_by_side::Module;
 use masked_bytes::entry::Entry;
 use pcm_cells::CellArray;
 use result_rows::{Outcome, Results};
-use trace_reader::{Event, EventOp};
+use trace_reader::{TraceEvent, TraceOp};
 
 impl<const B: usize, const M: usize, const E: usize> Module<B, M, E> {
     /// A row of the trace, with its number, above those of all rows before it. A read or a write brings its own bank alone
@@ -28,7 +28,7 @@ impl<const B: usize, const M: usize, const E: usize> Module<B, M, E> {
         &mut self,
         array: &mut A,
         row: u32,
-        event: &Event<B>,
+        event: &TraceEvent<B>,
         results: &mut Results<B>,
     )
         requires going { self.old.finished ≡ false }
@@ -59,12 +59,12 @@ impl<const B: usize, const M: usize, const E: usize> Module<B, M, E> {
         // A field that is read makes known what is true of every module.
         let _ = &self.shape;
         match event.op {
-            EventOp::Read(line) => self.read(array, event.tick, row, line, results),
-            EventOp::Write(line, bytes) => {
+            TraceOp::Read(line) => self.read(array, event.tick, row, line, results),
+            TraceOp::Write(line, bytes) => {
                 let entry = Entry::whole(row, line, &bytes);
                 self.write(array, event.tick, entry, results);
             }
-            EventOp::Mask(line, bytes, given) => {
+            TraceOp::Mask(line, bytes, given) => {
                 let entry = Entry {
                     row,
                     line,
@@ -73,7 +73,7 @@ impl<const B: usize, const M: usize, const E: usize> Module<B, M, E> {
                 };
                 self.write(array, event.tick, entry, results);
             }
-            EventOp::Cut => self.cut(array, event.tick, row, results),
+            TraceOp::Cut => self.cut(array, event.tick, row, results),
         }
     }
 

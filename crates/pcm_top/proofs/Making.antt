@@ -2,7 +2,7 @@
 use Rattle.std.proofs.Common.{◌≡◌, ℕ, List, length, Some, sym, subst}
 use Rattle.pcm_cells.specs.Device.{ArrayState}
 use Rattle.trace_reader.specs.Events.{AreEventsFor}
-use Rattle.trace_reader.specs.declared.event.Event.{Event}
+use Rattle.trace_reader.specs.declared.event.TraceEvent.{TraceEvent}
 use Rattle.result_rows.specs.declared.Outcome.{Outcome}
 use Rattle.module_shape.specs.declared.raw.RawShape.{RawShape}
 use Rattle.module_shape.specs.Limits.{IsShape, total_of}
@@ -35,7 +35,7 @@ pub ready-for : {n m e : ℕ} (raw : RawShape) (seed rows count : ℕ) (module_ 
     → rows ≡ count → IsReady raw seed rows module_ array results → IsReady raw seed count module_ array results
 ready-for raw seed rows count module_ array results same ready = subst (λ c. IsReady raw seed c module_ array results) same ready
 
-module _ {n m e : ℕ} (job : RunJob) (array : ArrayState n m) (events : List (Event n)) (outcomes : List (Outcome n)) (pcm : ModuleState n m e)
+module _ {n m e : ℕ} (job : RunJob) (array : ArrayState n m) (events : List (TraceEvent n)) (outcomes : List (Outcome n)) (pcm : ModuleState n m e)
     (shape : pcm.shape ≡ job.shape) (seeded : pcm.seed ≡ job.seed) (size : length outcomes ≡ length events)
     (left : (ends : ℕ → BankEnd) × AreEndsOf pcm ends × RunsRight e pcm.shape pcm.seed (rows_of events outcomes) array ends) where
   -- it can be printed

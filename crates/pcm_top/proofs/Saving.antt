@@ -2,10 +2,10 @@
 use Rattle.std.proofs.Common.{◌≡◌, ℕ, ◌^◌, ◌<◌, List, Option, Some, None, refl, sym, subst, reverse}
 use Rattle.std.specs.Prelude.{IsSomeAnd, slice_get, unwrap_or}
 use Rattle.pcm_cells.specs.Device.{ArrayState}
-use Rattle.trace_reader.specs.declared.event.Event.{Event}
+use Rattle.trace_reader.specs.declared.event.TraceEvent.{TraceEvent}
 use Rattle.result_rows.specs.declared.Outcome.{Outcome}
 use Rattle.module_shape.specs.Limits.{IsShape}
-use Rattle.bank_timing.specs.Extending.{outcome_in}
+use Rattle.bank_clock.specs.Extending.{outcome_in}
 use Rattle.end_laws.specs.Ends.{BankEnd}
 use Rattle.end_laws.specs.EndLaws.{IsEndOf}
 use Rattle.run_laws.specs.Runs.{RunsRight}
@@ -26,7 +26,7 @@ there : {X : Type 0} (P : X → Type 0) (o : Option X) (d : X) → IsSomeAnd o P
 there P (Some x) d h = h
 there P None d h = absurd h
 
-module _ {n m e : ℕ} (pcm : ModuleState n m e) (before array : ArrayState n m) (events : List (Event n)) (outcomes : List (Outcome n))
+module _ {n m e : ℕ} (pcm : ModuleState n m e) (before array : ArrayState n m) (events : List (TraceEvent n)) (outcomes : List (Outcome n))
     (played : IsPlayed pcm events outcomes before) (since : SensedSince before array) where
   pub left-of : IsLeft e pcm.shape pcm.seed (rows_of events outcomes) array (saved_of pcm.shape pcm.seed (kept_in pcm) before)
   left-of = record {
@@ -49,7 +49,7 @@ module _ {n m e : ℕ} (pcm : ModuleState n m e) (before array : ArrayState n m)
       law n m e pcm.shape pcm.seed (rows_of events outcomes) array ends (saved_of pcm.shape pcm.seed (kept_in pcm) before) left-of is had
 
 -- so the text of a run that prints its image is written
-pub image-text : {n m e : ℕ} → SavedLaw → (pcm : ModuleState n m e) (seed : ℕ) (before array : ArrayState n m) (events : List (Event n)) (outcomes : List (Outcome n)) (print : Print) (P : List ℕ → Type 0)
+pub image-text : {n m e : ℕ} → SavedLaw → (pcm : ModuleState n m e) (seed : ℕ) (before array : ArrayState n m) (events : List (TraceEvent n)) (outcomes : List (Outcome n)) (print : Print) (P : List ℕ → Type 0)
     → print ≡ Image → seed ≡ pcm.seed → seed < 2 ^ 64 → IsShape pcm.shape → IsPlayed pcm events outcomes before → SensedSince before array
     → P (image_bytes (saved_of pcm.shape seed (kept_in pcm) before))
     → (ends : ℕ → BankEnd) → AreEndsOf pcm ends → RunsRight e pcm.shape pcm.seed (rows_of events outcomes) array ends → HaveRoles pcm.shape pcm.seed ends

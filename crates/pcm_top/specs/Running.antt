@@ -1,7 +1,7 @@
 -- What a job does, and why a call does none of it.
 use Rattle.std.specs.Prelude.{◌≡◌, ◌⊎◌, ℕ, Bool, true, false, if◌then◌else◌, List, length, Some, Result, Ok, Err}
 use Rattle.pcm_cells.specs.Device.{ArrayState}
-use Rattle.trace_reader.specs.declared.event.Event.{Event}
+use Rattle.trace_reader.specs.declared.event.TraceEvent.{TraceEvent}
 use Rattle.result_rows.specs.declared.Outcome.{Outcome}
 use Rattle.run_text.specs.Shortfall.{any_short}
 use Rattle.rotation_reports.specs.MapText.{map_text}
@@ -45,7 +45,7 @@ module _ (n m e : ℕ) (job : RunJob) (s : SourceChange) (array : ArrayState n m
   -- a completed read has its line's newest bytes, and each line's newest bytes are in the array or in a
   -- queue. The array was powered up with the job's wear
   pub record Runs : Type 0 where
-    pub events : List (Event n)
+    pub events : List (TraceEvent n)
     pub come : ComeFrom n job job.input s events
     pub outcomes : List (Outcome n)
     pub one_each : length outcomes ≡ length events

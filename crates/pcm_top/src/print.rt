@@ -25,7 +25,7 @@ use pcm_io::{Sink, Text, WriteFault};
 use pcm_module::Module;
 use result_rows::Results;
 use run_text::{TEXT_ROOM, print_counts, print_results, sum_pulses};
-use trace_reader::{Event, MOST_ROWS};
+use trace_reader::{MOST_ROWS, TraceEvent};
 
 /// Writes what is asked for of a run that was made: its results, its summary, its wear report or its image.
 /// For an image each line of the array is sensed once more; otherwise nothing happens to the array.
@@ -34,7 +34,7 @@ pub fn print_run<const B: usize, const M: usize, const E: usize, A: CellArray<B,
     pcm: &Module<B, M, E>,
     seed: u64,
     array: &mut A,
-    events: &[Event<B>],
+    events: &[TraceEvent<B>],
     results: &Results<B>,
     text: &mut Text,
     out: &mut K,

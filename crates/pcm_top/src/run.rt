@@ -24,7 +24,7 @@ use pcm_module::Module;
 use result_rows::Results;
 use run_text::{TEXT_ROOM, any_short};
 use std::alloc::Global;
-use trace_reader::{Event, MOST_ROWS};
+use trace_reader::{MOST_ROWS, TraceEvent};
 
 /// How a job was done.
 #[derive(Clone, Copy, Debug, PartialEq, Eq)]
@@ -66,7 +66,7 @@ fn play<const B: usize, const M: usize, const E: usize, A: CellArray<B, M>, K: S
     job: &RunJob,
     pcm: &mut Module<B, M, E>,
     array: &mut A,
-    events: &[Event<B>],
+    events: &[TraceEvent<B>],
     results: &mut Results<B>,
     text: &mut Text,
     out: &mut K,

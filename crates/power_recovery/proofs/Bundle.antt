@@ -7,7 +7,7 @@ use Rattle.std.proofs.lemmas.List.Quantifiers.{position-Some}
 use Rattle.std.proofs.lemmas.Grind.{get_or-set_at}
 use Rattle.std.proofs.lemmas.Iterator.Adapters.{position_from-zero}
 use Rattle.masked_bytes.specs.Masked.{IsMasked}
-use Rattle.masked_bytes.specs.Entries.{AllMasked, merged_at, completed, candidate_place, head_line}
+use Rattle.masked_bytes.specs.Entries.{AllMasked, merged_at, completed, candidate_index, head_line}
 use Rattle.masked_bytes.specs.declared.entry.Entry.{Entry}
 use Rattle.masked_bytes.proofs.Queueing.{length-merged_at}
 use Rattle.masked_bytes.proofs.Standing.{AllMasked-append, AllMasked-merged_at, AllMasked-completed}
@@ -61,10 +61,10 @@ module _ {n : ℕ} where
 
   AreEntries-accepted_by : (cap lines : ℕ) (p : Option ℕ) (room : Bool) (e : Entry n) (es : List (Entry n)) → (room ≡ true → length es < cap)
       → IsMasked n e.bytes e.given → e.line < lines → AreEntries cap lines es → AreEntries cap lines (accepted_by p room e es)
-  AreEntries-accepted_by cap lines (Some place) room e es left m k all = record {
-    few = omega (arith, length-merged_at es place e.row e.bytes e.given, all.few);
-    masked = AllMasked-merged_at es place e.row e.bytes e.given all.masked m;
-    known = AllBelow-merged_at es place e.row e.bytes e.given lines all.known;
+  AreEntries-accepted_by cap lines (Some index) room e es left m k all = record {
+    few = omega (arith, length-merged_at es index e.row e.bytes e.given, all.few);
+    masked = AllMasked-merged_at es index e.row e.bytes e.given all.masked m;
+    known = AllBelow-merged_at es index e.row e.bytes e.given lines all.known;
   }
   AreEntries-accepted_by cap lines None true e es left m k all = record {
     few = omega (arith, length-append es (e ∷ []), left refl);
@@ -97,7 +97,7 @@ module _ {n : ℕ} where
       → IsKept (accepted_kept busy e kept)
   IsKept-accepted kept busy e range m k =
       with_entries-kept kept _ range
-      (AreEntries-accepted_by kept.shape.writes (bank_lines kept.shape) (candidate_place busy kept.entries e.line) (nat_lt (length kept.entries) kept.shape.writes) e kept.entries
+      (AreEntries-accepted_by kept.shape.writes (bank_lines kept.shape) (candidate_index busy kept.entries e.line) (nat_lt (length kept.entries) kept.shape.writes) e kept.entries
       (ltb-true (length kept.entries) kept.shape.writes) m k (AreEntries-kept kept range))
 
   pub IsKept-completed : (kept : KeptState n) (below : List ℕ) → IsKept kept → length below ≡ n → IsKept (completed_kept below kept)
@@ -125,7 +125,7 @@ none_from p i (r ∷ rs) h k below = by (p r) k refl h (none_from p (i + 1) rs) 
     by false zero e h rest below = e
     by false (suc k) e h rest below = rest h k (omega arith)
 
--- an item that was read is the one at its place
+-- an item that was read is the one at its index
 pub read_region : (rs : List RegionState) (i : ℕ) (r : RegionState) → i < length rs → r ≡ get_or rs i r → get_or rs i no_region ≡ r
 read_region [] i r h e = grind arith
 read_region (x ∷ rs) zero r h e = sym e

@@ -4,9 +4,9 @@ use Rattle.std.proofs.lemmas.Bool.{cases_lt, cases_eq, ne_eqb}
 use Rattle.std.proofs.lemmas.Nat.{mod_below, div-add-mod'}
 use Rattle.std.proofs.lemmas.Grind.{get_or-set_at}
 use Rattle.std.proofs.Math.Nat.{add-mod-mod}
-use Rattle.masked_bytes.specs.Entries.{candidate_place, completed, head_line}
+use Rattle.masked_bytes.specs.Entries.{candidate_index, completed, head_line}
 use Rattle.masked_bytes.specs.declared.entry.Entry.{Entry}
-use Rattle.masked_bytes.proofs.Queueing.{candidate_place-busy}
+use Rattle.masked_bytes.proofs.Queueing.{candidate_index-busy}
 use Rattle.start_gap.specs.Rotation.{Rotation, IsRotation, place_by, move_by, below_gap, advanced}
 use Rattle.start_gap.proofs.Turning.{remainder, place_by-before, place_by-behind, advanced-end, advanced-further}
 use Rattle.region_regs.specs.Region.{RegionState, after_store, after_move}
@@ -107,7 +107,7 @@ module _ {n : ℕ} where
   -- The head, while it is written
 
   pub head-accepted_busy : (cap : ℕ) (e f : Entry n) (es : List (Entry n)) → slice_get (accepted cap true e (f ∷ es)) 0 ≡ Some f
-  head-accepted_busy cap e f es = by (candidate_place true (f ∷ es) e.line) (nat_lt (length (f ∷ es)) cap) (candidate_place-busy (f ∷ es) e.line)
+  head-accepted_busy cap e f es = by (candidate_index true (f ∷ es) e.line) (nat_lt (length (f ∷ es)) cap) (candidate_index-busy (f ∷ es) e.line)
     where
       by : (p : Option ℕ) (room : Bool) → ((i : ℕ) → p ≡ Some i → 0 < i) → slice_get (accepted_by p room e (f ∷ es)) 0 ≡ Some f
       by (Some zero) room behind = let bad : 0 < 0 = behind 0 refl in grind arith
@@ -119,7 +119,7 @@ module _ {n : ℕ} where
   pub head_line-accepted : (cap : ℕ) (busy : Bool) (e : Entry n) (es : List (Entry n)) → 0 < length es
       → (head_line (accepted cap busy e es) ≡ head_line es) × (0 < length (accepted cap busy e es))
   head_line-accepted cap busy e [] h = grind arith
-  head_line-accepted cap busy e (f ∷ es) h = by (candidate_place busy (f ∷ es) e.line) (nat_lt (length (f ∷ es)) cap)
+  head_line-accepted cap busy e (f ∷ es) h = by (candidate_index busy (f ∷ es) e.line) (nat_lt (length (f ∷ es)) cap)
     where
       by : (p : Option ℕ) (room : Bool) → (head_line (accepted_by p room e (f ∷ es)) ≡ f.line) × (0 < length (accepted_by p room e (f ∷ es)))
       by (Some zero) room = (refl, omega arith)

@@ -1,7 +1,7 @@
 //! The bundle that survives a power cut.
 ghost use Rattle.std.specs.Prelude.{◌≡◌, ℕ, ◌+◌, ◌/◌, ◌%◌, ◌<◌, ◌≤◌, ◌↔◌, [], false, length, replicate, slice_get, option_copied, IfOk, IsOk, OnOk, OnErr, IsTrue};
 ghost use Rattle.masked_bytes.specs.Masked.{none_given, IsMasked};
-ghost use Rattle.masked_bytes.specs.Entries.{layer_of, newest_place, head_row};
+ghost use Rattle.masked_bytes.specs.Entries.{layer_of, newest_index, head_row};
 ghost use Rattle.protected_queue.specs.Queue.{accept_answer};
 ghost use Rattle.start_gap.specs.Rotation.{StandsFor, place_after};
 ghost use Rattle.spare_pool.specs.Table.{used_by, line_by};
@@ -94,7 +94,7 @@ impl<const B: usize> Kept<B> {
     pub fn newest(&self, line: u32) -> ([u8; B], [bool; B])
         ensures bytes { result.0 ≡ (layer_of self.now.entries line).bytes }
         ensures given { result.1 ≡ (layer_of self.now.entries line).given }
-        ensures none { (result.1 ≡ none_given B) ↔ (newest_place self.now.entries line ≡ None) }
+        ensures none { (result.1 ≡ none_given B) ↔ (newest_index self.now.entries line ≡ None) }
     {
         self.queue.newest(line)
     }
@@ -106,7 +106,7 @@ impl<const B: usize> Kept<B> {
         self.queue.head()
     }
 
-    /// The write at a place of the queue, the oldest one at 0.
+    /// The write at an index of the queue, the oldest one at 0.
     pub fn at(&self, i: usize) -> Option<&Entry<B>>
         ensures { option_copied result ≡ slice_get self.now.entries i }
     {

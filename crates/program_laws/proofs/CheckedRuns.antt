@@ -21,7 +21,7 @@ use Rattle.module_shape.specs.Limits.{total_of}
 use Rattle.module_laws.specs.Asking.{Asked, row_with}
 use Rattle.run_laws.specs.Runs.{RunsRight}
 use Rattle.run_text.specs.ResultText.{results_text}
-use Rattle.bank_timing.specs.Extending.{outcome_in}
+use Rattle.bank_clock.specs.Extending.{outcome_in}
 use Rattle.pcm_module.specs.Asking.{asked_by, asked_for}
 use Rattle.text_check.specs.Checked.{HasVerdict, IsTextFault}
 use Rattle.text_check.specs.JudgedRuns.{IsJudgedOk, IsRunOf, JudgedRunsLaw, ShortLaw}

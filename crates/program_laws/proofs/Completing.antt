@@ -8,7 +8,7 @@ use Rattle.std.proofs.lemmas.List.Folds.{list_any_none}
 use Rattle.std.proofs.lemmas.Option.{slice_get-get_or}
 use Rattle.trace_reader.specs.Events.{AreEventsFor}
 use Rattle.trace_reader.specs.declared.event.Event.{Event}
-use Rattle.trace_reader.specs.declared.event.EventOp.TheVariants.{Cut}
+use Rattle.trace_reader.specs.declared.event.TraceOp.TheVariants.{Cut}
 use Rattle.trace_reader.proofs.Lawful.{trace_of-lawful}
 use Rattle.trace_gen.specs.Laws.{GeneratedLaw}
 use Rattle.result_rows.specs.declared.Outcome.{Outcome}

@@ -2,7 +2,7 @@
 use Rattle.std.proofs.Common.{◌≡◌, ◌≢◌, ℕ, ◌<◌, ◌≤◌, List, [], ◌∷◌, ◌++◌, Bool, true, false, ◌==◌, if◌then◌else◌, zero, suc, length, drop, refl, sym, ap, ◌∙◌, arith, slice_get, slice_set, Option, Some, None, eq-eqb, length-append, ◌⊎◌, inl, inr}
 use Rattle.std.proofs.lemmas.Bool.{ne_eqb, lt-ltb, le-ltb, cases_lt}
 use Rattle.masked_bytes.specs.Masked.{joined, none_given, gives_some, IsMasked}
-use Rattle.masked_bytes.specs.Entries.{stacked, or_this, one_further, layer_by, layer_of, newest_place, candidate_place, laid_on, merged_at, completed_by, completed, row_at, AllMasked}
+use Rattle.masked_bytes.specs.Entries.{stacked, or_this, one_further, layer_by, layer_of, newest_index, candidate_index, laid_on, merged_at, completed_by, completed, row_at, AllMasked}
 use Rattle.masked_bytes.specs.declared.entry.Entry.{Entry}
 use Rattle.masked_bytes.proofs.Layering.{gives_some-joined}
 use Rattle.masked_bytes.proofs.Queueing.{IsLayer, IsLayer-layer_of, length-merged_at, merged_at-slice_set}
@@ -29,7 +29,7 @@ no_room a b full = by (cases_lt a b)
     by (inr h) = h
 
 module _ {n : ℕ} where
-  -- Places
+  -- Indices
 
   pub drop-slice_get : (es : List (Entry n)) (i : ℕ) (e : Entry n) → slice_get es i ≡ Some e → drop i es ≡ e ∷ drop (suc i) es
   drop-slice_get [] i e h = cc
@@ -37,16 +37,16 @@ module _ {n : ℕ} where
   drop-slice_get (f ∷ es) (suc i) e h = drop-slice_get es i e h
 
   -- the newest entry of a line is the first one found from the end
-  pub newest_place-found : (es : List (Entry n)) (line i : ℕ) (e : Entry n) → slice_get es i ≡ Some e → e.line ≡ line
-      → newest_place (drop (suc i) es) line ≡ None → newest_place es line ≡ Some i
-  newest_place-found [] line i e h k none = cc
-  newest_place-found (f ∷ es) line zero e h k none =
+  pub newest_index-found : (es : List (Entry n)) (line i : ℕ) (e : Entry n) → slice_get es i ≡ Some e → e.line ≡ line
+      → newest_index (drop (suc i) es) line ≡ None → newest_index es line ≡ Some i
+  newest_index-found [] line i e h k none = cc
+  newest_index-found (f ∷ es) line zero e h k none =
       let same : f ≡ e = cc in let is : f.line ≡ line = ap (λ x. x.line) same ∙ k in rw (none, eq-eqb f.line line is)
-  newest_place-found (f ∷ es) line (suc i) e h k none = rw (newest_place-found es line i e h k none)
+  newest_index-found (f ∷ es) line (suc i) e h k none = rw (newest_index-found es line i e h k none)
 
-  pub newest_place-passed : (es : List (Entry n)) (line i : ℕ) (e : Entry n) → slice_get es i ≡ Some e → e.line ≢ line
-      → newest_place (drop (suc i) es) line ≡ None → newest_place (drop i es) line ≡ None
-  newest_place-passed es line i e h k none = rw (drop-slice_get es i e h, none, ne_eqb e.line line k)
+  pub newest_index-passed : (es : List (Entry n)) (line i : ℕ) (e : Entry n) → slice_get es i ≡ Some e → e.line ≢ line
+      → newest_index (drop (suc i) es) line ≡ None → newest_index (drop i es) line ≡ None
+  newest_index-passed es line i e h k none = rw (drop-slice_get es i e h, none, ne_eqb e.line line k)
 
   -- one more entry under those that were gathered
   pub layer_of-more : (es : List (Entry n)) (line i : ℕ) (e : Entry n) → slice_get es i ≡ Some e → e.line ≡ line
@@ -73,14 +73,14 @@ module _ {n : ℕ} where
   some_given es e line None false i m some h = cc
 
   -- a line with an entry has a byte that is given
-  pub gives_some-layer_of : (es : List (Entry n)) (line i : ℕ) → AllMasked es → newest_place es line ≡ Some i → gives_some (layer_of es line).given ≡ true
+  pub gives_some-layer_of : (es : List (Entry n)) (line i : ℕ) → AllMasked es → newest_index es line ≡ Some i → gives_some (layer_of es line).given ≡ true
   gives_some-layer_of [] line i m h = cc
   gives_some-layer_of (e ∷ es) line i m h =
-      some_given es e line (newest_place es line) (e.line == line) i m (λ j k. gives_some-layer_of es line j m.1 k) h
+      some_given es e line (newest_index es line) (e.line == line) i m (λ j k. gives_some-layer_of es line j m.1 k) h
 
   -- no byte is given exactly where the line has no entry
-  pub newest_place-None : (es : List (Entry n)) (line : ℕ) → AllMasked es → (layer_of es line).given ≡ none_given n → newest_place es line ≡ None
-  newest_place-None es line m h = by (newest_place es line) (λ i k. gives_some-layer_of es line i m k)
+  pub newest_index-None : (es : List (Entry n)) (line : ℕ) → AllMasked es → (layer_of es line).given ≡ none_given n → newest_index es line ≡ None
+  newest_index-None es line m h = by (newest_index es line) (λ i k. gives_some-layer_of es line i m k)
     where
       by : (p : Option ℕ) → ((i : ℕ) → p ≡ Some i → gives_some (layer_of es line).given ≡ true) → p ≡ None
       by None some = refl
@@ -89,7 +89,7 @@ module _ {n : ℕ} where
           let is_not : gives_some (layer_of es line).given ≡ false = ap (λ xs. gives_some xs) h ∙ gives_some-none_given n in
           cc
 
-  -- What is written at a place
+  -- What is written at an index
 
   pub completed-written : (es : List (Entry n)) (below : List ℕ) (e new : Entry n) → Some e ≡ slice_get es 0 → new ≡ completed_by below e
       → slice_set es 0 new ≡ completed below es
@@ -140,16 +140,16 @@ module _ {n : ℕ} where
 
   -- What accept answers
 
-  pub accept_answer-Some : (cap : ℕ) (busy : Bool) (es : List (Entry n)) (line i : ℕ) → candidate_place busy es line ≡ Some i
+  pub accept_answer-Some : (cap : ℕ) (busy : Bool) (es : List (Entry n)) (line i : ℕ) → candidate_index busy es line ≡ Some i
       → accept_answer cap busy es line ≡ Merged (row_at es i) i
   accept_answer-Some cap busy es line i h = rw h
 
   -- with no candidate, and room for one more
-  pub accept_answer-room : (cap : ℕ) (busy : Bool) (es : List (Entry n)) (line : ℕ) → candidate_place busy es line ≡ None → length es < cap
+  pub accept_answer-room : (cap : ℕ) (busy : Bool) (es : List (Entry n)) (line : ℕ) → candidate_index busy es line ≡ None → length es < cap
       → accept_answer cap busy es line ≡ Pushed
   accept_answer-room cap busy es line h room = rw (h, lt-ltb (length es) cap room)
 
   -- and with none
-  pub accept_answer-full : (cap : ℕ) (busy : Bool) (es : List (Entry n)) (line : ℕ) → candidate_place busy es line ≡ None → (length es < cap → false ≡ true)
+  pub accept_answer-full : (cap : ℕ) (busy : Bool) (es : List (Entry n)) (line : ℕ) → candidate_index busy es line ≡ None → (length es < cap → false ≡ true)
       → accept_answer cap busy es line ≡ Full
   accept_answer-full cap busy es line h full = rw (h, le-ltb (length es) cap (no_room (length es) cap full))

@@ -1,6 +1,6 @@
 -- What a contract sees of a write queue, and what accepting a write does to it.
 use Rattle.std.specs.Prelude.{ℕ, ◌<◌, ◌≤◌, nat_lt, Bool, true, false, List, [], ◌∷◌, ◌++◌, length, Option, Some, None}
-use Rattle.masked_bytes.specs.Entries.{candidate_place, merged_at, row_at, AllMasked}
+use Rattle.masked_bytes.specs.Entries.{candidate_index, merged_at, row_at, AllMasked}
 use Rattle.masked_bytes.specs.declared.entry.Entry.{Entry}
 use Rattle.protected_queue.specs.declared.accept.Accept.{Accept}
 use Rattle.protected_queue.specs.declared.accept.Accept.TheVariants.{Pushed, Merged, Full}
@@ -20,21 +20,21 @@ pub record IsQueue (n : ℕ) (entries : List (Entry n)) (cap : ℕ) : Type 0 whe
   pub masked : AllMasked entries
 
 module _ {n : ℕ} where
-  -- the answer to a write whose candidate stands at this place, by whether there is room for one more entry
+  -- the answer to a write whose candidate stands at this index, by whether there is room for one more entry
   abbrev pub answer_by : Option ℕ → Bool → List (Entry n) → Accept
-  answer_by (Some place) room es = Merged (row_at es place) place
+  answer_by (Some index) room es = Merged (row_at es index) index
   answer_by None true es = Pushed
   answer_by None false es = Full
 
   -- the answer to a write of a line
   abbrev pub accept_answer : ℕ → Bool → List (Entry n) → ℕ → Accept
-  accept_answer cap busy es line = answer_by (candidate_place busy es line) (nat_lt (length es) cap) es
+  accept_answer cap busy es line = answer_by (candidate_index busy es line) (nat_lt (length es) cap) es
 
   abbrev pub accepted_by : Option ℕ → Bool → Entry n → List (Entry n) → List (Entry n)
-  accepted_by (Some place) room e es = merged_at place e.row e.bytes e.given es
+  accepted_by (Some index) room e es = merged_at index e.row e.bytes e.given es
   accepted_by None true e es = es ++ e ∷ []
   accepted_by None false e es = es
 
   -- the entries after a write: merged into its candidate, or else behind the others where there is room
   abbrev pub accepted : ℕ → Bool → Entry n → List (Entry n) → List (Entry n)
-  accepted cap busy e es = accepted_by (candidate_place busy es e.line) (nat_lt (length es) cap) e es
+  accepted cap busy e es = accepted_by (candidate_index busy es e.line) (nat_lt (length es) cap) e es

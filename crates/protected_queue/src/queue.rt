@@ -1,7 +1,7 @@
 //! The write queue.
 ghost use Rattle.std.specs.Prelude.{◌≡◌, ◌<◌, ◌≤◌, ◌↔◌, [], length, drop, slice_get, option_copied, IfOk, IsTrue};
 ghost use Rattle.masked_bytes.specs.Masked.{none_given, IsMasked};
-ghost use Rattle.masked_bytes.specs.Entries.{layer_of, newest_place, candidate_place, completed, merged_at, row_at};
+ghost use Rattle.masked_bytes.specs.Entries.{layer_of, newest_index, candidate_index, completed, merged_at, row_at};
 ghost use Rattle.protected_queue.specs.Queue.{accept_answer, accepted};
 
 use crate::accept::Accept;
@@ -60,16 +60,16 @@ impl<const B: usize> Queue<B> {
         }
     }
 
-    /// Lays a write over that at a place, and answers the row that this one counted as.
-    fn merge(&mut self, place: usize, newer: &Entry<B>) -> u32
+    /// Lays a write over that at an index, and answers the row that this one counted as.
+    fn merge(&mut self, index: usize, newer: &Entry<B>) -> u32
         requires masked { IsMasked B newer.now.bytes newer.now.given }
-        requires within { place < length self.old.entries }
-        ensures row { result ≡ row_at self.old.entries place }
+        requires within { index < length self.old.entries }
+        ensures row { result ≡ row_at self.old.entries index }
         ensures entries { self.new ≡ record self.old {
-          entries = merged_at place newer.now.row newer.now.bytes newer.now.given self.old.entries;
+          entries = merged_at index newer.now.row newer.now.bytes newer.now.given self.old.entries;
         } }
     {
-        let Some(slot) = self.ring.get_mut(place) else {
+        let Some(slot) = self.ring.get_mut(index) else {
             unreachable!()
         };
         let mut merged = *slot;
@@ -79,23 +79,23 @@ impl<const B: usize> Queue<B> {
         old
     }
 
-    /// The place of the entry that a write of the line is merged into.
+    /// The index of the entry that a write of the line is merged into.
     fn candidate(&self, line: u32, head_busy: bool) -> Option<usize>
-        ensures { result ≡ candidate_place head_busy self.now.entries line }
+        ensures { result ≡ candidate_index head_busy self.now.entries line }
     {
-        self.place_of(line).filter(|place| *place > 0 || !head_busy)
+        self.index_of(line).filter(|index| *index > 0 || !head_busy)
     }
 
-    /// The place of the newest entry of a line.
-    fn place_of(&self, line: u32) -> Option<usize>
-        ensures { result ≡ newest_place self.now.entries line }
+    /// The index of the newest entry of a line.
+    fn index_of(&self, line: u32) -> Option<usize>
+        ensures { result ≡ newest_index self.now.entries line }
     {
-        for place in (0..self.ring.len()).rev() {
-            let Some(entry) = self.ring.get(place) else {
+        for index in (0..self.ring.len()).rev() {
+            let Some(entry) = self.ring.get(index) else {
                 unreachable!()
             };
             if entry.line == line {
-                return Some(place);
+                return Some(index);
             }
         }
         None
@@ -105,12 +105,12 @@ impl<const B: usize> Queue<B> {
     pub fn newest(&self, line: u32) -> ([u8; B], [bool; B])
         ensures bytes { result.0 ≡ (layer_of self.now.entries line).bytes }
         ensures given { result.1 ≡ (layer_of self.now.entries line).given }
-        ensures none { (result.1 ≡ none_given B) ↔ (newest_place self.now.entries line ≡ None) }
+        ensures none { (result.1 ≡ none_given B) ↔ (newest_index self.now.entries line ≡ None) }
     {
         let mut bytes = [0; B];
         let mut given = [false; B];
-        for place in (0..self.ring.len()).rev() {
-            let Some(entry) = self.ring.get(place) else {
+        for index in (0..self.ring.len()).rev() {
+            let Some(entry) = self.ring.get(index) else {
                 unreachable!()
             };
             if entry.line == line {
@@ -138,7 +138,7 @@ impl<const B: usize> Queue<B> {
         self.ring.pop_front()
     }
 
-    /// The write at a place, the oldest one at 0.
+    /// The write at an index, the oldest one at 0.
     pub fn at(&self, i: usize) -> Option<&Entry<B>>
         ensures { option_copied result ≡ slice_get self.now.entries i }
     {

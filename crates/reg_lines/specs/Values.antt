@@ -12,7 +12,7 @@ encoded n values = bytes_of values ++ replicate (n - 12) 0
 
 -- the number whose lowest byte stands here, and the three of a line
 abbrev pub value_at : List ℕ → ℕ → ℕ
-value_at bytes place = from_le_bytes w32 (take 4 (drop place bytes))
+value_at bytes index = from_le_bytes w32 (take 4 (drop index bytes))
 
 abbrev pub values_in : List ℕ → List ℕ
 values_in bytes = value_at bytes 0 ∷ value_at bytes 4 ∷ value_at bytes 8 ∷ []

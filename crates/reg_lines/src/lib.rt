@@ -35,15 +35,15 @@ pub fn values_of<const B: usize>(bytes: &[u8; B]) -> [u32; 3]
     [value_at(bytes, 0), value_at(bytes, 4), value_at(bytes, 8)]
 }
 
-// The number whose lowest byte stands at a place.
-fn value_at<const B: usize>(bytes: &[u8; B], place: usize) -> u32
-    requires { place + 4 ≤ B }
-    ensures { result ≡ value_at bytes.now place }
+// The number whose lowest byte stands at an index.
+fn value_at<const B: usize>(bytes: &[u8; B], index: usize) -> u32
+    requires { index + 4 ≤ B }
+    ensures { result ≡ value_at bytes.now index }
 {
     u32::from_le_bytes([
-        bytes[place],
-        bytes[place + 1],
-        bytes[place + 2],
-        bytes[place + 3],
+        bytes[index],
+        bytes[index + 1],
+        bytes[index + 2],
+        bytes[index + 3],
     ])
 }

@@ -255,7 +255,7 @@ looked_up {n} banks rows next soon worn line bank a b c h at_next at_soon at_wor
     ∙ ap (λ x. let w : Coming = record { next = next_accepted line (beside banks line rows); soonest = soonest line (beside banks line rows); worn = x } in w)
     (h.worn_is bank c at_worn ∙ ap (λ k. first_worn (of_bank (bank_in banks) k rows)) here)
 
--- the rows from a place on were looked at
+-- the rows from an index on were looked at
 pub record LooksFrom {n : ℕ} (banks : List ℕ) (rows : List (Row n)) (row size : ℕ) (next soon worn : List (Option ℕ)) (coming : List Coming) : Type 0 where
   pub outlook : IsOutlook banks (drop row rows) next soon worn
   pub coming_is : coming ≡ coming_of banks (drop row rows)

@@ -4,7 +4,7 @@ use Rattle.std.specs.Prelude.{slice_get}
 use Rattle.result_rows.specs.declared.Outcome.{Outcome}
 use Rattle.result_rows.specs.declared.Outcome.TheVariants as out
 use Rattle.result_rows.specs.Table.{outcome_at}
-use Rattle.trace_reader.specs.declared.event.Event.{Event}
+use Rattle.trace_reader.specs.declared.event.TraceEvent.{TraceEvent}
 use Rattle.row_rules.specs.declared.Row.{Row}
 use Rattle.row_rules.specs.Rows.{asks_read, asks_write, is_cut, line_of}
 use Rattle.row_judging.specs.Cutting.{cut_ticks}
@@ -13,8 +13,8 @@ use Rattle.row_verdict.specs.Verdicts.{bank_in, rows_with}
 use Rattle.result_check.specs.declared.found.Found.{Found}
 use Rattle.result_check.specs.Finding.{row_of}
 
--- the rows of the events from a place on begin with that of the one there
-pub rows_next : {n : ℕ} (events : List (Event n)) (outcomes : List (Outcome n)) (i : ℕ) (event : Event n) (outcome : Outcome n)
+-- the rows of the events from an index on begin with that of the one there
+pub rows_next : {n : ℕ} (events : List (TraceEvent n)) (outcomes : List (Outcome n)) (i : ℕ) (event : TraceEvent n) (outcome : Outcome n)
     → slice_get events i ≡ Some event → slice_get outcomes i ≡ Some outcome
     → drop i (rows_with events outcomes) ≡ row_of event outcome ∷ drop (suc i) (rows_with events outcomes)
 rows_next [] outcomes i event outcome at of = absurd (cc)
@@ -28,7 +28,7 @@ rows_next (e ∷ events) (o ∷ outcomes) (suc i) event outcome at of = rows_nex
 pub outcome_there : {n : ℕ} (outcomes : List (Outcome n)) (i : ℕ) (outcome : Outcome n) → outcome_at outcomes (i + 1) ≡ Some outcome → slice_get outcomes i ≡ Some outcome
 outcome_there outcomes i outcome is = let same : i + 1 - 1 ≡ i = omega arith in subst (λ k. slice_get outcomes k ≡ Some outcome) same is
 
-pub rows_length : {n : ℕ} (events : List (Event n)) (outcomes : List (Outcome n)) → length outcomes ≡ length events → length (rows_with events outcomes) ≡ length events
+pub rows_length : {n : ℕ} (events : List (TraceEvent n)) (outcomes : List (Outcome n)) → length outcomes ≡ length events → length (rows_with events outcomes) ≡ length events
 rows_length [] outcomes is = refl
 rows_length (e ∷ events) [] is = absurd (omega (arith, is))
 rows_length (e ∷ events) (o ∷ outcomes) is = let h = rows_length events outcomes (omega (arith, is)) in omega (arith, h)

@@ -69,7 +69,7 @@ cuts_sorted {n} t (q ∷ rows) h = by (is_cut q) (cuts_sorted q.tick rows (and_s
     by true ih = sorted_front q.tick (cut_ticks rows) (λ k d lt. cut_bound q.tick rows (and_second _ _ h) k d lt) ih
     by false ih = ih
 
--- what the rows behind a row bring, by its place
+-- what the rows behind a row bring, by its index
 pub coming_length : {n : ℕ} (banks : List ℕ) (rows : List (Row n)) → length (coming_of banks rows) ≡ length rows
 coming_length banks [] = refl
 coming_length banks (q ∷ rows) = let h = coming_length banks rows in omega (arith, h, length-append (coming_of banks rows) (coming_at banks q.asks rows ∷ []))
@@ -89,8 +89,8 @@ coming_there {n} banks (q ∷ rows) (suc i) r here k d is =
 
 pub coming_got : {n : ℕ} (banks : List ℕ) (rows : List (Row n)) (i : ℕ) (r : Row n) → drop i rows ≡ r ∷ drop (suc i) rows → (coming : List Coming) → coming ≡ coming_of banks rows → (k : ℕ) (x : Coming)
     → k + 1 + i ≡ length rows → slice_get coming k ≡ Some x → x ≡ coming_at banks r.asks (drop (suc i) rows)
-coming_got banks rows i r here coming is k x place there =
-    sym (get_or_from_slice_get coming k x x there) ∙ ap (λ xs. get_or xs k x) is ∙ coming_there banks rows i r here k x place
+coming_got banks rows i r here coming is k x at there =
+    sym (get_or_from_slice_get coming k x x there) ∙ ap (λ xs. get_or xs k x) is ∙ coming_there banks rows i r here k x at
 
 -- few keys
 store_key_few : {n : ℕ} (bank_of : ℕ → ℕ) (rows : List (Row n)) → length (store_keys bank_of rows) ≤ length rows

@@ -1,4 +1,4 @@
--- A list with another value at one place.
+-- A list with another value at one index.
 use Rattle.std.proofs.Common.{◌≡◌, ℕ, zero, suc, ◌<◌, List, [], ◌∷◌, length, Some, get_or, refl, sym, ap, arith}
 use Rattle.std.specs.Prelude.{slice_get, slice_set}
 

@@ -41,7 +41,7 @@ abbrev pub sooner_of : ℕ → Option ℕ → Option ℕ
 sooner_of u None = Some u
 sooner_of u (Some v) = Some (min u v)
 
--- the same of the rows from a place on of each line and each bank
+-- the same of the rows from an index on of each line and each bank
 pub record IsOutlook {n : ℕ} (banks : List ℕ) (rows : List (Row n)) (next soon worn : List (Option ℕ)) : Type 0 where
   pub next_is : (line : ℕ) (found : Option ℕ) → slice_get next line ≡ Some found → found ≡ next_accepted line rows
   pub soonest_is : (line : ℕ) (found : Option ℕ) → slice_get soon line ≡ Some found → found ≡ soonest line rows

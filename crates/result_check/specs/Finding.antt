@@ -1,6 +1,6 @@
 -- The rows of a table, as the code has them: an event and its outcome.
 use Rattle.std.specs.Prelude.{ℕ, ◌<◌, Option, Some, None}
-use Rattle.trace_reader.specs.declared.event.Event.{Event}
+use Rattle.trace_reader.specs.declared.event.TraceEvent.{TraceEvent}
 use Rattle.result_rows.specs.declared.Outcome.{Outcome}
 use Rattle.row_rules.specs.declared.Asks.{Asks}
 use Rattle.row_rules.specs.declared.Asks.TheVariants.{Reads, Writes, Cuts}
@@ -8,7 +8,7 @@ use Rattle.row_rules.specs.declared.Row.{Row}
 use Rattle.row_verdict.specs.Verdicts.{asks_of}
 
 -- the row of an event with its outcome
-abbrev pub row_of : {n : ℕ} → Event n → Outcome n → Row n
+abbrev pub row_of : {n : ℕ} → TraceEvent n → Outcome n → Row n
 row_of event outcome = record { tick = event.tick; asks = asks_of event.op; outcome = outcome }
 
 -- what is asked is of a line below this one, or of none

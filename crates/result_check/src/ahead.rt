@@ -12,7 +12,7 @@ ghost use Rattle.result_check.specs.Tables.{IsTable};
 use crate::found::bank_of;
 use result_rows::{Outcome, Results};
 use std::alloc::{AllocError, Global};
-use trace_reader::{Event, EventOp};
+use trace_reader::{TraceEvent, TraceOp};
 
 /// What the rows behind a row of a line bring: when the next accepted write of the line comes, when the first of the line's
 /// stores does, and when the first worn row of its bank does.
@@ -42,31 +42,31 @@ fn sooner_of(tick: u64, found: Option<u64>) -> Option<u64>
 }
 
 /// The line of a read or a write.
-pub fn line_of<const B: usize>(op: &EventOp<B>) -> Option<u32>
+pub fn line_of<const B: usize>(op: &TraceOp<B>) -> Option<u32>
     ensures { result ≡ line_asked (asks_of op.now) }
 {
     match *op {
-        EventOp::Read(line) => Some(line),
-        EventOp::Write(line, _) => Some(line),
-        EventOp::Mask(line, _, _) => Some(line),
-        EventOp::Cut => None,
+        TraceOp::Read(line) => Some(line),
+        TraceOp::Write(line, _) => Some(line),
+        TraceOp::Mask(line, _, _) => Some(line),
+        TraceOp::Cut => None,
     }
 }
 
 /// The line of a write.
-pub fn line_written<const B: usize>(op: &EventOp<B>) -> Option<u32>
+pub fn line_written<const B: usize>(op: &TraceOp<B>) -> Option<u32>
     ensures { result ≡ line_written (asks_of op.now) }
 {
     match *op {
-        EventOp::Write(line, _) => Some(line),
-        EventOp::Mask(line, _, _) => Some(line),
+        TraceOp::Write(line, _) => Some(line),
+        TraceOp::Mask(line, _, _) => Some(line),
         _ => None,
     }
 }
 
 impl Outlook {
     /// What comes to a row.
-    fn at<const B: usize>(&self, banks: &[u8], op: &EventOp<B>) -> Coming
+    fn at<const B: usize>(&self, banks: &[u8], op: &TraceOp<B>) -> Coming
         requires line { IsBelow (length banks.now) (asks_of op.now) }
         requires next { length self.now.next.items ≡ length banks.now }
         requires soonest { length self.now.soonest.items ≡ length banks.now }
@@ -118,7 +118,7 @@ impl Outlook {
     }
 
     /// Adds a row in front of them.
-    fn add<const B: usize>(&mut self, banks: &[u8], event: &Event<B>, outcome: &Outcome<B>)
+    fn add<const B: usize>(&mut self, banks: &[u8], event: &TraceEvent<B>, outcome: &Outcome<B>)
         requires line { IsBelow (length banks.now) (asks_of event.now.op) }
         requires next { length self.old.next.items ≡ length banks.now }
         requires soonest { length self.old.soonest.items ≡ length banks.now }
@@ -142,7 +142,7 @@ fn none_yet(alloc: Global, number: usize) -> Result<Vec<Option<u64>>, AllocError
 /// What the rows behind each row bring, the last row's first.
 pub fn look_ahead<const B: usize>(
     alloc: Global,
-    events: &[Event<B>],
+    events: &[TraceEvent<B>],
     results: &Results<B>,
     banks: &[u8],
 ) -> Result<Vec<Coming>, AllocError>

@@ -11,7 +11,7 @@ use result_rows::{Outcome, Results};
 use row_verdict::keys::key;
 use row_verdict::queue::line_key;
 use std::alloc::{AllocError, Global};
-use trace_reader::{Event, EventOp};
+use trace_reader::{TraceEvent, TraceOp};
 
 /// The bank of a line.
 pub fn bank_of(banks: &[u8], line: u32) -> u8
@@ -35,7 +35,7 @@ impl Found {
     fn add<const B: usize>(
         &mut self,
         banks: &[u8],
-        event: &Event<B>,
+        event: &TraceEvent<B>,
         outcome: &Outcome<B>,
     ) -> Result<(), AllocError>
         requires line { IsBelow (length banks.now) (asks_of event.now.op) }
@@ -50,18 +50,18 @@ impl Found {
             ≡ self.old.cuts.items ++ cut_ticks (row_of event.now outcome.now ∷ [])) }
     {
         match event.op {
-            EventOp::Write(line, _) | EventOp::Mask(line, _, _) => {
+            TraceOp::Write(line, _) | TraceOp::Mask(line, _, _) => {
                 if let Outcome::Stored { tick, .. } = outcome {
                     self.stores.push(key(bank_of(banks, line), *tick))?;
                     self.lines.push(line_key(line, *tick))?;
                 }
             }
-            EventOp::Read(line) => {
+            TraceOp::Read(line) => {
                 if let Outcome::Read { tick, .. } = outcome {
                     self.reads.push(key(bank_of(banks, line), *tick))?;
                 }
             }
-            EventOp::Cut => self.cuts.push(event.tick)?,
+            TraceOp::Cut => self.cuts.push(event.tick)?,
         }
         Ok(())
     }
@@ -69,7 +69,7 @@ impl Found {
     /// Those of a whole table, the keys sorted.
     pub fn of<const B: usize>(
         alloc: Global,
-        events: &[Event<B>],
+        events: &[TraceEvent<B>],
         results: &Results<B>,
         banks: &[u8],
     ) -> Result<Found, AllocError>

@@ -42,7 +42,7 @@ use row_verdict::judge::{Ahead, Keys, judge_read, judge_write};
 use row_verdict::lines::Line;
 use row_verdict::members::{Member, NEVER};
 use std::alloc::{AllocError, Global};
-use trace_reader::{Event, EventOp};
+use trace_reader::{TraceEvent, TraceOp};
 
 /// When a write is stored, if it is.
 fn stored_at<const B: usize>(outcome: &Outcome<B>) -> Option<u64>
@@ -289,7 +289,7 @@ impl<const B: usize> Kept<B> {
         room: bool,
         tick: u64,
         line: u32,
-        op: &EventOp<B>,
+        op: &TraceOp<B>,
         bytes: &[u8; B],
         given: &[bool; B],
         outcome: &Outcome<B>,
@@ -360,7 +360,7 @@ impl<const B: usize> Kept<B> {
         room: bool,
         tick: u64,
         line: u32,
-        op: &EventOp<B>,
+        op: &TraceOp<B>,
         outcome: &Outcome<B>,
     ) -> Result<Option<Rule>, AllocError>
         requires small { B ≤ 128 }
@@ -447,7 +447,7 @@ impl<const B: usize> Kept<B> {
         found: &Found,
         cuts: &[u64],
         coming: Coming,
-        event: &Event<B>,
+        event: &TraceEvent<B>,
         outcome: &Outcome<B>,
     ) -> Result<Option<Rule>, AllocError>
         requires small { B ≤ 128 }
@@ -472,25 +472,25 @@ impl<const B: usize> Kept<B> {
         let tick = event.tick;
         let room = self.find_room(rules, banks, tick);
         match &event.op {
-            EventOp::Read(line) => {
+            TraceOp::Read(line) => {
                 self.take_read(
                     rules, banks, found, cuts, coming, room, tick, *line, &event.op, outcome,
                 )
             }
-            EventOp::Write(line, bytes) => {
+            TraceOp::Write(line, bytes) => {
                 let given = [true; B];
                 self.take_write(
                     rules, banks, found, cuts, coming, room, tick, *line, &event.op, bytes, &given,
                     outcome,
                 )
             }
-            EventOp::Mask(line, bytes, given) => {
+            TraceOp::Mask(line, bytes, given) => {
                 self.take_write(
                     rules, banks, found, cuts, coming, room, tick, *line, &event.op, bytes, given,
                     outcome,
                 )
             }
-            EventOp::Cut => Ok(self.take_cut(room, tick, outcome)),
+            TraceOp::Cut => Ok(self.take_cut(room, tick, outcome)),
         }
     }
 }

@@ -23,15 +23,15 @@ use result_rows::Results;
 pub use row_rules::Rules;
 pub use row_verdict::{Rule, Verdict};
 use std::alloc::{AllocError, Global};
-use trace_reader::{Event, EventOp};
+use trace_reader::{TraceEvent, TraceOp};
 
 /// How many cuts have come with this operation.
-fn cuts_with<const B: usize>(cuts: usize, op: &EventOp<B>) -> usize
+fn cuts_with<const B: usize>(cuts: usize, op: &TraceOp<B>) -> usize
     requires { cuts ≤ 400_000 }
     ensures { result ≡ (if asks_cut (asks_of op.now) then cuts + 1 else cuts) }
 {
     match op {
-        EventOp::Cut => cuts + 1,
+        TraceOp::Cut => cuts + 1,
         _ => cuts,
     }
 }
@@ -44,17 +44,17 @@ fn cuts_behind(cuts: &[u64], passed: usize) -> &[u64]
     &cuts[passed..]
 }
 
-/// The item at a place.
-fn item(coming: &[Coming], place: usize) -> Coming
-    requires { place < length coming.now }
-    ensures { slice_get coming.now place ≡ Some result }
+/// The item at an index.
+fn item(coming: &[Coming], index: usize) -> Coming
+    requires { index < length coming.now }
+    ensures { slice_get coming.now index ≡ Some result }
 {
-    coming[place]
+    coming[index]
 }
 
 /// Lets the rows pass in their order, up to the first that breaks a rule.
 fn pass_rows<const B: usize>(
-    events: &[Event<B>],
+    events: &[TraceEvent<B>],
     results: &Results<B>,
     banks: &[u8],
     rules: &Rules,
@@ -94,7 +94,7 @@ fn pass_rows<const B: usize>(
 /// (`row_verdict::verdicts_are_exact`).
 pub fn check<const B: usize>(
     alloc: Global,
-    events: &[Event<B>],
+    events: &[TraceEvent<B>],
     results: &Results<B>,
     banks: &[u8],
     rules: &Rules,

@@ -42,16 +42,16 @@ cut_at-some end (byte ∷ rest) cut h = by (byte == end) refl (cut_at end rest) 
         let at : (byte ∷ c.0, c.1) ≡ cut = cc in
         rw (← at) (ap (λ x. byte ∷ x) (more c is))
 
--- the first place of a byte cuts there
-pub cut_at-place : (end : ℕ) (bytes : List ℕ) (at : ℕ) → at < length bytes → slice_index bytes at ≡ end
+-- the first such byte cuts there
+pub cut_at-first : (end : ℕ) (bytes : List ℕ) (at : ℕ) → at < length bytes → slice_index bytes at ≡ end
     → ((k : ℕ) → k < at → (slice_index bytes k ≡ end → ⊥)) → cut_at end bytes ≡ Some (take at bytes, drop (at + 1) bytes)
 unfolding cut_at
-cut_at-place end [] at within is before = absurd (omega arith)
-cut_at-place end (byte ∷ rest) zero within is before = grind (arith, nat_tests, common_steps)
-cut_at-place end (byte ∷ rest) (suc at) within is before =
+cut_at-first end [] at within is before = absurd (omega arith)
+cut_at-first end (byte ∷ rest) zero within is before = grind (arith, nat_tests, common_steps)
+cut_at-first end (byte ∷ rest) (suc at) within is before =
     let first = before 0 (omega arith) in
     let here : (byte == end) ≡ false = grind (arith, nat_tests, first) in
-    let more = cut_at-place end rest at (omega arith) is (λ k below. before (suc k) (omega arith)) in
+    let more = cut_at-first end rest at (omega arith) is (λ k below. before (suc k) (omega arith)) in
     let further : suc at + 1 ≡ suc (at + 1) = omega arith in
     rw (here, more, further) refl
 
@@ -71,7 +71,7 @@ cut_at-search end bytes None h =
     cut_at-nowhere end bytes (λ k below is. h k (omega arith) below (eq-eqb (slice_index bytes k) end is))
 cut_at-search end bytes (Some at) h =
     let is : slice_index bytes at ≡ end = eqb-true (slice_index bytes at) end h.1 in
-    let cut = cut_at-place end bytes at h.0.high is (λ k below same. h.0.before k (omega arith) below (eq-eqb (slice_index bytes k) end same)) in
+    let cut = cut_at-first end bytes at h.0.high is (λ k below same. h.0.before k (omega arith) below (eq-eqb (slice_index bytes k) end same)) in
     let all : take (length bytes - (at + 1)) (drop (at + 1) bytes) ≡ drop (at + 1) bytes = take_all _ _ (simp length-drop (omega arith)) in
     rw all cut
 

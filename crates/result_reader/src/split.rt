@@ -35,12 +35,12 @@ fn ends_line(behind: &[u8]) -> bool
     behind.is_empty() || behind[0] == b'\n'
 }
 
-/// The place of the first line that is exactly the header of results: what stands before it is the trace. Without such a line it is
+/// The byte at which the first line begins that is exactly the header of results: what stands before it is the trace. Without such a line it is
 /// the end of the bytes.
 pub fn find_results(bytes: &[u8]) -> usize
     ensures { BeginResultsAt bytes.now result }
 {
-    'places: for (at, byte) in bytes.iter().enumerate() {
+    'starts: for (at, byte) in bytes.iter().enumerate() {
         if *byte == b'r' && is_header_at(bytes, at) {
             return at;
         }

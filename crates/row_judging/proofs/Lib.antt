@@ -6,7 +6,7 @@ pub mod FirstWorn
 pub mod Fourth
 pub mod Joins
 pub mod Sublists
-pub mod Places
+pub mod SortedKeys
 pub mod Steps
 pub mod Stands
 pub mod Losing

@@ -28,8 +28,8 @@ up_to k keys = count_by (λ x. nat_le x k) keys
 module _ {n : ℕ} where
   -- the tick of a stored or a read row lies below the reach
   abbrev pub is_short : Outcome n → Bool
-  is_short (out.Stored u place) = nat_lt u reach
-  is_short (out.Read u place bytes) = nat_lt u reach
+  is_short (out.Stored u index) = nat_lt u reach
+  is_short (out.Read u index bytes) = nat_lt u reach
   is_short _ = true
 
   abbrev pub all_short : List (Row n) → Bool
@@ -38,7 +38,7 @@ module _ {n : ℕ} where
 module _ {n : ℕ} (bank_of : ℕ → ℕ) where
   -- with the key of a stored write in front
   abbrev pub store_key : Row n → Outcome n → List ℕ → List ℕ
-  store_key q (out.Stored u place) more = if asks_write q.asks then key (bank_of (line_of q.asks)) u ∷ more else more
+  store_key q (out.Stored u index) more = if asks_write q.asks then key (bank_of (line_of q.asks)) u ∷ more else more
   store_key q _ more = more
 
   abbrev pub store_keys : List (Row n) → List ℕ
@@ -47,18 +47,18 @@ module _ {n : ℕ} (bank_of : ℕ → ℕ) where
 
   -- with the key of a read that was read in front
   abbrev pub read_key : Row n → Outcome n → List ℕ → List ℕ
-  read_key q (out.Read u place bytes) more = if asks_read q.asks then key (bank_of (line_of q.asks)) u ∷ more else more
+  read_key q (out.Read u index bytes) more = if asks_read q.asks then key (bank_of (line_of q.asks)) u ∷ more else more
   read_key q _ more = more
 
   abbrev pub read_keys : List (Row n) → List ℕ
   read_keys [] = []
   read_keys (q ∷ rows) = read_key q q.outcome (read_keys rows)
 
--- the place behind the keys up to k, in a sorted list with the same keys, is their number
-abbrev pub PlaceLaw : Type 0
-PlaceLaw =
-    (k place : ℕ) (keys some : List ℕ) → IsPermutation some keys → IsPartitionPoint (λ x. nat_le x k ≡ true) (λ x. nat_le x k ≡ false) keys place
-    → place ≤ length keys → place ≡ up_to k some
+-- the index behind the keys up to k, in a sorted list with the same keys, is their number
+abbrev pub IndexLaw : Type 0
+IndexLaw =
+    (k index : ℕ) (keys some : List ℕ) → IsPermutation some keys → IsPartitionPoint (λ x. nat_le x k ≡ true) (λ x. nat_le x k ≡ false) keys index
+    → index ≤ length keys → index ≡ up_to k some
 
 -- how many of a bank's rows are stored, or read, at ticks above a and at most u, is a difference of two such numbers
 pub record CountsByKeys {n : ℕ} (bank_of : ℕ → ℕ) (bank a u : ℕ) (rows : List (Row n)) : Type 0 where

@@ -10,7 +10,7 @@ ghost use Rattle.row_judging.specs.Worn.{WornLaw};
 ghost use Rattle.row_judging.specs.Coming.{FourthLaw};
 ghost use Rattle.row_judging.specs.Distances.{ApartLaw};
 ghost use Rattle.row_judging.specs.Heads.{NoneBeforeLaw, FirstLaw};
-ghost use Rattle.row_judging.specs.Keys.{PlaceLaw, CountLaw};
+ghost use Rattle.row_judging.specs.Keys.{IndexLaw, CountLaw};
 ghost use Rattle.row_judging.specs.Counting.{FirstByCountLaw, LastByCountLaw};
 ghost use Rattle.row_judging.specs.Lost.{WaitingLaw};
 ghost use Rattle.row_judging.specs.Standing.{StandLaw};
@@ -61,7 +61,7 @@ pub fn least_end_tells()
 
 /// Sorted keys tell how many of a bank's rows are stored or read in a span of ticks.
 pub fn keys_tell()
-    ensures place { PlaceLaw }
+    ensures index { IndexLaw }
     ensures count { CountLaw }
 {}
 

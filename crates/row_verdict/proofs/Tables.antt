@@ -21,7 +21,7 @@ use Rattle.row_judging.specs.Keys.{key, up_to, store_keys, read_keys}
 use Rattle.row_judging.proofs.Counts.{count-same, count-filter, count-append, count-permuted, count-turned, last_by_count_law}
 use Rattle.row_judging.proofs.Cuts.{count-cons}
 use Rattle.row_judging.proofs.Fourth.{fourth_law}
-use Rattle.row_judging.proofs.Places.{count_law}
+use Rattle.row_judging.proofs.SortedKeys.{count_law}
 use Rattle.row_verdict.specs.Keeping.{delay_by}
 use Rattle.row_verdict.specs.Tables.{around, CountsToldLaw, LineKeysLaw, OwnLaw, four_came, DelayLaw, FourLaw}
 

@@ -46,7 +46,7 @@ CutRoomLaw =
     → Passed rules banks tick at facts joined before → tick ≤ r.tick → r.tick < never
     → all_have_room banks rules before r after ≡ joined_room rules banks r.tick facts joined
 
--- with another value at one place
+-- with another value at one index
 abbrev pub put : {A : Type 0} → (ℕ → A) → ℕ → A → ℕ → A
 put f at x k = if k == at then x else f k
 

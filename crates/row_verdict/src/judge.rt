@@ -32,7 +32,7 @@ use crate::timing::{bound, longest};
 use crate::wearing::keeps_worn;
 use result_rows::Outcome;
 use row_rules::Rules;
-use trace_reader::EventOp;
+use trace_reader::TraceOp;
 
 /// The first rule that is broken, by whether a row is served, each bank has room, and its answer, wear and times are as they must be.
 fn first_broken(served: bool, room: bool, fits: bool, keeps: bool, timely: bool) -> Option<Rule>
@@ -180,7 +180,7 @@ pub fn judge_write<const B: usize>(
     bank: &Bank,
     tick: u64,
     line: u32,
-    op: &EventOp<B>,
+    op: &TraceOp<B>,
     newest: &[u8; B],
     keys: Keys,
     ahead: Ahead,
@@ -233,7 +233,7 @@ pub fn judge_read<const B: usize>(
     bank: &Bank,
     tick: u64,
     line: u32,
-    op: &EventOp<B>,
+    op: &TraceOp<B>,
     kept: &Line<B>,
     keys: Keys,
     ahead: Ahead,

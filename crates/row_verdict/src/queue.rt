@@ -320,11 +320,11 @@ pub fn line_key(line: u32, tick: u64) -> u128
     line as u128 * 1_125_899_906_842_624 + tick as u128
 }
 
-/// The key at a place, if there is one.
-fn key_at(keys: &[u128], place: usize) -> Option<u128>
-    ensures { result ≡ slice_get keys.now place }
+/// The key at an index, if there is one.
+fn key_at(keys: &[u128], index: usize) -> Option<u128>
+    ensures { result ≡ slice_get keys.now index }
 {
-    keys.get(place).copied()
+    keys.get(index).copied()
 }
 
 /// The next of these keys, which don't fall, above this one: so it is at most another exactly where keys lie between the two.

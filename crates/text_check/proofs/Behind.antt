@@ -6,7 +6,7 @@ use Rattle.std.proofs.lemmas.Bool.Decides.{nat_tests}
 use Rattle.std.proofs.lemmas.List.{drop-append-le, drop_at, get_or_append_left, take-append-drop, take-append-le, take_more, take_all}
 use Rattle.csv.specs.Reading.{default_config, is_bom, records, strip_bom}
 use Rattle.trace_reader.specs.Trace.{trace_of}
-use Rattle.trace_reader.specs.declared.event.Event.{Event}
+use Rattle.trace_reader.specs.declared.event.TraceEvent.{TraceEvent}
 use Rattle.result_reader.specs.Splitting.{BeginsLine, BeginsWithHeader, EndsLine, IsHeaderAt, header_line}
 use Rattle.text_check.specs.SplitLaw.{EndsItsLine, SplitLaw}
 use Rattle.text_check.proofs.Plain.{ArePlain, is_broken, is_break, records-ok}
@@ -130,17 +130,17 @@ unmarked-first tail = refl
 
 -- ---- no line of a trace is the header
 
-plain : (n lines : ℕ) (trace : List ℕ) (events : List (Event n)) → trace_of n lines trace ≡ Ok events → ArePlain (records default_config (strip_bom trace))
+plain : (n lines : ℕ) (trace : List ℕ) (events : List (TraceEvent n)) → trace_of n lines trace ≡ Ok events → ArePlain (records default_config (strip_bom trace))
 unfolding trace_of
 plain n lines trace events is = (records-ok n lines (records default_config (strip_bom trace)) events is).0
 
-none-first : (n lines : ℕ) (trace : List ℕ) (events : List (Event n)) (tail : List ℕ) → trace_of n lines trace ≡ Ok events → trace ≢ header_line ++ 10 ∷ tail
+none-first : (n lines : ℕ) (trace : List ℕ) (events : List (TraceEvent n)) (tail : List ℕ) → trace_of n lines trace ≡ Ok events → trace ≢ header_line ++ 10 ∷ tail
 none-first n lines trace events tail is same =
     header-first tail
     (subst (λ (text : List ℕ). ArePlain (records default_config text)) (unmarked-first tail)
     (subst (λ (text : List ℕ). ArePlain (records default_config (strip_bom text))) same (plain n lines trace events is)))
 
-none-behind : (n lines : ℕ) (trace : List ℕ) (events : List (Event n)) (front : List ℕ) (last : ℕ) (tail : List ℕ) → trace_of n lines trace ≡ Ok events → IsBreak last
+none-behind : (n lines : ℕ) (trace : List ℕ) (events : List (TraceEvent n)) (front : List ℕ) (last : ℕ) (tail : List ℕ) → trace_of n lines trace ≡ Ok events → IsBreak last
     → trace ≢ front ++ last ∷ (header_line ++ 10 ∷ tail)
 none-behind n lines trace events front last tail is break same =
     let kept = unmarked front last tail break in
@@ -148,7 +148,7 @@ none-behind n lines trace events front last tail is break same =
     (subst (λ (text : List ℕ). ArePlain (records default_config text)) kept.1
     (subst (λ (text : List ℕ). ArePlain (records default_config (strip_bom text))) same (plain n lines trace events is)))
 
-module _ (n lines : ℕ) (trace results : List ℕ) (events : List (Event n)) (is : trace_of n lines trace ≡ Ok events) (ended : EndsItsLine trace) where
+module _ (n lines : ℕ) (trace results : List ℕ) (events : List (TraceEvent n)) (is : trace_of n lines trace ≡ Ok events) (ended : EndsItsLine trace) where
   none-before : (before : ℕ) → before < length trace → ¬ IsHeaderAt (trace ++ results) before
   none-before before within header =
       let whole : take (length trace) trace ≡ trace = take_all (length trace) trace (omega arith) in

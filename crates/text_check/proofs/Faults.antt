@@ -1,7 +1,7 @@
 -- Which fault of a text is that of its trace, or of its results.
 use Rattle.std.proofs.Common.{◌≡◌, ◌≢◌, ℕ, List}
 use Rattle.std.specs.Prelude.{Result, Err}
-use Rattle.trace_reader.specs.declared.event.Event.{Event}
+use Rattle.trace_reader.specs.declared.event.TraceEvent.{TraceEvent}
 use Rattle.trace_reader.specs.declared.fault.ParseFault.{ParseFault}
 use Rattle.trace_reader.specs.declared.fault.ParseFault.TheVariants as parsing
 use Rattle.result_rows.specs.declared.Op.{Op}
@@ -11,7 +11,7 @@ use Rattle.result_reader.specs.declared.fault.ResultFault.TheVariants as reading
 use Rattle.text_check.specs.Causes.{no_results, no_trace}
 use Rattle.text_check.specs.Checked.{IsResultsFault, IsTraceFault}
 
-pub trace-fault : {n : ℕ} (trace : Result (List (Event n)) ParseFault) (e : ParseFault) → (e ≢ parsing.NoMemory → trace ≡ Err e) → IsTraceFault trace (no_trace e)
+pub trace-fault : {n : ℕ} (trace : Result (List (TraceEvent n)) ParseFault) (e : ParseFault) → (e ≢ parsing.NoMemory → trace ≡ Err e) → IsTraceFault trace (no_trace e)
 trace-fault trace (parsing.Trace f) is = is (λ e. cc e)
 trace-fault trace parsing.TooMany is = is (λ e. cc e)
 trace-fault trace parsing.NoMemory is = tt

@@ -5,7 +5,7 @@ use Rattle.std.specs.List.{range_with_len}
 use Rattle.std.proofs.lemmas.List.FromFn.{length-map-range_with_len, map-range_with_len_more}
 use Rattle.trace_reader.specs.Events.{AreEventsFor}
 use Rattle.trace_reader.specs.Trace.{most_rows}
-use Rattle.trace_reader.specs.declared.event.Event.{Event}
+use Rattle.trace_reader.specs.declared.event.TraceEvent.{TraceEvent}
 use Rattle.result_rows.specs.declared.Op.{Op}
 use Rattle.result_rows.specs.declared.Outcome.{Outcome}
 use Rattle.result_rows.specs.declared.Outcome.TheVariants as out
@@ -46,7 +46,7 @@ all_timed {n = n} (ask ∷ asks) (outcome ∷ outcomes) each =
     all_and (λ (o : Outcome n). IsTimed o) outcome outcomes (timed ask.0 outcome each.0) (all_timed asks outcomes each.1)
 
 -- what was read of a text can be checked
-pub checkable : {n : ℕ} (raw : RawShape) (seed : ℕ) (events : List (Event n)) (outcomes : List (Outcome n)) (banks : List ℕ) (rules : Rules)
+pub checkable : {n : ℕ} (raw : RawShape) (seed : ℕ) (events : List (TraceEvent n)) (outcomes : List (Outcome n)) (banks : List ℕ) (rules : Rules)
     → banks ≡ banks_of raw seed → AreWithin rules → AreEventsFor (total_of raw) 0 events → length events ≤ most_rows → length outcomes ≡ length events
     → EachMayStand (asks_in events) outcomes → IsCheckable events outcomes banks rules
 checkable raw seed events outcomes banks rules are within lawful few rows each =

@@ -7,9 +7,9 @@ use Rattle.pcm_cells.specs.Device.{ArrayState}
 use Rattle.csv.specs.Reading.{default_config, records, strip_bom}
 use Rattle.trace_reader.specs.Events.{AreEventsFor, IsOpFor}
 use Rattle.trace_reader.specs.Trace.{most_rows, trace_of}
-use Rattle.trace_reader.specs.declared.event.Event.{Event}
-use Rattle.trace_reader.specs.declared.event.EventOp.{EventOp}
-use Rattle.trace_reader.specs.declared.event.EventOp.TheVariants.{Read, Write, Mask, Cut}
+use Rattle.trace_reader.specs.declared.event.TraceEvent.{TraceEvent}
+use Rattle.trace_reader.specs.declared.event.TraceOp.{TraceOp}
+use Rattle.trace_reader.specs.declared.event.TraceOp.TheVariants.{Read, Write, Mask, Cut}
 use Rattle.trace_reader.proofs.Lawful.{trace_of-lawful}
 use Rattle.result_rows.specs.declared.Op.{Op}
 use Rattle.result_rows.specs.declared.Outcome.{Outcome}
@@ -40,7 +40,7 @@ use Rattle.text_check.specs.declared.fault.TextFault.TheVariants as fault
 use Rattle.text_check.proofs.Plain.{AllGiveBytes, records-ok}
 use Rattle.text_check.proofs.Standing.{exist, may_stand}
 
--- results begin at one place
+-- results begin at one byte
 begins-once : (bytes : List ℕ) (one other : ℕ) → BeginResultsAt bytes one → BeginResultsAt bytes other → one ≡ other
 begins-once bytes one other is also =
     elim (cases_lt one other) [
@@ -59,13 +59,13 @@ begins-once bytes one other is also =
         ]
 
 -- the lines of rows have numbers of 32 bits
-named-below : {n : ℕ} (lines : ℕ) (op : EventOp n) → 1 ≤ lines → IsOpFor lines op → named_line op < lines
+named-below : {n : ℕ} (lines : ℕ) (op : TraceOp n) → 1 ≤ lines → IsOpFor lines op → named_line op < lines
 named-below lines (Read line) some for = for
 named-below lines (Write line bytes) some for = for.0
 named-below lines (Mask line bytes given) some for = for.0
 named-below lines Cut some for = omega (arith, some)
 
-asks-below : {n : ℕ} (lines before : ℕ) (events : List (Event n)) (i : ℕ) (ask : Op × ℕ) → 1 ≤ lines → AreEventsFor lines before events → slice_get (asks_in events) i ≡ Some ask → ask.1 < lines
+asks-below : {n : ℕ} (lines before : ℕ) (events : List (TraceEvent n)) (i : ℕ) (ask : Op × ℕ) → 1 ≤ lines → AreEventsFor lines before events → slice_get (asks_in events) i ≡ Some ask → ask.1 < lines
 unfolding AreEventsFor
 asks-below lines before [] i ask some for at = cc at
 asks-below lines before (event ∷ events) zero ask some for at =
@@ -73,10 +73,10 @@ asks-below lines before (event ∷ events) zero ask some for at =
     subst (λ (line : ℕ). line < lines) (ap (λ (ask : Op × ℕ). ask.1) same) (named-below lines event.op some for.0.op)
 asks-below lines before (event ∷ events) (suc i) ask some for at = asks-below lines event.tick events i ask some for.1 at
 
-length-asks : {n : ℕ} (events : List (Event n)) → length (asks_in events) ≡ length events
+length-asks : {n : ℕ} (events : List (TraceEvent n)) → length (asks_in events) ≡ length events
 length-asks events = length-map events (λ event. ask_of event.op)
 
-are-asks : {n : ℕ} (lines : ℕ) (events : List (Event n)) → 1 ≤ lines → lines ≤ 65536 → AreEventsFor lines 0 events → length events ≤ most_rows → AreAsks (asks_in events)
+are-asks : {n : ℕ} (lines : ℕ) (events : List (TraceEvent n)) → 1 ≤ lines → lines ≤ 65536 → AreEventsFor lines 0 events → length events ≤ most_rows → AreAsks (asks_in events)
 are-asks lines events some few for rows = record {
   few = omega (arith, length-asks events, rows);
   lines = λ i ask at. omega (arith, asks-below lines 0 events i ask some for at, few);
@@ -89,11 +89,11 @@ some-lines raw is = some_product raw.banks raw.regions raw.lines is.some_banks i
     some_product a b c x y z = search rules
 
 -- printed results begin with their header
-header-first : {n : ℕ} (events : List (Event n)) (outcomes : List (Outcome n)) → BeginsWithHeader (results_text events outcomes)
+header-first : {n : ℕ} (events : List (TraceEvent n)) (outcomes : List (Outcome n)) → BeginsWithHeader (results_text events outcomes)
 unfolding results_text
 header-first events outcomes = (10 ∷ rows_text 1 events outcomes, refl, inr (rows_text 1 events outcomes, refl))
 
-module _ (n e : ℕ) (raw : RawShape) (seed : ℕ) (trace : List ℕ) (events : List (Event n)) (outcomes : List (Outcome n))
+module _ (n e : ℕ) (raw : RawShape) (seed : ℕ) (trace : List ℕ) (events : List (TraceEvent n)) (outcomes : List (Outcome n))
     (some : 1 ≤ n) (is : IsShape raw) (reads : trace_of n (total_of raw) trace ≡ Ok events)
     (begins : BeginResultsAt (trace ++ results_text events outcomes) (length trace))
     (results : AreResults (asks_in events) (results_text events outcomes) outcomes) (yes : verdict_on e raw seed events outcomes ≡ Yes) (once : ReadOnceLaw) where
@@ -132,7 +132,7 @@ module _ (n e : ℕ) (raw : RawShape) (seed : ℕ) (trace : List ℕ) (events : 
   own-behind : (at : ℕ) → BeginResultsAt whole at → drop at whole ≡ results_text events outcomes
   own-behind at there = ap (λ (n : ℕ). drop n whole) (at-end at there) ∙ behind
 
-  own-events : (at : ℕ) (others : List (Event n)) → HasTrace n raw whole at others → others ≡ events
+  own-events : (at : ℕ) (others : List (TraceEvent n)) → HasTrace n raw whole at others → others ≡ events
   own-events at others has =
       let two : Ok others ≡ Ok events = sym has.trace ∙ ap (trace_of n (total_of raw)) (own-front at has.begins) ∙ reads in
       cc
@@ -142,9 +142,9 @@ module _ (n e : ℕ) (raw : RawShape) (seed : ℕ) (trace : List ℕ) (events : 
       let same : other.events ≡ events = own-events other.at other.events other.trace in
       let read : AreResults (asks_in events) (results_text events outcomes) other.outcomes =
       subst (λ (text : List ℕ). AreResults (asks_in events) text other.outcomes) (own-behind other.at other.trace.begins)
-      (subst (λ (events : List (Event n)). AreResults (asks_in events) (drop other.at whole) other.outcomes) same other.results) in
+      (subst (λ (events : List (TraceEvent n)). AreResults (asks_in events) (drop other.at whole) other.outcomes) same other.results) in
       other.is
-      ∙ ap (λ (events : List (Event n)). verdict_on e raw seed events other.outcomes) same
+      ∙ ap (λ (events : List (TraceEvent n)). verdict_on e raw seed events other.outcomes) same
       ∙ ap (verdict_on e raw seed events) (read-once.results other.outcomes outcomes read results)
       ∙ yes
 
@@ -159,7 +159,7 @@ module _ (n e : ℕ) (raw : RawShape) (seed : ℕ) (trace : List ℕ) (events : 
   faultless one (inr back) =
       by one
       (subst (λ (text : List ℕ). IsResultsFault n (asks_in events) text one) (own-behind back.0 back.2.begins)
-      (subst (λ (events : List (Event n)). IsResultsFault n (asks_in events) (drop back.0 whole) one) (own-events back.0 back.1 back.2) back.3))
+      (subst (λ (events : List (TraceEvent n)). IsResultsFault n (asks_in events) (drop back.0 whole) one) (own-events back.0 back.1 back.2) back.3))
     where
       by : (one : TextFault) → IsResultsFault n (asks_in events) (results_text events outcomes) one → one ≡ fault.NoMemory
       by (fault.Trace f) bad = absurd bad
@@ -171,12 +171,12 @@ module _ (n e : ℕ) (raw : RawShape) (seed : ℕ) (trace : List ℕ) (events : 
   judged = record { has = has; only = only; faultless = faultless }
 
 -- what the events of a trace give are bytes
-gives-bytes : (n lines : ℕ) (trace : List ℕ) (events : List (Event n)) → trace_of n lines trace ≡ Ok events → AllGiveBytes events
+gives-bytes : (n lines : ℕ) (trace : List ℕ) (events : List (TraceEvent n)) → trace_of n lines trace ≡ Ok events → AllGiveBytes events
 unfolding trace_of
 gives-bytes n lines trace events is = (records-ok n lines (records default_config (strip_bom trace)) events is).1
 
 -- the rows of a right run keep the rules, as they come
-rules-kept : RulesKeptLaw → {n m : ℕ} (e : ℕ) (raw : RawShape) (seed : ℕ) (trace : List ℕ) (events : List (Event n)) (outcomes : List (Outcome n)) (array : ArrayState n m) (ends : ℕ → BankEnd)
+rules-kept : RulesKeptLaw → {n m : ℕ} (e : ℕ) (raw : RawShape) (seed : ℕ) (trace : List ℕ) (events : List (TraceEvent n)) (outcomes : List (Outcome n)) (array : ArrayState n m) (ends : ℕ → BankEnd)
     → IsRunOf e raw seed trace events outcomes array ends → RowsOk (rules_in e raw 0) (banks_of raw seed) (rows_with events outcomes)
 rules-kept kept {n} {m} e raw seed trace events outcomes array ends run =
     let all : List (Row n) = rows_with events outcomes in
@@ -185,7 +185,7 @@ rules-kept kept {n} {m} e raw seed trace events outcomes array ends run =
     (kept n m e raw seed (reverse all) array ends run.shape (exist raw events outcomes lawful.0) run.right)
 
 -- so the verdict on them is Yes
-verdict-is : YesLaw → {n m : ℕ} (e : ℕ) (raw : RawShape) (seed : ℕ) (trace : List ℕ) (events : List (Event n)) (outcomes : List (Outcome n)) (array : ArrayState n m) (ends : ℕ → BankEnd)
+verdict-is : YesLaw → {n m : ℕ} (e : ℕ) (raw : RawShape) (seed : ℕ) (trace : List ℕ) (events : List (TraceEvent n)) (outcomes : List (Outcome n)) (array : ArrayState n m) (ends : ℕ → BankEnd)
     → IsRunOf e raw seed trace events outcomes array ends → verdict_on e raw seed events outcomes ≡ Yes
 verdict-is law {n} {m} e raw seed trace events outcomes array ends run =
     let all : List (Row n) = rows_with events outcomes in
@@ -200,7 +200,7 @@ may_stand_law owned places few soon kept n m e raw seed trace events outcomes ar
     (gives-bytes n (total_of raw) trace events run.reads) run.one_each run.right (rules-kept kept e raw seed trace events outcomes array ends run)
 
 -- the rows of results, from a number on
-rows-short : {n : ℕ} (lines before row : ℕ) (events : List (Event n)) (outcomes : List (Outcome n)) → 1 ≤ lines → lines ≤ 65536 → AreEventsFor lines before events
+rows-short : {n : ℕ} (lines before row : ℕ) (events : List (TraceEvent n)) (outcomes : List (Outcome n)) → 1 ≤ lines → lines ≤ 65536 → AreEventsFor lines before events
     → row + length events ≤ 400001 → EachMayStand (asks_in events) outcomes → length (rows_text row events outcomes) ≤ length events * (64 + 2 * n)
 unfolding AreEventsFor EachMayStand rows_text
 rows-short lines before row [] outcomes some few for within may = omega arith

@@ -22,9 +22,9 @@ use Rattle.trace_reader.specs.Number.{is_number, number_of}
 use Rattle.trace_reader.specs.Payload.{Masked, bytes_of, masked_by, masked_of, pair_of, pairs_of}
 use Rattle.trace_reader.specs.Rows.{cut_of, event_at, event_of, latest_tick, line_of, mask_of, op_of, or_fault, read_of, text_at, tick_of, write_of}
 use Rattle.trace_reader.specs.Trace.{and_then_rows, event_before, events_of, fault_at, is_header, most_rows, rows_from}
-use Rattle.trace_reader.specs.declared.event.Event.{Event}
-use Rattle.trace_reader.specs.declared.event.EventOp.{EventOp}
-use Rattle.trace_reader.specs.declared.event.EventOp.TheVariants.{Read, Write, Mask, Cut}
+use Rattle.trace_reader.specs.declared.event.TraceEvent.{TraceEvent}
+use Rattle.trace_reader.specs.declared.event.TraceOp.{TraceOp}
+use Rattle.trace_reader.specs.declared.event.TraceOp.TheVariants.{Read, Write, Mask, Cut}
 use Rattle.trace_reader.specs.declared.fault.Kind.{Kind}
 use Rattle.trace_reader.specs.declared.fault.Kind.TheVariants as kind
 use Rattle.trace_reader.specs.declared.fault.ParseFault.{ParseFault}
@@ -190,14 +190,14 @@ masked-ok n text m h = by (pairs_of text) refl h
 -- ---- operations
 
 -- what an operation gives are n bytes
-abbrev pub GivesBytes : {n : ℕ} → EventOp n → Type 0
+abbrev pub GivesBytes : {n : ℕ} → TraceOp n → Type 0
 GivesBytes (Read line) = Unit {0}
 GivesBytes {n} (Write line bytes) = AreBytes n bytes
 GivesBytes {n} (Mask line bytes given) = AreBytes n bytes × (length given ≡ n)
 GivesBytes Cut = Unit {0}
 
 -- the fields of an operation have no end of a line, and what it gives are bytes
-record OpOk {n : ℕ} (line payload : List ℕ) (op : EventOp n) : Type 0 where
+record OpOk {n : ℕ} (line payload : List ℕ) (op : TraceOp n) : Type 0 where
   line_whole : is_broken line ≡ false
   payload_whole : is_broken payload ≡ false
   gives : GivesBytes op
@@ -206,7 +206,7 @@ if-ok : {U : Type 0} (b : Bool) (r : Result U Kind) (fault : Kind) (u : U) → (
 if-ok true r fault u h = (refl, h)
 if-ok false r fault u h = cc h
 
-module _ (n lines : ℕ) (line payload : List ℕ) (op : EventOp n) where
+module _ (n lines : ℕ) (line payload : List ℕ) (op : TraceOp n) where
   read-ok : read_of n lines line payload ≡ Ok op → OpOk line payload op
   unfolding read_of
   read-ok h =
@@ -260,22 +260,22 @@ module _ (n lines : ℕ) (line payload : List ℕ) (op : EventOp n) where
 
 -- ---- records
 
-event-op : {n : ℕ} (tick : ℕ) (r : Result (EventOp n) Kind) (event : Event n) → event_at tick r ≡ Ok event → r ≡ Ok event.op
+event-op : {n : ℕ} (tick : ℕ) (r : Result (TraceOp n) Kind) (event : TraceEvent n) → event_at tick r ≡ Ok event → r ≡ Ok event.op
 event-op tick (Err e) event h = cc h
 event-op {n} tick (Ok op) event h =
-    let at : Event n = record { tick = tick; op = op } in
+    let at : TraceEvent n = record { tick = tick; op = op } in
     let same : at ≡ event = cc in
-    ap (λ (event : Event n). Ok event.op) same
+    ap (λ (event : TraceEvent n). Ok event.op) same
 
 -- what a record of four fields says
-abbrev row_event : (n lines before : ℕ) → List (List ℕ) → Result (Event n) Kind
+abbrev row_event : (n lines before : ℕ) → List (List ℕ) → Result (TraceEvent n) Kind
 row_event n lines before fields =
     or_fault (tick_of (text_at fields 0)) kind.Tick (λ tick.
     if nat_lt tick before then Err kind.Order
     else event_at tick (op_of n lines (text_at fields 1) (text_at fields 2) (text_at fields 3)))
 
 -- a record that is an event
-event-ok : (n lines before : ℕ) (fields : List (List ℕ)) (event : Event n) → event_of n lines before fields ≡ Ok event → IsPlain fields × GivesBytes event.op
+event-ok : (n lines before : ℕ) (fields : List (List ℕ)) (event : TraceEvent n) → event_of n lines before fields ≡ Ok event → IsPlain fields × GivesBytes event.op
 unfolding event_of field_at
 event-ok n lines before fields event h = four fields (length fields == 4) refl h
   where
@@ -308,11 +308,11 @@ event-ok n lines before fields event h = four fields (length fields == 4) refl h
     four (a ∷ b ∷ c ∷ d ∷ e ∷ more) true is q = absurd (omega (arith, eqb-true (length (a ∷ b ∷ c ∷ d ∷ e ∷ more)) 4 is))
 
 -- each of some events gives bytes
-abbrev pub AllGiveBytes : {n : ℕ} → List (Event n) → Type 0
+abbrev pub AllGiveBytes : {n : ℕ} → List (TraceEvent n) → Type 0
 AllGiveBytes [] = Unit {0}
 AllGiveBytes (event ∷ events) = GivesBytes event.op × AllGiveBytes events
 
-rows-ok : (n lines row before : ℕ) (rows : List (List (List ℕ))) (events : List (Event n)) → rows_from n lines row before rows ≡ Ok events → ArePlain rows × AllGiveBytes events
+rows-ok : (n lines row before : ℕ) (rows : List (List (List ℕ))) (events : List (TraceEvent n)) → rows_from n lines row before rows ≡ Ok events → ArePlain rows × AllGiveBytes events
 unfolding rows_from
 rows-ok n lines row before [] events h =
     let none : [] ≡ events = cc in
@@ -320,8 +320,8 @@ rows-ok n lines row before [] events h =
 rows-ok n lines row before (fields ∷ rest) events h =
     by (nat_lt most_rows row) (event_of n lines before fields) refl (λ event more is. rows-ok n lines (row + 1) event.tick rest more is) h
   where
-    behind : (event : Event n) (more : Result (List (Event n)) ParseFault) → rows_from n lines (row + 1) event.tick rest ≡ more → IsPlain fields × GivesBytes event.op
-        → ((more : List (Event n)) → rows_from n lines (row + 1) event.tick rest ≡ Ok more → ArePlain rest × AllGiveBytes more)
+    behind : (event : TraceEvent n) (more : Result (List (TraceEvent n)) ParseFault) → rows_from n lines (row + 1) event.tick rest ≡ more → IsPlain fields × GivesBytes event.op
+        → ((more : List (TraceEvent n)) → rows_from n lines (row + 1) event.tick rest ≡ Ok more → ArePlain rest × AllGiveBytes more)
         → event_before event more ≡ Ok events → ArePlain (fields ∷ rest) × AllGiveBytes events
     behind event (Err e) is here ih q = cc q
     behind event (Ok more) is here ih q =
@@ -329,8 +329,8 @@ rows-ok n lines row before (fields ∷ rest) events h =
         let all = ih more is in
         ((here.0, all.0), subst AllGiveBytes same (here.1, all.1))
 
-    by : (b : Bool) (r : Result (Event n) Kind) → event_of n lines before fields ≡ r
-        → ((event : Event n) (more : List (Event n)) → rows_from n lines (row + 1) event.tick rest ≡ Ok more → ArePlain rest × AllGiveBytes more)
+    by : (b : Bool) (r : Result (TraceEvent n) Kind) → event_of n lines before fields ≡ r
+        → ((event : TraceEvent n) (more : List (TraceEvent n)) → rows_from n lines (row + 1) event.tick rest ≡ Ok more → ArePlain rest × AllGiveBytes more)
         → (if b then Err fault.TooMany else and_then_rows row r (λ event. rows_from n lines (row + 1) event.tick rest)) ≡ Ok events → ArePlain (fields ∷ rest) × AllGiveBytes events
     by true r is ih q = cc q
     by false (Err e) is ih q = cc q
@@ -371,7 +371,7 @@ header-plain (a ∷ b ∷ c ∷ d ∷ e ∷ more) h =
           (first-of-five (length (a ∷ b ∷ c ∷ d ∷ e ∷ more) == 4) (bytes_eq a (codes "tick")) (bytes_eq b (codes "op")) (bytes_eq c (codes "arg")) (bytes_eq d (codes "data")) h),
     ))
 
-pub records-ok : (n lines : ℕ) (rows : List (List (List ℕ))) (events : List (Event n)) → events_of n lines rows ≡ Ok events → ArePlain rows × AllGiveBytes events
+pub records-ok : (n lines : ℕ) (rows : List (List (List ℕ))) (events : List (TraceEvent n)) → events_of n lines rows ≡ Ok events → ArePlain rows × AllGiveBytes events
 unfolding events_of
 records-ok n lines [] events h = cc h
 records-ok n lines (first ∷ rows) events h = by (is_header first) refl h

@@ -1,6 +1,6 @@
 -- The text of a run's results by the rows that are read.
 use Rattle.std.proofs.Common.{◌≡◌, ℕ, ◌+◌, List, [], ◌∷◌, ◌++◌, refl, ap}
-use Rattle.trace_reader.specs.declared.event.Event.{Event}
+use Rattle.trace_reader.specs.declared.event.TraceEvent.{TraceEvent}
 use Rattle.result_rows.specs.declared.Outcome.{Outcome}
 use Rattle.result_rows.specs.RowText.{header_text, row_text}
 use Rattle.result_rows.specs.RowText as rows
@@ -9,7 +9,7 @@ use Rattle.run_text.specs.ResultText.{asked, named_line, rows_text, results_text
 use Rattle.text_check.specs.Checked.{asks_in}
 use Rattle.text_check.specs.PrintedLaw.{PrintedLaw}
 
-same_rows : {n : ℕ} (row : ℕ) (events : List (Event n)) (outcomes : List (Outcome n)) → rows_text row events outcomes ≡ rows.rows_text row (rows_of (asks_in events) outcomes)
+same_rows : {n : ℕ} (row : ℕ) (events : List (TraceEvent n)) (outcomes : List (Outcome n)) → rows_text row events outcomes ≡ rows.rows_text row (rows_of (asks_in events) outcomes)
 unfolding rows_text rows_of
 same_rows row [] outcomes = refl
 same_rows row (event ∷ events) [] = refl

@@ -16,9 +16,9 @@ use Rattle.bank_shape.specs.declared.pace.Policy.TheVariants.{Pause, Plain, Canc
 use Rattle.trace_reader.specs.Events.{AreEventsFor, IsOpFor}
 use Rattle.trace_reader.specs.Rows.{latest_tick}
 use Rattle.trace_reader.specs.Trace.{most_rows}
-use Rattle.trace_reader.specs.declared.event.Event.{Event}
-use Rattle.trace_reader.specs.declared.event.EventOp.{EventOp}
-use Rattle.trace_reader.specs.declared.event.EventOp.TheVariants.{Read, Write, Mask, Cut}
+use Rattle.trace_reader.specs.declared.event.TraceEvent.{TraceEvent}
+use Rattle.trace_reader.specs.declared.event.TraceOp.{TraceOp}
+use Rattle.trace_reader.specs.declared.event.TraceOp.TheVariants.{Read, Write, Mask, Cut}
 use Rattle.result_rows.specs.declared.Outcome.{Outcome}
 use Rattle.result_rows.specs.declared.Outcome.TheVariants as out
 use Rattle.result_rows.specs.Outcomes.{bytes_of, op_of, place_of, tick_of}
@@ -134,25 +134,25 @@ module _ {n : ℕ} where
 -- ---- the rows of events
 
 module _ {n : ℕ} where
-  gives : (op : EventOp n) → GivesBytes op → Gives (asks_of op)
+  gives : (op : TraceOp n) → GivesBytes op → Gives (asks_of op)
   gives (Read line) h = tt
   gives (Write line bytes) h = h
   gives (Mask line bytes given) h = h.0
   gives Cut h = tt
 
-  all-give : (events : List (Event n)) (outcomes : List (Outcome n)) → AllGiveBytes events → AllGive (rows_with events outcomes)
+  all-give : (events : List (TraceEvent n)) (outcomes : List (Outcome n)) → AllGiveBytes events → AllGive (rows_with events outcomes)
   all-give [] outcomes h = tt
   all-give (event ∷ events) [] h = tt
   all-give (event ∷ events) (outcome ∷ outcomes) h = (gives event.op h.0, all-give events outcomes h.1)
 
   -- each line exists, and no tick is above the latest
-  of-lines : (lines : ℕ) (op : EventOp n) → IsOpFor lines op → IsOfLines lines (asks_of op)
+  of-lines : (lines : ℕ) (op : TraceOp n) → IsOpFor lines op → IsOfLines lines (asks_of op)
   of-lines lines (Read line) h = h
   of-lines lines (Write line bytes) h = h.0
   of-lines lines (Mask line bytes given) h = h.0
   of-lines lines Cut h = tt
 
-  lines-exist : (lines before : ℕ) (events : List (Event n)) (outcomes : List (Outcome n)) → AreEventsFor lines before events → All (λ r. IsOfLines lines r.asks) (rows_with events outcomes)
+  lines-exist : (lines before : ℕ) (events : List (TraceEvent n)) (outcomes : List (Outcome n)) → AreEventsFor lines before events → All (λ r. IsOfLines lines r.asks) (rows_with events outcomes)
   unfolding AreEventsFor
   lines-exist lines before [] outcomes h = All-nil (λ (r : Row n). IsOfLines lines r.asks)
   lines-exist lines before (event ∷ events) [] h = All-nil (λ (r : Row n). IsOfLines lines r.asks)
@@ -160,7 +160,7 @@ module _ {n : ℕ} where
       All-cons (λ (r : Row n). IsOfLines lines r.asks) (record { tick = event.tick; asks = asks_of event.op; outcome = outcome }) (rows_with events outcomes)
       (of-lines lines event.op h.0.op) (lines-exist lines event.tick events outcomes h.1)
 
-  ticks-early : (lines before : ℕ) (events : List (Event n)) (outcomes : List (Outcome n)) → AreEventsFor lines before events → All (λ r. r.tick ≤ latest_tick) (rows_with events outcomes)
+  ticks-early : (lines before : ℕ) (events : List (TraceEvent n)) (outcomes : List (Outcome n)) → AreEventsFor lines before events → All (λ r. r.tick ≤ latest_tick) (rows_with events outcomes)
   unfolding AreEventsFor
   ticks-early lines before [] outcomes h = All-nil (λ (r : Row n). r.tick ≤ latest_tick)
   ticks-early lines before (event ∷ events) [] h = All-nil (λ (r : Row n). r.tick ≤ latest_tick)
@@ -168,14 +168,14 @@ module _ {n : ℕ} where
       All-cons (λ (r : Row n). r.tick ≤ latest_tick) (record { tick = event.tick; asks = asks_of event.op; outcome = outcome }) (rows_with events outcomes)
       h.0.in_time (ticks-early lines event.tick events outcomes h.1)
 
-  rows-few : (events : List (Event n)) (outcomes : List (Outcome n)) → length (rows_with events outcomes) ≤ length events
+  rows-few : (events : List (TraceEvent n)) (outcomes : List (Outcome n)) → length (rows_with events outcomes) ≤ length events
   rows-few [] outcomes = omega arith
   rows-few (event ∷ events) [] = omega arith
   rows-few (event ∷ events) (outcome ∷ outcomes) = omega (arith, rows-few events outcomes)
 
   -- ---- what a row of results may have
 
-  own-op : (op : EventOp n) → op_asked (asks_of op) ≡ asked op
+  own-op : (op : TraceOp n) → op_asked (asks_of op) ≡ asked op
   own-op (Read line) = refl
   own-op (Write line bytes) = refl
   own-op (Mask line bytes given) = refl
@@ -190,7 +190,7 @@ module _ {n : ℕ} where
   abbrev IsPlaced : Row n → Type 0
   IsPlaced r = ForSome (place_of r.outcome) (λ place. place ≤ 98831)
 
-  each-may : (events : List (Event n)) (outcomes : List (Outcome n)) → length outcomes ≡ length events → All IsOwn (rows_with events outcomes) → All IsShort (rows_with events outcomes)
+  each-may : (events : List (TraceEvent n)) (outcomes : List (Outcome n)) → length outcomes ≡ length events → All IsOwn (rows_with events outcomes) → All IsShort (rows_with events outcomes)
       → All IsPlaced (rows_with events outcomes) → All HasBytes (rows_with events outcomes) → EachMayStand (asks_in events) outcomes
   unfolding EachMayStand
   each-may [] [] size own short placed bytes = tt
@@ -233,11 +233,11 @@ short-time rules count read iter steps spares few =
     omega (arith, one, works, serves, waits, read, iter)
 
 -- the lines of the rows of a trace exist
-pub exist : {n : ℕ} (raw : RawShape) (events : List (Event n)) (outcomes : List (Outcome n)) → AreEventsFor (total_of raw) 0 events → LinesExist raw (reverse (rows_with events outcomes))
+pub exist : {n : ℕ} (raw : RawShape) (events : List (TraceEvent n)) (outcomes : List (Outcome n)) → AreEventsFor (total_of raw) 0 events → LinesExist raw (reverse (rows_with events outcomes))
 exist {n} raw events outcomes lawful =
     All-reverse (λ (r : Row n). IsOfLines (total_of raw) r.asks) (rows_with events outcomes) (lines-exist (total_of raw) 0 events outcomes lawful)
 
-module _ {n m : ℕ} (e : ℕ) (raw : RawShape) (seed : ℕ) (events : List (Event n)) (outcomes : List (Outcome n)) (array : ArrayState n m) (ends : ℕ → BankEnd) where
+module _ {n m : ℕ} (e : ℕ) (raw : RawShape) (seed : ℕ) (events : List (TraceEvent n)) (outcomes : List (Outcome n)) (array : ArrayState n m) (ends : ℕ → BankEnd) where
   abbrev all : List (Row n)
   all = rows_with events outcomes
 

@@ -2,7 +2,7 @@
 use Rattle.std.specs.Prelude.{◌≡◌, ℕ, ◌+◌, ◌*◌, ◌≤◌, List, ◌++◌, length, reverse, Ok}
 use Rattle.pcm_cells.specs.Device.{ArrayState}
 use Rattle.trace_reader.specs.Trace.{trace_of}
-use Rattle.trace_reader.specs.declared.event.Event.{Event}
+use Rattle.trace_reader.specs.declared.event.TraceEvent.{TraceEvent}
 use Rattle.result_rows.specs.declared.Outcome.{Outcome}
 use Rattle.result_reader.specs.ResultRows.{EachMayStand}
 use Rattle.run_text.specs.ResultText.{results_text}
@@ -19,7 +19,7 @@ use Rattle.text_check.specs.declared.fault.TextFault.{TextFault}
 use Rattle.text_check.specs.declared.fault.TextFault.TheVariants as fault
 
 -- these are the events of a trace and the outcomes of a right run of it, over lines with e error-correcting pointers
-pub record IsRunOf {n m : ℕ} (e : ℕ) (raw : RawShape) (seed : ℕ) (trace : List ℕ) (events : List (Event n)) (outcomes : List (Outcome n))
+pub record IsRunOf {n m : ℕ} (e : ℕ) (raw : RawShape) (seed : ℕ) (trace : List ℕ) (events : List (TraceEvent n)) (outcomes : List (Outcome n))
     (array : ArrayState n m) (ends : ℕ → BankEnd) : Type 0 where
   pub shape : IsShape raw
   pub few : e ≤ 8
@@ -30,13 +30,13 @@ pub record IsRunOf {n m : ℕ} (e : ℕ) (raw : RawShape) (seed : ℕ) (trace : 
 -- they may stand in results: each is of its row's operation, with a tick of at most 15 digits, the number of an array line, and bytes
 abbrev pub MayStandLaw : Type 0
 MayStandLaw =
-    (n m e : ℕ) (raw : RawShape) (seed : ℕ) (trace : List ℕ) (events : List (Event n)) (outcomes : List (Outcome n)) (array : ArrayState n m) (ends : ℕ → BankEnd)
+    (n m e : ℕ) (raw : RawShape) (seed : ℕ) (trace : List ℕ) (events : List (TraceEvent n)) (outcomes : List (Outcome n)) (array : ArrayState n m) (ends : ℕ → BankEnd)
     → IsRunOf e raw seed trace events outcomes array ends → EachMayStand (asks_in events) outcomes
 
 -- the results that are printed of them take at most 36 bytes for their header, and for each row 64 bytes and two for each byte of a line
 abbrev pub ShortLaw : Type 0
 ShortLaw =
-    (n m e : ℕ) (raw : RawShape) (seed : ℕ) (trace : List ℕ) (events : List (Event n)) (outcomes : List (Outcome n)) (array : ArrayState n m) (ends : ℕ → BankEnd)
+    (n m e : ℕ) (raw : RawShape) (seed : ℕ) (trace : List ℕ) (events : List (TraceEvent n)) (outcomes : List (Outcome n)) (array : ArrayState n m) (ends : ℕ → BankEnd)
     → IsRunOf e raw seed trace events outcomes array ends → length (results_text events outcomes) ≤ 36 + length events * (64 + 2 * n)
 
 -- a text is judged ok: it has the verdict Yes and no other, and it has no fault, but that memory may run out
@@ -48,5 +48,5 @@ pub record IsJudgedOk (n e : ℕ) (raw : RawShape) (seed : ℕ) (bytes : List �
 -- so is the trace, where its last line is ended, with these results behind it
 abbrev pub JudgedRunsLaw : Type 0
 JudgedRunsLaw =
-    (n m e : ℕ) (raw : RawShape) (seed : ℕ) (trace : List ℕ) (events : List (Event n)) (outcomes : List (Outcome n)) (array : ArrayState n m) (ends : ℕ → BankEnd)
+    (n m e : ℕ) (raw : RawShape) (seed : ℕ) (trace : List ℕ) (events : List (TraceEvent n)) (outcomes : List (Outcome n)) (array : ArrayState n m) (ends : ℕ → BankEnd)
     → 1 ≤ n → IsRunOf e raw seed trace events outcomes array ends → EndsItsLine trace → IsJudgedOk n e raw seed (trace ++ results_text events outcomes)

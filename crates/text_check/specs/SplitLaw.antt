@@ -1,7 +1,7 @@
 -- Where results begin that stand behind a trace.
 use Rattle.std.specs.Prelude.{◌≡◌, ℕ, List, ◌++◌, length, Ok}
 use Rattle.trace_reader.specs.Trace.{trace_of}
-use Rattle.trace_reader.specs.declared.event.Event.{Event}
+use Rattle.trace_reader.specs.declared.event.TraceEvent.{TraceEvent}
 use Rattle.result_reader.specs.Splitting.{BeginsLine, BeginsWithHeader, BeginResultsAt}
 
 -- the last line of a text is ended: what stands behind it begins a line
@@ -11,5 +11,5 @@ EndsItsLine bytes = BeginsLine bytes (length bytes)
 -- behind a trace whose last line is ended, results begin at their own first byte: no line of a trace is the header of results
 abbrev pub SplitLaw : Type 0
 SplitLaw =
-    (n lines : ℕ) (trace results : List ℕ) (events : List (Event n)) → trace_of n lines trace ≡ Ok events → EndsItsLine trace → BeginsWithHeader results
+    (n lines : ℕ) (trace results : List ℕ) (events : List (TraceEvent n)) → trace_of n lines trace ≡ Ok events → EndsItsLine trace → BeginsWithHeader results
     → BeginResultsAt (trace ++ results) (length trace)

@@ -15,14 +15,14 @@ use result_check::{Verdict, check};
 use result_reader::{find_results, parse_results};
 use result_rows::Results;
 use std::alloc::Global;
-use trace_reader::{Event, MOST_ROWS, parse};
+use trace_reader::{MOST_ROWS, TraceEvent, parse};
 
 // The trace of a text, up to its results.
 fn trace<const B: usize>(
     alloc: Global,
     bytes: &[u8],
     lines: u32,
-) -> Result<Vec<Event<B>>, TextFault>
+) -> Result<Vec<TraceEvent<B>>, TextFault>
     requires lines { 1 ≤ lines }
     requires size { B ≤ 128 }
     ensures ok { IfOk result (λ events. trace_of B lines bytes.now ≡ Ok events.items) }
@@ -37,7 +37,7 @@ fn trace<const B: usize>(
 fn results<const B: usize>(
     alloc: Global,
     bytes: &[u8],
-    events: &[Event<B>],
+    events: &[TraceEvent<B>],
 ) -> Result<Results<B>, TextFault>
     requires some_size { 1 ≤ B }
     requires size { B ≤ 128 }
@@ -53,7 +53,7 @@ fn results<const B: usize>(
 // The verdict on these events and results.
 fn judge<const B: usize, const E: usize>(
     alloc: Global,
-    events: &[Event<B>],
+    events: &[TraceEvent<B>],
     results: &Results<B>,
     shape: &Shape,
     seed: u64,

@@ -3,7 +3,7 @@ use Rattle.std.proofs.Common.{◌≡◌, ℕ, ◌^◌, ◌<◌, ◌≤◌, Bool,
 use Rattle.std.specs.Prelude.{All}
 use Rattle.std.proofs.lemmas.List.Elements.{All-cons}
 use Rattle.trace_reader.specs.Events.{AreEventsFor}
-use Rattle.trace_reader.specs.declared.event.EventOp.TheVariants.{Write, Read}
+use Rattle.trace_reader.specs.declared.event.TraceOp.TheVariants.{Write, Read}
 use Rattle.row_verdict.specs.Within.{AreWithin}
 use Rattle.row_rules.specs.declared.Rules.{Rules}
 use Rattle.std.proofs.lemmas.Bool.{ltb-true}

@@ -5,10 +5,10 @@ use pcm_io::Text;
 use std::alloc::{AllocError, Global};
 use std::test::Fail;
 use trace_gen::{Generator, Mix, generate, header, print_event};
-use trace_reader::{Event, EventOp, parse};
+use trace_reader::{TraceEvent, TraceOp, parse};
 
 // The text of events, of which there are few.
-fn printed<const B: usize>(alloc: Global, events: &[Event<B>]) -> Result<Text, AllocError>
+fn printed<const B: usize>(alloc: Global, events: &[TraceEvent<B>]) -> Result<Text, AllocError>
     requires size { B ≤ 128 }
 {
     let mut text = Text::new(alloc, 4096)?;
@@ -110,25 +110,25 @@ fn lines_of_128_bytes(rt: HostRuntime) -> Result<(), Fail> {
 #[test]
 fn a_printed_trace_is_read_back(rt: HostRuntime) -> Result<(), Fail> {
     let events = [
-        Event {
+        TraceEvent {
             tick: 0,
-            op: EventOp::Write(3, [0, 0x11, 0x2a, 0x33, 0x44, 0x55, 0x66, 0xff]),
+            op: TraceOp::Write(3, [0, 0x11, 0x2a, 0x33, 0x44, 0x55, 0x66, 0xff]),
         },
-        Event {
+        TraceEvent {
             tick: 7,
-            op: EventOp::Mask(
+            op: TraceOp::Mask(
                 0,
                 [0, 0xa1, 0, 0, 0, 0, 0, 0x5b],
                 [false, true, false, false, false, false, false, true],
             ),
         },
-        Event {
+        TraceEvent {
             tick: 7,
-            op: EventOp::Cut,
+            op: TraceOp::Cut,
         },
-        Event {
+        TraceEvent {
             tick: 1_099_511_627_776,
-            op: EventOp::Read(2),
+            op: TraceOp::Read(2),
         },
     ];
     let text = printed(rt.alloc(), events.as_slice())?;

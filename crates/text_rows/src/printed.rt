@@ -11,7 +11,7 @@ use run_text::{
 };
 use std::alloc::{AllocError, Global};
 use std::test::Fail;
-use trace_reader::{Event, EventOp};
+use trace_reader::{TraceEvent, TraceOp};
 use wear_report::{Role, header};
 
 // A sink whose calls with these numbers fail.
@@ -35,17 +35,17 @@ fn no_rows_have_a_header_alone(rt: HostRuntime) -> Result<(), Fail> {
 #[test]
 fn a_write_that_a_cut_stopped(rt: HostRuntime) -> Result<(), Fail> {
     let events = [
-        Event {
+        TraceEvent {
             tick: 0,
-            op: EventOp::Mask(3, [7; 8], [true; 8]),
+            op: TraceOp::Mask(3, [7; 8], [true; 8]),
         },
-        Event {
+        TraceEvent {
             tick: 9,
-            op: EventOp::Cut,
+            op: TraceOp::Cut,
         },
-        Event {
+        TraceEvent {
             tick: 9,
-            op: EventOp::Read(3),
+            op: TraceOp::Read(3),
         },
     ];
     let mut results = Results::<8>::new(rt.alloc(), 3)?;

@@ -1,5 +1,5 @@
 use std::test::Fail;
-use trace_reader::{Event, EventOp, Kind, MOST_ROWS, ParseFault, TraceFault, number, parse};
+use trace_reader::{Kind, MOST_ROWS, ParseFault, TraceEvent, TraceFault, TraceOp, number, parse};
 
 #[test]
 fn a_number_has_its_digits_and_its_bound(rt: HostRuntime) {
@@ -63,25 +63,25 @@ fn rows_become_events(rt: HostRuntime) -> Result<(), Fail> {
         b"tick,op,arg,data\r\n0,W,3,00112233445566fF\r\n7,M,0,..a1..........5B\r\n7,C,,\r\n1099511627776,R,00002,";
     let events = parse::<8>(rt.alloc(), text, 4)?;
     let want = [
-        Event {
+        TraceEvent {
             tick: 0,
-            op: EventOp::Write(3, [0, 0x11, 0x22, 0x33, 0x44, 0x55, 0x66, 0xff]),
+            op: TraceOp::Write(3, [0, 0x11, 0x22, 0x33, 0x44, 0x55, 0x66, 0xff]),
         },
-        Event {
+        TraceEvent {
             tick: 7,
-            op: EventOp::Mask(
+            op: TraceOp::Mask(
                 0,
                 [0, 0xa1, 0, 0, 0, 0, 0, 0x5b],
                 [false, true, false, false, false, false, false, true],
             ),
         },
-        Event {
+        TraceEvent {
             tick: 7,
-            op: EventOp::Cut,
+            op: TraceOp::Cut,
         },
-        Event {
+        TraceEvent {
             tick: 1_099_511_627_776,
-            op: EventOp::Read(2),
+            op: TraceOp::Read(2),
         },
     ];
     assert_eq!(rt; events.as_slice(), want.as_slice());

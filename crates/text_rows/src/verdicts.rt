@@ -7,7 +7,7 @@ use result_check::{Rule, Rules, Verdict, check};
 use result_rows::{Outcome, Results};
 use std::alloc::{AllocError, Global};
 use std::test::Fail;
-use trace_reader::{Event, EventOp};
+use trace_reader::{TraceEvent, TraceOp};
 
 // The verdict on a write of line 0 at tick 0 and a read of it at tick 100, in the small bank.
 fn verdict_on(alloc: Global, written: Outcome<64>, read: Outcome<64>) -> Result<Verdict, AllocError>
@@ -15,13 +15,13 @@ fn verdict_on(alloc: Global, written: Outcome<64>, read: Outcome<64>) -> Result<
     requires read { is_timed read ≡ true }
 {
     let events = [
-        Event {
+        TraceEvent {
             tick: 0,
-            op: EventOp::Write(0, [0xff; 64]),
+            op: TraceOp::Write(0, [0xff; 64]),
         },
-        Event {
+        TraceEvent {
             tick: 100,
-            op: EventOp::Read(0),
+            op: TraceOp::Read(0),
         },
     ];
     let mut results = Results::new(alloc, 2)?;

@@ -9,8 +9,8 @@ use Rattle.rand_xoshiro.specs.Xoshiro256.{of_seed}
 use Rattle.pcm_cells.specs.Words.{xoshiro_of}
 use Rattle.trace_reader.specs.Events.{AreEventsFor, IsEventFor, IsOpFor}
 use Rattle.trace_reader.specs.Rows.{latest_tick}
-use Rattle.trace_reader.specs.declared.event.Event.{Event}
-use Rattle.trace_reader.specs.declared.event.EventOp.{EventOp}
+use Rattle.trace_reader.specs.declared.event.TraceEvent.{TraceEvent}
+use Rattle.trace_reader.specs.declared.event.TraceOp.{TraceOp}
 use Rattle.trace_gen.specs.declared.mix.Mix.{Mix}
 use Rattle.trace_gen.specs.Generated.{IsMix, access_by, draws_write, event_drawn, events_drawn, generated, is_cut_row, line_drawn, op_drawn}
 use Rattle.trace_gen.specs.Laws.{AllHaveBytes, AllWithin, GeneratedLaw, GeneratedTextLaw, HasBytes, IsGenerated}
@@ -31,7 +31,7 @@ line-below lines mix word some = elim (cases_Bool (nat_lt 0 mix.hot && nat_lt (w
 ]
 
 -- what is drawn for a row
-record IsDrawn {n : ℕ} (lines : ℕ) (drawn : EventOp n × Stream) : Type 0 where
+record IsDrawn {n : ℕ} (lines : ℕ) (drawn : TraceOp n × Stream) : Type 0 where
   for : IsOpFor lines drawn.0
   has : HasBytes drawn.0
   left : IsWords drawn.1
@@ -53,7 +53,7 @@ op-drawn n lines mix row left some words = elim (cases_Bool (is_cut_row mix row)
 ]
 
 -- what the events of so many rows are like, no tick of which is above this
-record AreDrawn {n : ℕ} (lines before most many : ℕ) (events : List (Event n)) : Type 0 where
+record AreDrawn {n : ℕ} (lines before most many : ℕ) (events : List (TraceEvent n)) : Type 0 where
   lawful : AreEventsFor lines before events
   bytes : AllHaveBytes events
   rows : length events ≡ many
@@ -63,7 +63,7 @@ none-drawn : (n lines before most : ℕ) → AreDrawn {n = n} lines before most 
 unfolding AreEventsFor AllHaveBytes AllWithin
 none-drawn n lines before most = record { lawful = tt; bytes = tt; rows = refl; ticks = tt }
 
-one-drawn : (n lines before most many : ℕ) (event : Event n) (rest : List (Event n)) → IsEventFor lines before event → HasBytes event.op → event.tick ≤ most
+one-drawn : (n lines before most many : ℕ) (event : TraceEvent n) (rest : List (TraceEvent n)) → IsEventFor lines before event → HasBytes event.op → event.tick ≤ most
     → AreDrawn lines event.tick most many rest → AreDrawn lines before most (suc many) (event ∷ rest)
 unfolding AreEventsFor AllHaveBytes AllWithin
 one-drawn n lines before most many event rest for has early behind =
@@ -111,5 +111,5 @@ generated_text_law n seed lines mix some few is =
     text_law n lines (generated n seed lines mix) (omega arith) all.lawful all.bytes (omega arith)
 
 -- the same of a list that has these events
-pub generated_as : (n seed lines : ℕ) (mix : Mix) (events : List (Event n)) → 1 ≤ lines → lines ≤ 65536 → IsMix mix → generated n seed lines mix ≡ events → IsGenerated lines mix events
+pub generated_as : (n seed lines : ℕ) (mix : Mix) (events : List (TraceEvent n)) → 1 ≤ lines → lines ≤ 65536 → IsMix mix → generated n seed lines mix ≡ events → IsGenerated lines mix events
 generated_as n seed lines mix events some few is same = rw (← same) (generated_law n seed lines mix some few is)

@@ -1,6 +1,6 @@
 -- What a generator of a trace has still to give.
 use Rattle.std.specs.Prelude.{◌≡◌, ℕ, ◌-◌, ◌*◌, ◌≤◌, List}
-use Rattle.trace_reader.specs.declared.event.Event.{Event}
+use Rattle.trace_reader.specs.declared.event.TraceEvent.{TraceEvent}
 use Rattle.trace_gen.specs.declared.mix.Mix.{Mix}
 use Rattle.trace_gen.specs.Generated.{IsMix, cut_distance, events_drawn, words_left}
 
@@ -13,7 +13,7 @@ pub record Drawing : Type 0 where
   pub tick : ℕ
 
 -- the events that are still to come
-abbrev pub left_of : (n : ℕ) → Drawing → List (Event n)
+abbrev pub left_of : (n : ℕ) → Drawing → List (TraceEvent n)
 left_of n d = events_drawn n d.lines d.mix (d.mix.rows - d.done) d.done d.tick (words_left d.state)
 
 -- its numbers are in range, and the distance between cuts is that of its mix

@@ -4,9 +4,9 @@ use Rattle.std.specs.Str.{bytes_eq}
 use Rattle.csv.specs.Records.{field_at}
 use Rattle.trace_reader.specs.Number.{number_of}
 use Rattle.trace_reader.specs.Payload.{bytes_of, masked_of}
-use Rattle.trace_reader.specs.declared.event.Event.{Event}
-use Rattle.trace_reader.specs.declared.event.EventOp.{EventOp}
-use Rattle.trace_reader.specs.declared.event.EventOp.TheVariants.{Read, Write, Mask, Cut}
+use Rattle.trace_reader.specs.declared.event.TraceEvent.{TraceEvent}
+use Rattle.trace_reader.specs.declared.event.TraceOp.{TraceOp}
+use Rattle.trace_reader.specs.declared.event.TraceOp.TheVariants.{Read, Write, Mask, Cut}
 use Rattle.trace_reader.specs.declared.fault.Kind.{Kind}
 use Rattle.trace_reader.specs.declared.fault.Kind.TheVariants as kind
 
@@ -19,7 +19,7 @@ or_fault (Some x) fault next = next x
 abbrev pub latest_tick : ℕ
 latest_tick = 1099511627776
 
--- the field at a place of a record
+-- the field at an index of a record
 abbrev pub text_at : List (List ℕ) → ℕ → List ℕ
 text_at fields i = unwrap_or (field_at fields i) []
 
@@ -32,36 +32,36 @@ abbrev pub line_of : ℕ → List ℕ → Option ℕ
 line_of lines text = number_of 5 (lines - 1) text
 
 -- an operation at a tick
-abbrev pub event_at : {n : ℕ} → ℕ → Result (EventOp n) Kind → Result (Event n) Kind
+abbrev pub event_at : {n : ℕ} → ℕ → Result (TraceOp n) Kind → Result (TraceEvent n) Kind
 event_at tick (Ok op) = Ok (record { tick = tick; op = op })
 event_at tick (Err fault) = Err fault
 
 -- the rows of a trace for so many lines of n bytes
 module _ (n lines : ℕ) where
   -- a read has a line and no payload
-  unfoldable pub read_of : List ℕ → List ℕ → Result (EventOp n) Kind
+  unfoldable pub read_of : List ℕ → List ℕ → Result (TraceOp n) Kind
   read_of line payload =
       or_fault (line_of lines line) kind.Line (λ line. if length payload == 0 then Ok (Read line) else Err kind.Payload)
 
   -- a write has a line and all its bytes
-  unfoldable pub write_of : List ℕ → List ℕ → Result (EventOp n) Kind
+  unfoldable pub write_of : List ℕ → List ℕ → Result (TraceOp n) Kind
   write_of line payload =
       or_fault (line_of lines line) kind.Line (λ line. or_fault (bytes_of n payload) kind.Payload (λ bytes. Ok (Write line bytes)))
 
   -- a masked write has a line and some of its bytes
-  unfoldable pub mask_of : List ℕ → List ℕ → Result (EventOp n) Kind
+  unfoldable pub mask_of : List ℕ → List ℕ → Result (TraceOp n) Kind
   mask_of line payload =
       or_fault (line_of lines line) kind.Line (λ line. or_fault (masked_of n payload) kind.Payload (λ m. Ok (Mask line m.bytes m.given)))
 
   -- a cut has neither
-  unfoldable pub cut_of : List ℕ → List ℕ → Result (EventOp n) Kind
+  unfoldable pub cut_of : List ℕ → List ℕ → Result (TraceOp n) Kind
   cut_of line payload =
       if not (length line == 0) then Err kind.Line
       else if not (length payload == 0) then Err kind.Payload
       else Ok Cut
 
   -- the operation that a row names, with its line and payload
-  unfoldable pub op_of : List ℕ → List ℕ → List ℕ → Result (EventOp n) Kind
+  unfoldable pub op_of : List ℕ → List ℕ → List ℕ → Result (TraceOp n) Kind
   op_of op line payload =
       if bytes_eq op (codes "R") then read_of line payload
       else if bytes_eq op (codes "W") then write_of line payload
@@ -70,7 +70,7 @@ module _ (n lines : ℕ) where
       else Err kind.Op
 
   -- what a record says as a row, where the row before has the tick `before`
-  unfoldable pub event_of : ℕ → List (List ℕ) → Result (Event n) Kind
+  unfoldable pub event_of : ℕ → List (List ℕ) → Result (TraceEvent n) Kind
   event_of before fields =
       if not (length fields == 4) then Err kind.Fields
       else or_fault (tick_of (text_at fields 0)) kind.Tick (λ tick.

@@ -11,7 +11,7 @@ mod row;
 mod trace;
 
 pub use decimal::number;
-pub use event::{Event, EventOp};
+pub use event::{TraceEvent, TraceOp};
 pub use fault::{Kind, ParseFault, TraceFault};
 pub use row::LATEST_TICK;
 pub use trace::{MOST_ROWS, parse};

@@ -5,7 +5,7 @@ ghost use Rattle.csv.specs.Records.{fields_of};
 ghost use Rattle.trace_reader.specs.Rows.{text_at, line_of, op_of, event_of};
 
 use crate::decimal::number;
-use crate::event::{Event, EventOp};
+use crate::event::{TraceEvent, TraceOp};
 use crate::fault::Kind;
 use crate::payload::{Values, bytes_from_digits, bytes_from_pairs};
 use csv::ByteRecord;
@@ -13,11 +13,11 @@ use csv::ByteRecord;
 /// The greatest tick of a trace: 2 to the power 40.
 pub const LATEST_TICK: u64 = 1_099_511_627_776;
 
-// The field at a place, empty where there is none.
-pub fn field(row: &ByteRecord, place: usize) -> &[u8]
-    ensures { result.now ≡ text_at (fields_of row.now) place }
+// The field at an index, empty where there is none.
+pub fn field(row: &ByteRecord, index: usize) -> &[u8]
+    ensures { result.now ≡ text_at (fields_of row.now) index }
 {
-    row.get(place).unwrap_or(b"")
+    row.get(index).unwrap_or(b"")
 }
 
 #[tactic(auto, using(crate::proofs::Numbers::number_within))]
@@ -36,7 +36,7 @@ fn read_op<const B: usize>(
     payload: &[u8],
     lines: u32,
     values: &Values,
-) -> Result<EventOp<B>, Kind>
+) -> Result<TraceOp<B>, Kind>
     requires { 1 ≤ lines }
     ensures { result ≡ op_of B lines op.now line.now payload.now }
 {
@@ -44,7 +44,7 @@ fn read_op<const B: usize>(
         b"R" => {
             let line = read_line(line, lines)?;
             if payload.is_empty() {
-                Ok(EventOp::Read(line))
+                Ok(TraceOp::Read(line))
             } else {
                 Err(Kind::Payload)
             }
@@ -52,12 +52,12 @@ fn read_op<const B: usize>(
         b"W" => {
             let line = read_line(line, lines)?;
             let bytes = bytes_from_digits(values, payload).ok_or(Kind::Payload)?;
-            Ok(EventOp::Write(line, bytes))
+            Ok(TraceOp::Write(line, bytes))
         }
         b"M" => {
             let line = read_line(line, lines)?;
             let masked = bytes_from_pairs(payload).ok_or(Kind::Payload)?;
-            Ok(EventOp::Mask(line, masked.bytes, masked.given))
+            Ok(TraceOp::Mask(line, masked.bytes, masked.given))
         }
         b"C" => {
             if !line.is_empty() {
@@ -65,7 +65,7 @@ fn read_op<const B: usize>(
             } else if !payload.is_empty() {
                 Err(Kind::Payload)
             } else {
-                Ok(EventOp::Cut)
+                Ok(TraceOp::Cut)
             }
         }
         _ => Err(Kind::Op),
@@ -79,7 +79,7 @@ pub fn read_event<const B: usize>(
     lines: u32,
     before: u64,
     values: &Values,
-) -> Result<Event<B>, Kind>
+) -> Result<TraceEvent<B>, Kind>
     requires { 1 ≤ lines }
     ensures { result ≡ event_of B lines before (fields_of row.now) }
 {
@@ -91,5 +91,5 @@ pub fn read_event<const B: usize>(
         return Err(Kind::Order);
     }
     let op = read_op(field(row, 1), field(row, 2), field(row, 3), lines, values)?;
-    Ok(Event { tick, op })
+    Ok(TraceEvent { tick, op })
 }

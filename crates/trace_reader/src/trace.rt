@@ -4,7 +4,7 @@ ghost use Rattle.csv.specs.Records.{fields_of};
 ghost use Rattle.trace_reader.specs.Events.{AreEventsFor};
 ghost use Rattle.trace_reader.specs.Trace.{is_header, trace_of};
 
-use crate::event::Event;
+use crate::event::TraceEvent;
 use crate::fault::{Kind, ParseFault, TraceFault};
 use crate::payload::Values;
 use crate::records::{next_row, open};
@@ -31,7 +31,7 @@ pub fn parse<const B: usize>(
     alloc: Global,
     bytes: &[u8],
     lines: u32,
-) -> Result<Vec<Event<B>>, ParseFault>
+) -> Result<Vec<TraceEvent<B>>, ParseFault>
     requires lines { 1 ≤ lines }
     requires small { B ≤ 128 }
     ensures ok { IfOk result (λ v. trace_of B lines bytes.now ≡ Ok v.items) }

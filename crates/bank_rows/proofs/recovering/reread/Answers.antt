@@ -5,7 +5,7 @@ use Rattle.bank_shape.specs.declared.Home.TheVariants.{Array}
 use Rattle.power_recovery.specs.Kept.{KeptState, IsKept}
 use Rattle.reg_lines.specs.Regs.{RegsState}
 use Rattle.bank_invariant.specs.State.{BankState, first_bank}
-use Rattle.bank_timing.specs.Extending.{first_regs}
+use Rattle.bank_clock.specs.Extending.{first_regs}
 use Rattle.bank_rows.proofs.Rereading.{readable, regs-first, none-stands, is-array}
 use Rattle.bank_rows.proofs.recovering.reread.Goals as goal
 

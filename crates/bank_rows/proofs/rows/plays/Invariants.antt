@@ -1,7 +1,7 @@
 use Rattle.std.proofs.Common.{◌≡◌, ◌+◌, ◌≤◌, false, List}
 use Rattle.bank_model.specs.Timing.{TimedEvent}
 use Rattle.clock_laws.specs.Leads.{Leads}
-use Rattle.bank_timing.specs.Extending.{AreOpen}
+use Rattle.bank_clock.specs.Extending.{AreOpen}
 use Rattle.bank_rows.proofs.rows.plays.Given as goal
 
 -- the bank may take the next row

@@ -2,6 +2,6 @@ use Rattle.std.proofs.Common.{◌≡◌, ℕ, ◌<◌, ◌≤◌, false, slice_i
 use Rattle.pcm_cells.specs.Planes.{bit_in}
 use Rattle.pcm_cells.proofs.blocks.are_many.Given as goal
 
--- where `few` is still false, so it is of the counts before this place
-abbrev pub invariant-loop-place : goal.invariant-loop-place
-invariant-loop-place l = l.few ≡ false → (i : ℕ) → i < l.place → bit_in l.mask i ≡ false → 8 ≤ slice_index l.left i
+-- where `few` is still false, so it is of the counts before this index
+abbrev pub invariant-loop-index : goal.invariant-loop-index
+invariant-loop-index l = l.few ≡ false → (i : ℕ) → i < l.index → bit_in l.mask i ≡ false → 8 ≤ slice_index l.left i

@@ -4,10 +4,10 @@ use Rattle.pcm_cells.proofs.BlockLemmas.{clear_less}
 use Rattle.pcm_cells.proofs.blocks.cleared.Goals as goal
 
 pub returns-clause-is : goal.returns-clause-is
-returns-clause-is c = ap (λ x. eqb x 1) (bit_at_clear_same w64 c.args.bits c.args.place c.requires.fits)
+returns-clause-is c = ap (λ x. eqb x 1) (bit_at_clear_same w64 c.args.bits c.args.index c.requires.fits)
 
 pub returns-clause-kept : goal.returns-clause-kept
-returns-clause-kept c i low apart = ap (λ x. eqb x 1) (bit_at_clear_other w64 c.args.bits c.args.place c.requires.fits i low apart)
+returns-clause-kept c i low apart = ap (λ x. eqb x 1) (bit_at_clear_other w64 c.args.bits c.args.index c.requires.fits i low apart)
 
 pub returns-clause-less : goal.returns-clause-less
-returns-clause-less c = clear_less c.args.bits c.args.place c.requires.fits c.requires.has
+returns-clause-less c = clear_less c.args.bits c.args.index c.requires.fits c.requires.has

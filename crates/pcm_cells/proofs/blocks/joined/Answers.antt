@@ -4,7 +4,7 @@ use Rattle.pcm_cells.proofs.blocks.joined.Goals as goal
 
 pub returns-then-value-clause-is : goal.returns-then-value-clause-is
 returns-then-value-clause-is c absent =
-    ap (λ x. eqb x 1) (bit_at_set_same w64 c.args.bits c.args.place c.requires) ∙ sym c.if-value.true
+    ap (λ x. eqb x 1) (bit_at_set_same w64 c.args.bits c.args.index c.requires) ∙ sym c.if-value.true
 
 pub returns-then-value-clause-kept : goal.returns-then-value-clause-kept
-returns-then-value-clause-kept c i apart = ap (λ x. eqb x 1) (bit_at_set_other w64 c.args.bits c.args.place c.requires i apart)
+returns-then-value-clause-kept c i apart = ap (λ x. eqb x 1) (bit_at_set_other w64 c.args.bits c.args.index c.requires i apart)

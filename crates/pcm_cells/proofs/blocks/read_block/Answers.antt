@@ -4,16 +4,16 @@ use Rattle.pcm_cells.specs.Planes.{bit_in}
 use Rattle.pcm_cells.proofs.BlockLemmas.{read_more, read_none}
 use Rattle.pcm_cells.proofs.blocks.read_block.Goals as goal
 
-pub loop-place-preserved : goal.loop-place-preserved
-loop-place-preserved c =
-    let invariant = c.loop-place.invariant in
-    let place = c.loop-place.place in
-    let bits = c.loop-place.bits in
-    let byte = slice_index c.args.bytes.now (8 * c.args.block + place) in
-    let whole : byte * 2 ^ (8 * place) % 2 ^ 64 ≡ byte * 2 ^ (8 * place) = shl_whole byte 8 (8 * place) 64 (omega arith) (omega arith) in
+pub loop-index-preserved : goal.loop-index-preserved
+loop-index-preserved c =
+    let invariant = c.loop-index.invariant in
+    let index = c.loop-index.index in
+    let bits = c.loop-index.bits in
+    let byte = slice_index c.args.bytes.now (8 * c.args.block + index) in
+    let whole : byte * 2 ^ (8 * index) % 2 ^ 64 ≡ byte * 2 ^ (8 * index) = shl_whole byte 8 (8 * index) 64 (omega arith) (omega arith) in
     record {
       done = λ i low.
           ap (λ x. bit_in (bit_or bits x) i) whole
-          ∙ read_more c.args.bytes.now c.args.block place bits byte i (omega arith) refl invariant.done invariant.none low;
-      none = λ i high. ap (λ x. bit_in (bit_or bits x) i) whole ∙ read_none place bits byte i (omega arith) invariant.none high;
+          ∙ read_more c.args.bytes.now c.args.block index bits byte i (omega arith) refl invariant.done invariant.none low;
+      none = λ i high. ap (λ x. bit_in (bit_or bits x) i) whole ∙ read_none index bits byte i (omega arith) invariant.none high;
     }

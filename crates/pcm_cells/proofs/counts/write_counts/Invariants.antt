@@ -3,8 +3,8 @@ use Rattle.pcm_cells.specs.Counts.{count_in}
 use Rattle.pcm_cells.proofs.counts.write_counts.Given as goal
 
 -- the rows so far are written
-abbrev pub invariant-loop-place : goal.invariant-loop-place
-invariant-loop-place l = record {
-  done : (i : ℕ) → i < 8 * l.place → count_in l.rows (64 * l.block + i) ≡ slice_index l.counts i;
+abbrev pub invariant-loop-index : goal.invariant-loop-index
+invariant-loop-index l = record {
+  done : (i : ℕ) → i < 8 * l.index → count_in l.rows (64 * l.block + i) ≡ slice_index l.counts i;
   others : (n : ℕ) → n / 64 ≢ l.block → count_in l.rows n ≡ count_in l.initial.rows n;
 }

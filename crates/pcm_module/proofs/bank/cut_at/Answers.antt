@@ -3,7 +3,7 @@ use Rattle.row_rules.specs.declared.Asks.TheVariants.{Cuts}
 use Rattle.bank_model.specs.Timing.{TimedEvent}
 use Rattle.clock_laws.specs.Cutting.{cut}
 use Rattle.module_laws.specs.Asking.{Asked}
-use Rattle.bank_timing.proofs.Sizes.{timed_fits, row_fits}
+use Rattle.bank_clock.proofs.Sizes.{timed_fits, row_fits}
 use Rattle.pcm_module.proofs.Arriving.{step_on}
 use Rattle.pcm_module.proofs.bank.cut_at.Goals as goal
 

@@ -8,8 +8,8 @@ use Rattle.bank_invariant.specs.Serving.{read_from}
 use Rattle.power_recovery.specs.Slots.{bank_lines}
 use Rattle.clock_laws.specs.Arriving.{arrival}
 use Rattle.module_laws.specs.Asking.{Asked}
-use Rattle.bank_timing.proofs.Sizes.{timed_fits, row_fits}
-use Rattle.bank_timing.specs.Cancelling.{cancel_first}
+use Rattle.bank_clock.proofs.Sizes.{timed_fits, row_fits}
+use Rattle.bank_clock.specs.Cancelling.{cancel_first}
 use Rattle.pcm_module.proofs.Arriving.{open_on, step_on, first_asked, first_off}
 use Rattle.pcm_module.proofs.bank.read_at.Goals as goal
 

@@ -8,7 +8,7 @@ use Rattle.bank_core.specs.Steps.{write_from}
 use Rattle.power_recovery.specs.Slots.{bank_lines}
 use Rattle.clock_laws.specs.Arriving.{arrival}
 use Rattle.module_laws.specs.Asking.{Asked}
-use Rattle.bank_timing.proofs.Sizes.{timed_fits, row_fits, entry_fits}
+use Rattle.bank_clock.proofs.Sizes.{timed_fits, row_fits, entry_fits}
 use Rattle.pcm_module.proofs.Arriving.{open_on, step_on}
 use Rattle.pcm_module.proofs.bank.write_at.Goals as goal
 

@@ -1,6 +1,6 @@
 use Rattle.std.proofs.Common.{arith, ◌≡◌, ℕ, ◌<◌, ◌++◌, length, Some, sym, subst, ◌∙◌}
 use Rattle.std.specs.Prelude.{slice_get}
-use Rattle.bank_timing.proofs.Sizes.{timed_fits, row_fits}
+use Rattle.bank_clock.proofs.Sizes.{timed_fits, row_fits}
 use Rattle.pcm_module.specs.Draining.{AreDrained}
 use Rattle.pcm_module.proofs.Serving.{get_is}
 use Rattle.pcm_module.proofs.Draining.{drain_none, next_replays, drain_one, reached_bank, reached_all, time_left}

@@ -1,5 +1,5 @@
 use Rattle.std.proofs.Common.{arith}
-use Rattle.row_judging.proofs.Places.{up_to-more}
+use Rattle.row_judging.proofs.SortedKeys.{up_to-more}
 use Rattle.row_verdict.proofs.keys.between.Goals as goal
 
 pub overflow_sub-result : goal.overflow_sub-result

@@ -16,23 +16,23 @@ pointer_cell-first-requires-clause-layout g c = grind arith
 pub pointer_cell-first-requires-clause-exists : goal.pointer_cell-first-requires-clause-exists
 pointer_cell-first-requires-clause-exists g c = grind arith
 
-pub active-place-requires : goal.active-place-requires
-active-place-requires g c = grind arith
+pub active-number-requires : goal.active-number-requires
+active-number-requires g c = grind arith
 
-pub overflow_step-place : goal.overflow_step-place
-overflow_step-place g c = grind arith
+pub overflow_step-number : goal.overflow_step-number
+overflow_step-number g c = grind arith
 
-pub overflow_cast-place-end : goal.overflow_cast-place-end
-overflow_cast-place-end g c = grind arith
+pub overflow_cast-number-end : goal.overflow_cast-number-end
+overflow_cast-number-end g c = grind arith
 
-pub overflow_sub-place-end : goal.overflow_sub-place-end
-overflow_sub-place-end g c = grind arith
+pub overflow_sub-number-end : goal.overflow_sub-number-end
+overflow_sub-number-end g c = grind arith
 
-pub loop-place-init : goal.loop-place-init
-loop-place-init g c = grind arith
+pub loop-number-init : goal.loop-number-init
+loop-number-init g c = grind arith
 
-pub overflow_cast-place : goal.overflow_cast-place
-overflow_cast-place g c = grind arith
+pub overflow_cast-number : goal.overflow_cast-number
+overflow_cast-number g c = grind arith
 
 pub overflow_add-first : goal.overflow_add-first
 overflow_add-first g c = grind arith
@@ -40,17 +40,17 @@ overflow_add-first g c = grind arith
 pub set-requires : goal.set-requires
 set-requires g c = grind arith
 
-pub overflow_cast-place-in-loop-place : goal.overflow_cast-place-in-loop-place
-overflow_cast-place-in-loop-place g c = grind arith
+pub overflow_cast-number-in-loop-number : goal.overflow_cast-number-in-loop-number
+overflow_cast-number-in-loop-number g c = grind arith
 
-pub overflow_add-first-in-loop-place : goal.overflow_add-first-in-loop-place
-overflow_add-first-in-loop-place g c = grind arith
+pub overflow_add-first-in-loop-number : goal.overflow_add-first-in-loop-number
+overflow_add-first-in-loop-number g c = grind arith
 
-pub set-requires-in-loop-place : goal.set-requires-in-loop-place
-set-requires-in-loop-place g c = grind arith
+pub set-requires-in-loop-number : goal.set-requires-in-loop-number
+set-requires-in-loop-number g c = grind arith
 
-pub loop-place-smaller : goal.loop-place-smaller
-loop-place-smaller g c = grind arith
+pub loop-number-smaller : goal.loop-number-smaller
+loop-number-smaller g c = grind arith
 
 pub returns : goal.returns
 returns g c = grind arith

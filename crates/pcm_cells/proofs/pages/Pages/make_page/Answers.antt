@@ -7,17 +7,17 @@ pub returns-clause-page : goal.returns-clause-page
 returns-clause-page g c =
     let old = c.args.self.now in
     let line = c.args.line in
-    let place : c.len-place.result ≡ length old.pages.items = search rules in
+    let index : c.len-index.result ≡ length old.pages.items = search rules in
     let items : c.push_reserved.new.self.items ≡ old.pages.items ++ c.drawn.result ∷ [] = c.push_reserved.ensures.items in
-    rw (items, place, made_seen old.wear old.table.items old.pages.items c.drawn.result line c.requires.exists, seen-none old.wear old.table.items old.pages.items line c.requires.none)
+    rw (items, index, made_seen old.wear old.table.items old.pages.items c.drawn.result line c.requires.exists, seen-none old.wear old.table.items old.pages.items line c.requires.none)
     c.drawn.ensures
 
 pub returns-clause-others : goal.returns-clause-others
 returns-clause-others g c n apart =
     let old = c.args.self.now in
-    let place : c.len-place.result ≡ length old.pages.items = search rules in
+    let index : c.len-index.result ≡ length old.pages.items = search rules in
     let items : c.push_reserved.new.self.items ≡ old.pages.items ++ c.drawn.result ∷ [] = c.push_reserved.ensures.items in
-    rw (items, place) (made_others old.wear old.table.items old.pages.items c.drawn.result c.args.line _ n old.paging apart)
+    rw (items, index) (made_others old.wear old.table.items old.pages.items c.drawn.result c.args.line _ n old.paging apart)
 
 pub push_reserved-requires : goal.push_reserved-requires
 push_reserved-requires g c =
@@ -28,10 +28,10 @@ push_reserved-requires g c =
 pub invariant_of-self : goal.invariant_of-self
 invariant_of-self g c =
     let old = c.args.self.now in
-    let place : c.len-place.result ≡ length old.pages.items = search rules in
+    let index : c.len-index.result ≡ length old.pages.items = search rules in
     record {
       wears = old.wears;
       paging =
-          rw (c.push_reserved.ensures.items, c.push_reserved.ensures.capacity, place)
+          rw (c.push_reserved.ensures.items, c.push_reserved.ensures.capacity, index)
           (paging_more old.table.items old.pages.items c.drawn.result _ c.args.line old.paging c.requires.exists c.requires.none);
     }

@@ -2,10 +2,10 @@ use Rattle.std.proofs.Common.{arith, refl}
 use Rattle.pcm_cells.proofs.RowLemmas.{cells_set-bits, cells_set-meta}
 use Rattle.pcm_cells.proofs.row.Cells.set.Goals as goal
 
-pub returns-then-place : goal.returns-then-place
-returns-then-place g c =
+pub returns-then-index : goal.returns-then-index
+returns-then-index g c =
     cells_set-bits c.args.self.now _ c.args.number c.args.value (omega arith) (omega arith) (omega arith) c.set_bit.ensures refl
 
-pub returns-else-place : goal.returns-else-place
-returns-else-place g c =
-    cells_set-meta c.args.self.now _ c.args.number c.args.value (omega arith) (omega arith) (omega arith) c.set_bit-else-place.ensures refl
+pub returns-else-index : goal.returns-else-index
+returns-else-index g c =
+    cells_set-meta c.args.self.now _ c.args.number c.args.value (omega arith) (omega arith) (omega arith) c.set_bit-else-index.ensures refl

@@ -1,7 +1,7 @@
 use Rattle.std.proofs.Common.{arith, ◌≡◌, ◌+◌, ◌++◌, ◌<◌, ◌≤◌, length, Some, refl, sym, ap, subst}
 use Rattle.std.specs.Prelude.{slice_get}
 use Rattle.row_rules.specs.declared.Asks.TheVariants.{Cuts}
-use Rattle.bank_timing.proofs.Sizes.{timed_fits, row_fits, outcome_fits}
+use Rattle.bank_clock.proofs.Sizes.{timed_fits, row_fits, outcome_fits}
 use Rattle.pcm_module.specs.State.{ModuleState}
 use Rattle.pcm_module.specs.Taking.{Takes}
 use Rattle.pcm_module.proofs.Serving.{get_is, module_kept, module_at, at_above}

@@ -1,8 +1,8 @@
 use Rattle.std.proofs.Common.{◌<◌, ◌∙◌, arith}
-use Rattle.trace_reader.specs.declared.event.EventOp.TheVariants.{Read, Write, Mask, Cut}
+use Rattle.trace_reader.specs.declared.event.TraceOp.TheVariants.{Read, Write, Mask, Cut}
 use Rattle.masked_bytes.proofs.Layering.{IsMasked-all_given}
 use Rattle.module_shape.specs.Limits.{total_of}
-use Rattle.bank_timing.proofs.Sizes.{row_fits, entry_fits}
+use Rattle.bank_clock.proofs.Sizes.{row_fits, entry_fits}
 use Rattle.pcm_module.proofs.Sizes.{module_fits}
 use Rattle.pcm_module.proofs.Events.{replays_event, op_for}
 use Rattle.pcm_module.proofs.side_by_side.Module.event.Goals as goal

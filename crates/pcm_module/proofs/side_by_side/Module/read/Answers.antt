@@ -1,7 +1,7 @@
 use Rattle.std.proofs.Common.{arith}
 use Rattle.pcm_module.proofs.Views.{state_of}
 use Rattle.pcm_module.proofs.Serving.{ComesTo, comes, bank_replays, bank_forward, bank_has, bank_rises, taken_kept, read_taken}
-use Rattle.bank_timing.proofs.Sizes.{timed_fits, row_fits}
+use Rattle.bank_clock.proofs.Sizes.{timed_fits, row_fits}
 use Rattle.pcm_module.proofs.side_by_side.Module.read.Given.{Over}
 use Rattle.pcm_module.proofs.side_by_side.Module.read.Goals.{After-index_mut-timed}
 use Rattle.pcm_module.proofs.side_by_side.Module.read.Goals as goal

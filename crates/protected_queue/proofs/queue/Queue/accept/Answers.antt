@@ -1,5 +1,5 @@
 use Rattle.std.proofs.Common.{rules, ◌<◌, ◌≤◌, refl, sym, length}
-use Rattle.masked_bytes.proofs.Queueing.{newest_place-within, candidate_place-newest}
+use Rattle.masked_bytes.proofs.Queueing.{newest_index-within, candidate_index-newest}
 use Rattle.protected_queue.proofs.Accepting.{accept_answer-Some, accept_answer-room, accept_answer-full, IsQueue-append}
 use Rattle.protected_queue.proofs.queue.Queue.accept.Goals as goal
 use Rattle.protected_queue.proofs.queue.Queue.accept.Goals.{in-Ok, in-Err}
@@ -8,7 +8,7 @@ pub merge-requires : goal.merge-requires
 merge-requires g c =
     let few : g.row.B ≤ 128 = c.self.invariant.few_bytes in
     let there : c.in-Some.index < length c.args.self.now.entries =
-    newest_place-within c.args.self.now.entries c.args.entry.line _ (candidate_place-newest c.args.head_busy c.args.self.now.entries c.args.entry.line _ (sym c.in-Some.ensures)) in
+    newest_index-within c.args.self.now.entries c.args.entry.line _ (candidate_index-newest c.args.head_busy c.args.self.now.entries c.args.entry.line _ (sym c.in-Some.ensures)) in
     search rules
 
 pub invariant_of-self : goal.invariant_of-self

@@ -1,5 +1,0 @@
-use Rattle.std.proofs.Common.{arith}
-use Rattle.bank_timing.proofs.clocked.ClockedBank.arrive_again.Goals as goal
-
-pub invariant_of-self : goal.invariant_of-self
-invariant_of-self g c = grind arith

@@ -1,5 +1,0 @@
-use Rattle.std.proofs.Common.{arith}
-use Rattle.bank_timing.proofs.clocked.ClockedBank.bank.Goals as goal
-
-pub returns : goal.returns
-returns g c = grind arith

@@ -1,5 +1,0 @@
-use Rattle.bank_timing.proofs.Sizes.{bank_fits}
-use Rattle.pcm_top.proofs.bank_timing++clocked++ClockedBank+Destruct.drop.Goals as goal
-
-pub drop-requires : goal.drop-requires
-drop-requires g c = bank_fits g.row.B g.row.M g.row.E c.drop.invariant.layout
