@@ -5,7 +5,7 @@ use Rattle.std.specs.List.{join_with_byte}
 use Rattle.std.proofs.lemmas.List.{append_cancel_left, get_or_at, length_push, reverse-append}
 use Rattle.pcm_cells.specs.Device.{ArrayState}
 use Rattle.trace_reader.specs.Trace.{most_rows, trace_of}
-use Rattle.trace_reader.specs.declared.event.Event.{Event}
+use Rattle.trace_reader.specs.declared.event.TraceEvent.{TraceEvent}
 use Rattle.trace_reader.proofs.Lawful.{trace_of-lawful}
 use Rattle.trace_gen.specs.EventText.{event_fields, event_row, event_rows, trace_text}
 use Rattle.trace_gen.specs.Generated.{IsMix, generated}
@@ -65,11 +65,11 @@ map-reverse f (x ∷ xs) ys = ap (map f) (turned x xs ys) ∙ map-reverse f xs (
 
 module _ {n : ℕ} where
   -- what events ask, numbered from this row on
-  abbrev numbered : ℕ → List (Event n) → List (Asked n)
+  abbrev numbered : ℕ → List (TraceEvent n) → List (Asked n)
   numbered row [] = []
   numbered row (event ∷ events) = asked_by row event ∷ numbered (row + 1) events
 
-  asked-forwards : (events below : List (Event n)) → asked_for (reverse events ++ below) ≡ reverse (numbered (length below + 1) events) ++ asked_for below
+  asked-forwards : (events below : List (TraceEvent n)) → asked_for (reverse events ++ below) ≡ reverse (numbered (length below + 1) events) ++ asked_for below
   asked-forwards [] below = refl
   asked-forwards (event ∷ events) below =
       let next : length (event ∷ below) + 1 ≡ length below + 1 + 1 = omega arith in
@@ -86,7 +86,7 @@ module _ {n : ℕ} where
       at [] = refl
       at (first ∷ before) = at before
 
-  with-outcomes : (before : List (Outcome n)) (events : List (Event n)) (outcomes : List (Outcome n)) → length outcomes ≡ length events
+  with-outcomes : (before : List (Outcome n)) (events : List (TraceEvent n)) (outcomes : List (Outcome n)) → length outcomes ≡ length events
       → map (row_with (outcome_in (before ++ outcomes))) (numbered (length before + 1) events) ≡ rows_with events outcomes
   with-outcomes before [] [] size = refl
   with-outcomes before [] (outcome ∷ outcomes) size = absurd (omega (arith, size))
@@ -101,9 +101,9 @@ module _ {n : ℕ} where
       ∙ with-outcomes (before ++ outcome ∷ []) events outcomes (omega (arith, size)))
 
   -- the table of a run is that of its events and outcomes, the newest row first
-  rows-are : (events : List (Event n)) (outcomes : List (Outcome n)) → length outcomes ≡ length events → rows_of events outcomes ≡ reverse (rows_with events outcomes)
+  rows-are : (events : List (TraceEvent n)) (outcomes : List (Outcome n)) → length outcomes ≡ length events → rows_of events outcomes ≡ reverse (rows_with events outcomes)
   rows-are events outcomes size =
-      ap (λ (es : List (Event n)). map (row_with (outcome_in outcomes)) (asked_for es)) (sym (append-nil (reverse events)))
+      ap (λ (es : List (TraceEvent n)). map (row_with (outcome_in outcomes)) (asked_for es)) (sym (append-nil (reverse events)))
       ∙ ap (map (row_with (outcome_in outcomes))) (asked-forwards events [])
       ∙ map-reverse (row_with (outcome_in outcomes)) (numbered 1 events) []
       ∙ append-nil (reverse (map (row_with (outcome_in outcomes)) (numbered 1 events)))
@@ -117,7 +117,7 @@ ends-line front =
     let size : length (front ++ 10 ∷ []) - 1 ≡ length front = omega (arith, length-append front (10 ∷ [])) in
     inr (inl (ap (slice_index (front ++ 10 ∷ [])) size ∙ get_or_at front 10 [] 0 (length front) refl))
 
-rows-end : {n : ℕ} (front : List ℕ) (events : List (Event n)) → EndsItsLine ((front ++ 10 ∷ []) ++ event_rows events)
+rows-end : {n : ℕ} (front : List ℕ) (events : List (TraceEvent n)) → EndsItsLine ((front ++ 10 ∷ []) ++ event_rows events)
 unfolding event_rows
 rows-end front [] = subst EndsItsLine (sym (append-nil (front ++ 10 ∷ []))) (ends-line front)
 rows-end front (event ∷ events) =
@@ -128,17 +128,17 @@ rows-end front (event ∷ events) =
     (rows-end row events)
 
 -- a generated trace does
-text-ends : {n : ℕ} (events : List (Event n)) → EndsItsLine (trace_text events)
+text-ends : {n : ℕ} (events : List (TraceEvent n)) → EndsItsLine (trace_text events)
 text-ends events = rows-end (codes "tick,op,arg,data") events
 
 -- the trace of events of a run over lines of n bytes
-record IsTrace (n : ℕ) (job : RunJob) (events : List (Event n)) (trace : List ℕ) : Type 0 where
+record IsTrace (n : ℕ) (job : RunJob) (events : List (TraceEvent n)) (trace : List ℕ) : Type 0 where
   reads : trace_of n (total_of job.shape) trace ≡ Ok events
   ended : EndsItsLine trace
   short : length trace ≤ trace_room n
 
 module _ (texts : GeneratedTextLaw) (sizes : GeneratedSizeLaw) (job : RunJob) (run : IsRun job) where
-  drawn-trace : (size : LineSize) → size ≡ job.line → (mix : Mix) → IsMix mix → (events : List (Event (bytes_in size))) (trace : List ℕ)
+  drawn-trace : (size : LineSize) → size ≡ job.line → (mix : Mix) → IsMix mix → (events : List (TraceEvent (bytes_in size))) (trace : List ℕ)
       → length (trace_text (generated (bytes_in size) job.seed (total_of job.shape) mix)) ≤ trace_room (bytes_in size)
       → events ≡ generated (bytes_in size) job.seed (total_of job.shape) mix → trace ≡ trace_text (generated (bytes_in job.line) job.seed (total_of job.shape) mix)
       → IsTrace (bytes_in size) job events trace
@@ -148,7 +148,7 @@ module _ (texts : GeneratedTextLaw) (sizes : GeneratedSizeLaw) (job : RunJob) (r
       record {
         reads =
             ap (trace_of (bytes_in size) (total_of job.shape)) own ∙ texts (bytes_in size) job.seed (total_of job.shape) mix (some-lines job run.shape) run.shape.few_in_all mixed
-            ∙ ap (λ (events : List (Event (bytes_in size))). Ok events) (sym drawn);
+            ∙ ap (λ (events : List (TraceEvent (bytes_in size))). Ok events) (sym drawn);
         ended = subst EndsItsLine (sym own) (text-ends (generated (bytes_in size) job.seed (total_of job.shape) mix));
         short = omega (arith, ap length own, fits);
       }
@@ -165,7 +165,7 @@ module _ (texts : GeneratedTextLaw) (sizes : GeneratedSizeLaw) (job : RunJob) (r
       let few = mixed.few_rows in
       omega arith
 
-  is-trace : (size : LineSize) → size ≡ job.line → (input : Input) → IsInput input → (s : SourceChange) (events : List (Event (bytes_in size))) (trace : List ℕ)
+  is-trace : (size : LineSize) → size ≡ job.line → (input : Input) → IsInput input → (s : SourceChange) (events : List (TraceEvent (bytes_in size))) (trace : List ℕ)
       → ComeFrom (bytes_in size) job input s events → IsTraceOf job input s trace → IsTrace (bytes_in size) job events trace
   is-trace size of Source has s events trace come is =
       let same = reads-told (bytes_in size) s trace come.bytes is.0 come.whole in
@@ -237,7 +237,7 @@ module _ (texts : GeneratedTextLaw) (sizes : GeneratedSizeLaw) (judges : JudgedR
       → IsTrace n job made.run.events trace
       → ((rows : ℕ) → rows ≤ most_rows → trace_room n + (36 + rows * (64 + 2 * n)) ≤ trace_room room_line) → IsOkText n e job (trace ++ results)
   ok-text n m e array done made some few whole room =
-      let events : List (Event n) = made.run.events in
+      let events : List (TraceEvent n) = made.run.events in
       let outcomes : List (Outcome n) = made.run.outcomes in
       let one : IsRunOf e job.shape job.seed trace events outcomes array made.run.ends = record {
         shape = run.shape;

@@ -7,7 +7,7 @@ use Rattle.std.proofs.lemmas.List.Elements.{All-nil, All-cons, All-from_get_or}
 use Rattle.std.proofs.lemmas.List.Folds.{list_any_none}
 use Rattle.std.proofs.lemmas.Option.{slice_get-get_or}
 use Rattle.trace_reader.specs.Events.{AreEventsFor}
-use Rattle.trace_reader.specs.declared.event.Event.{Event}
+use Rattle.trace_reader.specs.declared.event.TraceEvent.{TraceEvent}
 use Rattle.trace_reader.specs.declared.event.TraceOp.TheVariants.{Cut}
 use Rattle.trace_reader.proofs.Lawful.{trace_of-lawful}
 use Rattle.trace_gen.specs.Laws.{GeneratedLaw}
@@ -36,11 +36,11 @@ all-fail test (r ∷ rows) h =
     All-cons (λ r. test r.outcome ≡ false) r rows (neither_first (test r.outcome) _ h) (all-fail test rows (neither_second (test r.outcome) _ h))
 
 -- where no row of a table falls short, no outcome does
-none-short : {n : ℕ} (events : List (Event n)) (outcomes : List (Outcome n)) → length outcomes ≡ length events
+none-short : {n : ℕ} (events : List (TraceEvent n)) (outcomes : List (Outcome n)) → length outcomes ≡ length events
     → any_short (map (λ r. r.outcome) (rows_of events outcomes)) ≡ false → any_short outcomes ≡ false
 none-short {n} events outcomes size none =
     let all = all-fail is_short (rows_of events outcomes) none in
-    let nothing : Event n = record { tick = 0; op = Cut } in
+    let nothing : TraceEvent n = record { tick = 0; op = Cut } in
     list_any_none is_short outcomes
     (All-from_get_or (λ o. is_short o ≡ false) outcomes Unset
     (λ i within.
@@ -52,12 +52,12 @@ whole-by : {n : ℕ} (outcomes : List (Outcome n)) → any_short outcomes ≡ fa
 whole-by outcomes none = rw none refl
 
 -- the events of a run are lawful
-lawful-input : (n : ℕ) (job : RunJob) (input : Input) (s : SourceChange) (events : List (Event n)) → GeneratedLaw → IsShape job.shape → IsInput input
+lawful-input : (n : ℕ) (job : RunJob) (input : Input) (s : SourceChange) (events : List (TraceEvent n)) → GeneratedLaw → IsShape job.shape → IsInput input
     → ComeFrom n job input s events → AreEventsFor (total_of job.shape) 0 events
 lawful-input n job Source s events generates shape is come =
     (trace_of-lawful n (total_of job.shape) come.bytes events (some-lines job shape) come.trace).0
 lawful-input n job (Drawn mix) s events generates shape is come =
-    let From : List (Event n) → Type 0 = λ es. AreEventsFor (total_of job.shape) 0 es in
+    let From : List (TraceEvent n) → Type 0 = λ es. AreEventsFor (total_of job.shape) 0 es in
     subst From (sym come.1) ((generates n job.seed (total_of job.shape) _ (some-lines job shape) shape.few_in_all is).lawful)
 
 pub completeness : GeneratedLaw → NoneLostLaw → RoomIsTakenLaw → NoneShortLaw → CompletenessLaw

@@ -2,7 +2,7 @@
 use Rattle.std.proofs.Common.{◌≡◌, ℕ, ◌*◌, ◌≤◌, List, length, refl, sym, subst, arith, rules}
 use Rattle.std.specs.Io.KnownBytes.{IsAtEnd}
 use Rattle.pcm_cells.specs.Device.{ArrayState}
-use Rattle.trace_reader.specs.declared.event.Event.{Event}
+use Rattle.trace_reader.specs.declared.event.TraceEvent.{TraceEvent}
 use Rattle.trace_gen.specs.EventText.{trace_text}
 use Rattle.trace_gen.specs.Generated.{IsMix, generated}
 use Rattle.trace_gen.specs.Laws.{GeneratedSizeLaw, GeneratedTextLaw}
@@ -41,7 +41,7 @@ module _ (texts : GeneratedTextLaw) (sizes : GeneratedSizeLaw) (job : RunJob) (m
   mixed = input-mix job.input mix draws run.input
 
   -- it fits where lines are long enough
-  reads : (n : ℕ) (drawn : SourceChange) (events : List (Event n)) → TakesBytes read (text_of n) → length (text_of n) ≤ trace_room n
+  reads : (n : ℕ) (drawn : SourceChange) (events : List (TraceEvent n)) → TakesBytes read (text_of n) → length (text_of n) ≤ trace_room n
       → ComeFrom n job job.input drawn events → ReadsTrace n (total_of job.shape) read events
   reads n drawn events takes fits come =
       let From : Input → Type 0 = λ input. ComeFrom n job input drawn events in
