@@ -1,9 +1,9 @@
 -- The line of which two members may stand in a queue.
 use Rattle.std.proofs.Common.{◌≡◌, ℕ, zero, suc, ◌+◌, ◌<◌, ◌≤◌, ◌==◌, ◌&&◌, ◌||◌, ◌⊎◌, inl, inr, Bool, true, false, List, [], ◌∷◌, ◌++◌, refl, sym, ap, ◌∙◌, subst, cond, length, arith}
-use Rattle.masked_bytes.proofs.Truth.{and_first, and_second, and_true, and_false, or_false, differ_sym, neither_first, neither_second}
+use Rattle.masked_bytes.proofs.Truth.{and_first, and_second, and_true, and_false, differ_sym, neither_first, neither_second}
 use Rattle.std.specs.Prelude.{nat_le, nat_lt, not, filter, take, count_by}
 use Rattle.std.specs.List.{list_all, list_any}
-use Rattle.std.proofs.lemmas.Bool.{le-leb, leb-true, lt-leb, lt-ltb, ltb-false, eq-eqb, ne_eqb, eqb-true, cases_eq, or_right, not-true, not_from_false}
+use Rattle.std.proofs.lemmas.Bool.{le-leb, leb-true, lt-leb, lt-ltb, ltb-false, eq-eqb, ne_eqb, eqb-true, cases_eq, cases_lt, or_right, not-true, not_from_false}
 use Rattle.std.proofs.lemmas.List.{take_at}
 use Rattle.std.proofs.lemmas.List.Folds.{list_any-append}
 use Rattle.row_judging.specs.Few.{few_by}
@@ -56,13 +56,15 @@ twins-counted line (m ∷ ms) h =
     by false is own ih = ap (λ b. b || has_twins ms) (not-true (list_any (is_of m.line) ms) own) ∙ ih ∙ ap (nat_le 2) (omega arith)
 
 -- a member that may be stored first only where no two are of one line, by the number of these
-pub first_alone : (line : ℕ) (ms : List Member) (follows : Bool) → pairs_only line ms ≡ true → count_by (is_of line) ms ≤ 1 → true ≡ (follows || not (has_twins ms))
-first_alone line ms follows h few =
-    sym (or_right follows (not (has_twins ms)) (not_from_false (has_twins ms) (twins-counted line ms h ∙ lt-leb 2 (count_by (is_of line) ms) (omega (arith, few)))))
-
-pub first_paired : (line : ℕ) (ms : List Member) (follows : Bool) → pairs_only line ms ≡ true → 1 < count_by (is_of line) ms → follows ≡ (follows || not (has_twins ms))
-first_paired line ms follows h two =
-    sym (ap (λ b. follows || not b) (twins-counted line ms h ∙ le-leb 2 (count_by (is_of line) ms) (omega (arith, two))) ∙ or_false follows)
+-- whether a pair's line has one member at most is whether no two are of one line
+pub counted-twins : (line : ℕ) (ms : List Member) → pairs_only line ms ≡ true → nat_le (count_by (is_of line) ms) 1 ≡ not (has_twins ms)
+counted-twins line ms h = by (cases_lt (count_by (is_of line) ms) 2)
+  where
+    by : (count_by (is_of line) ms < 2) ⊎ (2 ≤ count_by (is_of line) ms) → nat_le (count_by (is_of line) ms) 1 ≡ not (has_twins ms)
+    by (inl few) =
+        le-leb (count_by (is_of line) ms) 1 (omega (arith, few)) ∙ sym (ap not (twins-counted line ms h ∙ lt-leb 2 (count_by (is_of line) ms) few))
+    by (inr two) =
+        lt-leb (count_by (is_of line) ms) 1 (omega (arith, two)) ∙ sym (ap not (twins-counted line ms h ∙ le-leb 2 (count_by (is_of line) ms) two))
 
 -- where no two are of one line, any line may be the only one
 pub no_twins : (line : ℕ) (ms : List Member) → has_twins ms ≡ false → pairs_only line ms ≡ true

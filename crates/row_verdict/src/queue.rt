@@ -119,11 +119,16 @@ fn is_staying(member: &Member, line: u32) -> bool
     member.line == line && !member.merged
 }
 
-/// Whether one of these is of a line, and isn't merged into a later write of it.
+/// Whether one of these is of a line, and isn't merged into a later write of it. The newest are looked at first.
 fn has_staying(members: &[Member], line: u32) -> bool
     ensures { result ≡ list_any (spec.is_staying line) members.now }
 {
-    members.iter().any(|member| is_staying(member, line))
+    for index in (0..members.len()).rev() {
+        if is_staying(&members[index], line) {
+            return true;
+        }
+    }
+    false
 }
 
 /// What is known once a write of a line joins, where no line but `pair` may have had two members.
@@ -191,11 +196,16 @@ fn ends_by(member: &Member, tick: u64) -> bool
     member.end <= tick
 }
 
-/// Whether one of these is stored by this tick.
+/// Whether one of these is stored by this tick. The newest are looked at first.
 fn some_end_by(members: &[Member], tick: u64) -> bool
     ensures { result ≡ list_any (λ m. nat_le m.end tick) members.now }
 {
-    members.iter().any(|member| ends_by(member, tick))
+    for index in (0..members.len()).rev() {
+        if ends_by(&members[index], tick) {
+            return true;
+        }
+    }
+    false
 }
 
 /// Whether a member isn't stored before all of these.
@@ -212,7 +222,7 @@ fn passes_none(newest: &Member, others: &[Member], twins: Twins) -> bool
 {
     match twins {
         Twins::Nowhere => true,
-        Twins::Only(line) => count_of(others, line) <= 1 || follows(newest, others),
+        Twins::Only(line) => follows(newest, others) || count_of(others, line) <= 1,
         Twins::Anywhere => follows(newest, others) || !has_twins(others),
     }
 }

@@ -1,4 +1,3 @@
-use Rattle.std.proofs.Common.{arith}
 use Rattle.row_verdict.proofs.Lowest.{verdict_law}
 use Rattle.row_verdict.proofs.verdicts_are_exact.Goals as goal
 

@@ -1,4 +1,4 @@
-use Rattle.std.proofs.Common.{arith, ℕ, rules}
+use Rattle.std.proofs.Common.{ℕ, rules}
 use Rattle.std.specs.Prelude.{nat_lt}
 use Rattle.std.proofs.lemmas.Fn.{filter_same}
 use Rattle.row_verdict.proofs.bank.let_go.Goals as goal

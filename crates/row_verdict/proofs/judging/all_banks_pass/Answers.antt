@@ -1,4 +1,3 @@
-use Rattle.std.proofs.Common.{arith}
 use Rattle.row_verdict.proofs.Passing.{all_room_law, cut_room_law, settle_one_law, room_seen_law, row_passes_law, cut_passed_law}
 use Rattle.row_verdict.proofs.judging.all_banks_pass.Goals as goal
 

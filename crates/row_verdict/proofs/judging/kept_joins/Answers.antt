@@ -1,4 +1,3 @@
-use Rattle.std.proofs.Common.{arith}
 use Rattle.row_verdict.proofs.Joins.{join_kept_law, cut_kept_law}
 use Rattle.row_verdict.proofs.ReadJoins.{answer_kept_law, loss_kept_law}
 use Rattle.row_verdict.proofs.OtherJoins.{other_kept_law}

@@ -1,4 +1,3 @@
-use Rattle.std.proofs.Common.{arith}
 use Rattle.row_verdict.proofs.States.{stands_later_law, write_passes_law, read_passes_law, cut_passes_law}
 use Rattle.row_verdict.proofs.judging.kept_passes.Goals as goal
 

@@ -1,4 +1,3 @@
-use Rattle.std.proofs.Common.{arith}
 use Rattle.row_verdict.proofs.Settles.{settle_kept_law}
 use Rattle.row_verdict.proofs.judging.kept_settles.Goals as goal
 

@@ -1,4 +1,3 @@
-use Rattle.std.proofs.Common.{arith}
 use Rattle.row_verdict.proofs.Tables.{delay_law, four_law}
 use Rattle.row_verdict.proofs.judging.kept_tells_delay.Goals as goal
 

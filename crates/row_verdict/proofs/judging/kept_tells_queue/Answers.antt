@@ -1,4 +1,3 @@
-use Rattle.std.proofs.Common.{arith}
 use Rattle.row_verdict.proofs.Queueing.{room_kept_law, write_fits_law, read_fits_law}
 use Rattle.row_verdict.proofs.judging.kept_tells_queue.Goals as goal
 

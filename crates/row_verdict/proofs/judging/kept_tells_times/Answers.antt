@@ -1,4 +1,3 @@
-use Rattle.std.proofs.Common.{arith}
 use Rattle.row_verdict.proofs.Times.{read_times_law, write_times_law}
 use Rattle.row_verdict.proofs.judging.kept_tells_times.Goals as goal
 

@@ -1,4 +1,3 @@
-use Rattle.std.proofs.Common.{arith}
 use Rattle.row_verdict.proofs.Judged.{judge_write_law, judge_read_law, judge_cut_law}
 use Rattle.row_verdict.proofs.judging.kept_tells_verdict.Goals as goal
 

@@ -1,4 +1,3 @@
-use Rattle.std.proofs.Common.{arith}
 use Rattle.row_verdict.proofs.Wears.{worn_kept_law}
 use Rattle.row_verdict.proofs.judging.kept_tells_wear.Goals as goal
 

@@ -1,4 +1,3 @@
-use Rattle.std.proofs.Common.{arith}
 use Rattle.row_verdict.proofs.VerdictLaws.{write_verdict_law, read_verdict_law}
 use Rattle.row_verdict.proofs.judging.keys_tell_verdict.Goals as goal
 

@@ -1,4 +1,3 @@
-use Rattle.std.proofs.Common.{arith}
 use Rattle.row_verdict.proofs.Tables.{counts_told_law, line_keys_law, own_law}
 use Rattle.row_verdict.proofs.judging.table_tells_counts.Goals as goal
 

@@ -1,4 +1,3 @@
-use Rattle.std.proofs.Common.{arith}
 use Rattle.row_verdict.proofs.Covering.{cover_kept_law, line_stays_law, line_joins_law}
 use Rattle.row_verdict.proofs.lines.kept_tells_cover.Goals as goal
 

@@ -1,22 +1,14 @@
-use Rattle.std.proofs.Common.{◌∙◌, subst, arith}
-use Rattle.std.proofs.lemmas.Bool.{le-leb}
-use Rattle.row_verdict.specs.Fitting.{IsKnown, follows}
-use Rattle.row_verdict.proofs.Pairs.{first_alone, first_paired}
+use Rattle.std.proofs.Common.{◌||◌, ◌∙◌, not, nat_le, subst, sym, ap, arith}
+use Rattle.row_verdict.specs.Fitting.{IsKnown, has_twins}
+use Rattle.row_verdict.proofs.Pairs.{counted-twins}
 use Rattle.row_verdict.proofs.queue.passes_none.Goals as goal
 
-pub returns-then-count_of-le1 : goal.returns-then-count_of-le1
-returns-then-count_of-le1 c =
+pub returns-else-follows : goal.returns-else-follows
+returns-else-follows c =
     let others = c.args.others.now in
-    le-leb c.count_of.result 1 (omega (arith, c.if-count_of-le1.true))
-    ∙ first_alone c.in-Only.line others (follows c.args.newest.now others) (subst (λ t. IsKnown t others) c.in-Only.is c.requires)
-    (omega (arith, c.if-count_of-le1.true, c.count_of.ensures))
-
-pub returns-else-count_of-le1 : goal.returns-else-count_of-le1
-returns-else-count_of-le1 c =
-    let others = c.args.others.now in
-    c.follows.ensures
-    ∙ first_paired c.in-Only.line others (follows c.args.newest.now others) (subst (λ t. IsKnown t others) c.in-Only.is c.requires)
-    (omega (arith, c.if-count_of-le1.false, c.count_of.ensures))
+    ap (λ n. nat_le n 1) c.count_of.ensures
+    ∙ counted-twins c.in-Only.line others (subst (λ t. IsKnown t others) c.in-Only.is c.requires)
+    ∙ ap (λ b. b || not (has_twins others)) (sym c.if-follows.false ∙ c.follows.ensures)
 
 pub count_of-requires : goal.count_of-requires
 count_of-requires c = grind arith
@@ -36,5 +28,8 @@ returns-in-Nowhere c = grind arith
 pub returns-then-follows : goal.returns-then-follows
 returns-then-follows c = grind arith
 
-pub returns-else-follows : goal.returns-else-follows
-returns-else-follows c = grind arith
+pub returns-then-follows-2 : goal.returns-then-follows-2
+returns-then-follows-2 c = grind arith
+
+pub returns-else-follows-2 : goal.returns-else-follows-2
+returns-else-follows-2 c = grind arith

@@ -1,4 +1,4 @@
-use Rattle.std.proofs.Common.{arith, rules}
+use Rattle.std.proofs.Common.{rules}
 use Rattle.std.specs.Prelude.{nat_le, not}
 use Rattle.std.proofs.lemmas.Fn.{filter_same}
 use Rattle.row_verdict.specs.declared.members.Member.{Member}
