@@ -27,10 +27,7 @@ stored_at tick = W 0 0 0xff (out.Stored tick 3) ∷ []
 abbrev pub one_too_many : ℕ → List (Row 2)
 one_too_many tick = W 0 0 0xff (out.Stored 15 3) ∷ W 0 1 0x11 (out.Stored 30 1) ∷ C tick ∷ []
 
--- a write is accepted behind a worn row; one is stored behind the tick of a worn row that comes later
-abbrev pub accepted_behind_worn : List (Row 2)
-accepted_behind_worn = W 0 0 0xff (out.Queued 0) ∷ W 700 1 0x11 (out.Worn 700) ∷ W 800 1 0x11 (out.Queued 800) ∷ []
-
+-- a write is stored behind the tick of a worn row that comes later
 abbrev pub stored_behind_worn : List (Row 2)
 stored_behind_worn = W 0 0 0xff (out.Stored 15 3) ∷ W 10 1 0x11 (out.Worn 10) ∷ []
 

@@ -52,6 +52,6 @@ pub fn queues_are_judged()
     ensures before_room { verdict_of narrow one_bank (worked.one_too_many 0) ≡ no 3 Queue }
     ensures behind_it { verdict_of narrow one_bank (worked.one_too_many 30) ≡ Yes }
     ensures another_bank { verdict_of narrow (0 ∷ 0 ∷ 1 ∷ []) altered.two_writes_and_another ≡ no 3 Queue }
-    ensures accepted { verdict_of (small Pause) one_bank worked.accepted_behind_worn ≡ no 3 Worn }
+    ensures accepted { verdict_of (small Pause) one_bank altered.accepted_after_worn ≡ no 3 Worn }
     ensures stored { verdict_of (small Pause) one_bank worked.stored_behind_worn ≡ no 1 Worn }
 {}
