@@ -28,7 +28,7 @@ use Rattle.bank_invariant.specs.State.{BankState}
 use Rattle.bank_invariant.specs.Holds.{Holds, waiting_of}
 use Rattle.bank_invariant.specs.Steps.{cut_off}
 use Rattle.bank_invariant.specs.Serving.{read_from, waits_too}
-use Rattle.bank_invariant.proofs.Quiet.{RowsBelow-more}
+use Rattle.bank_model.proofs.Rising.{RowsBelow-more}
 use Rattle.bank_core.specs.Cutting.{torn_line, IsTorn}
 use Rattle.bank_core.specs.Steps.{after_read as bank_after_read}
 use Rattle.clock_laws.specs.State.{ClockState}

@@ -22,7 +22,7 @@ use Rattle.bank_shape.specs.declared.waiting.Waiting.{Waiting}
 use Rattle.bank_invariant.specs.State.{BankState}
 use Rattle.bank_invariant.specs.Holds.{Holds}
 use Rattle.bank_invariant.specs.Serving.{kept_with, read_from, waits_too}
-use Rattle.bank_invariant.proofs.Quiet.{RowsBelow-more}
+use Rattle.bank_model.proofs.Rising.{RowsBelow-more}
 use Rattle.bank_core.specs.Steps.{after_read as bank_after_read}
 use Rattle.clock_laws.specs.State.{ClockState}
 use Rattle.clock_laws.specs.Leads.{Leads}

@@ -25,7 +25,7 @@ use Rattle.bank_laws.proofs.Holding.{length-merged}
 use Rattle.bank_shape.specs.declared.waiting.Waiting.{Waiting}
 use Rattle.bank_invariant.specs.State.{BankState}
 use Rattle.bank_invariant.specs.Holds.{Holds}
-use Rattle.bank_invariant.proofs.Quiet.{RowsBelow-more}
+use Rattle.bank_model.proofs.Rising.{RowsBelow-more}
 use Rattle.bank_invariant.proofs.Taking.{answer_merged}
 use Rattle.bank_core.specs.Steps.{write_from, after_write as bank_after_write}
 use Rattle.clock_laws.specs.State.{ClockState}

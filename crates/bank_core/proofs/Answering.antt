@@ -1,8 +1,9 @@
 -- That what a bank answers keeps the invariant.
-use Rattle.std.proofs.Common.{◌≡◌, ◌≢◌, ℕ, ◌<◌, ◌≤◌, ◌==◌, cond, refl, sym, ap, subst, ◌∙◌, arith, Bool, true, false, List, [], ◌∷◌, ◌++◌, drop, length, length-append, slice_get, Some, ltb, eq-eqb}
+use Rattle.std.proofs.Common.{◌≡◌, ◌≢◌, ℕ, ◌<◌, ◌≤◌, ◌==◌, cond, refl, sym, ap, subst, ◌∙◌, arith, true, false, List, [], ◌∷◌, ◌++◌, drop, length, length-append, slice_get, Some, ltb, eq-eqb}
 use Rattle.std.specs.Prelude.{All}
 use Rattle.std.proofs.lemmas.Bool.{ne_eqb, ltb-true, ltb-false}
 use Rattle.std.proofs.lemmas.List.Elements.{All-push, All-drop}
+use Rattle.bank_model.proofs.Waits.{waits-some}
 use Rattle.masked_bytes.specs.Entries.{layer_of, AllMasked}
 use Rattle.masked_bytes.specs.Masked.{laid, gives_all}
 use Rattle.pcm_cells.specs.Device.{ArrayState}
@@ -25,11 +26,6 @@ use Rattle.bank_invariant.proofs.Quiet.{same_said, forwarded_law, busy_law}
 use Rattle.bank_invariant.proofs.Awaiting.{may_read_law, waiting_law, may_serve_law, served_law, tied_waiting, tied_sensed, gives_all-head}
 use Rattle.bank_core.specs.Bank.{IsBank}
 use Rattle.bank_core.specs.Steps.{after_read, lost_taken}
-
--- a read waits only where the queue doesn't give every byte
-not_all : {n : ℕ} (all full : Bool) (bytes : List ℕ) → ◌≡◌ {A = ReadAnswer n} came.Waiting (cond all (came.Forwarded bytes) (cond full came.Busy came.Waiting)) → all ≡ false
-not_all true full bytes is = cc
-not_all false full bytes is = refl
 
 -- the first of a list stands before the others
 pub first_of : {n : ℕ} (ws : List (Waiting n)) (w : Waiting n) → Some w ≡ slice_get ws 0 → ws ≡ w ∷ drop 1 ws
@@ -56,7 +52,7 @@ module _ {n m e : ℕ} where
   read_tied row line bank array came.Busy is masked tied = tied
   read_tied row line bank array came.Waiting is masked tied =
       let w : Waiting n = kept_with row line (layer_of bank.kept.entries line) in
-      let not = not_all (gives_all ((layer_of bank.kept.entries line).given)) (length bank.waiting == bank.kept.shape.reads) (layer_of bank.kept.entries line).bytes is in
+      let not = waits-some (gives_all ((layer_of bank.kept.entries line).given)) (length bank.waiting == bank.kept.shape.reads) (layer_of bank.kept.entries line).bytes is in
       tied_waiting e bank.kept array bank.running bank.waiting (bank.waiting ++ w ∷ [])
       (λ at bytes whole off. All-push (λ w. w.line ≢ at) bank.waiting w off
       (λ same.

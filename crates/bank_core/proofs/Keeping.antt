@@ -36,12 +36,6 @@ use Rattle.ecp_line.specs.Reading.{IsWornLine}
 use Rattle.bank_core.specs.Steps.{is_some_work}
 use Rattle.bank_core.specs.Stepping.{done_from, done_kept, step_from, left_by, IsWriterStep, IsIteration}
 
-lt-true : (a b : ℕ) → nat_lt a b ≡ true → a < b
-lt-true a b h = ltb-true a b h
-
-lt-false : (a b : ℕ) → nat_lt a b ≡ false → b ≤ a
-lt-false a b h = ltb-false a b h
-
 -- a work writes the slot that the history says
 slot-agrees : {n : ℕ} (kept : KeptState n) (h : List (Event n)) (work : Work) → target_slot kept work ≡ slot_of_work kept.shape h work
 slot-agrees kept h Nothing = refl
@@ -111,7 +105,7 @@ module _ {n m e : ℕ} where
       Holds (Iterate (cond left (did.Retired slot (slots_of bank.kept.shape + used_by bank.kept.table)) did.Exhausted) ∷ h)
       (ended bank (cond left (retired_kept slot bank.kept) (exhausted_kept bank.kept))) after
   holds-worn tick h bank op now before after true holds is step worn left =
-      let few : used_by bank.kept.table < bank.kept.shape.spares = lt-true (used_by bank.kept.table) bank.kept.shape.spares left in
+      let few : used_by bank.kept.table < bank.kept.shape.spares = ltb-true (used_by bank.kept.table) bank.kept.shape.spares left in
       let count = retired-count h bank before holds in
       let agrees = agree_law n m e h bank before holds in
       let run = running_of h bank before op holds is in
@@ -121,7 +115,7 @@ module _ {n m e : ℕ} where
       (omega (arith, few, count.1))
       (in_progress_of h bank before op holds is, (slot, omega (arith, count.0), omega (arith, few, count.0)), may_iterate h bank before op holds is, λ more. absurd cc)
   holds-worn tick h bank op now before after false holds is step worn left =
-      let none : bank.kept.shape.spares ≤ used_by bank.kept.table = lt-false (used_by bank.kept.table) bank.kept.shape.spares left in
+      let none : bank.kept.shape.spares ≤ used_by bank.kept.table = ltb-false (used_by bank.kept.table) bank.kept.shape.spares left in
       let count = retired-count h bank before holds in
       exhausted_law n m e h bank before after op holds is (differs_by tick op now before after (running_of h bank before op holds is).writing step) worn
       (omega (arith, none, count.1, holds.kept.table.within))
@@ -233,7 +227,7 @@ module _ {n m e : ℕ} where
       → IsTied (ended bank (cond left (retired_kept (target_slot bank.kept op.work) bank.kept) (exhausted_kept bank.kept))) after
   tied-worn tick bank op now before after true range tied is step worn left =
       let at = tied-target bank before op range tied is in
-      let few : used_by bank.kept.table < bank.kept.shape.spares = lt-true (used_by bank.kept.table) bank.kept.shape.spares left in
+      let few : used_by bank.kept.table < bank.kept.shape.spares = ltb-true (used_by bank.kept.table) bank.kept.shape.spares left in
       record {
         lines = tied-lines tick bank op now before after tied is step;
         sound = AreSound-retired e bank.kept (target_slot bank.kept op.work) after range (tied-sound tick bank op now before after range tied is step)
@@ -244,7 +238,7 @@ module _ {n m e : ℕ} where
         exhausted = λ mark. absurd (tied-going bank before op tied is mark);
       }
   tied-worn tick bank op now before after false range tied is step worn left =
-      let none : bank.kept.shape.spares ≤ used_by bank.kept.table = lt-false (used_by bank.kept.table) bank.kept.shape.spares left in
+      let none : bank.kept.shape.spares ≤ used_by bank.kept.table = ltb-false (used_by bank.kept.table) bank.kept.shape.spares left in
       let sound = tied-sound tick bank op now before after range tied is step in
       record {
         lines = tied-lines tick bank op now before after tied is step;

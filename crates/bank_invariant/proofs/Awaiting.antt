@@ -32,7 +32,7 @@ use Rattle.bank_invariant.specs.State.{BankState, Operation}
 use Rattle.bank_invariant.specs.Tied.{StandsAs, decoded, IsUnderWay, IsOf, IsRunning, AreSound, AreTied}
 use Rattle.bank_invariant.specs.Holds.{Holds, waiting_of}
 use Rattle.bank_invariant.specs.Serving.{kept_with, served_from, WaitingLaw, SensedLaw, MayReadLaw, MayServeLaw, ServedLaw}
-use Rattle.bank_invariant.proofs.Quiet.{RowsBelow-more}
+use Rattle.bank_model.proofs.Rising.{RowsBelow-more}
 use Rattle.bank_invariant.proofs.Agreeing.{agree_law}
 
 -- Arrays that stand as before

@@ -19,7 +19,8 @@ use Rattle.bank_shape.specs.declared.Work.TheVariants.{Nothing, Store, Copy}
 use Rattle.bank_shape.specs.Shape.{slot_at}
 use Rattle.power_recovery.specs.Slots.{bank_lines}
 use Rattle.power_recovery.specs.Kept.{KeptState, IsKept, region_at, slot_of, array_line, stands_at, target_slot, due_region, next_work}
-use Rattle.power_recovery.proofs.Placing.{slot_of-within, slot_at-within, slot_at-place}
+use Rattle.power_recovery.proofs.Placing.{slot_of-within, slot_at-place}
+use Rattle.bank_shape.proofs.Sizes.{slot_at-within}
 use Rattle.power_recovery.proofs.Bundle.{due_region-Some}
 use Rattle.bank_shape.specs.declared.answer.ReadAnswer.TheVariants as came
 use Rattle.bank_model.specs.Events.{Event, Write, Read, Serve, Begin, Iterate, Cut}

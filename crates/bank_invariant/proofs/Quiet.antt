@@ -1,6 +1,7 @@
 -- Events that leave queue, registers and array as they are.
 use Rattle.std.proofs.Common.{◌≡◌, ℕ, ◌+◌, ◌/◌, ◌≤◌, Bool, List, [], ◌∷◌, map, is_some, refl, subst, arith}
 use Rattle.std.specs.Prelude.{All, IfSome}
+use Rattle.bank_model.proofs.Rising.{RowsBelow-more}
 use Rattle.masked_bytes.specs.Masked.{laid}
 use Rattle.masked_bytes.specs.declared.entry.Entry.{Entry}
 use Rattle.pcm_cells.specs.Device.{ArrayState}
@@ -10,27 +11,13 @@ use Rattle.line_writer.specs.Writing.{steps_left, most_steps}
 use Rattle.line_writer.specs.Orderly.{IsLive}
 use Rattle.power_recovery.specs.Kept.{region_at, stands_at}
 use Rattle.bank_shape.specs.declared.answer.ReadAnswer.TheVariants as came
-use Rattle.bank_model.specs.Events.{Event, Write, Read, Serve, Begin, Iterate, Cut, newest, RowsBelow}
+use Rattle.bank_model.specs.Events.{Event, Read, newest, RowsBelow}
 use Rattle.bank_model.specs.History.{Awaited, queue, waits, in_progress, iterated, stores, stored_in, moved_in, retired, has_exhausted, first_or}
 use Rattle.bank_model.specs.Answers.{MayAll}
 use Rattle.bank_invariant.specs.State.{BankState}
 use Rattle.bank_invariant.specs.Tied.{decoded}
 use Rattle.bank_invariant.specs.Holds.{Holds, IsRegionAfter, stands_for, waiting_of}
 use Rattle.bank_invariant.specs.Steps.{ForwardedLaw, BusyLaw, CutLaw}
-
--- rows that are below a bound are below a greater one
-pub RowsBelow-more : {n : ℕ} (h : List (Event n)) (low high : ℕ) → low ≤ high → RowsBelow h low → RowsBelow h high
-RowsBelow-more [] low high more below = tt
-RowsBelow-more (Write row line bytes given answer ∷ h) low high more below =
-    let first = below.0 in
-    (omega arith, below.1)
-RowsBelow-more (Read row line answer ∷ h) low high more below =
-    let first = below.0 in
-    (omega arith, below.1)
-RowsBelow-more (Serve answer ∷ h) low high more below = RowsBelow-more h low high more below
-RowsBelow-more (Begin answer ∷ h) low high more below = RowsBelow-more h low high more below
-RowsBelow-more (Iterate answer ∷ h) low high more below = RowsBelow-more h low high more below
-RowsBelow-more (Cut tearing ∷ h) low high more below = RowsBelow-more h low high more below
 
 -- what the invariant takes from a history, besides that its events may happen and its rows
 pub record Said (n : ℕ) : Type 0 where

@@ -26,7 +26,8 @@ use Rattle.bank_shape.specs.Kinds.{is_store, is_copy}
 use Rattle.bank_invariant.specs.State.{Operation, target_of, is_storing}
 use Rattle.bank_invariant.specs.Tied.{decoded, IsOf, IsRunning, AreTied}
 use Rattle.bank_invariant.specs.Writes.{FullLaw, ExhaustedWriteLaw, AcceptedLaw, MergedLaw}
-use Rattle.bank_invariant.proofs.Quiet.{RowsBelow-more, same_said}
+use Rattle.bank_invariant.proofs.Quiet.{same_said}
+use Rattle.bank_model.proofs.Rising.{RowsBelow-more}
 
 -- Refused
 

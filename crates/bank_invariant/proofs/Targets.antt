@@ -28,7 +28,8 @@ use Rattle.start_gap.specs.declared.Move.{Move}
 use Rattle.start_gap.specs.Rotation.{move_by}
 use Rattle.power_recovery.specs.Slots.{bank_lines}
 use Rattle.power_recovery.specs.Kept.{KeptState, IsKept, AllBelow, region_at, slot_of, array_line, stands_at, target_slot, due_region, due_work, next_work}
-use Rattle.power_recovery.proofs.Placing.{slot_of-within, slot_of-apart, slot_of-off_gap, slot_at-within}
+use Rattle.power_recovery.proofs.Placing.{slot_of-within, slot_of-apart, slot_of-off_gap}
+use Rattle.bank_shape.proofs.Sizes.{slot_at-within}
 use Rattle.power_recovery.proofs.Bundle.{due_region-Some}
 use Rattle.bank_shape.specs.declared.waiting.Waiting.{Waiting}
 use Rattle.bank_invariant.specs.State.{target_of}

@@ -18,7 +18,8 @@ use Rattle.bank_shape.specs.declared.Work.TheVariants.{Copy}
 use Rattle.bank_shape.specs.Shape.{slots_of, slot_at}
 use Rattle.power_recovery.specs.Slots.{bank_lines}
 use Rattle.power_recovery.specs.Kept.{KeptState, IsKept, no_region, region_at, slot_of, array_line, stands_at, due_region, next_work}
-use Rattle.power_recovery.proofs.Placing.{slot_of-within, slot_of-off_gap, slot_at-within}
+use Rattle.power_recovery.proofs.Placing.{slot_of-within, slot_of-off_gap}
+use Rattle.bank_shape.proofs.Sizes.{slot_at-within}
 use Rattle.power_recovery.proofs.Frames.{moved_at, moved_kept-at, slot_of-moved, slot_of-moved_region, slot_of-moved_other}
 use Rattle.power_recovery.proofs.Bundle.{due_region-Some, next_work-copy, IsKept-moved_at}
 use Rattle.bank_shape.specs.declared.answer.Step.TheVariants as did

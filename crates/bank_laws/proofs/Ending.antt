@@ -1,5 +1,5 @@
 -- Which outcome a row has in the end, by the answer of its event.
-use Rattle.std.proofs.Common.{◌≡◌, ◌≢◌, ℕ, ◌⊎◌, inl, inr, Bool, true, false, List, [], ◌∷◌, ◌++◌, Option, Some, None, refl, sym, ap, ◌∙◌, subst, cond}
+use Rattle.std.proofs.Common.{◌≡◌, ◌≢◌, ℕ, ◌⊎◌, inl, inr, Bool, true, false, List, [], ◌∷◌, ◌++◌, Option, Some, None, refl, sym, ap, ◌∙◌, subst, cond, eq-eqb}
 use Rattle.std.specs.Prelude.{unwrap_or}
 use Rattle.result_rows.specs.declared.Outcome.{Outcome}
 use Rattle.result_rows.specs.declared.Outcome.TheVariants as out
@@ -18,7 +18,7 @@ use Rattle.bank_laws.specs.Outcomes.{on_row, outcome_with, outcome_of, ended}
 use Rattle.bank_laws.specs.Settling.{AreOpen}
 use Rattle.bank_laws.proofs.Answering.{merged-there}
 use Rattle.bank_laws.proofs.Settling.{stays}
-use Rattle.bank_laws.proofs.Fates.{IsLeft, WriteFate, WriteFateBy, ReadFate, ReadFateBy, write_fate, read_fate, new-push, new-merged, eqb-same}
+use Rattle.bank_laws.proofs.Fates.{IsLeft, WriteFate, WriteFateBy, ReadFate, ReadFateBy, write_fate, read_fate, new-push, new-merged}
 
 -- what an event leaves stands in the end as said
 pub record Onwards {n m : ℕ} (shape : BankShape) (all ys : List (TimedEvent n m)) (tick : ℕ) (h : Happens n) : Type 0 where
@@ -51,7 +51,7 @@ IsOutcome tick wrote.Exhausted outcome = outcome ≡ out.Worn tick
 
 module _ {n : ℕ} where
   pub own_row : (row : ℕ) (t o : Outcome n) → unwrap_or (on_row row row t) o ≡ t
-  own_row row t o = subst (λ b. unwrap_or (cond b (Some t) None) o ≡ t) (sym (eqb-same row)) refl
+  own_row row t o = subst (λ b. unwrap_or (cond b (Some t) None) o ≡ t) (sym (eq-eqb row row refl)) refl
 
   left-ended : (tick : ℕ) (o : Outcome n) → IsLeft o → ended tick o ≡ o
   left-ended tick out.Unset l = absurd l
@@ -105,11 +105,11 @@ module _ {n : ℕ} where
   pub outcome-may : (tick line : ℕ) (bytes : List ℕ) (given : List Bool) (answer : WriteAnswer) (o : Outcome n) → IsOutcome tick answer o
       → may_have tick (Writes line bytes given) [] o ≡ true
   outcome-may tick line bytes given wrote.Accepted o (inl l) = left-may tick line bytes given o l
-  outcome-may tick line bytes given wrote.Accepted o (inr is) = ap (may_have tick (Writes line bytes given) []) is ∙ eqb-same tick
+  outcome-may tick line bytes given wrote.Accepted o (inr is) = ap (may_have tick (Writes line bytes given) []) is ∙ eq-eqb tick tick refl
   outcome-may tick line bytes given (wrote.Merged old) o (inl l) = left-may tick line bytes given o l
-  outcome-may tick line bytes given (wrote.Merged old) o (inr is) = ap (may_have tick (Writes line bytes given) []) is ∙ eqb-same tick
-  outcome-may tick line bytes given wrote.Full o is = ap (may_have tick (Writes line bytes given) []) is ∙ eqb-same tick
-  outcome-may tick line bytes given wrote.Exhausted o is = ap (may_have tick (Writes line bytes given) []) is ∙ eqb-same tick
+  outcome-may tick line bytes given (wrote.Merged old) o (inr is) = ap (may_have tick (Writes line bytes given) []) is ∙ eq-eqb tick tick refl
+  outcome-may tick line bytes given wrote.Full o is = ap (may_have tick (Writes line bytes given) []) is ∙ eq-eqb tick tick refl
+  outcome-may tick line bytes given wrote.Exhausted o is = ap (may_have tick (Writes line bytes given) []) is ∙ eq-eqb tick tick refl
 
 module _ {n m : ℕ} (shape : BankShape) (pace : Pace) (e : ℕ) (all ys : List (TimedEvent n m)) (x : TimedEvent n m) where
   fate_outcome : (tick row : ℕ) → AreOpen shape all → WriteFate shape all row → IsLeft (ended tick (outcome_of shape all row)) ⊎ (ended tick (outcome_of shape all row) ≡ out.Queued tick)

@@ -23,9 +23,6 @@ use Rattle.bank_laws.specs.Standing.{has_wait}
 use Rattle.bank_laws.proofs.Answering.{IsHead, stored-head}
 use Rattle.bank_laws.proofs.Settling.{opens, step_stays}
 
-pub eqb-same : (a : ℕ) → (a == a) ≡ true
-eqb-same a = eq-eqb a a refl
-
 module _ {n : ℕ} where
   -- the outcome of a write that has left the queue
   abbrev pub IsLeft : Outcome n → Type 0
@@ -74,7 +71,7 @@ module _ {n : ℕ} where
       by false rest h = rest h
 
   pub new-push : (es : List (Entry n)) (x : Entry n) → has_row (es ++ x ∷ []) x.row ≡ true
-  new-push [] x = or_left (x.row == x.row) false (eqb-same x.row)
+  new-push [] x = or_left (x.row == x.row) false (eq-eqb x.row x.row refl)
   new-push (e ∷ es) x = or_right (e.row == x.row) _ (new-push es x)
 
   -- after a merge another row is still there, and so is the new one
@@ -101,7 +98,7 @@ module _ {n : ℕ} where
     where
       by : (b : Bool) → (has_row es old ≡ true → has_row (merged old row bytes given es) row ≡ true) → (b || has_row es old) ≡ true
           → has_row (cond b (laid_on row bytes given e ∷ es) (e ∷ merged old row bytes given es)) row ≡ true
-      by true go h = or_left (row == row) _ (eqb-same row)
+      by true go h = or_left (row == row) _ (eq-eqb row row refl)
       by false go h = or_right (e.row == row) _ (go h)
 
 -- a read of this row waits, and is owed these bytes

@@ -29,7 +29,6 @@ use Rattle.bank_laws.specs.RowLaws.{is_merge_fair, MergeLaw}
 use Rattle.bank_laws.proofs.Standing.{stand_apart}
 use Rattle.bank_laws.proofs.Answering.{IsHead, stored-head}
 use Rattle.bank_laws.proofs.Settling.{opens, above_all, lawful_before, step_stays}
-use Rattle.bank_laws.proofs.Fates.{eqb-same}
 use Rattle.bank_laws.proofs.Walking.{Passes, walk, rows_after}
 use Rattle.bank_laws.proofs.Ending.{Onwards, IsOutcome, accepting, write_outcome, outcome-accepts}
 use Rattle.bank_laws.proofs.Serves.{may_at, onwards_at}
@@ -55,7 +54,7 @@ module _ {n : ℕ} where
       by false go h = go h
 
   merges_at-new : (line : ℕ) (xs : List (Row n)) (r : Row n) → list_any (accepted_of line) xs ≡ false → accepted_of line r ≡ true → merges_at line r.tick (xs ++ r ∷ []) ≡ true
-  merges_at-new line [] r none is = subst (λ b. cond b (r.tick == r.tick) false ≡ true) (sym is) (eqb-same r.tick)
+  merges_at-new line [] r none is = subst (λ b. cond b (r.tick == r.tick) false ≡ true) (sym is) (eq-eqb r.tick r.tick refl)
   merges_at-new line (x ∷ xs) r none is =
       subst (λ b. cond b (x.tick == r.tick) (merges_at line r.tick (xs ++ r ∷ [])) ≡ true) (sym (neither_first (accepted_of line x) _ none))
       (merges_at-new line xs r (neither_second (accepted_of line x) _ none) is)

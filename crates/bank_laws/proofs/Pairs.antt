@@ -19,9 +19,6 @@ use Rattle.bank_model.specs.Answers.{head_busy_after, accept_answer, write_answe
 use Rattle.bank_laws.specs.Pairs.{has_line, LinesApart, ArePaired, PairLaw}
 use Rattle.bank_laws.proofs.Entries.{either}
 
-pub eqb-same : (a : ℕ) → (a == a) ≡ true
-eqb-same a = eq-eqb a a refl
-
 pub gives_all-joined : (given other : List Bool) → length given ≡ length other → gives_all other ≡ true → gives_all (joined given other) ≡ true
 gives_all-joined [] other e h = h
 gives_all-joined (g ∷ given) [] e h = absurd (omega arith)
@@ -85,7 +82,7 @@ module _ {n : ℕ} where
       own false busy same h = absurd (cc)
 
       same : (e.line == line) ≡ true
-      same = subst (λ l. (e.line == l) ≡ true) (sym (eqb-true line e.line is)) (eqb-same e.line)
+      same = subst (λ l. (e.line == l) ≡ true) (sym (eqb-true line e.line is)) (eq-eqb e.line e.line refl)
 
       by : (r : Option ℕ) → or_this r (cond (not busy && eqb e.line line) (Some e.row) None) ≡ None → busy ≡ true
       by (Some row) h = absurd (cc)

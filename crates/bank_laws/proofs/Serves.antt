@@ -1,5 +1,5 @@
 -- The rows and the events agree on the newest bytes, and every row of a bank's table is served as it should be.
-use Rattle.std.proofs.Common.{◌≡◌, ℕ, ◌==◌, ◌&&◌, not, inl, inr, Bool, true, false, List, [], ◌∷◌, ◌++◌, Some, None, length, refl, sym, ap, ◌∙◌, subst, cond, eqb, append_assoc}
+use Rattle.std.proofs.Common.{◌≡◌, ℕ, ◌==◌, ◌&&◌, not, inl, inr, Bool, true, false, List, [], ◌∷◌, ◌++◌, Some, None, length, refl, sym, ap, ◌∙◌, subst, cond, eqb, append_assoc, eq-eqb}
 use Rattle.std.proofs.lemmas.Bool.{and_from}
 use Rattle.result_rows.specs.declared.Outcome.{Outcome}
 use Rattle.result_rows.specs.declared.Outcome.TheVariants as out
@@ -8,7 +8,6 @@ use Rattle.masked_bytes.specs.Entries.{layer_of}
 use Rattle.row_rules.specs.declared.Asks.TheVariants.{Reads}
 use Rattle.row_rules.specs.Answers.{accepts}
 use Rattle.row_rules.specs.Rows as rows
-use Rattle.row_rules.specs.Rows.{each_row}
 use Rattle.row_rules.specs.Serving.{may_have, same_bytes, is_served}
 use Rattle.bank_shape.specs.declared.BankShape.{BankShape}
 use Rattle.bank_shape.specs.declared.answer.WriteAnswer.{WriteAnswer}
@@ -29,7 +28,7 @@ use Rattle.bank_laws.specs.Outcomes.{outcome_of, ended, row_with, rows_from}
 use Rattle.bank_laws.specs.Settling.{AreOpen}
 use Rattle.bank_laws.specs.RowLaws.{ServedLaw}
 use Rattle.bank_laws.proofs.Settling.{opens, lawful_before}
-use Rattle.bank_laws.proofs.Fates.{Awaits, IsSettled, ReadFate, awaits-new, eqb-same}
+use Rattle.bank_laws.proofs.Fates.{Awaits, IsSettled, ReadFate, awaits-new}
 use Rattle.bank_laws.proofs.Walking.{Passes, walk, rows_after}
 use Rattle.bank_laws.proofs.Ending.{Onwards, onwards, accepting, outcome-accepts, outcome-may, own_answer, write_outcome}
 
@@ -38,7 +37,7 @@ same_bytes-same xs ys e = subst (λ ys. same_bytes xs ys ≡ true) e (itself xs)
   where
     itself : (xs : List ℕ) → same_bytes xs xs ≡ true
     itself [] = refl
-    itself (x ∷ xs) = and_from (x == x) _ (eqb-same x) (itself xs)
+    itself (x ∷ xs) = and_from (x == x) _ (eq-eqb x x refl) (itself xs)
 
 -- where nothing is chosen no read waits
 pub none-waits : (way reads : Bool) (c : Choice) → chosen_by way reads c ≡ None → reads ≡ false
@@ -143,10 +142,10 @@ module _ {n m : ℕ} (shape : BankShape) (pace : Pace) (e : ℕ) (all : List (Ti
           outcome-may x.tick line bytes given answer (ended x.tick (outcome_of shape all row)) (write_outcome shape pace e all ys x row line bytes given answer o may on)
       by (Core (Read row line (came.Forwarded bytes))) cancels may on new =
           ap (may_have x.tick (Reads line) (rows.newest (rows_from shape all ys) line)) (own_answer shape pace e all ys x (Core (Read row line (came.Forwarded bytes))) row (out.Forwarded x.tick bytes) on refl (λ is. absurd (cc)))
-          ∙ and_from (x.tick == x.tick) _ (eqb-same x.tick) (same_bytes-same bytes _ (forwarded-newest shape (core ys) line bytes may.may.1 ∙ sym (new line)))
+          ∙ and_from (x.tick == x.tick) _ (eq-eqb x.tick x.tick refl) (same_bytes-same bytes _ (forwarded-newest shape (core ys) line bytes may.may.1 ∙ sym (new line)))
       by (Core (Read row line came.Busy)) cancels may on new =
           ap (may_have x.tick (Reads line) (rows.newest (rows_from shape all ys) line)) (own_answer shape pace e all ys x (Core (Read row line came.Busy)) row (out.Busy x.tick) on refl (λ is. absurd (cc)))
-          ∙ eqb-same x.tick
+          ∙ eq-eqb x.tick x.tick refl
       by (Core (Read row line came.Waiting)) cancels may on new =
           waited_may x.tick line row (rows.newest (rows_from shape all ys) line) (newest (core ys) line) none (sym (new line))
           (on.reads row (newest (core ys) line) (inl (awaits-new (waits shape (core ys)) (awaited row line (newest (core ys) line) (layer_of (queue shape (core ys)) line)))))
@@ -155,7 +154,7 @@ module _ {n m : ℕ} (shape : BankShape) (pace : Pace) (e : ℕ) (all : List (Ti
       by (Core (Begin answer)) cancels may on new = tt
       by (Core (Iterate answer)) cancels may on new = tt
       by (Core (Cut tearing)) true may on new = tt
-      by (Core (Cut tearing)) false may on new = eqb-same x.tick
+      by (Core (Cut tearing)) false may on new = eq-eqb x.tick x.tick refl
 
 pub served_law : ServedLaw
 served_law n m e shape pace xs l idle =

@@ -1,7 +1,8 @@
 -- A row has no outcome while it stands, and keeps the one that it gets.
-use Rattle.std.proofs.Common.{◌≡◌, ◌≢◌, ℕ, ◌+◌, ◌<◌, ◌≤◌, ◌==◌, ◌⊎◌, inl, inr, Bool, true, false, List, [], ◌∷◌, ◌++◌, Some, None, drop, refl, sym, ◌∙◌, subst, arith, cond, eqb, eqb-true}
+use Rattle.std.proofs.Common.{◌≡◌, ◌≢◌, ℕ, ◌+◌, ◌<◌, ◌==◌, ◌⊎◌, inl, inr, Bool, true, false, List, [], ◌∷◌, ◌++◌, Some, None, drop, refl, sym, ◌∙◌, subst, arith, cond, eqb, eqb-true}
 use Rattle.std.specs.Prelude.{unwrap_or}
 use Rattle.std.proofs.lemmas.Bool.{ne_eqb}
+use Rattle.bank_model.proofs.Rising.{RowsBelow-more}
 use Rattle.result_rows.specs.declared.Outcome.{Outcome}
 use Rattle.result_rows.specs.declared.Outcome.TheVariants as out
 use Rattle.masked_bytes.specs.declared.entry.Entry.{Entry}
@@ -13,7 +14,7 @@ use Rattle.bank_shape.specs.declared.BankShape.{BankShape}
 use Rattle.bank_shape.specs.declared.answer.WriteAnswer.TheVariants as wrote
 use Rattle.bank_shape.specs.declared.answer.ReadAnswer.TheVariants as came
 use Rattle.bank_shape.specs.declared.answer.Step.TheVariants as did
-use Rattle.bank_model.specs.Events.{Event, Write, Read, Serve, Begin, Iterate, Cut, RowsBelow, newest}
+use Rattle.bank_model.specs.Events.{Write, Read, Serve, Begin, Iterate, Cut, RowsBelow, newest}
 use Rattle.bank_model.specs.History.{awaited, begun, queue, waits, due_after}
 use Rattle.bank_shape.specs.declared.pace.Pace.{Pace}
 use Rattle.bank_model.specs.Timing.{Happens, Core, Regs, TimedEvent, core, core_of}
@@ -32,16 +33,6 @@ unlike f a b h k = ne_eqb a b (λ e. let t : f b ≡ true = subst (λ r. f r ≡
 
 unlike_back : (f : ℕ → Bool) (a b : ℕ) → f a ≡ true → f b ≡ false → (b == a) ≡ false
 unlike_back f a b h k = ne_eqb b a (λ e. let t : f b ≡ true = subst (λ r. f r ≡ true) (sym e) h in absurd (cc))
-
--- rows below one are below a greater one
-pub rows_below-more : {n : ℕ} (h : List (Event n)) (a b : ℕ) → a ≤ b → RowsBelow h a → RowsBelow h b
-rows_below-more [] a b le r = tt
-rows_below-more (Write row line bytes given answer ∷ h) a b le r = (omega (arith, r.0), r.1)
-rows_below-more (Read row line answer ∷ h) a b le r = (omega (arith, r.0), r.1)
-rows_below-more (Serve answer ∷ h) a b le r = rows_below-more h a b le r
-rows_below-more (Begin answer ∷ h) a b le r = rows_below-more h a b le r
-rows_below-more (Iterate answer ∷ h) a b le r = rows_below-more h a b le r
-rows_below-more (Cut tearing ∷ h) a b le r = rows_below-more h a b le r
 
 module _ {n : ℕ} where
   -- another row's outcome changes nothing
@@ -81,7 +72,7 @@ module _ {n m : ℕ} (shape : BankShape) where
         kept at row t _ (unlike_back (has_wait (waits shape (core xs))) row at h ((stand_apart shape (core xs) at b).waiting_below at (omega arith))) (o.waiting row h)
 
     refused_later : (at row : ℕ) (t : Outcome n) → at < row → RowsBelow (core xs) at → unwrap_or (on_row at row t) (outcome_of shape xs row) ≡ out.Unset
-    refused_later at row t lt b = kept at row t _ (differ at row lt) (o.coming row (rows_below-more (core xs) at row (omega arith) b))
+    refused_later at row t lt b = kept at row t _ (differ at row lt) (o.coming row (RowsBelow-more (core xs) at row (omega arith) b))
 
     open_accepted : (row line : ℕ) (bytes : List ℕ) (given : List Bool) → RowsBelow (core xs) row → OpenBy xs tick (Core (Write row line bytes given wrote.Accepted))
     open_accepted row line bytes given b = record {
@@ -89,7 +80,7 @@ module _ {n m : ℕ} (shape : BankShape) where
           (λ no. either (eqb row r) (λ same. subst (λ r. outcome_of shape xs r ≡ out.Unset) (eqb-true row r same) (o.coming row b))
           (λ other. absurd (cc (lacks-push (queue shape (core xs)) (record { row = row; line = line; bytes = bytes; given = given }) r no other, h))));
       waiting = o.waiting;
-      coming = λ r below. o.coming r (rows_below-more (core xs) row r (omega (arith, below.0)) b);
+      coming = λ r below. o.coming r (RowsBelow-more (core xs) row r (omega (arith, below.0)) b);
     }
 
     open_merged : (row line old : ℕ) (bytes : List ℕ) (given : List Bool) → RowsBelow (core xs) row → has_row (queue shape (core xs)) old ≡ true
@@ -106,7 +97,7 @@ module _ {n m : ℕ} (shape : BankShape) where
               (λ other. absurd (cc (lacks-merged old row bytes given (queue shape (core xs)) r no other, h)))));
           waiting = λ r h. kept old r _ _ (unlike_back (has_wait (waits shape (core xs))) r old h (a.one_place old there)) (o.waiting r h);
           coming = λ r below.
-              let later : RowsBelow (core xs) r = rows_below-more (core xs) row r (omega (arith, below.0)) b in
+              let later : RowsBelow (core xs) r = RowsBelow-more (core xs) row r (omega (arith, below.0)) b in
               kept old r _ _ (unlike (has_row (queue shape (core xs))) old r there ((stand_apart shape (core xs) r later).queued_below r (omega arith))) (o.coming r later);
         }
 
@@ -116,7 +107,7 @@ module _ {n m : ℕ} (shape : BankShape) where
       waiting = λ r h. either (has_wait (waits shape (core xs)) r) (o.waiting r)
           (λ no. either (eqb row r) (λ same. subst (λ r. outcome_of shape xs r ≡ out.Unset) (eqb-true row r same) (o.coming row b))
           (λ other. absurd (cc (no_wait-push (waits shape (core xs)) (awaited row line _ _) r no other, h))));
-      coming = λ r below. o.coming r (rows_below-more (core xs) row r (omega (arith, below.0)) b);
+      coming = λ r below. o.coming r (RowsBelow-more (core xs) row r (omega (arith, below.0)) b);
     }
 
     -- a read that waits is answered, and waits no more

@@ -16,7 +16,8 @@ use Rattle.bank_shape.specs.declared.Work.TheVariants.{Nothing, Store, Copy}
 use Rattle.bank_shape.specs.Shape.{slots_of, slot_at, lines_in, controls_of, controls_from, control_line, IsIn}
 use Rattle.power_recovery.specs.Slots.{bank_lines}
 use Rattle.power_recovery.specs.Kept.{KeptState, IsKept, AllBelow, region_at, slot_of, array_line, stands_at, due_region, due_work, next_work, target_slot}
-use Rattle.power_recovery.proofs.Placing.{slot_of-within, slot_at-within}
+use Rattle.power_recovery.proofs.Placing.{slot_of-within}
+use Rattle.bank_shape.proofs.Sizes.{slot_at-within}
 use Rattle.power_recovery.proofs.Bundle.{due_region-Some}
 use Rattle.bank_model.specs.Events.{Event, Write, Read, Serve, Begin, Iterate, Cut}
 use Rattle.bank_model.specs.History.{Awaited, waits}

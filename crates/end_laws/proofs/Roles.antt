@@ -10,7 +10,8 @@ use Rattle.start_gap.proofs.Places.{rotation_after, rotation_after-range, rotati
 use Rattle.bank_shape.specs.declared.BankShape.{BankShape}
 use Rattle.bank_shape.specs.Shape.{slots_of, slot_at, slot_moved, controls_from, IsBankShape}
 use Rattle.power_recovery.proofs.Placing.{slot_at-region, slot_at-place, same_line}
-use Rattle.place_laws.proofs.Slots.{slot_at-within, slot_moved-within, gap-within}
+use Rattle.place_laws.proofs.Slots.{slot_moved-within, gap-within}
+use Rattle.bank_shape.proofs.Sizes.{slot_at-within}
 use Rattle.end_laws.specs.Ends.{BankEnd}
 use Rattle.end_laws.specs.Roles.{used_among, used_spares, IsRole, HasOneRole, RoleLaw}
 

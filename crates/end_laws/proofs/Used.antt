@@ -1,12 +1,11 @@
 -- The greatest spare that a slot has is the last one that was given.
-use Rattle.std.proofs.Common.{◌≡◌, ℕ, zero, suc, ◌+◌, ◌<◌, ◌≤◌, ◌⊎◌, inl, inr, List, [], ◌∷◌, ◌++◌, length, length-append, slice_index, cond, refl, ap, sym, ◌∙◌, arith}
+use Rattle.std.proofs.Common.{◌≡◌, ℕ, zero, suc, ◌+◌, ◌<◌, ◌≤◌, ◌⊎◌, inl, inr, List, [], ◌∷◌, ◌++◌, length, length-append, slice_index, cond, refl, ap, sym, ◌∙◌, arith, eq-eqb}
 use Rattle.std.proofs.Math.Seq.{get_or-append_seam}
 use Rattle.spare_pool.specs.Table.{line_from, line_by, used_by}
 use Rattle.spare_pool.proofs.Lines.{line_from-more, line_by-within}
 use Rattle.bank_shape.specs.declared.BankShape.{BankShape}
 use Rattle.bank_shape.specs.Shape.{slots_of}
 use Rattle.power_recovery.specs.Kept.{KeptState, IsKept, array_line}
-use Rattle.bank_laws.proofs.Fates.{eqb-same}
 use Rattle.end_laws.specs.Roles.{used_among, used_spares, UsedLaw}
 use Rattle.end_laws.proofs.Roles.{used-reaches}
 
@@ -54,7 +53,7 @@ module _ {n : ℕ} (kept : KeptState n) (range : IsKept kept) (table : ℕ → �
           let exists : l.last < slots_of kept.shape = omega (arith, known, item, range.slots) in
           let line : line_by kept.table l.last ≡ kept.table.slots + length l.before =
           ap (λ xs. line_from kept.table.slots l.last xs l.last) l.is ∙ line_from-more kept.table.slots l.last l.before l.last l.last
-          ∙ ap (λ b. cond b (kept.table.slots + length l.before) (line_from kept.table.slots l.last l.before l.last)) (eqb-same l.last) in
+          ∙ ap (λ b. cond b (kept.table.slots + length l.before) (line_from kept.table.slots l.last l.before l.last)) (eq-eqb l.last l.last refl) in
           let reached : table l.last < kept.shape.base + slots_of kept.shape + used_spares kept.shape table = used-reaches kept.shape table (slots_of kept.shape) l.last exists in
           omega (arith, reached, agrees l.last exists, line, count, range.slots)
 

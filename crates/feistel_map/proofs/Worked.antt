@@ -3,13 +3,14 @@ use Rattle.std.proofs.Common.{◌≡◌, ℕ, [], ◌∷◌, refl}
 use Rattle.std.specs.Prelude.{map}
 use Rattle.rand_core.specs.Stream.{next_u64}
 use Rattle.rand_core.specs.Steps.{stream_of}
+use Rattle.seeded_words.specs.Words.{stream_after, word_at}
 use Rattle.feistel_map.specs.Network.{Network, network_of, feistel, unfeistel}
 
 abbrev network_of_zero : ℕ → Network
 network_of_zero bits = record { bits = bits; first = 0xcdaf; second = 0x65f4; third = 0x454f }
 
 keys_of_zero : (bits : ℕ) → network_of bits 0 ≡ network_of_zero bits
-unfolding next_u64 stream_of
+unfolding next_u64 stream_of stream_after word_at
 keys_of_zero bits = refl
 
 two_bits : map (feistel (network_of_zero 2)) (0 ∷ 1 ∷ 2 ∷ 3 ∷ []) ≡ 3 ∷ 1 ∷ 2 ∷ 0 ∷ []

@@ -1,4 +1,3 @@
 pub mod Network
-pub mod Words
 pub mod Addresses
 pub mod Log2

@@ -1,7 +1,7 @@
 -- The static randomiser: three rounds of a Feistel network over the numbers of b bits, in which no half is swapped.
 use Rattle.std.specs.Prelude.{ℕ, ◌+◌, ◌-◌, ◌*◌, ◌/◌, ◌%◌, ◌^◌, ◌<◌, ◌≤◌, bit_xor}
+use Rattle.seeded_words.specs.Words.{splitmix_of, word_at}
 use Rattle.feistel_map.specs.declared.halves.Halves.{Halves}
-use Rattle.feistel_map.specs.Words.{key_of}
 
 -- a network: over how many bits, and the keys of its rounds
 pub record Network : Type 0 where
@@ -9,6 +9,10 @@ pub record Network : Type 0 where
   pub first : ℕ
   pub second : ℕ
   pub third : ℕ
+
+-- key number n of a seed: the low 16 bits of its word
+abbrev pub key_of : ℕ → ℕ → ℕ
+key_of seed n = word_at n (splitmix_of seed) % 65536
 
 -- the network of a seed
 abbrev pub network_of : ℕ → ℕ → Network

@@ -25,9 +25,6 @@ use Rattle.bank_model.proofs.Newest.{length-newest}
 use Rattle.queue_laws.proofs.Owned.{IsOwn, AreOwn, queue-own}
 use Rattle.queue_laws.proofs.Last.{queue-last}
 
-pub same-row : (row : ℕ) → (row == row) ≡ true
-same-row row = eq-eqb row row refl
-
 pub above : (at row : ℕ) → row < at → (at == row) ≡ false
 above at row lt = ne_eqb at row (λ is. omega (arith, lt, is))
 
@@ -230,7 +227,7 @@ module _ {n : ℕ} (shape : BankShape) where
           let then : e.bytes ≡ newest h e.line = was ∙ newest-since h bound e.line e.row below own in
           ap (λ under. laid bytes given under) then
           ∙ sym (ap (λ b. cond b (laid bytes given (newest h e.line)) (newest h e.line)) (eq-eqb l e.line its))
-          ∙ sym (ap (λ b. newest (cond b now (up_to at h)) e.line) (same-row at))
+          ∙ sym (ap (λ b. newest (cond b now (up_to at h)) e.line) (eq-eqb at at refl))
       by false other =
           whole-behind h e at now
           (low-row (e ∷ es) e.row at none (head-there (e ∷ es) e.row refl)) was
@@ -262,7 +259,7 @@ module _ {n : ℕ} (shape : BankShape) where
             ∙ sym (full-laid e (newest (up_to e.row h) e.line) own.bytes own.given (length-newest (up_to e.row h) e.line) all) ∙ stays
         by false alone =
             let newest_own : newest_row (e ∷ es) e.line ≡ Some e.row =
-            ap (λ r. or_this r (cond (eqb e.line e.line) (Some e.row) None)) (no-newest es e.line alone) ∙ ap (λ b. cond b (Some e.row) None) (same-row e.line) in
+            ap (λ r. or_this r (cond (eqb e.line e.line) (Some e.row) None)) (no-newest es e.line alone) ∙ ap (λ b. cond b (Some e.row) None) (eq-eqb e.line e.line refl) in
             let last : last_write h e.line ≡ Some e.row = queue-last shape e.line e.row most h bound may below (ap (λ q. newest_row q e.line) is ∙ newest_own) in
             ap (λ under. laid e.bytes e.given under) (sym (newest-since h bound e.line e.row below last)) ∙ stays
 

@@ -40,7 +40,7 @@ use Rattle.pcm_image.specs.declared.EntryImage.{EntryImage}
 use Rattle.image_laws.specs.Queued.{QueuedWrite, first_again, coming, queued_after, by_order, queued_writes, entry_by, entries_by}
 use Rattle.image_laws.specs.Saving.{saved_entry}
 use Rattle.image_laws.proofs.Begun.{Again}
-use Rattle.image_laws.proofs.Heads.{above, same-row, written-below, HeadWhole, head-whole}
+use Rattle.image_laws.proofs.Heads.{above, written-below, HeadWhole, head-whole}
 use Rattle.image_laws.proofs.Placing.{Numbered, fits, merging_as, put, writes, writes-put, Each, each-map, each-both, Match, match-stands, match-stays, match-accepted, match-drop, match-begun, match-merged, each-accepted, each-merged}
 
 module _ {n m : ℕ} (shape : BankShape) (all : List (TimedEvent n m)) where
@@ -269,14 +269,14 @@ module _ {n m : ℕ} (shape : BankShape) (all : List (TimedEvent n m)) where
       newest-new : (row line : ℕ) (bytes : List ℕ) (given : List Bool) (answer : WriteAnswer) → Known (Core (Write row line bytes given answer))
           → newest (cond (eqb row row) (Write row line bytes given answer ∷ core zs) (up_to row (core zs))) line ≡ rows.newest (row_of row x.tick line bytes given ∷ rows_from shape all zs) line
       newest-new row line bytes given answer k =
-          ap (λ b. newest (cond b (Write row line bytes given answer ∷ core zs) (up_to row (core zs))) line) (same-row row) ∙ sym (k.newest_by line)
+          ap (λ b. newest (cond b (Write row line bytes given answer ∷ core zs) (up_to row (core zs))) line) (eq-eqb row row refl) ∙ sym (k.newest_by line)
 
       accepted-item : (row line : ℕ) (bytes : List ℕ) (given : List Bool) → Known (Core (Write row line bytes given wrote.Accepted))
           → IsItem (Write row line bytes given wrote.Accepted ∷ core zs) (new-item row line bytes given)
       accepted-item row line bytes given k = record {
         ends = (x.tick, refl);
-        line = ap (λ b. cond b (Some line) (line_written row (core zs))) (same-row row);
-        gives = ap (λ b. cond b (record { bytes = bytes; given = given }) (given_by row (core zs))) (same-row row);
+        line = ap (λ b. cond b (Some line) (line_written row (core zs))) (eq-eqb row row refl);
+        gives = ap (λ b. cond b (record { bytes = bytes; given = given }) (given_by row (core zs))) (eq-eqb row row refl);
         newest_is = newest-new row line bytes given wrote.Accepted k;
       }
 
@@ -284,9 +284,9 @@ module _ {n m : ℕ} (shape : BankShape) (all : List (TimedEvent n m)) where
           → IsItem (Write row line bytes given (wrote.Merged old) ∷ core zs) (merging_as (new-item row line bytes given) w)
       merged-item row line old bytes given k w is at = record {
         ends = (x.tick, refl);
-        line = ap (λ b. cond b (Some line) (line_written row (core zs))) (same-row row);
+        line = ap (λ b. cond b (Some line) (line_written row (core zs))) (eq-eqb row row refl);
         gives =
-            ap (λ b. cond b (stacked (record { bytes = bytes; given = given }) (given_by old (core zs))) (given_by row (core zs))) (same-row row)
+            ap (λ b. cond b (stacked (record { bytes = bytes; given = given }) (given_by old (core zs))) (given_by row (core zs))) (eq-eqb row row refl)
             ∙ ap (λ below. stacked (record { bytes = bytes; given = given }) below) (ap (λ r. given_by r (core zs)) (sym at) ∙ is.gives);
         newest_is = newest-new row line bytes given (wrote.Merged old) k;
       }

@@ -11,6 +11,7 @@ use Rattle.pcm_cells.specs.Device.{ArrayState, LineState}
 use Rattle.ecp_line.specs.Reading.{is_worn_line}
 use Rattle.row_rules.specs.declared.Row.{Row}
 use Rattle.row_rules.specs.Rows.{newest}
+use Rattle.row_rules.specs.Lines.{IsOfLines}
 use Rattle.bank_shape.specs.declared.BankShape.{BankShape}
 use Rattle.power_recovery.specs.Kept.{KeptState}
 use Rattle.bank_shape.specs.declared.pace.Pace.{Pace}
@@ -27,7 +28,7 @@ use Rattle.module_shape.specs.declared.raw.RawShape.{RawShape}
 use Rattle.module_shape.specs.Limits.{IsShape, total_of}
 use Rattle.module_shape.specs.Addresses.{module_of, bank_shape}
 use Rattle.module_laws.specs.Asking.{row_with}
-use Rattle.module_laws.specs.Serves.{BankTableLaw, IsOfLines}
+use Rattle.module_laws.specs.Serves.{BankTableLaw}
 use Rattle.module_laws.proofs.Serving.{newest_in_bank}
 use Rattle.clock_laws.specs.Ending.{LeavingLaw}
 use Rattle.clock_laws.specs.Leads.{Leads}

@@ -14,7 +14,8 @@ use Rattle.bank_laws.specs.Places.{region_stores}
 use Rattle.lifetime_laws.specs.Spread.{most_at, most_moves, finding_at}
 use Rattle.lifetime_laws.specs.Lifetime.{other_stores, asked_writes, other_asked, most_hot_works, most_asked_works, most_asked_kept, AskedLaw}
 use Rattle.lifetime_laws.specs.Works.{most_kept}
-use Rattle.lifetime_laws.proofs.Counting.{one, one-few, passing-within}
+use Rattle.lifetime_laws.proofs.Counting.{one-few, passing-within}
+use Rattle.masked_bytes.proofs.Counting.{one_if}
 use Rattle.lifetime_laws.proofs.Ranks.{count-imp}
 use Rattle.lifetime_laws.proofs.Stays.{stay_law, tight_law}
 
@@ -42,7 +43,7 @@ rounds-more a b d some le =
           omega (arith, same, products, first, second, le)
     ]
 
-fewer : (a b c : Bool) → one (a && (b && c)) ≤ one (a && b)
+fewer : (a b c : Bool) → one_if (a && (b && c)) ≤ one_if (a && b)
 fewer true true c = one-few c
 fewer true false c = omega arith
 fewer false b c = omega arith
@@ -54,7 +55,7 @@ module _ {n : ℕ} (shape : BankShape) (rows : List (Row n)) (some : 1 ≤ shape
   moves-few : (region : ℕ) → region_stores is_stored shape region rows / shape.psi ≤ asked_writes shape region rows / shape.psi
   moves-few region = quotient-more (region_stores is_stored shape region rows) (asked_writes shape region rows) shape.psi each (stores-few region)
 
-  unhot : (a b c d : Bool) → one (a && (b && (c && d))) ≤ one (a && (b && c))
+  unhot : (a b c d : Bool) → one_if (a && (b && (c && d))) ≤ one_if (a && (b && c))
   unhot true true c d = fewer true c d
   unhot true false c d = omega arith
   unhot false b c d = omega arith

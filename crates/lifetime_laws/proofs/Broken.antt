@@ -35,7 +35,8 @@ use Rattle.place_laws.proofs.Cancels.{cancels-kept}
 use Rattle.bank_laws.proofs.Targets.{WorkAfter, spares_work, working, target-same}
 use Rattle.bank_model.specs.Works.{tally, works_on}
 use Rattle.lifetime_laws.specs.Works.{stores_at, most_works, WorksLaw}
-use Rattle.lifetime_laws.proofs.Counting.{one, one-few, passing-within}
+use Rattle.lifetime_laws.proofs.Counting.{one-few, passing-within}
+use Rattle.masked_bytes.proofs.Counting.{one_if}
 use Rattle.lifetime_laws.proofs.Landing.{any, stored_tally, stores-landed}
 use Rattle.lifetime_laws.proofs.Stays.{copies_law}
 use Rattle.lifetime_laws.proofs.Ended.{below_one, gave_tally, cut_tally, works-split, moves-into, gives-once, not-over}
@@ -74,16 +75,16 @@ module _ (broken ended cuts count : ℕ) (change : Option ℕ) (Own : Type 0) (k
   broken-passed : (New : Type 0) → (Own → New) → IsBroken broken ended (0 + cuts) count change New
   broken-passed New go = record { held = k.held; few = omega (arith, k.few); under = k.under; alone = k.alone; own = λ le. go (k.own le) }
 
-  broken-ended : (here : Bool) (new : Option ℕ) (New : Type 0) → count ≤ 4 → (Own → here ≡ true) → IsBroken (0 + broken) (one here + ended) (0 + cuts) 0 new New
+  broken-ended : (here : Bool) (new : Option ℕ) (New : Type 0) → count ≤ 4 → (Own → here ≡ true) → IsBroken (0 + broken) (one_if here + ended) (0 + cuts) 0 new New
   broken-ended true new New four its = record { held = 0; few = omega (arith, k.few, k.under, four); under = omega arith; alone = λ is. refl; own = λ le. absurd (omega (arith, le)) }
   broken-ended false new New four its =
       let none : k.held ≡ 0 = none-held (λ own. absurd (cc (its own))) in
       record { held = 0; few = omega (arith, k.few, none); under = omega arith; alone = λ is. refl; own = λ le. absurd (omega (arith, le)) }
 
-  broken-cut : (here : Bool) (New : Type 0) → count ≤ 4 → IsBroken (one here + broken) (0 + ended) (1 + cuts) 0 change New
+  broken-cut : (here : Bool) (New : Type 0) → count ≤ 4 → IsBroken (one_if here + broken) (0 + ended) (1 + cuts) 0 change New
   broken-cut here New four = record { held = 0; few = omega (arith, k.few, k.under, four, one-few here); under = omega arith; alone = λ is. refl; own = λ le. absurd (omega (arith, le)) }
 
-  broken-cancelled : (here : Bool) (New : Type 0) → change ≡ None → (here ≡ true → New) → (Own → New) → IsBroken (one here + broken) (0 + ended) (0 + cuts) (count + 1) change New
+  broken-cancelled : (here : Bool) (New : Type 0) → change ≡ None → (here ≡ true → New) → (Own → New) → IsBroken (one_if here + broken) (0 + ended) (0 + cuts) (count + 1) change New
   broken-cancelled true New none now go =
       record { held = k.held + 1; few = omega (arith, k.few); under = omega (arith, k.under); alone = λ is. no change none is; own = λ le. now refl }
     where
@@ -115,7 +116,7 @@ module _ {n m : ℕ} (shape : BankShape) (pace : Pace) (e at : ℕ) where
     where
       By : Happens n → Bool → Type 0
       By h c =
-          IsBroken (cut_tally shape at (core_of h (core xs))) (ended_tally shape at (core_of h (core xs))) (one (cuts_power h c) + cuts_in xs)
+          IsBroken (cut_tally shape at (core_of h (core xs))) (ended_tally shape at (core_of h (core xs))) (one_if (cuts_power h c) + cuts_in xs)
           (cancels_with h c (cancels_after xs)) (change_by shape (core xs) h (change_after shape xs)) (IsItsWork shape at (core_of h (core xs)))
 
       four : cancels_after xs ≤ 4
@@ -154,7 +155,7 @@ module _ {n m : ℕ} (shape : BankShape) (pace : Pace) (e at : ℕ) where
   cuts-few plain (x ∷ xs) l = by x.happens x.cancels refl l.0 (cuts-few plain xs l.1)
     where
       by : (h : Happens n) (c : Bool) → x.cancels ≡ c → MayCome shape pace e xs x h → cut_tally shape at (core xs) ≤ cuts_in xs
-          → cut_tally shape at (core_of h (core xs)) ≤ one (cuts_power h c) + cuts_in xs
+          → cut_tally shape at (core_of h (core xs)) ≤ one_if (cuts_power h c) + cuts_in xs
       by (Core (Write row line bytes given answer)) c is may few = omega (arith, few)
       by (Core (Read row line answer)) c is may few = omega (arith, few)
       by (Core (Serve answer)) c is may few = omega (arith, few)

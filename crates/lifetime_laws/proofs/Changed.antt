@@ -38,20 +38,20 @@ use Rattle.place_laws.proofs.WornOut.{none-ready}
 use Rattle.place_laws.proofs.Cancels.{cancels-kept}
 use Rattle.log_laws.proofs.Within.{row_line-within, last-within}
 use Rattle.lifetime_laws.specs.Works.{most_changes, most_kept, ControlPulsesLaw}
-use Rattle.lifetime_laws.proofs.Counting.{one}
+use Rattle.masked_bytes.proofs.Counting.{one_if}
 use Rattle.lifetime_laws.proofs.Ended.{below_one}
 use Rattle.lifetime_laws.proofs.Broken.{by-policy}
 use Rattle.lifetime_laws.proofs.Keeping.{is_item, changes_of, Kept, kept, stops-cond}
 
 -- a change is of this item, or of another
-some-item : (where_ : Home) (other item : ℕ) → one (is_item item (item_if where_ other)) ≤ one (other == item)
+some-item : (where_ : Home) (other item : ℕ) → one_if (is_item item (item_if where_ other)) ≤ one_if (other == item)
 some-item home.Guarded other item = omega arith
 some-item home.Array other item = omega arith
 
-other-item : (where_ : Home) (other item : ℕ) → (other ≡ item → ⊥) → one (is_item item (item_if where_ other)) ≡ 0
+other-item : (where_ : Home) (other item : ℕ) → (other ≡ item → ⊥) → one_if (is_item item (item_if where_ other)) ≡ 0
 other-item where_ other item isnt =
-    let few : one (is_item item (item_if where_ other)) ≤ one (other == item) = some-item where_ other item in
-    let none : one (other == item) ≡ 0 = ap one (ne_eqb other item isnt) in
+    let few : one_if (is_item item (item_if where_ other)) ≤ one_if (other == item) = some-item where_ other item in
+    let none : one_if (other == item) ≡ 0 = ap one_if (ne_eqb other item isnt) in
     omega (arith, few, none)
 
 -- those of a region
@@ -91,7 +91,7 @@ module _ {n : ℕ} (shape : BankShape) (some : 1 ≤ shape.regions) (lines : 1 �
       by (inr is) = inr (ex ∙ is)
 
   -- a change of a region is none of it
-  region-else : (h : List (Event n)) (line : ℕ) → line < shape.regions * shape.lines → one (is_item item (item_if shape.home (line / shape.lines))) + changes_of shape item h ≡ changes_of shape item h
+  region-else : (h : List (Event n)) (line : ℕ) → line < shape.regions * shape.lines → one_if (is_item item (item_if shape.home (line / shape.lines))) + changes_of shape item h ≡ changes_of shape item h
   region-else h line within =
       let low : line / shape.lines < shape.regions = div_below line shape.lines shape.regions (omega (arith, lines)) within in
       omega (arith, other-item shape.home (line / shape.lines) item (λ e. omega (arith, e, low, beyond)))
@@ -133,7 +133,7 @@ module _ {n : ℕ} (shape : BankShape) (some : 1 ≤ shape.regions) (lines : 1 �
             record { few = omega (arith, off, once.few); gone = λ le. more grown (once.gone (omega (arith, le, off))) }
       ]
     where
-      at_most : (b : Bool) → one b ≤ 1
+      at_most : (b : Bool) → one_if b ≤ 1
       at_most true = omega arith
       at_most false = omega arith
 
@@ -153,7 +153,7 @@ module _ {n : ℕ} (shape : BankShape) (some : 1 ≤ shape.regions) (lines : 1 �
             record { few = omega (arith, off, once.few); gone = λ le. inr refl }
       ]
     where
-      at_most : (b : Bool) → one b ≤ 1
+      at_most : (b : Bool) → one_if b ≤ 1
       at_most true = omega arith
       at_most false = omega arith
 
@@ -191,7 +191,7 @@ control_pulses_law n m e shape pace xs array item sized l idle leaves exists =
     let works : k.ended + k.broken ≤ tries pace.policy * most_kept shape (table_of shape xs) item =
     by-policy pace.policy (k.ended + k.broken) k.ended k.broken (cuts_in xs) k.held (most_kept shape (table_of shape xs) item) refl
     (omega (arith, k.made, few, cuts)) k.plain k.cut (omega (arith, k.under, (cancels-kept shape pace e xs l).most))
-    (λ holds. let stands : one (is_item item (change_after shape xs) && not (halted_after xs)) ≡ 1 = ap one (k.alone holds) in omega (arith, k.made, stands, few, cuts)) in
+    (λ holds. let stands : one_if (is_item item (change_after shape xs) && not (halted_after xs)) ≡ 1 = ap one_if (k.alone holds) in omega (arith, k.made, stands, few, cuts)) in
     let bound : most_steps e * (k.ended + k.broken) ≤ tries pace.policy * most_steps e * most_kept shape (table_of shape xs) item =
     bounded (most_steps e) (tries pace.policy) (k.ended + k.broken)
     (most_kept shape (table_of shape xs) item) works in

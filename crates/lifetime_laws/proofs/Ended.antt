@@ -22,7 +22,8 @@ use Rattle.place_laws.proofs.Slots.{IsAway, away-more, begin-retires_none, begin
 use Rattle.bank_laws.proofs.Targets.{WorkAfter, working, unexhausted}
 use Rattle.lifetime_laws.specs.Spread.{passing}
 use Rattle.bank_model.specs.Works.{tally, works_on}
-use Rattle.lifetime_laws.proofs.Counting.{one, passing-at, passing-within}
+use Rattle.lifetime_laws.proofs.Counting.{passing-at, passing-within}
+use Rattle.masked_bytes.proofs.Counting.{one_if}
 use Rattle.lifetime_laws.proofs.Landing.{any, stored_tally}
 
 pub below_one : (k : ℕ) → (1 ≤ k → ⊥) → k < 1
@@ -62,14 +63,14 @@ module _ {n : ℕ} (shape : BankShape) (at : ℕ) where
   works-split most (Serve answer ∷ h) may = works-split most h may.1
   works-split most (Begin did.More ∷ h) may = omega (arith, works-split most h may.1)
   works-split most (Begin (did.Stored row place) ∷ h) may =
-      let same : one (place == at) ≡ one (target_after shape h == at) = ap (λ x. one (x == at)) (done-place h (work_after shape h) row place may.0.1) in
+      let same : one_if (place == at) ≡ one_if (target_after shape h == at) = ap (λ x. one_if (x == at)) (done-place h (work_after shape h) row place may.0.1) in
       omega (arith, same, works-split most h may.1)
   works-split most (Begin (did.Moved step) ∷ h) may = omega (arith, works-split most h may.1)
   works-split most (Begin (did.Retired slot line) ∷ h) may = omega (arith, works-split most h may.1)
   works-split most (Begin did.Exhausted ∷ h) may = omega (arith, works-split most h may.1)
   works-split most (Iterate did.More ∷ h) may = omega (arith, works-split most h may.1)
   works-split most (Iterate (did.Stored row place) ∷ h) may =
-      let same : one (place == at) ≡ one (target_after shape h == at) = ap (λ x. one (x == at)) (done-place h (work_after shape h) row place may.0.1) in
+      let same : one_if (place == at) ≡ one_if (target_after shape h == at) = ap (λ x. one_if (x == at)) (done-place h (work_after shape h) row place may.0.1) in
       omega (arith, same, works-split most h may.1)
   works-split most (Iterate (did.Moved step) ∷ h) may = omega (arith, works-split most h may.1)
   works-split most (Iterate (did.Retired slot line) ∷ h) may = omega (arith, works-split most h may.1)
@@ -93,13 +94,13 @@ module _ (shape : BankShape) (slot : ℕ) where
       (sym own, eq-eqb (gap_after shape.lines t) (slot - slot / (shape.lines + 1) * (shape.lines + 1)) (omega (arith, is, back)))
 
   -- one more move, into the slot or not
-  move-step : (here its : Bool) (m found : ℕ) → (here ≡ true → (its ≡ true) × (into m ≡ true)) → found ≤ passing into m → one here + found ≤ passing into (one its + m)
+  move-step : (here its : Bool) (m found : ℕ) → (here ≡ true → (its ≡ true) × (into m ≡ true)) → found ≤ passing into m → one_if here + found ≤ passing into (one_if its + m)
   move-step true its m found h few =
-      let moved : one its ≡ 1 = ap one (h refl).0 in
-      let passes : one (into m) ≡ 1 = ap one (h refl).1 in
-      let next : passing into (one its + m) ≡ passing into (suc m) = passing-at into (one its + m) (suc m) (omega (arith, moved)) in
+      let moved : one_if its ≡ 1 = ap one_if (h refl).0 in
+      let passes : one_if (into m) ≡ 1 = ap one_if (h refl).1 in
+      let next : passing into (one_if its + m) ≡ passing into (suc m) = passing-at into (one_if its + m) (suc m) (omega (arith, moved)) in
       omega (arith, next, passes, few)
-  move-step false its m found h few = omega (arith, few, passing-within into m (one its + m) (omega arith))
+  move-step false its m found h few = omega (arith, few, passing-within into m (one_if its + m) (omega arith))
 
 module _ {n : ℕ} (shape : BankShape) (slot : ℕ) (exists : slot < slots_of shape) where
   -- a slot whose array line is that of a slot's own number is that slot
@@ -169,7 +170,7 @@ module _ {n : ℕ} (shape : BankShape) (slot : ℕ) (exists : slot < slots_of sh
 
   -- one is given up: the first on this line
   gives : (most : ℕ) (event : Event n) (h : List (Event n)) (b : Bool) → (target_after shape h == shape.base + slot) ≡ b → MayAll shape most h → in_progress h ≡ true
-      → gave_tally shape (shape.base + slot) (event ∷ h) ≡ one b + gave_tally shape (shape.base + slot) h
+      → gave_tally shape (shape.base + slot) (event ∷ h) ≡ one_if b + gave_tally shape (shape.base + slot) h
       → (has_exhausted h ≡ true → has_exhausted (event ∷ h) ≡ true) → (b ≡ true → IsOver (event ∷ h)) → GivesOnce h → GivesOnce (event ∷ h)
   gives most event h true is may busy count go now g =
       let none : gave_tally shape (shape.base + slot) h < 1 = below_one (gave_tally shape (shape.base + slot) h) (λ le. not-over h (working shape most h may busy) (eqb-true _ _ is) (g.over le)) in

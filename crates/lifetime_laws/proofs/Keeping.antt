@@ -30,7 +30,8 @@ use Rattle.place_laws.proofs.Trying.{cuts_in, cuts_power}
 use Rattle.place_laws.proofs.Cancels.{cancels-kept}
 use Rattle.place_laws.proofs.Moves.{next_product}
 use Rattle.log_laws.proofs.Within.{work-own}
-use Rattle.lifetime_laws.proofs.Counting.{one, one-few}
+use Rattle.lifetime_laws.proofs.Counting.{one-few}
+use Rattle.masked_bytes.proofs.Counting.{one_if}
 use Rattle.lifetime_laws.proofs.Ended.{below_one}
 use Rattle.lifetime_laws.proofs.Writing.{pulsed-more}
 
@@ -42,8 +43,8 @@ is_item item (Some at) = at == item
 -- how many changes of an item the events of a bank brought
 abbrev pub changes_of : {n : ℕ} → BankShape → ℕ → List (Event n) → ℕ
 changes_of shape item [] = 0
-changes_of shape item (Begin answer ∷ h) = one (is_item item (changed_by shape h answer None)) + changes_of shape item h
-changes_of shape item (Iterate answer ∷ h) = one (is_item item (changed_by shape h answer None)) + changes_of shape item h
+changes_of shape item (Begin answer ∷ h) = one_if (is_item item (changed_by shape h answer None)) + changes_of shape item h
+changes_of shape item (Iterate answer ∷ h) = one_if (is_item item (changed_by shape h answer None)) + changes_of shape item h
 changes_of shape item (_ ∷ h) = changes_of shape item h
 
 -- the pulses of an item's control line: at most w for each line write of it that was done, has halted or was broken off, and those of the
@@ -72,12 +73,12 @@ none-cond : (b : Bool) → ◌≡◌ {A = ℕ} (cond b 0 0) 0
 none-cond true = refl
 none-cond false = refl
 
-fewer-cond : (b c : Bool) → cond (b && c) 1 0 ≤ one b
+fewer-cond : (b c : Bool) → cond (b && c) 1 0 ≤ one_if b
 fewer-cond true c = one-few c
 fewer-cond false c = omega arith
 
 -- a pulse that tears nothing
-untorn : (torn : Bool) → (torn ≡ true → false ≡ true) → one torn ≡ 0
+untorn : (torn : Bool) → (torn ≡ true → false ≡ true) → one_if torn ≡ 0
 untorn true tears = absurd (cc (tears refl))
 untorn false tears = refl
 
@@ -103,7 +104,7 @@ module _ (w p r c q n : ℕ) (here keeping halted cancelling : Bool) (k : IsKept
   }
 
   -- a begin or an iteration of the bank's own line write, while no change stands: it may bring one of this item
-  kept-begun : (new count : ℕ) (b : Bool) → new ≤ p → here ≡ false → IsKept w new 0 (one b + c) (0 + q) count b false halted cancelling
+  kept-begun : (new count : ℕ) (b : Bool) → new ≤ p → here ≡ false → IsKept w new 0 (one_if b + c) (0 + q) count b false halted cancelling
   kept-begun new count b more off = record {
     ended = k.ended;
     broken = k.broken;
@@ -118,7 +119,7 @@ module _ (w p r c q n : ℕ) (here keeping halted cancelling : Bool) (k : IsKept
   }
 
   -- a cut of the power, which may tear the writing of a change of this item
-  kept-cut : (new : ℕ) (torn b : Bool) → (here && keeping) ≡ b → new ≤ p + one torn → (torn ≡ true → b ≡ true) → n ≤ 4 → IsKept w new 0 c (1 + q) 0 here false halted cancelling
+  kept-cut : (new : ℕ) (torn b : Bool) → (here && keeping) ≡ b → new ≤ p + one_if torn → (torn ≡ true → b ≡ true) → n ≤ 4 → IsKept w new 0 c (1 + q) 0 here false halted cancelling
   kept-cut new torn true is more tears four =
       let few : p ≤ w * (k.ended + k.broken) + r = subst (λ b. p ≤ w * (k.ended + k.broken) + cond b r 0) is k.few in
       let room : r + 1 ≤ w = k.room (and_second here keeping is) in
@@ -183,7 +184,7 @@ module _ (w p r c q n : ℕ) (here keeping halted cancelling : Bool) (k : IsKept
         plain = λ is. omega (arith, k.plain is);
       }
 
-  kept-goes : (new : ℕ) → new ≤ p + one here → keeping ≡ true → r + 1 < w → IsKept w new (r + 1) c (0 + q) n here true halted cancelling
+  kept-goes : (new : ℕ) → new ≤ p + one_if here → keeping ≡ true → r + 1 < w → IsKept w new (r + 1) c (0 + q) n here true halted cancelling
   kept-goes new more on lt =
       let busy : cond (here && keeping) r 0 ≡ cond (here && true) r 0 = ap (λ b. cond (here && b) r 0) on in
       record {
@@ -199,7 +200,7 @@ module _ (w p r c q n : ℕ) (here keeping halted cancelling : Bool) (k : IsKept
         plain = λ is. omega (arith, k.plain is);
       }
     where
-      grown : (b : Bool) → cond (b && true) r 0 + one b ≡ cond (b && true) (r + 1) 0
+      grown : (b : Bool) → cond (b && true) r 0 + one_if b ≡ cond (b && true) (r + 1) 0
       grown true = refl
       grown false = refl
 
@@ -209,12 +210,12 @@ module _ (w p r c q n : ℕ) (here keeping halted cancelling : Bool) (k : IsKept
       let rested : cond (here && keeping) r 0 ≡ 0 = ap (λ b. cond (here && b) r 0) off ∙ stops-cond here r in
       omega (arith, k.few, more, rested)
 
-  spent-iterate : (new : ℕ) → new ≤ p + one here → keeping ≡ true → r < w → new ≤ w * (k.ended + k.broken) + cond here w 0
+  spent-iterate : (new : ℕ) → new ≤ p + one_if here → keeping ≡ true → r < w → new ≤ w * (k.ended + k.broken) + cond here w 0
   spent-iterate new more on lt =
       let busy : cond (here && keeping) r 0 ≡ cond (here && true) r 0 = ap (λ b. cond (here && b) r 0) on in
       omega (arith, k.few, more, busy, last here)
     where
-      last : (b : Bool) → cond (b && true) r 0 + one b ≤ cond b w 0
+      last : (b : Bool) → cond (b && true) r 0 + one_if b ≤ cond b w 0
       last true = omega (arith, lt)
       last false = omega arith
 
@@ -223,7 +224,7 @@ module _ (w p r c q n : ℕ) (here keeping halted cancelling : Bool) (k : IsKept
   kept-done new rounds true is spent fine four =
       let next : w * (k.ended + 1 + k.broken) ≡ w * (k.ended + k.broken) + w =
       ap (λ x. w * x) (omega arith) ∙ next_product w (k.ended + k.broken) in
-      let made : one (here && not halted) ≡ 1 = ap (λ b. one (b && not halted)) is ∙ ap (λ b. one (not b)) fine in
+      let made : one_if (here && not halted) ≡ 1 = ap (λ b. one_if (b && not halted)) is ∙ ap (λ b. one_if (not b)) fine in
       record {
         ended = k.ended + 1;
         broken = k.broken;
@@ -253,7 +254,7 @@ module _ (w p r c q n : ℕ) (here keeping halted cancelling : Bool) (k : IsKept
   kept-halts new rounds true is spent fine four =
       let next : w * (k.ended + 1 + k.broken) ≡ w * (k.ended + k.broken) + w =
       ap (λ x. w * x) (omega arith) ∙ next_product w (k.ended + k.broken) in
-      let made : one (here && not halted) ≡ 1 = ap (λ b. one (b && not halted)) is ∙ ap (λ b. one (not b)) fine in
+      let made : one_if (here && not halted) ≡ 1 = ap (λ b. one_if (b && not halted)) is ∙ ap (λ b. one_if (not b)) fine in
       record {
         ended = k.ended + 1;
         broken = k.broken;
@@ -280,7 +281,7 @@ module _ (w p r c q n : ℕ) (here keeping halted cancelling : Bool) (k : IsKept
   }
 
   -- a read breaks off the writing of a change
-  kept-broken : (new : ℕ) (torn b : Bool) → (here && keeping) ≡ b → new ≤ p + one torn → (torn ≡ true → b ≡ true) → (keeping ≡ true → halted ≡ false) → cancelling ≡ true
+  kept-broken : (new : ℕ) (torn b : Bool) → (here && keeping) ≡ b → new ≤ p + one_if torn → (torn ≡ true → b ≡ true) → (keeping ≡ true → halted ≡ false) → cancelling ≡ true
       → IsKept w new 0 c (0 + q) (n + 1) here false halted cancelling
   kept-broken new torn true is more tears fine cancels =
       let few : p ≤ w * (k.ended + k.broken) + r = subst (λ b. p ≤ w * (k.ended + k.broken) + cond b r 0) is k.few in
@@ -391,7 +392,7 @@ module _ {n m : ℕ} (shape : BankShape) (pace : Pace) (e item : ℕ) (sized : I
 
       By : Happens n → Bool → Type 0
       By h c =
-          IsKept (most_steps e) (pulses_of (x ∷ xs) at) (rounds_by h (rounds_after xs)) (changes_of shape item (core_of h (core xs))) (one (cuts_power h c) + cuts_in xs)
+          IsKept (most_steps e) (pulses_of (x ∷ xs) at) (rounds_by h (rounds_after xs)) (changes_of shape item (core_of h (core xs))) (one_if (cuts_power h c) + cuts_in xs)
           (cancels_with h c (cancels_after xs)) (is_item item (change_by shape (core xs) h (change_after shape xs))) (keeping_by h (keeping_after xs)) (halted_by h (halted_after xs))
           (is_cancelling pace.policy)
 
@@ -406,14 +407,14 @@ module _ {n m : ℕ} (shape : BankShape) (pace : Pace) (e item : ℕ) (sized : I
       elsewhere : x.pulsed ≡ Some (target_after shape (core xs)) → pulses_of (x ∷ xs) at ≤ pulses_of xs at
       elsewhere is =
           let off : (target_after shape (core xs) == at) ≡ false = ne_eqb (target_after shape (core xs)) at (λ e. omega (arith, e, target-low xs l.1)) in
-          omega (arith, pulsed-more x xs at (Some (target_after shape (core xs))) is, ap one off)
+          omega (arith, pulsed-more x xs at (Some (target_after shape (core xs))) is, ap one_if off)
 
-      on_change : x.pulsed ≡ line_of_change shape (change_after shape xs) → pulses_of (x ∷ xs) at ≤ pulses_of xs at + one (is_item item (change_after shape xs))
+      on_change : x.pulsed ≡ line_of_change shape (change_after shape xs) → pulses_of (x ∷ xs) at ≤ pulses_of xs at + one_if (is_item item (change_after shape xs))
       on_change is =
           omega (
             arith,
             pulsed-more x xs at (line_of_change shape (change_after shape xs)) is,
-            ap one (its-line shape item (change_after shape xs)),
+            ap one_if (its-line shape item (change_after shape xs)),
           )
 
       -- the writing of a change that goes on has not halted
@@ -426,10 +427,10 @@ module _ {n m : ℕ} (shape : BankShape) (pace : Pace) (e item : ℕ) (sized : I
 
       -- an event of the bank's own line write
       brings : (answer : Step) (count : ℕ) → pulses_of (x ∷ xs) at ≤ pulses_of xs at → change_after shape xs ≡ None → Kept shape pace e item xs
-          → IsKept (most_steps e) (pulses_of (x ∷ xs) at) 0 (one (is_item item (changed_by shape (core xs) answer None)) + changes_of shape item (core xs)) (0 + cuts_in xs) count
+          → IsKept (most_steps e) (pulses_of (x ∷ xs) at) 0 (one_if (is_item item (changed_by shape (core xs) answer None)) + changes_of shape item (core xs)) (0 + cuts_in xs) count
           (is_item item (changed_by shape (core xs) answer (change_after shape xs))) false (halted_after xs) (is_cancelling pace.policy)
       brings answer count le none k =
-          subst (λ b. IsKept (most_steps e) (pulses_of (x ∷ xs) at) 0 (one (is_item item (changed_by shape (core xs) answer None)) + changes_of shape item (core xs)) (0 + cuts_in xs) count
+          subst (λ b. IsKept (most_steps e) (pulses_of (x ∷ xs) at) 0 (one_if (is_item item (changed_by shape (core xs) answer None)) + changes_of shape item (core xs)) (0 + cuts_in xs) count
           b false (halted_after xs) (is_cancelling pace.policy)) (begun-item shape item (core xs) answer (change_after shape xs) none)
           (kept-begun _ _ _ _ _ _ _ _ _ _ k (pulses_of (x ∷ xs) at) count (is_item item (changed_by shape (core xs) answer None)) le (none-item item (change_after shape xs) none))
 
@@ -464,7 +465,7 @@ module _ {n m : ℕ} (shape : BankShape) (pace : Pace) (e item : ℕ) (sized : I
                   (torn-stands shape item (core xs) (change_after shape xs) (keeping_after xs) tearing
                   (running_at shape pace xs x.tick)
                   (target-low xs l.1) may.on_time.4 torn)))
-              unpulsed false torn = omega (arith, pulsed-more x xs at _ may.pulsed, ap one torn)
+              unpulsed false torn = omega (arith, pulsed-more x xs at _ may.pulsed, ap one_if torn)
       by (Regs (KeepBegin keep.More)) c is may k = kept-writes _ _ _ _ _ _ _ _ _ _ k (pulses_of (x ∷ xs) at) (quiet may.pulsed) may.may.0 (omega arith)
       by (Regs (KeepBegin keep.Done)) c is may k =
           kept-done _ _ _ _ _ _ _ _ _ _ k (pulses_of (x ∷ xs) at) 0 (is_item item (change_after shape xs)) refl

@@ -24,7 +24,8 @@ use Rattle.bank_laws.proofs.Ending.{own_row}
 use Rattle.bank_laws.proofs.Lines.{stands-row}
 use Rattle.bank_laws.proofs.Waiting.{may_all}
 use Rattle.bank_laws.proofs.Asked.{queue-wrote, wrote-line}
-use Rattle.place_laws.proofs.Counts.{one_if, writes_with, writes-same, writes-more}
+use Rattle.place_laws.proofs.Counts.{writes_with, writes-same, writes-more}
+use Rattle.masked_bytes.proofs.Counting.{one_if}
 use Rattle.place_laws.proofs.Storing.{none_first}
 use Rattle.place_laws.proofs.Tables.{rows-counted}
 use Rattle.place_laws.proofs.Working.{IsStoreOf, done-store}

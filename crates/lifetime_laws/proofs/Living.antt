@@ -38,8 +38,9 @@ use Rattle.lifetime_laws.specs.Spread.{is_stored_on, stores_on, most_at, finding
 use Rattle.bank_model.specs.Works.{works_on, held_on}
 use Rattle.lifetime_laws.specs.Works.{stores_at, most_works, LinePulsesLaw, LineAgesLaw}
 use Rattle.lifetime_laws.specs.Lifetime.{BearsControls, own_stores, other_stores, most_hot_works, AttackLaw, HotLinesLaw, KeptLinesLaw, LifetimeLaw}
-use Rattle.lifetime_laws.proofs.Counting.{one, passing-none}
-use Rattle.lifetime_laws.proofs.Ranks.{count-cons, count-sum, Each}
+use Rattle.lifetime_laws.proofs.Counting.{passing-none}
+use Rattle.masked_bytes.proofs.Counting.{one_if, count-cons}
+use Rattle.lifetime_laws.proofs.Ranks.{count-sum, Each}
 use Rattle.lifetime_laws.proofs.Stays.{stay_law, even_law}
 use Rattle.lifetime_laws.proofs.Spreading.{IsPlacedBy, placed-each, home-placed, found_law, spread_law}
 use Rattle.lifetime_laws.proofs.Enduring.{unworn_law, controls_law}
@@ -124,7 +125,7 @@ module _ {n : ℕ} (shape : BankShape) (slot : ℕ) where
 
   abbrev hot_one : List ℕ → Row n → ℕ
   hot_one [] q = 0
-  hot_one (h ∷ hot) q = one (asks_write_of h q.asks && is_stored_on (shape.base + slot) q.outcome) + hot_one hot q
+  hot_one (h ∷ hot) q = one_if (asks_write_of h q.asks && is_stored_on (shape.base + slot) q.outcome) + hot_one hot q
 
   abbrev hot_all : List ℕ → List (Row n) → ℕ
   hot_all [] qs = 0
@@ -143,32 +144,32 @@ module _ {n : ℕ} (shape : BankShape) (slot : ℕ) where
       by : (b : Bool) → (h == at) ≡ b
           → (list_any (λ h. h == at) hot ≡ true → 1 ≤ hot_one hot (record { tick = tick; asks = Writes at bytes given; outcome = o }))
           → (b || list_any (λ h. h == at) hot) ≡ true
-          → 1 ≤ one (at == h && is_stored_on (shape.base + slot) o) + hot_one hot (record { tick = tick; asks = Writes at bytes given; outcome = o })
+          → 1 ≤ one_if (at == h && is_stored_on (shape.base + slot) o) + hot_one hot (record { tick = tick; asks = Writes at bytes given; outcome = o })
       by true same rest is =
-          let here : one (at == h && is_stored_on (shape.base + slot) o) ≡ 1 =
-          ap (λ b. one (b && is_stored_on (shape.base + slot) o)) (eq-eqb at h (sym (eqb-true h at same))) ∙ ap one on in
+          let here : one_if (at == h && is_stored_on (shape.base + slot) o) ≡ 1 =
+          ap (λ b. one_if (b && is_stored_on (shape.base + slot) o)) (eq-eqb at h (sym (eqb-true h at same))) ∙ ap one_if on in
           omega (arith, here)
       by false same rest is = omega (arith, rest is)
 
   row-split : (hot : List ℕ) (q : Row n)
       → (asks_write q.asks ≡ true → is_stored_on (shape.base + slot) q.outcome ≡ true → line_of q.asks / shape.lines ≡ slot / (shape.lines + 1))
-      → one (asks_write q.asks && is_stored_on (shape.base + slot) q.outcome) ≤ hot_one hot q + one (is_other hot q)
+      → one_if (asks_write q.asks && is_stored_on (shape.base + slot) q.outcome) ≤ hot_one hot q + one_if (is_other hot q)
   row-split hot q own = by q.asks q.outcome own
     where
       by : (a : Asks n) (o : Outcome n) → (asks_write a ≡ true → is_stored_on (shape.base + slot) o ≡ true → line_of a / shape.lines ≡ slot / (shape.lines + 1))
-          → one (asks_write a && is_stored_on (shape.base + slot) o) ≤ hot_one hot (record { tick = q.tick; asks = a; outcome = o })
-          + one (asks_write a && (line_of a / shape.lines == slot / (shape.lines + 1) && (not (list_any (λ h. h == line_of a) hot) && is_stored o)))
+          → one_if (asks_write a && is_stored_on (shape.base + slot) o) ≤ hot_one hot (record { tick = q.tick; asks = a; outcome = o })
+          + one_if (asks_write a && (line_of a / shape.lines == slot / (shape.lines + 1) && (not (list_any (λ h. h == line_of a) hot) && is_stored o)))
       by (Reads at) o own = omega arith
       by Cuts o own = omega arith
       by (Writes at bytes given) (out.Stored u p) own = on (p == shape.base + slot) refl (list_any (λ h. h == at) hot) refl
         where
           on : (b : Bool) → (p == shape.base + slot) ≡ b → (c : Bool) → list_any (λ h. h == at) hot ≡ c
-              → one b ≤ hot_one hot (record { tick = q.tick; asks = Writes at bytes given; outcome = out.Stored u p })
-              + one (at / shape.lines == slot / (shape.lines + 1) && (not c && true))
+              → one_if b ≤ hot_one hot (record { tick = q.tick; asks = Writes at bytes given; outcome = out.Stored u p })
+              + one_if (at / shape.lines == slot / (shape.lines + 1) && (not c && true))
           on false is c hots = omega arith
           on true is true hots = omega (arith, hot-there hot q.tick at bytes given (out.Stored u p) is hots)
           on true is false hots =
-              let same : one (at / shape.lines == slot / (shape.lines + 1) && true) ≡ 1 = ap (λ b. one (b && true)) (eq-eqb (at / shape.lines) (slot / (shape.lines + 1)) (own refl is)) in
+              let same : one_if (at / shape.lines == slot / (shape.lines + 1) && true) ≡ 1 = ap (λ b. one_if (b && true)) (eq-eqb (at / shape.lines) (slot / (shape.lines + 1)) (own refl is)) in
               omega (arith, same)
       by (Writes at bytes given) _ own = omega arith
 
@@ -204,16 +205,16 @@ hot_lines_law n rules shape worn rows hot slot some each read exists in_time pla
     omega (arith, split, few)
 
 -- a region's stores are those of a line of it and the others
-one-split : (a b c d : Bool) → (a ≡ true → b ≡ true) → one (b && d) ≡ one (a && d) + one (b && (not (a || false) && d))
+one-split : (a b c d : Bool) → (a ≡ true → b ≡ true) → one_if (b && d) ≡ one_if (a && d) + one_if (b && (not (a || false) && d))
 one-split true true c d h = by d
   where
-    by : (d : Bool) → one (true && d) ≡ one (true && d) + one (true && (not (true || false) && d))
+    by : (d : Bool) → one_if (true && d) ≡ one_if (true && d) + one_if (true && (not (true || false) && d))
     by true = refl
     by false = refl
 one-split true false c d h = absurd (cc (h refl))
 one-split false true c d h = by d
   where
-    by : (d : Bool) → one (true && d) ≡ one (false && d) + one (true && (not (false || false) && d))
+    by : (d : Bool) → one_if (true && d) ≡ one_if (false && d) + one_if (true && (not (false || false) && d))
     by true = refl
     by false = refl
 one-split false false c d h = refl
@@ -227,14 +228,14 @@ own-split {n} shape line rows =
     (λ q. by q.asks (is_stored q.outcome))
   where
     by : (a : Asks n) (d : Bool)
-        → one (asks_write a && (line_of a / shape.lines == line / shape.lines && d))
-        ≡ one (asks_write_of line a && d) + one (asks_write a && (line_of a / shape.lines == line / shape.lines && (not (list_any (λ h. h == line_of a) (line ∷ [])) && d)))
+        → one_if (asks_write a && (line_of a / shape.lines == line / shape.lines && d))
+        ≡ one_if (asks_write_of line a && d) + one_if (asks_write a && (line_of a / shape.lines == line / shape.lines && (not (list_any (λ h. h == line_of a) (line ∷ [])) && d)))
     by (Reads at) d = refl
     by Cuts d = refl
     by (Writes at bytes given) d =
         let same : (line == at) ≡ (at == line) = eq-turned line at in
         one-split (at == line) (at / shape.lines == line / shape.lines) true d (λ is. eq-eqb (at / shape.lines) (line / shape.lines) (ap (λ x. x / shape.lines) (eqb-true at line is)))
-        ∙ ap (λ b. one (at == line && d) + one (at / shape.lines == line / shape.lines && (not (b || false) && d))) (sym same)
+        ∙ ap (λ b. one_if (at == line && d) + one_if (at / shape.lines == line / shape.lines && (not (b || false) && d))) (sym same)
       where
         eq-turned : (a b : ℕ) → (a == b) ≡ (b == a)
         eq-turned a b = elim (cases_eq a b) [

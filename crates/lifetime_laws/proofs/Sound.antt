@@ -12,7 +12,8 @@ use Rattle.bank_laws.specs.Laws.{is_worn_at}
 use Rattle.bank_laws.specs.Places.{worn_among, is_worn_out, may_leave, is_wear_true}
 use Rattle.end_laws.specs.Roles.{used_among}
 use Rattle.lifetime_laws.specs.Endurance.{is_unrefused, is_unqueued, KeepsControls, SoundRowsLaw, NoneRetiredLaw}
-use Rattle.lifetime_laws.proofs.Counting.{one, one-few}
+use Rattle.lifetime_laws.proofs.Counting.{one-few}
+use Rattle.masked_bytes.proofs.Counting.{one_if}
 
 worn-few : (worn : ℕ → Bool) (from n : ℕ) → worn_among worn from n ≤ n
 worn-few worn from zero = omega arith
@@ -28,7 +29,7 @@ worn-rest worn base from zero rest none =
     omega (arith, same, worn-few worn (base + from) rest)
 worn-rest worn base from (suc slots) rest none =
     let same : worn_among worn (base + from) (suc slots + rest) ≡ worn_among worn (base + from) (suc (slots + rest)) = worn-count (suc slots + rest) (suc (slots + rest)) (omega arith) in
-    let here : one (worn (base + from)) ≡ 0 = ap one (none from (omega arith) (omega arith)) in
+    let here : one_if (worn (base + from)) ≡ 0 = ap one_if (none from (omega arith) (omega arith)) in
     let next : worn_among worn (base + from + 1) (slots + rest) ≡ worn_among worn (base + (from + 1)) (slots + rest) = worn-at worn (base + from + 1) (base + (from + 1)) (slots + rest) (omega arith) in
     let ih : worn_among worn (base + (from + 1)) (slots + rest) ≤ rest = worn-rest worn base (from + 1) slots rest (λ slot le lt. none slot (omega (arith, le)) (omega (arith, lt))) in
     omega (arith, same, here, next, ih)
@@ -48,8 +49,8 @@ not-worn_out shape worn none =
 none-worn : (worn : ℕ → Bool) (from count : ℕ) → ((k : ℕ) → k < count → worn (from + k) ≡ false) → worn_among worn from count ≡ 0
 none-worn worn from zero none = refl
 none-worn worn from (suc count) none =
-    let here : one (worn (from + 0)) ≡ 0 = ap one (none 0 (omega arith)) in
-    let first : one (worn (from + 0)) ≡ one (worn from) = ap (λ k. one (worn k)) (omega arith) in
+    let here : one_if (worn (from + 0)) ≡ 0 = ap one_if (none 0 (omega arith)) in
+    let first : one_if (worn (from + 0)) ≡ one_if (worn from) = ap (λ k. one_if (worn k)) (omega arith) in
     let rest : worn_among worn (from + 1) count ≡ 0 = none-worn worn (from + 1) count (λ k lt. ap worn (omega arith) ∙ none (k + 1) (omega (arith, lt))) in
     omega (arith, here, first, rest)
 

@@ -18,19 +18,19 @@ use Rattle.bank_laws.proofs.Targets.{WorkAfter, spares_work, working, target-sam
 use Rattle.bank_laws.proofs.Works.{counted-few, more-goes_on, tearing-going, zeros, kept-elsewhere, torn-elsewhere, idle-held, busy-held, held-same, going-held}
 use Rattle.bank_model.specs.Works.{works_on, held_on}
 use Rattle.lifetime_laws.specs.Works.{PulsesOnLaw}
-use Rattle.lifetime_laws.proofs.Counting.{one}
+use Rattle.masked_bytes.proofs.Counting.{one_if}
 
 -- one more pulse, where the line is the one that was pulsed
-pulse-more : (b : Bool) (k : ℕ) → cond b (counted k) k ≤ k + one b
+pulse-more : (b : Bool) (k : ℕ) → cond b (counted k) k ≤ k + one_if b
 pulse-more true k = counted-few k
 pulse-more false k = omega arith
 
 -- the pulses of a line after an event that pulses this line or none
 pub pulsed-more : {n m : ℕ} (x : TimedEvent n m) (xs : List (TimedEvent n m)) (at : ℕ) (o : Option ℕ)
     → x.pulsed ≡ o
-    → pulses_of (x ∷ xs) at ≤ pulses_of xs at + one (is_at o at)
+    → pulses_of (x ∷ xs) at ≤ pulses_of xs at + one_if (is_at o at)
 pulsed-more x xs at o is =
-    subst (λ o. pulses_of (x ∷ xs) at ≤ pulses_of xs at + one (is_at o at)) is
+    subst (λ o. pulses_of (x ∷ xs) at ≤ pulses_of xs at + one_if (is_at o at)) is
     (pulse-more (is_at x.pulsed at) (pulses_of xs at))
 
 next-work : (w works : ℕ) → w * (1 + works) ≡ w * works + w
@@ -42,21 +42,21 @@ Room w h = in_progress h ≡ true → iterated h + 1 ≤ w
 
 -- the steps of one event, over plain numbers. `going` says that the line write goes on, `here` that it is one of this array line
 module _ (w works pulses new : ℕ) where
-  begin-step : (going here : Bool) → pulses ≤ w * works + 0 → new ≤ pulses + 0 → new ≤ w * (one (not going && here) + works) + cond (going && here) 0 0
+  begin-step : (going here : Bool) → pulses ≤ w * works + 0 → new ≤ pulses + 0 → new ≤ w * (one_if (not going && here) + works) + cond (going && here) 0 0
   begin-step true true few more = let same : w * (0 + works) ≡ w * works = omega arith in omega (arith, few, more, same)
   begin-step true false few more = let same : w * (0 + works) ≡ w * works = omega arith in omega (arith, few, more, same)
   begin-step false true few more = omega (arith, few, more, next-work w works)
   begin-step false false few more = let same : w * (0 + works) ≡ w * works = omega arith in omega (arith, few, more, same)
 
-  iterate-step : (going here : Bool) (k : ℕ) → pulses ≤ w * works + cond here k 0 → new ≤ pulses + one here → k < w
-      → new ≤ w * (one (not going && here) + works) + cond (going && here) (k + 1) 0
+  iterate-step : (going here : Bool) (k : ℕ) → pulses ≤ w * works + cond here k 0 → new ≤ pulses + one_if here → k < w
+      → new ≤ w * (one_if (not going && here) + works) + cond (going && here) (k + 1) 0
   iterate-step true true k few more lt = let same : w * (0 + works) ≡ w * works = omega arith in omega (arith, few, more, same)
   iterate-step true false k few more lt = let same : w * (0 + works) ≡ w * works = omega arith in omega (arith, few, more, same)
   iterate-step false true k few more lt = omega (arith, few, more, next-work w works, lt)
   iterate-step false false k few more lt = let same : w * (0 + works) ≡ w * works = omega arith in omega (arith, few, more, same)
 
-  cut-step : (busy tearing here : Bool) (k : ℕ) → pulses ≤ w * works + cond (busy && here) k 0 → new ≤ pulses + one (tearing && here) → (busy ≡ true → k + 1 ≤ w) → (tearing ≡ true → busy ≡ true)
-      → new ≤ w * (one (busy && here) + works) + 0
+  cut-step : (busy tearing here : Bool) (k : ℕ) → pulses ≤ w * works + cond (busy && here) k 0 → new ≤ pulses + one_if (tearing && here) → (busy ≡ true → k + 1 ≤ w) → (tearing ≡ true → busy ≡ true)
+      → new ≤ w * (one_if (busy && here) + works) + 0
   cut-step true true true k few more room tears = omega (arith, few, more, next-work w works, room refl)
   cut-step true false true k few more room tears = omega (arith, few, more, next-work w works, room refl)
   cut-step true true false k few more room tears = let same : w * (0 + works) ≡ w * works = omega arith in omega (arith, few, more, same)
@@ -110,7 +110,7 @@ module _ {n m : ℕ} (shape : BankShape) (pace : Pace) (e at : ℕ) (low : at < 
       by (Core (Serve answer)) may few = quiet (Serve answer) refl may.pulsed refl refl refl few
       by (Core (Begin answer)) may few =
           let idle : in_progress (core xs) ≡ false = begins-idle shape (core xs) may.may.0 in
-          let step : pulses_of (x ∷ xs) at ≤ w * (one (not (goes_on answer) && (target_after shape (core xs) == at)) + works) + cond (goes_on answer && (target_after shape (core xs) == at)) 0 0 =
+          let step : pulses_of (x ∷ xs) at ≤ w * (one_if (not (goes_on answer) && (target_after shape (core xs) == at)) + works) + cond (goes_on answer && (target_after shape (core xs) == at)) 0 0 =
           begin-step w works (pulses_of xs at) (pulses_of (x ∷ xs) at) (goes_on answer)
           (target_after shape (core xs) == at) (omega (arith, few, idle-held shape at (core xs) idle))
           (pulsed-more x xs at None may.pulsed) in
@@ -119,7 +119,7 @@ module _ {n m : ℕ} (shape : BankShape) (pace : Pace) (e at : ℕ) (low : at < 
           omega (arith, step, none)
       by (Core (Iterate answer)) may few =
           let busy : in_progress (core xs) ≡ true = may.may.0 in
-          let step : pulses_of (x ∷ xs) at ≤ w * (one (not (goes_on answer) && (target_after shape (core xs) == at)) + works) + cond (goes_on answer && (target_after shape (core xs) == at)) (iterated (core xs) + 1) 0 =
+          let step : pulses_of (x ∷ xs) at ≤ w * (one_if (not (goes_on answer) && (target_after shape (core xs) == at)) + works) + cond (goes_on answer && (target_after shape (core xs) == at)) (iterated (core xs) + 1) 0 =
           iterate-step w works (pulses_of xs at) (pulses_of (x ∷ xs) at) (goes_on answer)
           (target_after shape (core xs) == at) (iterated (core xs))
           (omega (arith, few, busy-held shape at (core xs) busy))
@@ -134,13 +134,13 @@ module _ {n m : ℕ} (shape : BankShape) (pace : Pace) (e at : ℕ) (low : at < 
           control : Option ℕ
           control = torn_control shape (change_after shape xs) (running_at shape pace xs x.tick)
 
-          torn : (b : Bool) → x.pulsed ≡ pulsed_by shape (core xs) control (Cut b) → pulses_of (x ∷ xs) at ≤ pulses_of xs at + one (b && (target_after shape (core xs) == at))
+          torn : (b : Bool) → x.pulsed ≡ pulsed_by shape (core xs) control (Cut b) → pulses_of (x ∷ xs) at ≤ pulses_of xs at + one_if (b && (target_after shape (core xs) == at))
           torn true is = pulsed-more x xs at _ is
           torn false is =
               omega (
                 arith,
                 pulsed-more x xs at control is,
-                ap one (torn-elsewhere shape at low (change_after shape xs)
+                ap one_if (torn-elsewhere shape at low (change_after shape xs)
                     (running_at shape pace xs x.tick)),
               )
       by (Regs event) may few =
@@ -148,7 +148,7 @@ module _ {n m : ℕ} (shape : BankShape) (pace : Pace) (e at : ℕ) (low : at < 
             arith,
             few,
             pulsed-more x xs at _ may.pulsed,
-            ap one (kept-elsewhere shape at low (change_after shape xs) event),
+            ap one_if (kept-elsewhere shape at low (change_after shape xs) event),
           )
 
 pub pulses_on_law : PulsesOnLaw

@@ -1,6 +1,7 @@
 -- What a phase has settled when no round of it is left.
 use Rattle.std.proofs.Common.{◌≡◌, ℕ, zero, suc, ◌+◌, ◌-◌, ◌*◌, ◌<◌, ◌≤◌, ◌⊎◌, ◌&&◌, Bool, true, false, List, refl, sym, ap, ◌∙◌, inl, inr, arith}
-use Rattle.std.proofs.lemmas.Bool.{cases_Bool, both_ways, and_from, and_left, lt-ltb, eq-eqb, ne_eqb, le-leb, false_from_ne_true, true≢false}
+use Rattle.std.proofs.lemmas.Bool.{cases_Bool, both_ways, and_from, and_left, lt-ltb, eq-eqb, ne_eqb, le-leb, false_from_ne_true}
+use Rattle.pcm_cells.proofs.ByteLemmas.{xor_false}
 use Rattle.pcm_cells.specs.Rows.{bit_of, xor, members}
 use Rattle.ecp_line.specs.Layout.{active, is_later, source_below, pointer, number, width, pointer_cell, replacement_cell, full_cell, activity_cell, switch_cell, Prefix, IsLayout, IsLowest}
 use Rattle.ecp_line.proofs.Activity.{active-full}
@@ -10,17 +11,10 @@ use Rattle.ecp_line.proofs.Inert.{Prefix-more, too_many}
 use Rattle.line_writer.specs.Phases.{IsCleared, IsReady, IsClearing, IsFilling, IsPointing, IsSwitching, IsStuckActivity}
 use Rattle.line_writer.proofs.Keeping.{clearing-within, switch-zero, switch-early, switch-last, early_or_last}
 
--- two values are equal or differ
-pub xor-equal : (a b : Bool) → xor a b ≡ false → a ≡ b
-xor-equal true true h = refl
-xor-equal true false h = absurd (true≢false h)
-xor-equal false true h = absurd (true≢false h)
-xor-equal false false h = refl
-
 -- a cell of the mask that isn't wrong is as wanted
 pub right : (which want f : ℕ → Bool) (n : ℕ) → which n ≡ true → (which n && xor (f n) (want n)) ≡ false → f n ≡ want n
 right which want f n on h =
-    xor-equal (f n) (want n) (false_from_ne_true _ (λ e. both_ways _ h (and_from (which n) _ on e)))
+    xor_false (f n) (want n) (false_from_ne_true _ (λ e. both_ways _ h (and_from (which n) _ on e)))
 
 -- ---- clearing
 
@@ -81,7 +75,7 @@ run-differs f g from (suc n) =
     elim (run-differs f g from n) as (λ _. (number f from (suc n) ≡ number g from (suc n)) ⊎ ((i : ℕ) × (from ≤ i) × (i < from + suc n) × (xor (f i) (g i) ≡ true))) [
       | inl same ↦ elim (cases_Bool (xor (f (from + n)) (g (from + n)))) as (λ _. (number f from (suc n) ≡ number g from (suc n)) ⊎ ((i : ℕ) × (from ≤ i) × (i < from + suc n) × (xor (f i) (g i) ≡ true))) [
         | inl h ↦ inr (from + n, omega arith, omega arith, h)
-        | inr h ↦ inl (longer same (xor-equal _ _ h))
+        | inr h ↦ inl (longer same (xor_false _ _ h))
       ]
       | inr (i, low, high, h) ↦ inr (i, low, omega arith, h)
     ]

@@ -10,7 +10,6 @@ use Rattle.row_rules.specs.declared.Row.{Row}
 use Rattle.row_rules.specs.declared.Rules.{Rules}
 use Rattle.row_rules.specs.Wearing.{worn_row}
 use Rattle.bank_laws.specs.Logs.{is_broken, follows, follow_on, begins_unpulsed}
-use Rattle.bank_laws.proofs.Fates.{eqb-same}
 
 -- the last sense of a list that begins with this one
 abbrev pub last_of : {n m : ℕ} → Sense n m → List (Sense n m) → Sense n m
@@ -42,7 +41,7 @@ module _ {n m : ℕ} (rules : Rules) (rows : List (Row n)) (wears : Bool) where
 
   follow-one : (s : Sense n m) (ss : List (Sense n m)) (t : Sense n m) → Follow s ss → follows rules rows wears (last_of s ss) t ≡ true
       → follow_on rules rows wears t.pulses s (ss ++ t ∷ []) ≡ true
-  follow-one s [] t f k = and_from (follows rules rows wears s t) _ k (eqb-same t.pulses)
+  follow-one s [] t f k = and_from (follows rules rows wears s t) _ k (eq-eqb t.pulses t.pulses refl)
   follow-one s (r ∷ ss) t f k =
       and_from (follows rules rows wears s r) _ (and_first (follows rules rows wears s r) _ f) (follow-one r ss t (and_second (follows rules rows wears s r) _ f) k)
 

@@ -1,5 +1,5 @@
 -- After any events that a bank allows, the queue's entries give of each line what its writes give, down to the last that was stored.
-use Rattle.std.proofs.Common.{◌≡◌, ℕ, ◌<◌, ◌≤◌, ◌==◌, Bool, true, false, List, [], ◌∷◌, Some, drop, refl, sym, ap, subst, arith, cond, eqb-true}
+use Rattle.std.proofs.Common.{◌≡◌, ℕ, ◌<◌, ◌≤◌, ◌==◌, Bool, true, false, List, [], ◌∷◌, Some, drop, refl, sym, ap, subst, arith, cond, eqb-true, eq-eqb}
 use Rattle.masked_bytes.specs.declared.entry.Entry.{Entry}
 use Rattle.masked_bytes.specs.Masked.{joined, none_given}
 use Rattle.masked_bytes.specs.Entries.{newest_row, has_row}
@@ -12,7 +12,6 @@ use Rattle.bank_model.specs.History.{queue, due_after}
 use Rattle.bank_model.specs.Answers.{MayAll, head_busy_after}
 use Rattle.bank_laws.proofs.Answering.{IsHead, head-there, stored-head}
 use Rattle.bank_laws.proofs.Entries.{either}
-use Rattle.bank_laws.proofs.Fates.{eqb-same}
 use Rattle.bank_laws.proofs.Lines.{merged-candidate}
 use Rattle.bank_laws.proofs.Pairs.{keeps_pairs}
 use Rattle.bank_laws.proofs.Standing.{stand_apart}
@@ -94,7 +93,7 @@ module _ {n : ℕ} (shape : BankShape) where
       let pairs = keeps_pairs shape most h m.1 in
       let lacks : has_row (queue shape h) row ≡ false = stand.queued_below row (omega arith) in
       record {
-        named = named-push (λ r. line_of_row r (Write row at bytes given wrote.Accepted ∷ h)) (queue shape h) _ (named-too (λ r. line_of_row r h) row at (queue shape h) lacks k.named) (ap (λ b. cond b at (line_of_row row h)) (eqb-same row));
+        named = named-push (λ r. line_of_row r (Write row at bytes given wrote.Accepted ∷ h)) (queue shape h) _ (named-too (λ r. line_of_row r h) row at (queue shape h) lacks k.named) (ap (λ b. cond b at (line_of_row row h)) (eq-eqb row row refl));
         fits = λ line.
             either (at == line)
             (λ own.
@@ -112,7 +111,7 @@ module _ {n : ℕ} (shape : BankShape) where
       let newest_is : newest_row (queue shape h) at ≡ Some old = candidate-newest (head_busy_after shape h) (queue shape h) at old (merged-candidate shape h at old m.0.2) in
       record {
         named =
-            named-merged (λ r. line_of_row r (Write row at bytes given (wrote.Merged old) ∷ h)) at old row bytes given (queue shape h) stand.queued_apart newest_is (ap (λ b. cond b at (line_of_row row h)) (eqb-same row))
+            named-merged (λ r. line_of_row r (Write row at bytes given (wrote.Merged old) ∷ h)) at old row bytes given (queue shape h) stand.queued_apart newest_is (ap (λ b. cond b at (line_of_row row h)) (eq-eqb row row refl))
             (named-too (λ r. line_of_row r h) row at (queue shape h) lacks k.named);
         fits = λ line.
             either (at == line)

@@ -1,5 +1,5 @@
 -- The queue's entries give of a line what its accepted writes give, down to the last that is out.
-use Rattle.std.proofs.Common.{◌≡◌, ℕ, ◌==◌, ◌||◌, ◌⊎◌, inl, inr, Bool, true, false, List, [], ◌∷◌, ◌++◌, Option, Some, None, length, sym, ap, ◌∙◌, subst, cond, eqb, eqb-true}
+use Rattle.std.proofs.Common.{◌≡◌, ℕ, ◌==◌, ◌||◌, ◌⊎◌, inl, inr, Bool, true, false, List, [], ◌∷◌, ◌++◌, Option, Some, None, length, sym, ap, ◌∙◌, subst, cond, eqb, eqb-true, eq-eqb, refl}
 use Rattle.std.proofs.lemmas.Bool.{or_from, or_left, or_right}
 use Rattle.masked_bytes.proofs.Truth.{neither_first, neither_second}
 use Rattle.masked_bytes.specs.declared.entry.Entry.{Entry}
@@ -9,7 +9,6 @@ use Rattle.masked_bytes.proofs.Layering.{joined-all_given, gives_all-all_given}
 use Rattle.bank_model.specs.History.{begun}
 use Rattle.bank_laws.specs.Pairs.{has_line}
 use Rattle.bank_laws.proofs.Pairs.{AllLong, gives_all-joined}
-use Rattle.bank_laws.proofs.Fates.{eqb-same}
 use Rattle.bank_laws.proofs.Given.{given_of, length-given, given-lacks, given-push, given-push_other, NewestOf, newest-of, given-merged, given-merged_other}
 use Rattle.bank_laws.proofs.Lines.{newest-stands}
 
@@ -26,7 +25,7 @@ out_with-kept true out row r h = or_left (out r) (row == r) h
 out_with-kept false out row r h = h
 
 pub out_with-new : (b : Bool) (out : ℕ → Bool) (row : ℕ) → b ≡ true → out_with b out row row ≡ true
-out_with-new true out row is = or_right (out row) (row == row) (eqb-same row)
+out_with-new true out row is = or_right (out row) (row == row) (eq-eqb row row refl)
 out_with-new false out row is = absurd (cc)
 
 -- what the writes of a line give, by the rows that are out

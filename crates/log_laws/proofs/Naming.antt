@@ -1,5 +1,5 @@
 -- The row of each of the queue's entries is that of a write of its line.
-use Rattle.std.proofs.Common.{◌≡◌, ℕ, ◌<◌, ◌≤◌, ◌==◌, inl, inr, Bool, false, List, [], ◌∷◌, ◌++◌, Option, Some, None, drop, sym, ap, ◌∙◌, subst, arith, cond, eqb, eqb-true}
+use Rattle.std.proofs.Common.{◌≡◌, ℕ, ◌<◌, ◌≤◌, ◌==◌, inl, inr, Bool, false, List, [], ◌∷◌, ◌++◌, Option, Some, None, drop, sym, ap, ◌∙◌, subst, arith, cond, eqb, eqb-true, eq-eqb, refl}
 use Rattle.masked_bytes.proofs.Truth.{neither_first, neither_second, differ_sym}
 use Rattle.masked_bytes.specs.declared.entry.Entry.{Entry}
 use Rattle.masked_bytes.specs.Entries.{newest_row, merged, laid_on, has_row, RowsApart}
@@ -7,7 +7,6 @@ use Rattle.bank_shape.specs.declared.answer.WriteAnswer.{WriteAnswer}
 use Rattle.bank_model.specs.Events.{Event, Write, Read, Serve, Begin, Iterate, Cut, RowsBelow, line_of_row, up_to}
 use Rattle.bank_model.specs.History.{begun}
 use Rattle.bank_laws.proofs.Entries.{differ_back}
-use Rattle.bank_laws.proofs.Fates.{eqb-same}
 use Rattle.bank_laws.proofs.Given.{NewestOf, newest-of}
 
 module _ {n : ℕ} where
@@ -61,7 +60,7 @@ module _ {n : ℕ} where
 
   pub line-kept : (pre : List (Event n)) (row line : ℕ) (bytes : List ℕ) (given : List Bool) (answer : WriteAnswer) (h : List (Event n)) (bound : ℕ) → RowsBelow (pre ++ Write row line bytes given answer ∷ h) bound
       → line_of_row row (pre ++ Write row line bytes given answer ∷ h) ≡ line
-  line-kept [] row line bytes given answer h bound below = ap (λ b. cond b line (line_of_row row h)) (eqb-same row)
+  line-kept [] row line bytes given answer h bound below = ap (λ b. cond b line (line_of_row row h)) (eq-eqb row row refl)
   line-kept (Write at to some which how ∷ pre) row line bytes given answer h bound below =
       ap (λ b. cond b to (line_of_row row (pre ++ Write row line bytes given answer ∷ h))) (differ_back row at (row-below pre row line bytes given answer h at below.1))
       ∙ line-kept pre row line bytes given answer h at below.1
@@ -73,7 +72,7 @@ module _ {n : ℕ} where
 
   pub up_to-kept : (pre : List (Event n)) (row line : ℕ) (bytes : List ℕ) (given : List Bool) (answer : WriteAnswer) (h : List (Event n)) (bound : ℕ) → RowsBelow (pre ++ Write row line bytes given answer ∷ h) bound
       → up_to row (pre ++ Write row line bytes given answer ∷ h) ≡ Write row line bytes given answer ∷ h
-  up_to-kept [] row line bytes given answer h bound below = ap (λ b. cond b (Write row line bytes given answer ∷ h) (up_to row h)) (eqb-same row)
+  up_to-kept [] row line bytes given answer h bound below = ap (λ b. cond b (Write row line bytes given answer ∷ h) (up_to row h)) (eq-eqb row row refl)
   up_to-kept (Write at to some which how ∷ pre) row line bytes given answer h bound below =
       ap (λ b. cond b (Write at to some which how ∷ pre ++ Write row line bytes given answer ∷ h) (up_to row (pre ++ Write row line bytes given answer ∷ h))) (differ_back row at (row-below pre row line bytes given answer h at below.1))
       ∙ up_to-kept pre row line bytes given answer h at below.1

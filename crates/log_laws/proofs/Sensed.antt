@@ -4,6 +4,7 @@ use Rattle.std.proofs.lemmas.Bool.{or_left}
 use Rattle.std.specs.Prelude.{filter, nat_le, nat_lt}
 use Rattle.std.specs.List.{list_any}
 use Rattle.std.proofs.lemmas.List.Folds.{list_any-append}
+use Rattle.bank_model.proofs.Waits.{waits-some}
 use Rattle.pcm_cells.specs.declared.array.Sense.{Sense}
 use Rattle.ecp_line.specs.Reading.{decode}
 use Rattle.result_rows.specs.declared.Outcome.{Outcome}
@@ -18,7 +19,6 @@ use Rattle.row_rules.specs.Serving.{may_have, same_bytes}
 use Rattle.bank_shape.specs.declared.BankShape.{BankShape}
 use Rattle.bank_shape.specs.Shape.{lines_in}
 use Rattle.bank_shape.specs.declared.answer.WriteAnswer.{WriteAnswer}
-use Rattle.bank_shape.specs.declared.answer.ReadAnswer.{ReadAnswer}
 use Rattle.bank_shape.specs.declared.answer.ReadAnswer.TheVariants as came
 use Rattle.bank_model.specs.Events.{Write, Read, Serve, Begin, Iterate, Cut, newest}
 use Rattle.bank_model.specs.History.{Awaited, awaited, queue, waits}
@@ -51,11 +51,6 @@ any-filter p keep (x ∷ xs) h = by (keep x) (p x) (λ k. any-filter p keep xs k
     by b true rest is h = refl
     by true false rest is h = rest (ap (λ c. c || list_any p (filter keep xs)) (sym is) ∙ h)
     by false false rest is h = rest h
-
--- a read waits only where the queue doesn't give all bytes
-waits-some : {n : ℕ} (all full : Bool) (bytes : List ℕ) → ◌≡◌ {A = ReadAnswer n} came.Waiting (cond all (came.Forwarded bytes) (cond full came.Busy came.Waiting)) → all ≡ false
-waits-some true full bytes is = absurd (cc)
-waits-some false full bytes is = refl
 
 module _ {n m : ℕ} (shape : BankShape) (pace : Pace) (e : ℕ) (all : List (TimedEvent n m)) (log extra : List (Sense n m)) (sized : IsSized shape pace) (l : Lawful shape pace e all) (o : AreOpen shape all) (shown : log_of shape log ≡ senses_of all ++ extra) where
   -- what the history sensed is in the log

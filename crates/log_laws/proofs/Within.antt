@@ -28,7 +28,8 @@ use Rattle.bank_laws.proofs.Settling.{above_all}
 use Rattle.bank_laws.proofs.Waiting.{may_all}
 use Rattle.bank_laws.proofs.Asked.{WaitsFor, asked-within, wrote-asked, queue-wrote, waits-asked}
 use Rattle.place_laws.proofs.Moves.{some-due}
-use Rattle.place_laws.proofs.Slots.{slot_at-within, slot_moved-within, gap-within, retired-few}
+use Rattle.place_laws.proofs.Slots.{slot_moved-within, gap-within, retired-few}
+use Rattle.bank_shape.proofs.Sizes.{slot_at-within}
 use Rattle.place_laws.proofs.WornOut.{change-within, some_product}
 use Rattle.log_laws.specs.Laws.{WithinLaw}
 

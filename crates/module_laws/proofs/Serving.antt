@@ -12,10 +12,11 @@ use Rattle.row_rules.specs.declared.Asks.TheVariants.{Reads, Writes, Cuts}
 use Rattle.row_rules.specs.declared.Row.{Row}
 use Rattle.row_rules.specs.Answers.{accepts}
 use Rattle.row_rules.specs.Rows.{each_row, newest, asks_cut}
+use Rattle.row_rules.specs.Lines.{IsOfLines}
 use Rattle.row_rules.specs.Serving.{is_served, may_have, owed}
 use Rattle.row_rules.specs.Table.{is_of, of_bank}
 use Rattle.module_laws.specs.Asking.{row_in, bank_table, asks_in}
-use Rattle.module_laws.specs.Serves.{AreLines, IsOfLines, ServedByBanksLaw}
+use Rattle.module_laws.specs.Serves.{AreLines, ServedByBanksLaw}
 
 module _ {n : ℕ} where
   -- what a row may have doesn't go by the number of its line

@@ -40,12 +40,6 @@ pub record AreLines (banks lines : ℕ) (bank_of line_in : ℕ → ℕ) : Type 0
   pub exists : (line : ℕ) → line < lines → bank_of line < banks
   pub apart : (line other : ℕ) → line < lines → other < lines → bank_of line ≡ bank_of other → line_in line ≡ line_in other → line ≡ other
 
--- a row is of a line of the module
-abbrev pub IsOfLines : {n : ℕ} → ℕ → Asks n → Type 0
-IsOfLines lines (Reads line) = line < lines
-IsOfLines lines (Writes line bytes given) = line < lines
-IsOfLines lines Cuts = Unit {0}
-
 -- where each bank's table serves its reads, the module's does: a bank's newest bytes of a line are the module's
 abbrev pub ServedByBanksLaw : Type 0
 ServedByBanksLaw =

@@ -6,7 +6,7 @@ pub mod LineLemmas
 pub mod PlaneLemmas
 pub mod CountLemmas
 pub mod ScriptedLemmas
-pub mod WordLemmas
+pub mod DrawnLemmas
 pub mod SeededLemmas
 pub mod PageLemmas
 pub mod PagingLemmas

@@ -1,6 +1,6 @@
 -- A seeded array keeps what every array keeps.
 use Rattle.std.proofs.Common.{◌≡◌, ℕ, ◌+◌, ◌-◌, ◌%◌, ◌≤◌, ◌&&◌, ◌<◌, Bool, true, false, not, true≢false, cond, eqb, slice_index, refl, sym, subst, ◌∙◌, ap, inl, inr, arith, List, zero, suc, ◌*◌, ◌/◌, ◌≢◌, length, replicate, get_or, set, get_or-set_same, get_or-set_other, Some}
-use Rattle.std.proofs.lemmas.Bool.{ltb-true, leb-true, lt-ltb, lt-leb, cases_eq, cases_lt}
+use Rattle.std.proofs.lemmas.Bool.{ltb-true, leb-true, lt-ltb, lt-leb, cases_eq, cases_lt, and_parts}
 use Rattle.std.proofs.lemmas.List.{get_or_past}
 use Rattle.std.proofs.lemmas.List.FromFn.{get_or-map-range_with_len, length-map-range_with_len}
 use Rattle.std.specs.Prelude.{nat_lt, nat_le, bit_xor}
@@ -15,7 +15,7 @@ use Rattle.pcm_cells.specs.Rows.{cell}
 use Rattle.pcm_cells.specs.Device.{CellBounds, DeviceStep, TornStep, IsBlank, counted}
 use Rattle.pcm_cells.specs.Planes.{PlaneLine, plane_cell, digit}
 use Rattle.pcm_cells.specs.Follows.{Follows}
-use Rattle.pcm_cells.specs.Words.{xoshiro_of, word_at}
+use Rattle.seeded_words.specs.Words.{xoshiro_of, word_at}
 use Rattle.pcm_cells.specs.Seeded.{LifeLine, left_of, life_state, bounds_of, endurance, IsDrawn, changed, pulsed, seeded, seeded_cell}
 use Rattle.pcm_cells.proofs.RowLemmas.{cell-zeros}
 use Rattle.pcm_cells.proofs.PlaneLemmas.{digit_few, digit-zeros}
@@ -216,15 +216,11 @@ pub worn_kept : {B M : ℕ} (old new : LifeLine B M) (n : ℕ) → cell new.line
     → seeded_cell new n ≡ seeded_cell old n
 worn_kept old new n held stuck misses left limits ends = rw (held, stuck, misses, left, limits, ends) refl
 
-and_second : (a b : Bool) → (a && b) ≡ true → b ≡ true
-and_second true b e = e
-and_second false b e = absurd (true≢false (sym e))
-
 -- a cell that misses has fewer than seven misses
 pub missing_few : {B M : ℕ} (misses limits : Digits B M) (n : ℕ) (live missing : Bool) → missing ≡ (live && nat_lt (digit misses n) (digit limits n))
     → missing ≡ true → digit misses n < 7
 missing_few misses limits n live missing is h =
-    omega (arith, ltb-true _ _ (and_second live _ (sym is ∙ h)), digit_few limits n)
+    omega (arith, ltb-true _ _ ((and_parts live _ (sym is ∙ h)).1), digit_few limits n)
 
 -- what is left of the count of a cell
 pub left_is : {B M : ℕ} (spent : Digits B M) (counts : Counts B M) (n : ℕ) → n < 8 * (B + M)

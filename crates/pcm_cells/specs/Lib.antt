@@ -7,7 +7,6 @@ pub mod Follows
 pub mod Scripted
 pub mod Logging
 pub mod Logged
-pub mod Words
 pub mod Planes
 pub mod Counts
 pub mod Seeded

@@ -6,7 +6,7 @@ use Rattle.pcm_cells.specs.declared.row.Cells.{Cells}
 use Rattle.pcm_cells.specs.declared.digits.Digits.{Digits}
 use Rattle.pcm_cells.specs.Planes.{bit_in, blank_planes}
 use Rattle.pcm_cells.specs.Seeded.{LifeLine, seeded_cell, endurance, miss_limit, stuck_value}
-use Rattle.pcm_cells.specs.Words.{xoshiro_of, word_at}
+use Rattle.seeded_words.specs.Words.{xoshiro_of, word_at}
 
 -- the number of so many bits from one on, the first of them lowest
 abbrev pub number_from : (ℕ → Bool) → ℕ → ℕ → ℕ

@@ -12,7 +12,7 @@ use Rattle.pcm_cells.specs.declared.counts.Counts.{Counts}
 use Rattle.pcm_cells.specs.Counts.{count}
 use Rattle.pcm_cells.specs.Planes.{PlaneLine, plane_cell, blank_planes, digit, zero_digits}
 use Rattle.pcm_cells.specs.Follows.{Follows}
-use Rattle.pcm_cells.specs.Words.{xoshiro_of, word_at}
+use Rattle.seeded_words.specs.Words.{xoshiro_of, word_at}
 
 -- how many changes a cell with this word lives through; it sticks in the last one
 abbrev pub endurance : Wear → ℕ → ℕ

@@ -2,3 +2,4 @@
 pub mod FaultLemmas
 pub mod ByteLemmas
 pub mod DigitLemmas
+pub mod PrintLemmas

@@ -21,7 +21,7 @@ use Rattle.clock_laws.specs.State.{ClockState}
 use Rattle.clock_laws.specs.Leads.{Leads}
 use Rattle.clock_laws.specs.Standing.{has_waiting}
 use Rattle.module_laws.specs.Asking.{Asked}
-use Rattle.module_laws.specs.Serves.{IsOfLines}
+use Rattle.row_rules.specs.Lines.{IsOfLines}
 use Rattle.bank_clock.specs.Extending.{IsOpen, outcome_in}
 use Rattle.run_laws.specs.Runs.{pacing_in, bank_of_line, line_in_bank}
 use Rattle.pcm_module.specs.State.{ModuleState, StandsNowhere}

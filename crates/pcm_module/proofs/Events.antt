@@ -7,7 +7,8 @@ use Rattle.trace_reader.specs.declared.event.TraceOp.{TraceOp}
 use Rattle.trace_reader.specs.Events.{IsOpFor}
 use Rattle.bank_model.specs.Timing.{TimedEvent}
 use Rattle.module_laws.specs.Asking.{Asked}
-use Rattle.pcm_module.specs.Asking.{asks_of, asked_by}
+use Rattle.pcm_module.specs.Asking.{asked_by}
+use Rattle.trace_rows.specs.Rows.{asks_of}
 use Rattle.pcm_module.specs.State.{ModuleState}
 use Rattle.pcm_module.specs.Replaying.{Replays}
 use Rattle.pcm_module.specs.Taking.{Takes}

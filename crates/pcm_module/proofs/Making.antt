@@ -22,7 +22,7 @@ use Rattle.module_shape.specs.Limits.{IsShape, total_of}
 use Rattle.module_shape.specs.Addresses.{ModuleShape, module_of, bank_shape, array_lines_of}
 use Rattle.module_shape.proofs.Bounds.{banks_apart}
 use Rattle.module_laws.specs.Asking.{Asked}
-use Rattle.module_laws.specs.Serves.{IsOfLines}
+use Rattle.row_rules.specs.Lines.{IsOfLines}
 use Rattle.clock_laws.specs.State.{ClockState}
 use Rattle.clock_laws.specs.Leads.{Leads}
 use Rattle.bank_clock.specs.Extending.{first_clock, outcome_in}

@@ -2,8 +2,8 @@
 use Rattle.std.proofs.Common.{◌≡◌, ℕ, ◌+◌, ◌<◌, ◌≤◌, Bool, List, length, get_or, Some, refl, sym, ap, subst, ◌∙◌, eq-eqb, inl, inr, arith}
 use Rattle.std.specs.Prelude.{IsSomeAnd, slice_get, slice_set}
 use Rattle.std.proofs.lemmas.Bool.{ne_eqb, cases_eq}
-use Rattle.std.proofs.lemmas.Option.{slice_get-get_or}
 use Rattle.std.proofs.Math.ListN.{length-set}
+use Rattle.masked_bytes.proofs.Lists.{item-at}
 use Rattle.circular_buffer.proofs.Places.{slice_get-set_same, slice_get-set_other}
 use Rattle.pcm_cells.specs.Device.{ArrayState}
 use Rattle.result_rows.specs.declared.Outcome.{Outcome}
@@ -28,10 +28,6 @@ use Rattle.pcm_module.specs.Replaying.{BankReplays, IsReplayed, asked_in_bank}
 use Rattle.pcm_module.specs.Taking.{Takes}
 use Rattle.pcm_module.proofs.Banks.{from_get, at_get}
 use Rattle.pcm_module.proofs.TakenRows.{takes_one}
-
--- what stands at an index is what a read of it gives
-pub get_is : {X : Type 0} (xs : List X) (i : ℕ) (x : X) → i < length xs → x ≡ get_or xs i x → slice_get xs i ≡ Some x
-get_is xs i x within is = slice_get-get_or xs i x within ∙ ap Some (sym is)
 
 module _ {n m e : ℕ} where
   -- a module stays one with another tick, and another bank of the same shape
@@ -110,7 +106,7 @@ comes {n = n} {m = m} {e = e} {row = row} {tick = tick} {line = line} {bank = ba
       exists = exists;
       of_bank = of_bank;
       within = within;
-      is = get_is _ bank clock within value;
+      is = item-at _ bank clock within value;
     }) inv value
 
 module _ {n m e row tick line bank at : ℕ} {old : ModuleState n m e} {before : ArrayState n m} {results : List (Outcome n)} {clock : ClockState n m e}

@@ -15,14 +15,14 @@ use Rattle.bank_model.specs.Timing.{TimedEvent, core}
 use Rattle.bank_laws.specs.Settling.{AreOpen}
 use Rattle.bank_laws.specs.Outcomes.{outcome_of}
 use Rattle.bank_laws.proofs.Settling.{opens}
-use Rattle.bank_invariant.proofs.Quiet.{RowsBelow-more}
+use Rattle.bank_model.proofs.Rising.{RowsBelow-more}
 use Rattle.module_shape.specs.Limits.{total_of}
 use Rattle.module_shape.specs.Addresses.{module_of, bank_shape}
 use Rattle.clock_laws.specs.State.{ClockState}
 use Rattle.clock_laws.specs.Leads.{Leads}
 use Rattle.clock_laws.specs.Standing.{has_waiting}
 use Rattle.module_laws.specs.Asking.{Asked, asked_in, AreAsked}
-use Rattle.module_laws.specs.Serves.{IsOfLines}
+use Rattle.row_rules.specs.Lines.{IsOfLines}
 use Rattle.bank_clock.specs.Extending.{IsOpen, outcome_in}
 use Rattle.run_laws.specs.Runs.{pacing_in, bank_of_line, line_in_bank}
 use Rattle.pcm_module.specs.State.{ModuleState, bank_at, first_bank}

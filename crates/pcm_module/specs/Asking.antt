@@ -1,18 +1,8 @@
 -- What an event of a trace asks of a module.
-use Rattle.std.specs.Prelude.{ℕ, ◌+◌, true, replicate, List, [], ◌∷◌, length}
+use Rattle.std.specs.Prelude.{ℕ, ◌+◌, List, [], ◌∷◌, length}
 use Rattle.trace_reader.specs.declared.event.TraceEvent.{TraceEvent}
-use Rattle.trace_reader.specs.declared.event.TraceOp.{TraceOp}
-use Rattle.trace_reader.specs.declared.event.TraceOp.TheVariants.{Read, Write, Mask, Cut}
-use Rattle.row_rules.specs.declared.Asks.{Asks}
-use Rattle.row_rules.specs.declared.Asks.TheVariants.{Reads, Writes, Cuts}
+use Rattle.trace_rows.specs.Rows.{asks_of}
 use Rattle.module_laws.specs.Asking.{Asked}
-
--- what an operation asks: a whole write gives every byte
-abbrev pub asks_of : {n : ℕ} → TraceOp n → Asks n
-asks_of (Read line) = Reads line
-asks_of {n} (Write line bytes) = Writes line bytes (replicate n true)
-asks_of (Mask line bytes given) = Writes line bytes given
-asks_of Cut = Cuts
 
 -- what the event of a row asks
 abbrev pub asked_by : {n : ℕ} → ℕ → TraceEvent n → Asked n

@@ -16,7 +16,8 @@ use Rattle.bank_laws.specs.Laws.{log_of}
 use Rattle.module_shape.specs.Limits.{total_of}
 use Rattle.module_shape.specs.Addresses.{module_of, bank_shape, array_lines_of}
 use Rattle.module_laws.specs.Asking.{Asked, asked_of, AreAsked}
-use Rattle.module_laws.specs.Serves.{TicksFall, IsOfLines}
+use Rattle.module_laws.specs.Serves.{TicksFall}
+use Rattle.row_rules.specs.Lines.{IsOfLines}
 use Rattle.clock_laws.specs.State.{ClockState}
 use Rattle.clock_laws.specs.Leads.{Leads}
 use Rattle.bank_clock.specs.Extending.{AreOpen, outcome_in}

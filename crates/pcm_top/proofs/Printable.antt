@@ -4,6 +4,8 @@ use Rattle.std.specs.Prelude.{slice_get, All}
 use Rattle.std.specs.Option.{ForSome}
 use Rattle.std.proofs.lemmas.List.{reverse-append, length_push}
 use Rattle.std.proofs.lemmas.List.Elements.{All-nil, All-cons, All-head, All-tail, All-same, All-push}
+use Rattle.text_check.proofs.Standing.{own-op}
+use Rattle.trace_rows.proofs.Lines.{of-lines}
 use Rattle.pcm_cells.specs.Device.{ArrayState}
 use Rattle.trace_reader.specs.Events.{AreEventsFor, IsOpFor}
 use Rattle.trace_reader.specs.declared.event.TraceEvent.{TraceEvent}
@@ -17,13 +19,14 @@ use Rattle.module_shape.specs.declared.raw.RawShape.{RawShape}
 use Rattle.module_shape.specs.Limits.{IsShape, total_of}
 use Rattle.module_shape.specs.Addresses.{module_of, array_lines_of}
 use Rattle.module_laws.specs.Asking.{row_with}
-use Rattle.module_laws.specs.Serves.{IsOfLines}
+use Rattle.row_rules.specs.Lines.{IsOfLines}
 use Rattle.bank_clock.specs.Extending.{outcome_in}
 use Rattle.end_laws.specs.Ends.{BankEnd}
 use Rattle.run_laws.specs.Runs.{RunsRight}
 use Rattle.run_laws.specs.RowsOfRuns.{FewArrayLinesLaw, LinesExist, OwnOutcomesLaw, PlacesExistLaw, op_asked}
-use Rattle.run_text.specs.ResultText.{ArePrintable, asked, named_line}
-use Rattle.pcm_module.specs.Asking.{asked_by, asked_for, asks_of}
+use Rattle.run_text.specs.ResultText.{ArePrintable, named_line}
+use Rattle.pcm_module.specs.Asking.{asked_by, asked_for}
+use Rattle.trace_rows.specs.Rows.{asks_of}
 use Rattle.pcm_top.specs.Rows.{rows_of}
 
 one-more : (i : ℕ) → i + 1 ≡ suc i
@@ -71,13 +74,6 @@ module _ {n : ℕ} where
       let same : outcome_in outcomes (length split.1 + 1) ≡ outcome = rw split.3 (own-outcome outcomes i outcome is) in
       subst With same here
 
-  -- the lines of a trace are those that its rows ask for
-  op-exists : (lines : ℕ) (o : TraceOp n) → IsOpFor lines o → IsOfLines lines (asks_of o)
-  op-exists lines (op.Read line) h = h
-  op-exists lines (op.Write line bytes) h = h.0
-  op-exists lines (op.Mask line bytes given) h = h.0
-  op-exists lines op.Cut h = tt
-
   lawful-all : (lines before : ℕ) (events : List (TraceEvent n)) → AreEventsFor lines before events → All (λ event. IsOpFor lines event.op) events
   unfolding AreEventsFor
   lawful-all lines before [] h = All-nil (λ event. IsOpFor lines event.op)
@@ -94,20 +90,13 @@ module _ {n : ℕ} where
   lines-asked lines outcome [] all = All-nil (λ (r : Row n). IsOfLines lines r.asks)
   lines-asked lines outcome (event ∷ below) all =
       All-cons (λ (r : Row n). IsOfLines lines r.asks) (row_with outcome (asked_by (length below + 1) event)) (map (row_with outcome) (asked_for below))
-      (op-exists lines event.op (All-head (λ event. IsOpFor lines event.op) event below all))
+      (of-lines lines event.op (All-head (λ event. IsOpFor lines event.op) event below all))
       (lines-asked lines outcome below (All-tail (λ event. IsOpFor lines event.op) event below all))
 
   pub lines-exist : (raw : RawShape) (events : List (TraceEvent n)) (outcomes : List (Outcome n)) → AreEventsFor (total_of raw) 0 events → LinesExist raw (rows_of events outcomes)
   lines-exist raw events outcomes lawful =
       lines-asked (total_of raw) (outcome_in outcomes) (reverse events)
       (all-reverse (λ event. IsOpFor (total_of raw) event.op) events (lawful-all (total_of raw) 0 events lawful))
-
-  -- what an operation asks for, as its result shows it
-  same-op : (o : TraceOp n) → op_asked (asks_of o) ≡ asked o
-  same-op (op.Read line) = refl
-  same-op (op.Write line bytes) = refl
-  same-op (op.Mask line bytes given) = refl
-  same-op op.Cut = refl
 
   small-line : (lines : ℕ) (o : TraceOp n) → lines ≤ 65536 → IsOpFor lines o → named_line o ≤ 65535
   small-line lines (op.Read line) few h = omega arith
@@ -128,7 +117,7 @@ module _ {n : ℕ} where
         (exist n m e raw seed rows array ends shape (lines-exist raw events outcomes lawful) right) in
         let most = few raw shape in
         record {
-          belongs = mine ∙ ap Some (same-op event.op);
+          belongs = mine ∙ ap Some (own-op event.op);
           line = small-line (total_of raw) event.op shape.few_in_all ((AreEventsFor-at (total_of raw) 0 events i event lawful at).0);
           place = λ place found. omega (arith, there place found);
         };

@@ -4,6 +4,7 @@ use Rattle.std.specs.Prelude.{slice_get}
 use Rattle.std.proofs.Math.Seq.{drop-cons}
 use Rattle.std.proofs.lemmas.List.{take_more, take_all, reverse-append, length-reverse, length-take-le, length-replicate, get_or-replicate}
 use Rattle.std.proofs.lemmas.Option.{get_or_from_slice_get, slice_get-get_or, slice_get_within}
+use Rattle.trace_reader.proofs.Lawful.{lawful-first}
 use Rattle.pcm_cells.specs.Device.{ArrayState}
 use Rattle.trace_reader.specs.Events.{AreEventsFor, IsEventFor}
 use Rattle.trace_reader.specs.declared.event.TraceEvent.{TraceEvent}
@@ -81,10 +82,6 @@ left-next events i event at =
     let within = slice_get_within events i event at in
     let one : i + 1 ≡ suc i = omega arith in
     rw one (drop-cons events i event within ∙ ap (λ e. e ∷ drop (suc i) events) (get_or_from_slice_get events i event event at))
-
-lawful-first : {n : ℕ} (lines before : ℕ) (event : TraceEvent n) (rest : List (TraceEvent n)) → AreEventsFor lines before (event ∷ rest) → IsEventFor lines before event × AreEventsFor lines event.tick rest
-unfolding AreEventsFor
-lawful-first lines before event rest h = h
 
 module _ {n m e : ℕ} (raw : RawShape) (seed : ℕ) (events : List (TraceEvent n)) (i : ℕ) (event : TraceEvent n) (at : slice_get events i ≡ Some event)
     (module_ : ModuleState n m e) (array : ArrayState n m) (results : List (Outcome n)) (had : HasReplayed raw seed events i module_ array results) where

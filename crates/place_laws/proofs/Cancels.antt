@@ -14,7 +14,7 @@ use Rattle.bank_shape.specs.declared.answer.Keep.TheVariants as keep
 use Rattle.bank_shape.specs.declared.pace.Pace.{Pace}
 use Rattle.bank_model.specs.Timing.{Happens, Core, Regs, KeepBegin, KeepIterate, KeepCut, TimedEvent, is_writing, is_empty, core, core_of}
 use Rattle.bank_model.specs.Lawful.{Lawful, MayCome, would_cancel}
-use Rattle.place_laws.proofs.Counts.{one_if}
+use Rattle.masked_bytes.proofs.Counting.{one_if}
 use Rattle.place_laws.proofs.Pulsing.{ends_work, cancels_work, ends_in, cancels_in}
 use Rattle.place_laws.proofs.Trying.{still_at}
 

@@ -1,14 +1,11 @@
 -- How many writes of some lines are stored, by the rows' outcomes and by the events.
-use Rattle.std.proofs.Common.{◌≡◌, ℕ, ◌+◌, ◌<◌, inl, inr, Bool, true, false, List, [], ◌∷◌, refl, ap, ◌∙◌, subst, arith, cond, ◌==◌, ◌&&◌}
+use Rattle.std.proofs.Common.{◌≡◌, ℕ, ◌+◌, ◌<◌, inl, inr, Bool, true, false, List, [], ◌∷◌, refl, ap, ◌∙◌, subst, arith, ◌==◌, ◌&&◌}
 use Rattle.std.proofs.lemmas.Bool.{ne_eqb}
+use Rattle.masked_bytes.proofs.Counting.{one_if}
 use Rattle.bank_shape.specs.declared.answer.Step.TheVariants as did
 use Rattle.bank_model.specs.Events.{Event, Write, Read, Serve, Begin, Iterate, Cut, RowsBelow, line_of_row}
-use Rattle.bank_laws.proofs.Settling.{rows_below-more}
+use Rattle.bank_model.proofs.Rising.{RowsBelow-more}
 use Rattle.bank_laws.proofs.Asked.{Wrote, wrote-asked, asked-below}
-
--- one, where a test holds
-abbrev pub one_if : Bool → ℕ
-one_if b = cond b 1 0
 
 one-counted : (k b c : Bool) → b ≡ false → c ≡ true → one_if (k && c) ≡ one_if (k && b) + one_if k
 one-counted true true c off on = absurd (cc)
@@ -44,8 +41,8 @@ module _ {n : ℕ} where
   writes-below keep f g [] at b same = refl
   writes-below keep f g (Write row line bytes given answer ∷ h) at b same =
       ap (λ b. one_if (keep line && b) + writes_with keep f h) (same row (ne_eqb at row (λ is. omega (arith, b.0, is))))
-      ∙ ap (λ k. one_if (keep line && g row) + k) (writes-below keep f g h at (rows_below-more h row at (omega (arith, b.0)) b.1) same)
-  writes-below keep f g (Read row line answer ∷ h) at b same = writes-below keep f g h at (rows_below-more h row at (omega (arith, b.0)) b.1) same
+      ∙ ap (λ k. one_if (keep line && g row) + k) (writes-below keep f g h at (RowsBelow-more h row at (omega (arith, b.0)) b.1) same)
+  writes-below keep f g (Read row line answer ∷ h) at b same = writes-below keep f g h at (RowsBelow-more h row at (omega (arith, b.0)) b.1) same
   writes-below keep f g (Serve answer ∷ h) at b same = writes-below keep f g h at b same
   writes-below keep f g (Begin answer ∷ h) at b same = writes-below keep f g h at b same
   writes-below keep f g (Iterate answer ∷ h) at b same = writes-below keep f g h at b same

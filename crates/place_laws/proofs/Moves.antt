@@ -7,7 +7,7 @@ use Rattle.bank_shape.specs.declared.answer.Step.TheVariants as did
 use Rattle.bank_model.specs.Events.{Event, Write, Read, Serve, Begin, Iterate, Cut, line_of_row}
 use Rattle.bank_model.specs.History.{first_or, stores, stored_in, moved_in, due_after}
 use Rattle.bank_model.specs.Answers.{MayAll}
-use Rattle.place_laws.proofs.Counts.{one_if}
+use Rattle.masked_bytes.proofs.Counting.{one_if}
 use Rattle.place_laws.proofs.Working.{IsStoreOf, done-store, done-move}
 
 pub next_product : (psi k : ℕ) → psi * (k + 1) ≡ psi * k + psi

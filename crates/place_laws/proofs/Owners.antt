@@ -2,7 +2,7 @@
 use Rattle.std.proofs.Common.{◌≡◌, ℕ, zero, suc, ◌+◌, ◌<◌, ◌≤◌, ◌==◌, inl, inr, Bool, refl, sym, ap, ◌∙◌, arith}
 use Rattle.std.proofs.lemmas.Bool.{eq-eqb, ne_eqb, cases_eq}
 use Rattle.bank_laws.specs.Places.{worn_among}
-use Rattle.place_laws.proofs.Counts.{one_if}
+use Rattle.masked_bytes.proofs.Counting.{one_if}
 
 -- how many of the first k slots have a line
 abbrev pub owners : (ℕ → ℕ) → ℕ → ℕ → ℕ

@@ -28,7 +28,7 @@ use Rattle.bank_laws.proofs.Waiting.{may_all}
 use Rattle.bank_laws.proofs.Walking.{Passes, walk, rows_after}
 use Rattle.place_laws.specs.PlaceLaws.{PlacedLaw}
 use Rattle.bank_laws.proofs.Asked.{Asked, asked-one, asked-within, wrote-asked, queue-wrote, waits-asked}
-use Rattle.place_laws.proofs.Counts.{one_if}
+use Rattle.masked_bytes.proofs.Counting.{one_if}
 use Rattle.place_laws.proofs.Moves.{keeps, none-due, next_product}
 use Rattle.place_laws.proofs.Storing.{before-counted, region-stored}
 use Rattle.place_laws.proofs.Tables.{region-counted, between}

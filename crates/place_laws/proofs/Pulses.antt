@@ -33,7 +33,7 @@ use Rattle.bank_laws.specs.Outcomes.{outcome_of, ended, row_with, rows_from, tab
 use Rattle.bank_laws.specs.Places.{pulses_among, most_pulses}
 use Rattle.bank_laws.proofs.Waiting.{may_all}
 use Rattle.place_laws.specs.PlaceLaws.{PulsesLaw}
-use Rattle.place_laws.proofs.Counts.{one_if}
+use Rattle.masked_bytes.proofs.Counting.{one_if}
 use Rattle.place_laws.proofs.Storing.{stored-counted}
 use Rattle.place_laws.proofs.Tables.{all-counted}
 use Rattle.place_laws.proofs.Slots.{retired-few}

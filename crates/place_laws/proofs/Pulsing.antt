@@ -22,7 +22,7 @@ use Rattle.bank_model.specs.Running.{busy_by, made_by, busy_after, made_after, r
 use Rattle.bank_model.specs.Lawful.{Lawful, MayCome}
 use Rattle.bank_laws.specs.Places.{pulses_among}
 use Rattle.bank_laws.proofs.Works.{counted-few, tearing-going}
-use Rattle.place_laws.proofs.Counts.{one_if}
+use Rattle.masked_bytes.proofs.Counting.{one_if}
 use Rattle.place_laws.proofs.Moves.{next_product}
 use Rattle.place_laws.proofs.Owners.{once, once-few}
 use Rattle.masked_bytes.proofs.Truth.{and_first}

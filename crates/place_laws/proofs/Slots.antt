@@ -1,25 +1,20 @@
 -- The slots of a bank's lines and moves are the bank's, and a slot that was given a spare keeps one.
 use Rattle.std.proofs.Common.{ℕ, ◌+◌, ◌*◌, ◌/◌, ◌%◌, ◌<◌, ◌≤◌, ◌==◌, Bool, true, false, List, [], ◌∷◌, ◌++◌, length, length-append, sym, subst, arith, cond}
-use Rattle.std.proofs.lemmas.Nat.{mul-add-lt, mod_below, div_below}
+use Rattle.std.proofs.lemmas.Nat.{mod_below, div_below}
+use Rattle.bank_shape.proofs.Sizes.{slot_at-within}
 use Rattle.start_gap.specs.Rotation.{place_after, gap_after}
 use Rattle.spare_pool.specs.Table.{line_from}
 use Rattle.spare_pool.proofs.Lines.{line_from-more}
 use Rattle.bank_shape.specs.declared.BankShape.{BankShape}
 use Rattle.bank_shape.specs.declared.Work.{Work}
 use Rattle.bank_shape.specs.declared.Work.TheVariants.{Nothing, Store, Copy}
-use Rattle.bank_shape.specs.Shape.{slots_of, slot_at, slot_moved}
+use Rattle.bank_shape.specs.Shape.{slots_of, slot_moved}
 use Rattle.bank_shape.specs.declared.answer.Step.TheVariants as did
 use Rattle.bank_model.specs.Events.{Event, Write, Read, Serve, Begin, Iterate, Cut}
 use Rattle.bank_model.specs.History.{retired}
 use Rattle.bank_model.specs.After.{work_after}
 use Rattle.bank_model.specs.Answers.{IsDone, MayAll}
 use Rattle.bank_model.specs.Timing.{Happens, Core, Regs, TimedEvent, core, core_of}
-
--- the slot of a place is one of the bank
-pub slot_at-within : (shape : BankShape) (region place : ℕ) → region < shape.regions → place ≤ shape.lines → slot_at shape region place < slots_of shape
-slot_at-within shape region place h k =
-    let below : region * (shape.lines + 1) + place < (shape.lines + 1) * shape.regions = mul-add-lt region (shape.lines + 1) place shape.regions h (omega arith) in
-    omega (arith, below)
 
 pub slot_moved-within : (shape : BankShape) (line moves : ℕ) → 1 ≤ shape.lines → line < shape.regions * shape.lines → slot_moved shape line moves < slots_of shape
 slot_moved-within shape line moves some h =

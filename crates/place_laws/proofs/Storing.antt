@@ -20,7 +20,8 @@ use Rattle.bank_laws.specs.Settling.{AreOpen}
 use Rattle.bank_laws.specs.Outcomes.{on_row, outcome_with, outcome_of}
 use Rattle.bank_laws.specs.Ticks.{ends_action}
 use Rattle.bank_laws.proofs.Answering.{merged-there, served-first, first-there}
-use Rattle.bank_laws.proofs.Settling.{opens, above_all, lawful_before, stays, rows_below-more}
+use Rattle.bank_laws.proofs.Settling.{opens, above_all, lawful_before, stays}
+use Rattle.bank_model.proofs.Rising.{RowsBelow-more}
 use Rattle.bank_laws.proofs.Ticks.{last_tick-rises, last-below}
 use Rattle.bank_laws.proofs.Ending.{own_row}
 use Rattle.bank_laws.proofs.Lines.{stands-row}
@@ -28,7 +29,8 @@ use Rattle.bank_laws.proofs.Wears.{stored_by, stored_up_to}
 use Rattle.bank_laws.proofs.Waiting.{may_all}
 use Rattle.bank_laws.proofs.Asked.{queue-wrote, wrote-line}
 use Rattle.bank_laws.proofs.Later.{last-later}
-use Rattle.place_laws.proofs.Counts.{one_if, writes_with, stores_with, writes-same, writes-more}
+use Rattle.place_laws.proofs.Counts.{writes_with, stores_with, writes-same, writes-more}
+use Rattle.masked_bytes.proofs.Counting.{one_if}
 use Rattle.place_laws.proofs.Working.{IsStoreOf, done-store}
 
 pub none_first : (k b : Bool) (rest all : ℕ) → b ≡ false → rest ≡ all → one_if (k && b) + rest ≡ all
@@ -161,8 +163,8 @@ module _ {n m : ℕ} (shape : BankShape) (pace : Pace) (e : ℕ) where
   rows_below-before (x ∷ later) zs bound b = by x.happens bound b (λ bound b. rows_below-before later zs bound b)
     where
       by : (h : Happens n) (bound : ℕ) → RowsBelow (core_of h (core (later ++ zs))) bound → ((bound : ℕ) → RowsBelow (core (later ++ zs)) bound → RowsBelow (core zs) bound) → RowsBelow (core zs) bound
-      by (Core (Write row line bytes given answer)) bound b go = rows_below-more (core zs) row bound (omega (arith, b.0)) (go row b.1)
-      by (Core (Read row line answer)) bound b go = rows_below-more (core zs) row bound (omega (arith, b.0)) (go row b.1)
+      by (Core (Write row line bytes given answer)) bound b go = RowsBelow-more (core zs) row bound (omega (arith, b.0)) (go row b.1)
+      by (Core (Read row line answer)) bound b go = RowsBelow-more (core zs) row bound (omega (arith, b.0)) (go row b.1)
       by (Core (Serve answer)) bound b go = go bound b
       by (Regs event) bound b go = go bound b
       by (Core (Begin answer)) bound b go = go bound b

@@ -12,7 +12,8 @@ use Rattle.bank_model.specs.Events.{Write, Read, Serve, Begin, Iterate, Cut}
 use Rattle.bank_model.specs.Timing.{Happens, Core, Regs, TimedEvent, core, core_of}
 use Rattle.bank_laws.specs.Outcomes.{outcome_of, ended, row_with, rows_from, table_of}
 use Rattle.bank_laws.proofs.Walking.{rows_after, rows_after-more}
-use Rattle.place_laws.proofs.Counts.{one_if, writes_with}
+use Rattle.place_laws.proofs.Counts.{writes_with}
+use Rattle.masked_bytes.proofs.Counting.{one_if}
 
 ended-stored : {n : ℕ} (tick : ℕ) (o : Outcome n) → is_stored (ended tick o) ≡ is_stored o
 ended-stored tick out.Unset = refl

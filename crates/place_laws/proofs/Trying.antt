@@ -1,5 +1,5 @@
 -- How many line writes end, and how many are cancelled.
-use Rattle.std.proofs.Common.{◌≡◌, ℕ, ◌+◌, ◌*◌, ◌≤◌, ◌==◌, ◌&&◌, ◌||◌, not, Bool, true, false, List, [], ◌∷◌, Option, Some, None, length, length-append, refl, ap, ◌∙◌, arith, cond}
+use Rattle.std.proofs.Common.{◌≡◌, ℕ, ◌+◌, ◌*◌, ◌≤◌, ◌==◌, ◌&&◌, ◌||◌, not, Bool, true, false, List, [], ◌∷◌, Option, Some, None, length, length-append, refl, ap, ◌∙◌, arith, cond, eq-eqb}
 use Rattle.std.specs.Prelude.{nat_lt, nat_le, is_some}
 use Rattle.std.proofs.lemmas.Bool.{lt-leb}
 use Rattle.bank_shape.specs.declared.BankShape.{BankShape}
@@ -29,8 +29,8 @@ use Rattle.bank_shape.specs.Shape.{is_array}
 use Rattle.row_rules.specs.Ticking.{writings}
 use Rattle.bank_laws.proofs.Changing.{halted-stops}
 use Rattle.bank_laws.proofs.Waiting.{may_all}
-use Rattle.bank_laws.proofs.Fates.{eqb-same}
-use Rattle.place_laws.proofs.Counts.{one_if, stores_with}
+use Rattle.place_laws.proofs.Counts.{stores_with}
+use Rattle.masked_bytes.proofs.Counting.{one_if}
 use Rattle.place_laws.proofs.Working.{done-move}
 use Rattle.place_laws.proofs.Moves.{next_product, last_region, KeepsMoves, keeps}
 use Rattle.place_laws.proofs.Slots.{begin-retires_none, begin-exhausts_none}
@@ -94,7 +94,7 @@ module _ {n : ℕ} (shape : BankShape) where
   moved-none_due some h k =
       let own : ℕ = last_region shape h in
       let one : one_if (last_region shape h == last_region shape h) + moved_in shape.lines h (last_region shape h) + 1 ≡ moved_in shape.lines h (last_region shape h) + 1 + 1 =
-      omega (arith, ap one_if (eqb-same (last_region shape h))) in
+      omega (arith, ap one_if (eq-eqb (last_region shape h) (last_region shape h) refl)) in
       let near : stored_in shape.lines h (last_region shape h) ≤ shape.psi * (moved_in shape.lines h (last_region shape h) + 1) = k.near (last_region shape h) in
       let next : shape.psi * (moved_in shape.lines h (last_region shape h) + 1 + 1) ≡ shape.psi * (moved_in shape.lines h (last_region shape h) + 1) + shape.psi =
       next_product shape.psi (moved_in shape.lines h (last_region shape h) + 1) in

@@ -37,10 +37,11 @@ use Rattle.bank_laws.proofs.Serves.{idle-waits}
 use Rattle.bank_laws.proofs.Lines.{Stands}
 use Rattle.bank_laws.proofs.Waiting.{may_all}
 use Rattle.bank_laws.proofs.Asked.{asked-within, wrote-asked, wrote-line, queue-wrote}
-use Rattle.place_laws.proofs.Counts.{one_if}
+use Rattle.masked_bytes.proofs.Counting.{one_if}
 use Rattle.place_laws.proofs.Working.{IsStoreOf, done-store}
 use Rattle.place_laws.proofs.Moves.{some-due}
-use Rattle.place_laws.proofs.Slots.{slot_at-within, slot_moved-within, gap-within, begin-retires_none, begin-exhausts_none}
+use Rattle.place_laws.proofs.Slots.{slot_moved-within, gap-within, begin-retires_none, begin-exhausts_none}
+use Rattle.bank_shape.proofs.Sizes.{slot_at-within}
 use Rattle.place_laws.proofs.Owners.{owners, owners-some, worn-many}
 
 pub some_product : (a b : ℕ) → 1 ≤ a → 1 ≤ b → 0 < a * b

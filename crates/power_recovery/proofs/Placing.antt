@@ -1,7 +1,8 @@
 -- Slots and places of a bank by its registers: each within the bank, and no two alike.
 use Rattle.std.proofs.Common.{◌≡◌, ◌≢◌, ℕ, ◌+◌, ◌*◌, ◌/◌, ◌%◌, ◌<◌, ◌≤◌, inl, inr, sym, subst, ap, ◌∙◌, arith}
 use Rattle.std.proofs.lemmas.Bool.{cases_lt}
-use Rattle.std.proofs.lemmas.Nat.{mul-add-lt, mod_below, div_below, div-mul-add, mod-mul-add, div-add-mod'}
+use Rattle.std.proofs.lemmas.Nat.{mod_below, div_below, div-mul-add, mod-mul-add, div-add-mod'}
+use Rattle.bank_shape.proofs.Sizes.{slot_at-within}
 use Rattle.start_gap.specs.Rotation.{Rotation, IsRotation, StandsFor, place_by, place_after}
 use Rattle.start_gap.proofs.Turning.{place_by-before, place_by-behind, place-apart, place-off_gap, place-stands}
 use Rattle.region_regs.specs.Region.{RegionState}
@@ -18,12 +19,6 @@ place_by-within r line range =
       | inl before ↦ omega (arith, place_by-before r line before, turned)
       | inr behind ↦ omega (arith, place_by-behind r line behind, turned)
     ]
-
--- the slot of a place is one of the bank
-pub slot_at-within : (shape : BankShape) (region place : ℕ) → region < shape.regions → place ≤ shape.lines → slot_at shape region place < slots_of shape
-slot_at-within shape region place h k =
-    let below : slot_at shape region place < (shape.lines + 1) * shape.regions = mul-add-lt region (shape.lines + 1) place shape.regions h (omega arith) in
-    omega (arith, below)
 
 -- two places have one slot only where they are one
 pub slot_at-region : (shape : BankShape) (region place other at : ℕ) → place ≤ shape.lines → at ≤ shape.lines → slot_at shape region place ≡ slot_at shape other at → region ≡ other

@@ -2,7 +2,8 @@
 use Rattle.std.proofs.Common.{◌≡◌, ℕ, ◌+◌, ◌-◌, ◌*◌, ◌≤◌, inl, inr, List, [], ◌∷◌, ◌++◌, length, map, Some, refl, sym, ap, ◌∙◌, subst, arith, append_assoc, append-nil, length-append}
 use Rattle.std.specs.Prelude.{◌⊎◌, codes, reverse, slice_get, slice_index, unwrap_or, Ok}
 use Rattle.std.specs.List.{join_with_byte}
-use Rattle.std.proofs.lemmas.List.{append_cancel_left, get_or_at, length_push, reverse-append}
+use Rattle.std.proofs.lemmas.List.{append_cancel_left, get_or_at, length_push}
+use Rattle.masked_bytes.proofs.Lists.{turned}
 use Rattle.pcm_cells.specs.Device.{ArrayState}
 use Rattle.trace_reader.specs.Trace.{most_rows, trace_of}
 use Rattle.trace_reader.specs.declared.event.TraceEvent.{TraceEvent}
@@ -14,7 +15,7 @@ use Rattle.trace_gen.specs.declared.mix.Mix.{Mix}
 use Rattle.result_rows.specs.declared.Outcome.{Outcome}
 use Rattle.result_rows.specs.declared.Outcome.TheVariants.{Unset}
 use Rattle.row_rules.specs.declared.Row.{Row}
-use Rattle.row_verdict.specs.Verdicts.{rows_with}
+use Rattle.trace_rows.specs.Rows.{rows_with}
 use Rattle.row_verdict.specs.declared.Verdict.{Verdict}
 use Rattle.row_verdict.specs.declared.Verdict.TheVariants.{Yes}
 use Rattle.module_shape.specs.Limits.{total_of}
@@ -52,12 +53,9 @@ use Rattle.pcm_top.specs.declared.fault.Fault.TheVariants as fault
 use Rattle.pcm_top.specs.declared.run.Done.{Done}
 use Rattle.pcm_top.specs.declared.run.Done.TheVariants.{Whole}
 use Rattle.pcm_top.proofs.Deciding.{more-go, reads-told}
-use Rattle.program_laws.proofs.DrawnRuns.{some-lines}
+use Rattle.text_check.proofs.JudgedRuns.{some-lines}
 
 -- ---- the rows of a run, the oldest first
-
-turned : {A : Type 0} (x : A) (xs ys : List A) → reverse (x ∷ xs) ++ ys ≡ reverse xs ++ x ∷ ys
-turned x xs ys = ap (λ rows. rows ++ ys) (reverse-append (x ∷ []) xs) ∙ append_assoc (reverse xs) (x ∷ []) ys
 
 map-reverse : {A B : Type 0} (f : A → B) (xs ys : List A) → map f (reverse xs ++ ys) ≡ reverse (map f xs) ++ map f ys
 map-reverse f [] ys = refl
@@ -147,7 +145,7 @@ module _ (texts : GeneratedTextLaw) (sizes : GeneratedSizeLaw) (job : RunJob) (r
       is ∙ ap (λ (line : LineSize). trace_text (generated (bytes_in line) job.seed (total_of job.shape) mix)) (sym of) in
       record {
         reads =
-            ap (trace_of (bytes_in size) (total_of job.shape)) own ∙ texts (bytes_in size) job.seed (total_of job.shape) mix (some-lines job run.shape) run.shape.few_in_all mixed
+            ap (trace_of (bytes_in size) (total_of job.shape)) own ∙ texts (bytes_in size) job.seed (total_of job.shape) mix (some-lines job.shape run.shape) run.shape.few_in_all mixed
             ∙ ap (λ (events : List (TraceEvent (bytes_in size))). Ok events) (sym drawn);
         ended = subst EndsItsLine (sym own) (text-ends (generated (bytes_in size) job.seed (total_of job.shape) mix));
         short = omega (arith, ap length own, fits);
@@ -155,13 +153,13 @@ module _ (texts : GeneratedTextLaw) (sizes : GeneratedSizeLaw) (job : RunJob) (r
 
   fits-64 : (mix : Mix) → IsMix mix → length (trace_text (generated 64 job.seed (total_of job.shape) mix)) ≤ trace_room 64
   fits-64 mix mixed =
-      let size = sizes 64 job.seed (total_of job.shape) mix (some-lines job run.shape) run.shape.few_in_all mixed in
+      let size = sizes 64 job.seed (total_of job.shape) mix (some-lines job.shape run.shape) run.shape.few_in_all mixed in
       let few = mixed.few_rows in
       omega arith
 
   fits-128 : (mix : Mix) → IsMix mix → length (trace_text (generated 128 job.seed (total_of job.shape) mix)) ≤ trace_room 128
   fits-128 mix mixed =
-      let size = sizes 128 job.seed (total_of job.shape) mix (some-lines job run.shape) run.shape.few_in_all mixed in
+      let size = sizes 128 job.seed (total_of job.shape) mix (some-lines job.shape run.shape) run.shape.few_in_all mixed in
       let few = mixed.few_rows in
       omega arith
 
@@ -249,7 +247,7 @@ module _ (texts : GeneratedTextLaw) (sizes : GeneratedSizeLaw) (judges : JudgedR
       let Of : Print → Type 0 = λ p. IsRunText job.shape job.seed e events outcomes made.run.ends array p made.text in
       let printed : made.text ≡ results_text events outcomes = subst Of prints made.is_text in
       let same : results ≡ results_text events outcomes = append_cancel_left told results made.text (rw (before, now) at made.written) ∙ printed in
-      let few_rows = (trace_of-lawful n (total_of job.shape) trace events (some-lines job run.shape) whole.reads).1 in
+      let few_rows = (trace_of-lawful n (total_of job.shape) trace events (some-lines job.shape run.shape) whole.reads).1 in
       let size = short n m e job.shape job.seed trace events outcomes array made.run.ends one in
       record {
         judged = subst (λ (results : List ℕ). IsJudgedOk n e job.shape job.seed (trace ++ results)) (sym same) (judges n m e job.shape job.seed trace events outcomes array made.run.ends some one whole.ended);

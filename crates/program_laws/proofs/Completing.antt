@@ -27,7 +27,7 @@ use Rattle.pcm_top.specs.Rows.{rows_of}
 use Rattle.pcm_top.specs.Running.{done_by}
 use Rattle.program_laws.specs.Laws.{CompletenessLaw}
 use Rattle.pcm_top.specs.declared.run.Done.TheVariants.{Whole}
-use Rattle.program_laws.proofs.DrawnRuns.{some-lines}
+use Rattle.text_check.proofs.JudgedRuns.{some-lines}
 use Rattle.pcm_top.proofs.Printable.{lines-exist, row-of-event}
 
 all-fail : {n : ℕ} (test : Outcome n → Bool) (rows : List (Row n)) → list_any test (map (λ r. r.outcome) rows) ≡ false → All (λ r. test r.outcome ≡ false) rows
@@ -55,10 +55,10 @@ whole-by outcomes none = rw none refl
 lawful-input : (n : ℕ) (job : RunJob) (input : Input) (s : SourceChange) (events : List (TraceEvent n)) → GeneratedLaw → IsShape job.shape → IsInput input
     → ComeFrom n job input s events → AreEventsFor (total_of job.shape) 0 events
 lawful-input n job Source s events generates shape is come =
-    (trace_of-lawful n (total_of job.shape) come.bytes events (some-lines job shape) come.trace).0
+    (trace_of-lawful n (total_of job.shape) come.bytes events (some-lines job.shape shape) come.trace).0
 lawful-input n job (Drawn mix) s events generates shape is come =
     let From : List (TraceEvent n) → Type 0 = λ es. AreEventsFor (total_of job.shape) 0 es in
-    subst From (sym come.1) ((generates n job.seed (total_of job.shape) _ (some-lines job shape) shape.few_in_all is).lawful)
+    subst From (sym come.1) ((generates n job.seed (total_of job.shape) _ (some-lines job.shape shape) shape.few_in_all is).lawful)
 
 pub completeness : GeneratedLaw → NoneLostLaw → RoomIsTakenLaw → NoneShortLaw → CompletenessLaw
 completeness generates lost room short n m e job s array run is =

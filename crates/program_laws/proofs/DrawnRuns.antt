@@ -1,13 +1,14 @@
 -- That a run of drawn events is a run of their text.
-use Rattle.std.proofs.Common.{◌≡◌, ℕ, ◌*◌, ◌≤◌, List, length, refl, sym, subst, arith, rules}
+use Rattle.std.proofs.Common.{◌≡◌, ℕ, ◌≤◌, List, length, refl, sym, subst, arith}
 use Rattle.std.specs.Io.KnownBytes.{IsAtEnd}
+use Rattle.text_check.proofs.JudgedRuns.{some-lines}
 use Rattle.pcm_cells.specs.Device.{ArrayState}
 use Rattle.trace_reader.specs.declared.event.TraceEvent.{TraceEvent}
 use Rattle.trace_gen.specs.EventText.{trace_text}
 use Rattle.trace_gen.specs.Generated.{IsMix, generated}
 use Rattle.trace_gen.specs.Laws.{GeneratedSizeLaw, GeneratedTextLaw}
 use Rattle.trace_gen.specs.declared.mix.Mix.{Mix}
-use Rattle.module_shape.specs.Limits.{IsShape, total_of}
+use Rattle.module_shape.specs.Limits.{total_of}
 use Rattle.command_line.specs.Jobs.{IsInput, IsRun}
 use Rattle.command_line.specs.declared.job.RunJob.{RunJob}
 use Rattle.command_line.specs.declared.job.Input.{Input}
@@ -26,12 +27,6 @@ use Rattle.pcm_top.specs.declared.run.Done.{Done}
 input-mix : (input : Input) (mix : Mix) → input ≡ Drawn mix → IsInput input → IsMix mix
 input-mix input mix is has = subst IsInput is has
 
-pub some-lines : (job : RunJob) → IsShape job.shape → 1 ≤ total_of job.shape
-some-lines job shape = some_product job.shape.banks job.shape.regions job.shape.lines shape.some_banks shape.some_regions (omega (arith, shape.some_lines))
-  where
-    some_product : (a b c : ℕ) → 1 ≤ a → 1 ≤ b → 1 ≤ c → 1 ≤ a * b * c
-    some_product a b c x y z = search rules
-
 module _ (texts : GeneratedTextLaw) (sizes : GeneratedSizeLaw) (job : RunJob) (mix : Mix) (run : IsRun job) (draws : job.input ≡ Drawn mix) (read : SourceChange) (ended : IsAtEnd read.left_now) where
   -- the text of the drawn events over lines of n bytes
   abbrev text_of : ℕ → List ℕ
@@ -49,18 +44,18 @@ module _ (texts : GeneratedTextLaw) (sizes : GeneratedSizeLaw) (job : RunJob) (m
       record {
         bytes = text_of n;
         whole = record { takes = takes; ended = ended; within = fits };
-        trace = rw is (texts n job.seed (total_of job.shape) mix (some-lines job run.shape) run.shape.few_in_all mixed);
+        trace = rw is (texts n job.seed (total_of job.shape) mix (some-lines job.shape run.shape) run.shape.few_in_all mixed);
       }
 
   short-64 : length (text_of 64) ≤ trace_room 64
   short-64 =
-      let size = sizes 64 job.seed (total_of job.shape) mix (some-lines job run.shape) run.shape.few_in_all mixed in
+      let size = sizes 64 job.seed (total_of job.shape) mix (some-lines job.shape run.shape) run.shape.few_in_all mixed in
       let few = mixed.few_rows in
       omega arith
 
   short-128 : length (text_of 128) ≤ trace_room 128
   short-128 =
-      let size = sizes 128 job.seed (total_of job.shape) mix (some-lines job run.shape) run.shape.few_in_all mixed in
+      let size = sizes 128 job.seed (total_of job.shape) mix (some-lines job.shape run.shape) run.shape.few_in_all mixed in
       let few = mixed.few_rows in
       omega arith
 

@@ -18,7 +18,8 @@ use Rattle.bank_shape.specs.declared.pace.Pace.{Pace}
 use Rattle.bank_model.specs.Timing.{Happens, Core, Regs, TimedEvent, core, core_of, last_tick}
 use Rattle.bank_model.specs.Lawful.{Lawful, MayCome}
 use Rattle.bank_laws.specs.Outcomes.{outcome_of, ended, row_with, rows_from}
-use Rattle.bank_laws.proofs.Settling.{opens, lawful_before, stays, rows_below-more}
+use Rattle.bank_laws.proofs.Settling.{opens, lawful_before, stays}
+use Rattle.bank_model.proofs.Rising.{RowsBelow-more}
 use Rattle.bank_laws.proofs.Walking.{rows_after}
 use Rattle.bank_laws.proofs.Ending.{Onwards, accepting, write_outcome, outcome-accepts}
 use Rattle.bank_laws.proofs.Serves.{onwards_at}
@@ -55,8 +56,8 @@ rows_before [] now bound b = b
 rows_before {n} {m} (x ∷ mid) now bound b = by x.happens (λ bound b. rows_before mid now bound b) b
   where
     by : (h : Happens n) → ((bound : ℕ) → RowsBelow (core (mid ++ now)) bound → RowsBelow (core now) bound) → RowsBelow (core_of h (core (mid ++ now))) bound → RowsBelow (core now) bound
-    by (Core (Write at line bytes given answer)) go b = rows_below-more (core now) at bound (omega (arith, b.0)) (go at b.1)
-    by (Core (Read at line answer)) go b = rows_below-more (core now) at bound (omega (arith, b.0)) (go at b.1)
+    by (Core (Write at line bytes given answer)) go b = RowsBelow-more (core now) at bound (omega (arith, b.0)) (go at b.1)
+    by (Core (Read at line answer)) go b = RowsBelow-more (core now) at bound (omega (arith, b.0)) (go at b.1)
     by (Core (Serve answer)) go b = go bound b
     by (Regs event) go b = go bound b
     by (Core (Begin answer)) go b = go bound b

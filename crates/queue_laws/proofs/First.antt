@@ -1,5 +1,5 @@
 -- First in, first out: while the head of the queue stands, no other row is stored.
-use Rattle.std.proofs.Common.{◌≡◌, ◌≢◌, ℕ, ◌≤◌, ◌==◌, ◌⊎◌, inl, inr, Bool, true, false, List, [], ◌∷◌, ◌++◌, Option, Some, None, refl, sym, ap, ◌∙◌, subst, arith, cond, eqb, eqb-true}
+use Rattle.std.proofs.Common.{◌≡◌, ◌≢◌, ℕ, ◌≤◌, ◌==◌, ◌⊎◌, inl, inr, Bool, true, false, List, [], ◌∷◌, ◌++◌, Option, Some, None, refl, sym, ap, ◌∙◌, subst, arith, cond, eqb, eqb-true, eq-eqb}
 use Rattle.std.specs.Prelude.{unwrap_or}
 use Rattle.result_rows.specs.declared.Outcome.{Outcome}
 use Rattle.result_rows.specs.declared.Outcome.TheVariants as out
@@ -19,7 +19,6 @@ use Rattle.bank_laws.specs.Ticks.{ends_action}
 use Rattle.bank_laws.specs.Outcomes.{on_row, outcome_with, outcome_of}
 use Rattle.bank_laws.proofs.Ticks.{last_tick-rises}
 use Rattle.bank_laws.proofs.Answering.{IsHead, stored-head}
-use Rattle.bank_laws.proofs.Pairs.{eqb-same}
 use Rattle.bank_laws.proofs.Settling.{opens, step_stays}
 use Rattle.bank_laws.proofs.Wears.{not_stored, lost_not_stored, stored_tick, stored_by}
 
@@ -38,7 +37,7 @@ module _ {n : ℕ} where
   head-kept old new bytes given (e ∷ es) row ne h = by (eqb e.row old) refl
     where
       by : (b : Bool) → eqb e.row old ≡ b → IsHead (cond b (laid_on new bytes given e ∷ es) (e ∷ merged old new bytes given es)) row
-      by true is = absurd (cc (ne, subst (λ r. (old == r) ≡ true) (sym (h ∙ eqb-true e.row old is)) (eqb-same old)))
+      by true is = absurd (cc (ne, subst (λ r. (old == r) ≡ true) (sym (h ∙ eqb-true e.row old is)) (eq-eqb old old refl)))
       by false is = h
 
   -- a row left the queue at a tick: it was stored then, or merged
@@ -87,7 +86,7 @@ module _ {n m : ℕ} (shape : BankShape) (pace : Pace) (e : ℕ) (now : List (Ti
   stored_first zs tick at place head [] here h none = absurd h
   stored_first zs tick at place head (f ∷ es) here h none = (
     tick,
-    inr (place, ap (λ b. unwrap_or (cond b (Some (out.Stored tick place)) None) (outcome_of shape zs head)) (subst (λ r. (at == r) ≡ true) (here ∙ sym h) (eqb-same at))),
+    inr (place, ap (λ b. unwrap_or (cond b (Some (out.Stored tick place)) None) (outcome_of shape zs head)) (subst (λ r. (at == r) ≡ true) (here ∙ sym h) (eq-eqb at at refl))),
     omega arith,
     λ row u p unset s. by row u p unset (stored_tick at row tick place (outcome_of shape zs row) u p s),
   )

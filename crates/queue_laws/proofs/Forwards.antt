@@ -25,7 +25,8 @@ use Rattle.bank_laws.specs.Outcomes.{outcome_of, row_with, rows_from}
 use Rattle.bank_laws.specs.RowLaws.{waits_fit}
 use Rattle.bank_laws.specs.Ticks.{ends_action}
 use Rattle.bank_laws.proofs.Ticks.{last_tick-rises}
-use Rattle.bank_laws.proofs.Settling.{lawful_before, rows_below-more}
+use Rattle.bank_laws.proofs.Settling.{lawful_before}
+use Rattle.bank_model.proofs.Rising.{RowsBelow-more}
 use Rattle.bank_laws.proofs.Pairs.{AllLong, keeps_pairs}
 use Rattle.bank_laws.proofs.Fates.{IsSettled, awaits-new}
 use Rattle.bank_laws.proofs.Walking.{Passes, walk, rows_after}
@@ -106,8 +107,8 @@ one_down : {n m : ℕ} (x : TimedEvent n m) (ys : List (TimedEvent n m)) (bound 
 one_down {n} x ys bound b = by x.happens b
   where
     by : (h : Happens n) → RowsBelow (core_of h (core ys)) bound → RowsBelow (core ys) bound
-    by (Core (Write at line bytes given answer)) b = rows_below-more (core ys) at bound (omega (arith, b.0)) b.1
-    by (Core (Read at line answer)) b = rows_below-more (core ys) at bound (omega (arith, b.0)) b.1
+    by (Core (Write at line bytes given answer)) b = RowsBelow-more (core ys) at bound (omega (arith, b.0)) b.1
+    by (Core (Read at line answer)) b = RowsBelow-more (core ys) at bound (omega (arith, b.0)) b.1
     by (Core (Serve answer)) b = b
     by (Regs event) b = b
     by (Core (Begin answer)) b = b

@@ -24,7 +24,6 @@ use Rattle.bank_laws.specs.Ticks.{ends_action}
 use Rattle.bank_laws.proofs.Ticks.{last_tick-rises}
 use Rattle.bank_laws.proofs.Answering.{IsHead, stored-head}
 use Rattle.bank_laws.proofs.Settling.{opens, step_stays}
-use Rattle.bank_laws.proofs.Pairs.{eqb-same}
 use Rattle.bank_laws.proofs.Walking.{rows_after}
 use Rattle.bank_laws.proofs.Wears.{stored_by, stored_tick}
 use Rattle.bank_laws.proofs.Lines.{Stands}
@@ -202,7 +201,7 @@ module _ {n m : ℕ} (shape : BankShape) (pace : Pace) (e : ℕ) (now : List (Ti
         by (inr s) = absurd (none row u p unset s)
 
     own_stored : (at place : ℕ) → unwrap_or (on_row at at (out.Stored x.tick place)) (outcome_of shape zs at) ≡ out.Stored x.tick place
-    own_stored at place = ap (λ b. unwrap_or (cond b (Some (out.Stored x.tick place)) None) (outcome_of shape zs at)) (eqb-same at)
+    own_stored at place = ap (λ b. unwrap_or (cond b (Some (out.Stored x.tick place)) None) (outcome_of shape zs at)) (eq-eqb at at refl)
 
     line_head : (h : Happens n) → MayCome shape pace e zs x h → (ends_action h ≡ true → t < x.tick) → HasHead line (queue shape (core zs)) → NoneStored shape now (outcome_of shape zs) → LineFirstBy shape now t line zs x.tick h
     line_head (Core (Write at k bytes given wrote.Accepted)) may above head none = on (Core (Write at k bytes given wrote.Accepted)) tt none (line-pushed (queue shape (core zs)) _ line head)

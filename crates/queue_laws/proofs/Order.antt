@@ -1,5 +1,5 @@
 -- Entries of one line stand in the order of their rows and of their ticks, and a busy head came before the last tick.
-use Rattle.std.proofs.Common.{◌≡◌, ℕ, ◌<◌, ◌≤◌, ◌==◌, ◌&&◌, ◌⊎◌, inl, inr, not, Bool, true, false, List, [], ◌∷◌, ◌++◌, Option, Some, None, drop, refl, sym, ap, ◌∙◌, subst, arith, cond, eqb, eqb-true}
+use Rattle.std.proofs.Common.{◌≡◌, ℕ, ◌<◌, ◌≤◌, ◌==◌, ◌&&◌, ◌⊎◌, inl, inr, not, Bool, true, false, List, [], ◌∷◌, ◌++◌, Option, Some, None, drop, refl, sym, ap, ◌∙◌, subst, arith, cond, eqb, eqb-true, eq-eqb}
 use Rattle.std.proofs.lemmas.Bool.{or_left, or_right, and_from}
 use Rattle.masked_bytes.proofs.Truth.{and_first, and_second, or_rest}
 use Rattle.masked_bytes.specs.declared.entry.Entry.{Entry}
@@ -25,7 +25,7 @@ use Rattle.bank_laws.proofs.Entries.{either, differ_back}
 use Rattle.bank_laws.proofs.Standing.{stand_apart}
 use Rattle.bank_laws.proofs.Ticks.{last_tick-rises, last-below}
 use Rattle.bank_laws.proofs.Answering.{newest_row-there, merged-there}
-use Rattle.bank_laws.proofs.Pairs.{HeadFull, HasWork, KeepsPairs, keeps_pairs, busy-full, no_candidate-head, accepted-none, eqb-same}
+use Rattle.bank_laws.proofs.Pairs.{HeadFull, HasWork, KeepsPairs, keeps_pairs, busy-full, no_candidate-head, accepted-none}
 use Rattle.bank_laws.proofs.Lines.{Stands, stands-row, stands-line, newest-line, merged-candidate}
 use Rattle.bank_laws.proofs.Asked.{pushed-stands, merged-stands}
 use Rattle.bank_laws.proofs.Counting.{among, Falling}
@@ -62,7 +62,7 @@ module _ {n : ℕ} where
   leads-same f g (e ∷ es) same l =
       λ row s.
       let k = l row s in
-      let own : f e.row ≡ g e.row = same e.row (or_left (e.row == e.row) _ (eqb-same e.row)) in
+      let own : f e.row ≡ g e.row = same e.row (or_left (e.row == e.row) _ (eq-eqb e.row e.row refl)) in
       let other : f row ≡ g row = same row (or_right (e.row == row) _ (stands-row es row e.line s)) in
       (k.0, omega (arith, k.1, own, other))
 
@@ -115,7 +115,7 @@ module _ {n : ℕ} where
           subst (λ b. Leads f (cond b (laid_on new bytes given e ∷ es) (e ∷ merged old new bytes given es))) (sym (behind e es line old apart new_is))
           (λ row s. rest row (merged-stands old new bytes given es row e.line s))
       by (inr own) =
-          subst (λ b. Leads f (cond b (laid_on new bytes given e ∷ es) (e ∷ merged old new bytes given es))) (sym (subst (λ r. (e.row == r) ≡ true) own.1 (eqb-same e.row)))
+          subst (λ b. Leads f (cond b (laid_on new bytes given e ∷ es) (e ∷ merged old new bytes given es))) (sym (subst (λ r. (e.row == r) ≡ true) own.1 (eq-eqb e.row e.row refl)))
           (λ row s. absurd (cc (stands-line es row e.line s, subst (λ k. has_line es k ≡ false) (sym own.2) (newest-line es line own.0))))
 
   head-merged : (f : ℕ → ℕ) (bound old new line : ℕ) (bytes : List ℕ) (given : List Bool) (es : List (Entry n)) → RowsApart es → candidate true es line ≡ Some old → HeadBefore f bound es → HeadBefore f bound (merged old new bytes given es)
@@ -147,7 +147,7 @@ module _ {n : ℕ} where
   head-more : (f g : ℕ → ℕ) (a b : ℕ) (es : List (Entry n)) → a ≤ b → ((row : ℕ) → has_row es row ≡ true → f row ≡ g row) → HeadBefore g a es → HeadBefore f b es
   head-more f g a b [] le same h = tt
   head-more f g a b (e ∷ es) le same h =
-      let own : f e.row ≡ g e.row = same e.row (or_left (e.row == e.row) _ (eqb-same e.row)) in omega (arith, own, le, h)
+      let own : f e.row ≡ g e.row = same e.row (or_left (e.row == e.row) _ (eq-eqb e.row e.row refl)) in omega (arith, own, le, h)
 
   head-push : (f : ℕ → ℕ) (bound : ℕ) (es : List (Entry n)) (x : Entry n) → HeadFull es → HeadBefore f bound es → HeadBefore f bound (es ++ x ∷ [])
   head-push f bound [] x full h = absurd full
@@ -260,15 +260,15 @@ module _ {n m : ℕ} (shape : BankShape) (pace : Pace) (e : ℕ) where
     came_before at line bytes given answer may row there = below_among (writes_in zs) at row (writes-fall zs at may.asked) (queue-asked shape zs row there)
 
     own_tick : (at old : ℕ) → cond (eqb at at) x.tick old ≡ x.tick
-    own_tick at old = ap (λ b. cond b x.tick old) (eqb-same at)
+    own_tick at old = ap (λ b. cond b x.tick old) (eq-eqb at at refl)
 
     new_behind : (at line : ℕ) (bytes : List ℕ) (given : List Bool) → MayCome shape pace e zs x (Core (Write at line bytes given wrote.Accepted)) → (head : Entry n) (rest : List (Entry n)) → queue shape (core zs) ≡ head ∷ rest
         → line ≡ head.line → (head.row < at) × (cond (eqb at head.row) x.tick (tick_of_row head.row zs) < cond (eqb at at) x.tick (tick_of_row at zs))
     new_behind at line bytes given may head rest is same =
-        let there : has_row (queue shape (core zs)) head.row ≡ true = subst (λ (es : List (Entry n)). has_row es head.row ≡ true) (sym is) (or_left (head.row == head.row) _ (eqb-same head.row)) in
+        let there : has_row (queue shape (core zs)) head.row ≡ true = subst (λ (es : List (Entry n)). has_row es head.row ≡ true) (sym is) (or_left (head.row == head.row) _ (eq-eqb head.row head.row refl)) in
         let none : candidate (head_busy_after shape (core zs)) (head ∷ rest) line ≡ None =
         subst (λ (es : List (Entry n)). candidate (head_busy_after shape (core zs)) es line ≡ None) is (accepted-none shape (core zs) line may.may.2) in
-        let busy : head_busy_after shape (core zs) ≡ true = no_candidate-head (head_busy_after shape (core zs)) head rest line none (subst (λ k. (line == k) ≡ true) same (eqb-same line)) in
+        let busy : head_busy_after shape (core zs) ≡ true = no_candidate-head (head_busy_after shape (core zs)) head rest line none (subst (λ k. (line == k) ≡ true) same (eq-eqb line line refl)) in
         let before : tick_of_row head.row zs < last_tick zs = subst (λ (es : List (Entry n)). HeadBefore (λ row. tick_of_row row zs) (last_tick zs) es) is (o.busy busy) in
         let own : cond (eqb at head.row) x.tick (tick_of_row head.row zs) ≡ tick_of_row head.row zs = kept (Core (Write at line bytes given wrote.Accepted)) may head.row there in
         let new : cond (eqb at at) x.tick (tick_of_row at zs) ≡ x.tick = own_tick at (tick_of_row at zs) in

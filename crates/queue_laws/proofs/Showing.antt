@@ -8,7 +8,7 @@ use Rattle.masked_bytes.specs.Entries.{RowsApart, has_row, merged, laid_on, newe
 use Rattle.masked_bytes.proofs.Layering.{joined-none_right, gives_all-all_given}
 use Rattle.bank_model.specs.History.{begun}
 use Rattle.bank_laws.specs.Pairs.{has_line, LinesApart, ArePaired}
-use Rattle.bank_laws.proofs.Pairs.{AllLong, gives_all-joined, eqb-same}
+use Rattle.bank_laws.proofs.Pairs.{AllLong, gives_all-joined}
 use Rattle.bank_laws.proofs.Lines.{Stands, stands-row, stands-line, newest-line, newest-stands}
 use Rattle.queue_laws.proofs.Order.{MergesInto, merges_into, behind}
 use Rattle.bank_laws.proofs.Given.{given_of, length-given, given-lacks, given-other, given-alone, given-push, given-push_other, given-merged, given-merged_other}
@@ -61,7 +61,7 @@ module _ {n : ℕ} where
     tails-push [] x l r g is below f = ((λ own. sym (ap (λ k. t (suc k)) r ∙ last)), tt)
     tails-push (e ∷ es) x l r g is below f = (
       (λ own.
-          let lt : e.row < at = below e.row (or_left (e.row == e.row) _ (eqb-same e.row)) in
+          let lt : e.row < at = below e.row (or_left (e.row == e.row) _ (eq-eqb e.row e.row refl)) in
           given-push es x line l.1 (ap length g ∙ long) is ∙ ap (λ k. joined x.given k) (f.0 own) ∙ ap (λ k. joined k (s (suc e.row))) g ∙ sym (joins (suc e.row) (omega (arith, lt)))),
       tails-push es x l.1 r g is (λ row there. below row (or_right (e.row == row) _ there)) f.1,
     )
@@ -94,7 +94,7 @@ module _ {n : ℕ} where
         by (newest_row es line) refl (λ k. tails-merged old bytes es apart.1 l.1 k (λ row there. below row (or_right (e.row == row) _ there)) f.1) new
       where
         lt : e.row < at
-        lt = below e.row (or_left (e.row == e.row) _ (eqb-same e.row))
+        lt = below e.row (or_left (e.row == e.row) _ (eq-eqb e.row e.row refl))
 
         own : (b : Bool) → eqb e.line line ≡ b → newest_row es line ≡ None → cond b (Some e.row) None ≡ Some old → Tails t line (merged old at bytes given (e ∷ es))
         own true is none h =

@@ -1,5 +1,5 @@
 -- The writes that a row finds are those that stand in the queue, at any tick up to the next end of an action.
-use Rattle.std.proofs.Common.{◌≡◌, ◌≢◌, ℕ, ◌≤◌, ◌==◌, inl, Bool, true, false, List, [], ◌∷◌, ◌++◌, refl, sym, ap, ◌∙◌, subst, cond, append_assoc}
+use Rattle.std.proofs.Common.{◌≡◌, ◌≢◌, ℕ, ◌≤◌, ◌==◌, inl, Bool, true, false, List, [], ◌∷◌, ◌++◌, refl, sym, ap, ◌∙◌, subst, cond, append_assoc, eq-eqb}
 use Rattle.std.proofs.lemmas.Bool.{or_left}
 use Rattle.std.specs.Prelude.{unwrap_or}
 use Rattle.std.specs.List.{list_any}
@@ -18,7 +18,6 @@ use Rattle.bank_model.specs.Told.{tick_by, tick_of_row}
 use Rattle.bank_model.specs.Lawful.{Lawful, MayCome}
 use Rattle.bank_laws.specs.Outcomes.{outcome_with, outcome_of, ended, row_with, rows_from}
 use Rattle.bank_laws.proofs.Settling.{opens, above_all, lawful_before, stays}
-use Rattle.bank_laws.proofs.Pairs.{eqb-same}
 use Rattle.bank_laws.proofs.Walking.{rows_after, rows_after-more}
 use Rattle.bank_laws.proofs.Ending.{Onwards, accepting, write_outcome, outcome-accepts}
 use Rattle.bank_laws.proofs.Serves.{onwards_at}
@@ -79,7 +78,7 @@ module _ {n m : ℕ} (shape : BankShape) (pace : Pace) (e : ℕ) (all later now 
         cond_each (λ w. IsEntry shape all now w) (has_row (queue shape (core now)) at) _ (stood ys)
             (λ stands. record {
               there = own stands (accepting answer) refl;
-              came = sym (ticks at (or_left (at == at) _ (eqb-same at)) ∙ ap (λ b. cond b z.tick (tick_of_row at ys)) (eqb-same at));
+              came = sym (ticks at (or_left (at == at) _ (eq-eqb at at refl)) ∙ ap (λ b. cond b z.tick (tick_of_row at ys)) (eq-eqb at at refl));
               fate = refl;
             })
             each,

@@ -3,6 +3,7 @@ use Rattle.std.proofs.Common.{◌≡◌, ℕ, ◌==◌, ◌&&◌, ◌||◌, not,
 use Rattle.std.proofs.lemmas.Bool.{and_from}
 use Rattle.masked_bytes.proofs.Truth.{and_first, and_second}
 use Rattle.std.specs.Prelude.{nat_le, filter}
+use Rattle.row_rules.proofs.Passing.{passes_both}
 use Rattle.masked_bytes.specs.Masked.{gives_all}
 use Rattle.row_rules.specs.declared.Asks.{Asks}
 use Rattle.row_rules.specs.declared.Asks.TheVariants.{Reads, Writes, Cuts}
@@ -26,13 +27,6 @@ either_way true b c h k = and_from b c h k
 either_way false b c h k = h
 
 module _ {n : ℕ} where
-  -- two tests of each row
-  each-both : (p q : RowTest n) (rows after : List (Row n)) → each_row p rows after ≡ true → each_row q rows after ≡ true → each_row (λ before r after. p before r after && q before r after) rows after ≡ true
-  each-both p q [] after h k = h
-  each-both p q (r ∷ before) after h k =
-      and_from (p before r after && q before r after) _ (and_from (p before r after) (q before r after) (and_first (p before r after) _ h) (and_first (q before r after) _ k))
-      (each-both p q before (r ∷ after) (and_second (p before r after) _ h) (and_second (q before r after) _ k))
-
   each-weaker : (p q : RowTest n) (rows after : List (Row n)) → ((before : List (Row n)) (r : Row n) (after : List (Row n)) → p before r after ≡ true → q before r after ≡ true) → each_row p rows after ≡ true → each_row q rows after ≡ true
   each-weaker p q [] after weaker h = h
   each-weaker p q (r ∷ before) after weaker h =
@@ -73,6 +67,6 @@ module _ {n : ℕ} where
 pub queue_fair_law : QueueFairLaw
 queue_fair_law n m e shape pace xs sized l idle =
     each-weaker (all_tests (rules_of e shape pace)) (is_queue_fair (rules_of e shape pace)) (table_of shape xs) [] (fair (rules_of e shape pace))
-    (each-both _ _ (table_of shape xs) [] (each-both (is_room_fair shape.writes) (is_wait_fair shape.reads) (table_of shape xs) [] (queue_law n m e shape pace xs sized l) (wait_law n m e shape pace xs sized l idle))
-    (each-both _ _ (table_of shape xs) [] (each-both is_merge_fair finds_pairs_few (table_of shape xs) [] (merge_law n m e shape pace xs l) (pairs_few_law n m e shape pace xs sized l idle))
-    (each-both is_refusal_fair (is_forward_fair shape.reads) (table_of shape xs) [] (refusal_law n m e shape pace xs sized l idle) (forward_law n m e shape pace xs sized l idle))))
+    (passes_both _ _ (table_of shape xs) [] (passes_both (is_room_fair shape.writes) (is_wait_fair shape.reads) (table_of shape xs) [] (queue_law n m e shape pace xs sized l) (wait_law n m e shape pace xs sized l idle))
+    (passes_both _ _ (table_of shape xs) [] (passes_both is_merge_fair finds_pairs_few (table_of shape xs) [] (merge_law n m e shape pace xs l) (pairs_few_law n m e shape pace xs sized l idle))
+    (passes_both is_refusal_fair (is_forward_fair shape.reads) (table_of shape xs) [] (refusal_law n m e shape pace xs sized l idle) (forward_law n m e shape pace xs sized l idle))))

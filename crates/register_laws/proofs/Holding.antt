@@ -1,21 +1,17 @@
 -- What the change that stands, and the control lines behind it, hold of an item.
-use Rattle.std.proofs.Common.{◌≡◌, ◌≢◌, ℕ, ◌+◌, ◌<◌, ◌≤◌, Bool, true, false, eqb, List, Option, Some, None, refl, sym, ap, ◌∙◌, arith, eqb-true, eq-eqb}
+use Rattle.std.proofs.Common.{◌≡◌, ◌≢◌, ℕ, ◌+◌, ◌<◌, Bool, true, false, eqb, List, Option, Some, None, refl, sym, ap, ◌∙◌, arith, eqb-true, eq-eqb}
 use Rattle.std.specs.Prelude.{IfSome}
 use Rattle.std.proofs.lemmas.Bool.{eqb-false}
+use Rattle.bank_shape.proofs.Sizes.{if_array-le}
 use Rattle.pcm_cells.specs.Device.{ArrayState, LineState}
 use Rattle.ecp_line.specs.Reading.{decode}
-use Rattle.bank_shape.specs.declared.Home.{Home}
 use Rattle.bank_shape.specs.declared.Home.TheVariants as home
 use Rattle.bank_shape.specs.declared.BankShape.{BankShape}
-use Rattle.bank_shape.specs.Shape.{if_array, controls_of}
+use Rattle.bank_shape.specs.Shape.{controls_of}
 use Rattle.reg_lines.specs.declared.Change.{Change}
 use Rattle.reg_lines.specs.Values.{values_in}
 use Rattle.reg_lines.specs.Regs.{RegsState, values_by}
 use Rattle.register_laws.specs.Items.{items_of}
-
-if_array-le : (h : Home) (count : ℕ) → if_array h count ≤ count
-if_array-le home.Guarded count = omega arith
-if_array-le home.Array count = omega arith
 
 -- there are no more control lines than items
 pub controls-items : (shape : BankShape) (item : ℕ) → item < controls_of shape → item < items_of shape

@@ -4,8 +4,9 @@ use Rattle.std.specs.Prelude.{All}
 use Rattle.std.proofs.lemmas.Bool.{le-leb, lt-ltb}
 use Rattle.std.proofs.lemmas.List.{length-replicate}
 use Rattle.std.proofs.lemmas.List.Elements.{All-tail, All-cons}
+use Rattle.trace_reader.proofs.Lawful.{lawful-first}
 use Rattle.masked_bytes.proofs.Queueing.{some_same}
-use Rattle.trace_reader.specs.Events.{AreEventsFor, IsEventFor, IsOpFor}
+use Rattle.trace_reader.specs.Events.{AreEventsFor, IsOpFor}
 use Rattle.trace_reader.specs.declared.event.TraceEvent.{TraceEvent}
 use Rattle.trace_reader.specs.declared.event.TraceOp.{TraceOp}
 use Rattle.trace_reader.specs.declared.event.TraceOp.TheVariants.{Read, Write, Mask, Cut}
@@ -13,26 +14,16 @@ use Rattle.result_rows.specs.declared.Outcome.{Outcome}
 use Rattle.result_rows.specs.declared.Outcome.TheVariants as out
 use Rattle.row_rules.specs.declared.Row.{Row}
 use Rattle.row_rules.specs.Rows.{asks_write, given_of}
+use Rattle.trace_rows.proofs.Lines.{of-lines}
 use Rattle.row_judging.specs.Keys.{reach}
 use Rattle.row_judging.specs.Rising.{rising}
 use Rattle.row_judging.specs.Runs.{GivesSized}
 use Rattle.row_verdict.specs.Fitting.{is_brief, all_brief}
-use Rattle.row_verdict.specs.Verdicts.{asks_of, rows_with}
+use Rattle.trace_rows.specs.Rows.{rows_with, asks_of, row_of}
 use Rattle.row_rules.specs.declared.Rules.{Rules}
 use Rattle.result_check.specs.Checkable.{IsTimed, IsCheckable}
-use Rattle.result_check.specs.Finding.{IsBelow, row_of}
 use Rattle.result_check.specs.Tables.{IsTable, IsRowOf}
 use Rattle.result_check.proofs.Finding.{rows_length}
-
-lawful_first : {n : ℕ} (lines before : ℕ) (event : TraceEvent n) (rest : List (TraceEvent n)) → AreEventsFor lines before (event ∷ rest) → IsEventFor lines before event × AreEventsFor lines event.tick rest
-unfolding AreEventsFor
-lawful_first lines before event rest h = h
-
-op_below : {n : ℕ} (lines : ℕ) (op : TraceOp n) → IsOpFor lines op → IsBelow lines (asks_of op)
-op_below lines (Read line) h = h
-op_below lines (Write line bytes) h = h.0
-op_below lines (Mask line bytes given) h = h.0
-op_below lines Cut h = h
 
 op_sized : {n : ℕ} (lines : ℕ) (op : TraceOp n) → IsOpFor lines op → asks_write (asks_of op) ≡ true → length (given_of (asks_of op)) ≡ n
 op_sized lines (Read line) h is = absurd (cc)
@@ -57,7 +48,7 @@ rises_from : {n : ℕ} (lines before : ℕ) (events : List (TraceEvent n)) (outc
 rises_from lines before [] outcomes h = refl
 rises_from lines before (e ∷ events) [] h = refl
 rises_from lines before (e ∷ events) (o ∷ outcomes) h =
-    let f = lawful_first lines before e events h in
+    let f = lawful-first lines before e events h in
     ap (λ b. b && rising e.tick (rows_with events outcomes)) (le-leb before e.tick f.0.rises) ∙ rises_from lines e.tick events outcomes f.1
 
 brief_all : {n : ℕ} (events : List (TraceEvent n)) (outcomes : List (Outcome n)) → All (λ o. IsTimed o) outcomes → all_brief (rows_with events outcomes) ≡ true
@@ -70,16 +61,16 @@ sized_all : {n : ℕ} (lines before : ℕ) (events : List (TraceEvent n)) (outco
 sized_all lines before [] outcomes h = λ i d lt. absurd (omega (arith, lt))
 sized_all lines before (e ∷ events) [] h = λ i d lt. absurd (omega (arith, lt))
 sized_all {n} lines before (e ∷ events) (o ∷ outcomes) h =
-    let f = lawful_first lines before e events h in
+    let f = lawful-first lines before e events h in
     All-cons (λ (r : Row n). GivesSized r) (row_of e o) (rows_with events outcomes) (op_sized lines e.op f.0.op) (sized_all lines e.tick events outcomes f.1)
 
 each_all : {n : ℕ} (lines before : ℕ) (events : List (TraceEvent n)) (outcomes : List (Outcome n)) → AreEventsFor lines before events → All (λ r. IsRowOf lines r) (rows_with events outcomes)
 each_all lines before [] outcomes h = λ i d lt. absurd (omega (arith, lt))
 each_all lines before (e ∷ events) [] h = λ i d lt. absurd (omega (arith, lt))
 each_all {n} lines before (e ∷ events) (o ∷ outcomes) h =
-    let f = lawful_first lines before e events h in
+    let f = lawful-first lines before e events h in
     let late = f.0.in_time in
-    All-cons (λ (r : Row n). IsRowOf lines r) (row_of e o) (rows_with events outcomes) (record { line = op_below lines e.op f.0.op; reached = omega (arith, late) }) (each_all lines e.tick events outcomes f.1)
+    All-cons (λ (r : Row n). IsRowOf lines r) (row_of e o) (rows_with events outcomes) (record { line = of-lines lines e.op f.0.op; reached = omega (arith, late) }) (each_all lines e.tick events outcomes f.1)
 
 pub table_of : {n : ℕ} (events : List (TraceEvent n)) (outcomes : List (Outcome n)) (banks : List ℕ) (rules : Rules) → IsCheckable events outcomes banks rules → IsTable (length banks) (rows_with events outcomes)
 table_of events outcomes banks rules h = record {

@@ -9,9 +9,9 @@ use Rattle.row_rules.specs.declared.Row.{Row}
 use Rattle.row_rules.specs.Rows.{asks_read, asks_write, is_cut, line_of}
 use Rattle.row_judging.specs.Cutting.{cut_ticks}
 use Rattle.row_judging.specs.Keys.{key, store_key, store_keys, read_key, read_keys}
-use Rattle.row_verdict.specs.Verdicts.{bank_in, rows_with}
+use Rattle.row_verdict.specs.Verdicts.{bank_in}
+use Rattle.trace_rows.specs.Rows.{rows_with, row_of}
 use Rattle.result_check.specs.declared.found.Found.{Found}
-use Rattle.result_check.specs.Finding.{row_of}
 
 -- the rows of the events from an index on begin with that of the one there
 pub rows_next : {n : ℕ} (events : List (TraceEvent n)) (outcomes : List (Outcome n)) (i : ℕ) (event : TraceEvent n) (outcome : Outcome n)

@@ -1,5 +1,5 @@
 -- A list with another value at one index.
-use Rattle.std.proofs.Common.{◌≡◌, ℕ, zero, suc, ◌<◌, List, [], ◌∷◌, length, Some, get_or, refl, sym, ap, arith}
+use Rattle.std.proofs.Common.{◌≡◌, ℕ, zero, suc, ◌<◌, List, [], ◌∷◌, length, Some, refl, ap, arith}
 use Rattle.std.specs.Prelude.{slice_get, slice_set}
 
 pub get_set_same : {X : Type 0} (xs : List X) (i : ℕ) (x : X) → i < length xs → slice_get (slice_set xs i x) i ≡ Some x
@@ -13,12 +13,6 @@ get_set_other (y ∷ ys) zero zero x off = absurd (off refl)
 get_set_other (y ∷ ys) zero (suc k) x off = refl
 get_set_other (y ∷ ys) (suc i) zero x off = refl
 get_set_other (y ∷ ys) (suc i) (suc k) x off = get_set_other ys i k x (λ e. off (ap suc e))
-
--- a value that was read
-pub get_is : {X : Type 0} (xs : List X) (i : ℕ) (x : X) → i < length xs → x ≡ get_or xs i x → slice_get xs i ≡ Some x
-get_is [] i x lt is = absurd (omega (arith, lt))
-get_is (y ∷ ys) zero x lt is = ap Some (sym is)
-get_is (y ∷ ys) (suc i) x lt is = get_is ys i x (omega (arith, lt)) is
 
 pub some_same : {X : Type 0} (x y : X) → Some x ≡ Some y → x ≡ y
 some_same x y is = cc

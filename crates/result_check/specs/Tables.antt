@@ -9,11 +9,11 @@ use Rattle.row_judging.specs.Runs.{GivesSized}
 use Rattle.row_verdict.specs.Fitting.{all_brief}
 use Rattle.row_verdict.specs.Verdicts.{bank_in}
 use Rattle.result_check.specs.declared.found.Found.{Found}
-use Rattle.result_check.specs.Finding.{IsBelow}
+use Rattle.row_rules.specs.Lines.{IsOfLines}
 
 -- a row comes below the reach, of one of so many lines or of none
 pub record IsRowOf {n : ℕ} (lines : ℕ) (r : Row n) : Type 0 where
-  pub line : IsBelow lines r.asks
+  pub line : IsOfLines lines r.asks
   pub reached : r.tick < reach
 
 -- rows of a table over so many lines, the oldest first

@@ -3,8 +3,9 @@
 ghost use Rattle.std.specs.Prelude.{◌≡◌, ◌<◌, ◌≤◌, ◌++◌, [], ◌∷◌, length, replicate, List, None, Some, IfOk};
 ghost use Rattle.row_rules.specs.declared.Asks.{Asks};
 ghost use Rattle.row_rules.specs.declared.Row.{Row};
-ghost use Rattle.row_verdict.specs.Verdicts.{asks_of, rows_with};
-ghost use Rattle.result_check.specs.Finding.{row_of, line_asked, line_written, IsBelow};
+ghost use Rattle.trace_rows.specs.Rows.{rows_with, asks_of, row_of};
+ghost use Rattle.result_check.specs.Finding.{line_asked, line_written};
+ghost use Rattle.row_rules.specs.Lines.{IsOfLines};
 ghost use Rattle.result_check.specs.Coming as spec;
 ghost use Rattle.result_check.specs.Coming.{a_row, coming_at, coming_of, IsOutlook};
 ghost use Rattle.result_check.specs.Tables.{IsTable};
@@ -67,7 +68,7 @@ pub fn line_written<const B: usize>(op: &TraceOp<B>) -> Option<u32>
 impl Outlook {
     /// What comes to a row.
     fn at<const B: usize>(&self, banks: &[u8], op: &TraceOp<B>) -> Coming
-        requires line { IsBelow (length banks.now) (asks_of op.now) }
+        requires line { IsOfLines (length banks.now) (asks_of op.now) }
         requires next { length self.now.next.items ≡ length banks.now }
         requires soonest { length self.now.soonest.items ≡ length banks.now }
         requires worn { length self.now.worn.items ≡ 256 }
@@ -119,7 +120,7 @@ impl Outlook {
 
     /// Adds a row in front of them.
     fn add<const B: usize>(&mut self, banks: &[u8], event: &TraceEvent<B>, outcome: &Outcome<B>)
-        requires line { IsBelow (length banks.now) (asks_of event.now.op) }
+        requires line { IsOfLines (length banks.now) (asks_of event.now.op) }
         requires next { length self.old.next.items ≡ length banks.now }
         requires soonest { length self.old.soonest.items ≡ length banks.now }
         requires worn { length self.old.worn.items ≡ 256 }

@@ -3,8 +3,9 @@
 ghost use Rattle.std.specs.Prelude.{◌≡◌, ◌<◌, ◌≤◌, ◌++◌, [], ◌∷◌, length, IfOk, IsTrue};
 ghost use Rattle.row_judging.specs.Keys as keys;
 ghost use Rattle.row_judging.specs.Cutting.{cut_ticks};
-ghost use Rattle.row_verdict.specs.Verdicts.{bank_in, asks_of, rows_with};
-ghost use Rattle.result_check.specs.Finding.{row_of, IsBelow};
+ghost use Rattle.row_verdict.specs.Verdicts.{bank_in};
+ghost use Rattle.trace_rows.specs.Rows.{rows_with, asks_of, row_of};
+ghost use Rattle.row_rules.specs.Lines.{IsOfLines};
 ghost use Rattle.result_check.specs.Tables.{IsTable, IsFound};
 
 use result_rows::{Outcome, Results};
@@ -38,7 +39,7 @@ impl Found {
         event: &TraceEvent<B>,
         outcome: &Outcome<B>,
     ) -> Result<(), AllocError>
-        requires line { IsBelow (length banks.now) (asks_of event.now.op) }
+        requires line { IsOfLines (length banks.now) (asks_of event.now.op) }
         requires short { IsTrue (keys.is_short outcome.now) }
         ensures stores { IfOk result (λ _. self.new.stores.items
             ≡ self.old.stores.items ++ keys.store_keys (bank_in banks.now) (row_of event.now outcome.now ∷ [])) }

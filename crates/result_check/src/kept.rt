@@ -16,7 +16,8 @@ ghost use Rattle.row_verdict.specs.Passing.{joined_room};
 ghost use Rattle.row_verdict.specs.Fitting.{room_kept};
 ghost use Rattle.row_verdict.specs.Members.{never};
 ghost use Rattle.row_verdict.specs.States.{no_facts, settled, cut_off, after_write, after_read};
-ghost use Rattle.row_verdict.specs.Verdicts.{asks_of, bank_in};
+ghost use Rattle.row_verdict.specs.Verdicts.{bank_in};
+ghost use Rattle.trace_rows.specs.Rows.{asks_of, row_of};
 ghost use Rattle.row_verdict.specs.Within.{AreWithin};
 ghost use Rattle.row_judging.specs.Cutting.{cut_ticks};
 ghost use Rattle.row_verdict.specs.Covering.{soonest};
@@ -27,7 +28,7 @@ ghost use Rattle.result_check.specs.Coming.{a_row};
 ghost use Rattle.result_check.specs.Tables.{IsUsable};
 ghost use Rattle.result_check.specs.Lines.{AreFresh, IsLineBehind, LinePasses};
 ghost use Rattle.result_check.specs.Keeping.{banks_from, facts_in, Knows, IsNext, HasPassed, Meets};
-ghost use Rattle.result_check.specs.Finding.{row_of, IsBelow};
+ghost use Rattle.row_rules.specs.Lines.{IsOfLines};
 ghost use Rattle.result_check.specs.Outcomes as spec;
 ghost use Rattle.row_verdict.specs.declared.members.Member.{Member};
 ghost use Rattle.row_verdict.specs.declared.lines.Line.{Line};
@@ -452,7 +453,7 @@ impl<const B: usize> Kept<B> {
     ) -> Result<Option<Rule>, AllocError>
         requires small { B ≤ 128 }
         requires within { AreWithin rules.now }
-        requires line { IsBelow (length banks.now) (asks_of event.now.op) }
+        requires line { IsOfLines (length banks.now) (asks_of event.now.op) }
         requires exist { All (λ bank. bank < length self.old.banks.items) banks.now }
         requires lines { length self.old.lines.items ≡ length banks.now }
         requires usable { IsUsable found.now }

@@ -5,7 +5,8 @@
 ghost use Rattle.std.specs.Prelude.{◌≡◌, ◌+◌, ◌≤◌, if◌then◌else◌, drop, length, slice_get, Some, ◌<◌, IfOk};
 ghost use Rattle.row_rules.specs.Rows.{asks_cut};
 ghost use Rattle.row_verdict.specs.Within.{AreWithin};
-ghost use Rattle.row_verdict.specs.Verdicts.{asks_of, rows_with, verdict_of};
+ghost use Rattle.row_verdict.specs.Verdicts.{verdict_of};
+ghost use Rattle.trace_rows.specs.Rows.{rows_with, asks_of};
 ghost use Rattle.result_check.specs.Checkable.{IsCheckable};
 ghost use Rattle.result_check.specs.Coming.{coming_of};
 ghost use Rattle.result_check.specs.Going.{GoesOn};

@@ -3,22 +3,13 @@ use Rattle.std.proofs.Common.{◌≡◌, ℕ, ◌+◌, ◌<◌, ◌≤◌, ◌==
 use Rattle.std.specs.Prelude.{nat_le, nat_lt, not}
 use Rattle.std.specs.List.{list_all}
 use Rattle.std.proofs.lemmas.Bool.{le-leb, lt-leb, lt-ltb, ltb-true, le-ltb, ne_eqb, cases_lt}
+use Rattle.masked_bytes.proofs.Turning.{and_turn, and_group}
 use Rattle.result_rows.specs.declared.Outcome.{Outcome}
 use Rattle.result_rows.specs.declared.Outcome.TheVariants as out
 use Rattle.row_rules.specs.declared.Row.{Row}
 use Rattle.row_rules.specs.Ticking.{apart}
 use Rattle.masked_bytes.proofs.Truth.{and_true}
 use Rattle.row_judging.specs.Distances.{later_of, is_far_below, end_above, ends_above, wait_above, waits_above, end_to, last_end, read_to, last_read, is_apart, ends_behind, ApartLaw}
-
-and_turn : (a b c : Bool) → (a && (b && c)) ≡ (b && (a && c))
-and_turn true true c = refl
-and_turn true false c = refl
-and_turn false true c = refl
-and_turn false false c = refl
-
-and_group : (a b c : Bool) → (a && (b && c)) ≡ ((a && b) && c)
-and_group true b c = refl
-and_group false b c = refl
 
 or_false : (a b : Bool) → a ≡ false → (a || b) ≡ b
 or_false true b h = absurd (cc)

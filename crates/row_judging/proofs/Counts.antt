@@ -1,11 +1,12 @@
 -- Counts of stores, and what follows for the next and the last of them.
 use Rattle.std.proofs.Common.{◌≡◌, ℕ, ◌+◌, ◌<◌, ◌≤◌, ◌==◌, ◌&&◌, ◌||◌, ◌⊎◌, inl, inr, Bool, true, false, List, [], ◌∷◌, ◌++◌, Option, Some, None, refl, sym, ap, ◌∙◌, cond, arith}
-use Rattle.std.specs.Prelude.{nat_le, nat_lt, not, min, max, reverse, filter, count_by}
+use Rattle.std.specs.Prelude.{nat_le, nat_lt, not, max, reverse, filter, count_by}
 use Rattle.std.specs.List.{list_all}
 use Rattle.std.specs.List.Sorted.{IsPermutation}
 use Rattle.std.proofs.lemmas.Bool.{le-leb, lt-leb, lt-ltb, le-ltb, cases_lt, ne_eqb, or_right}
 use Rattle.std.proofs.lemmas.List.Sorted.{sum_by-IsPermutation, IsPermutation-reverse, IsPermutation-append_left}
-use Rattle.std.proofs.lemmas.List.Sums.{sum_by-append}
+use Rattle.masked_bytes.proofs.Counting.{one_if, count-cons}
+use Rattle.masked_bytes.proofs.Turning.{either_least}
 use Rattle.result_rows.specs.declared.Outcome.{Outcome}
 use Rattle.result_rows.specs.declared.Outcome.TheVariants as out
 use Rattle.row_rules.specs.declared.Row.{Row}
@@ -16,11 +17,6 @@ use Rattle.row_rules.specs.Ticking.{store_up_to, last_store, stores_in}
 use Rattle.masked_bytes.proofs.Truth.{or_false, and_true}
 use Rattle.row_judging.specs.Standing.{at_end}
 use Rattle.row_judging.specs.Counting.{line_stores, FirstByCountLaw, LastByCountLaw}
-use Rattle.row_judging.proofs.Cuts.{count-cons}
-
--- one where the test holds
-abbrev pub one_if : Bool → ℕ
-one_if b = cond b 1 0
 
 pub count-same : {A : Type 0} (p q : A → Bool) → ((x : A) → p x ≡ q x) → (xs : List A) → count_by p xs ≡ count_by q xs
 count-same p q same [] = refl
@@ -41,9 +37,6 @@ count-filter {A} f p (x ∷ xs) = by (f x) (count-cons (λ y. f y && p y) x xs) 
     by true i ih = let j = count-cons p x (filter f xs) in omega (arith, i, j, ih)
     by false i ih = omega (arith, i, ih)
 
-pub count-append : {A : Type 0} (p : A → Bool) (xs ys : List A) → count_by p (xs ++ ys) ≡ count_by p xs + count_by p ys
-count-append p xs ys = sum_by-append (λ x. cond (p x) 1 0) xs ys
-
 pub count-permuted : {A : Type 0} (p : A → Bool) (xs ys : List A) → IsPermutation xs ys → count_by p ys ≡ count_by p xs
 count-permuted p xs ys same = sum_by-IsPermutation (λ x. cond (p x) 1 0) xs ys same
 
@@ -57,14 +50,6 @@ count-turned p xs ys = count-permuted p (xs ++ ys) (reverse xs ++ ys) (IsPermuta
 abbrev comes_by : ℕ → Option ℕ → Bool
 comes_by e None = false
 comes_by e (Some u) = nat_le u e
-
-either_least : (u v e : ℕ) → nat_le (min u v) e ≡ (nat_le u e || nat_le v e)
-either_least u v e = by (cases_lt e u) (cases_lt e v)
-  where
-    by : (e < u) ⊎ (u ≤ e) → (e < v) ⊎ (v ≤ e) → nat_le (min u v) e ≡ (nat_le u e || nat_le v e)
-    by (inr a) k = le-leb (min u v) e (omega (arith, a)) ∙ sym (ap (λ b. b || nat_le v e) (le-leb u e a))
-    by (inl a) (inr b) = le-leb (min u v) e (omega (arith, b)) ∙ sym (ap (λ c. c || nat_le v e) (lt-leb u e a) ∙ le-leb v e b)
-    by (inl a) (inl b) = lt-leb (min u v) e (omega (arith, a, b)) ∙ sym (ap (λ c. c || nat_le v e) (lt-leb u e a) ∙ lt-leb v e b)
 
 by_least : (e v : ℕ) (found : Option ℕ) → comes_by e (least found v) ≡ (comes_by e found || nat_le v e)
 by_least e v None = refl

@@ -3,7 +3,7 @@ use Rattle.std.proofs.Common.{◌≡◌, ℕ, ◌+◌, ◌≤◌, ◌==◌, ◌&
 use Rattle.masked_bytes.proofs.Truth.{and_first, and_second}
 use Rattle.std.specs.Prelude.{nat_le, not, count_by}
 use Rattle.std.proofs.lemmas.Bool.{le-leb, leb-true, and_from, or_right}
-use Rattle.std.proofs.lemmas.List.Sums.{sum_by-cons}
+use Rattle.masked_bytes.proofs.Counting.{count-cons}
 use Rattle.row_rules.specs.declared.Asks.{Asks}
 use Rattle.row_rules.specs.declared.Asks.TheVariants.{Reads, Writes, Cuts}
 use Rattle.row_rules.specs.declared.Row.{Row}
@@ -12,9 +12,6 @@ use Rattle.row_rules.specs.Table.{is_of, of_bank}
 use Rattle.row_rules.specs.Ticking.{no_cut_below, first_cut_at, cuts_to}
 use Rattle.row_judging.specs.Rising.{rising}
 use Rattle.row_judging.specs.Cutting.{cut_ticks, first_from, first_is, FirstCutLaw, CutsOfBankLaw}
-
-pub count-cons : {X : Type 0} (p : X → Bool) (x : X) (xs : List X) → count_by p (x ∷ xs) ≡ cond (p x) 1 0 + count_by p xs
-count-cons p x xs = sum_by-cons (λ x. cond (p x) 1 0) x xs
 
 module _ {n : ℕ} where
   -- no cut comes below a tick at or below which no row comes

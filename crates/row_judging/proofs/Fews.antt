@@ -8,7 +8,7 @@ use Rattle.row_rules.specs.declared.Row.{Row}
 use Rattle.row_rules.specs.Queueing.{none_before, is_older, has_few, is_refused}
 use Rattle.masked_bytes.proofs.Truth.{and_true}
 use Rattle.row_judging.specs.Few.{few_by}
-use Rattle.row_judging.proofs.Cuts.{count-cons}
+use Rattle.masked_bytes.proofs.Counting.{count-cons}
 
 -- where no element is an own one, each of its own passes
 none_own : {A : Type 0} (own one : A → Bool) (xs : List A) → filter own xs ≡ [] → list_all (λ x. not (own x) || one x) xs ≡ true

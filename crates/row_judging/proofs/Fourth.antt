@@ -9,8 +9,7 @@ use Rattle.row_rules.specs.Rows.{asks_read}
 use Rattle.row_rules.specs.Ticking.{came_since}
 use Rattle.row_judging.specs.Rising.{falling}
 use Rattle.row_judging.specs.Coming.{came, fourth_from, FourthLaw}
-use Rattle.row_judging.proofs.Cuts.{count-cons}
-use Rattle.row_judging.proofs.Counts.{one_if}
+use Rattle.masked_bytes.proofs.Counting.{count-cons, one_if}
 
 -- these are at most t and don't rise
 abbrev sinking : ℕ → List ℕ → Bool

@@ -14,8 +14,7 @@ use Rattle.row_rules.specs.Rows.{asks_read, asks_write}
 use Rattle.row_rules.specs.Table.{is_of, of_bank}
 use Rattle.row_rules.specs.Ticking.{stores_in, reads_in}
 use Rattle.row_judging.specs.Keys.{reach, key, up_to, is_short, all_short, store_key, store_keys, read_key, read_keys, IndexLaw, CountLaw}
-use Rattle.row_judging.proofs.Cuts.{count-cons}
-use Rattle.row_judging.proofs.Counts.{one_if}
+use Rattle.masked_bytes.proofs.Counting.{count-cons, one_if}
 
 -- behind the first index that fails, none passes
 none_passes : (p : ℕ → Bool) (keys : List ℕ) → ((k d : ℕ) → k < length keys → p (slice_index_or keys k d) ≡ false) → count_by p keys ≡ 0

@@ -1,5 +1,6 @@
 pub mod Altered
 pub mod Answers
+pub mod Lines
 pub mod Queueing
 pub mod Room
 pub mod Rows

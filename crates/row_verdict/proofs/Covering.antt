@@ -5,6 +5,7 @@ use Rattle.std.specs.Prelude.{nat_le, reverse, min}
 use Rattle.std.specs.List.{list_any}
 use Rattle.std.proofs.lemmas.Bool.{le-leb, lt-leb, cases_lt}
 use Rattle.std.proofs.lemmas.List.{reverse-append, reverse-reverse}
+use Rattle.masked_bytes.proofs.Turning.{either_least}
 use Rattle.masked_bytes.specs.Masked.{joined, laid, none_given}
 use Rattle.result_rows.specs.declared.Outcome.{Outcome}
 use Rattle.result_rows.specs.declared.Outcome.TheVariants as out
@@ -16,14 +17,6 @@ use Rattle.row_judging.specs.Runs.{run, held}
 use Rattle.row_judging.proofs.Covers.{cover_law}
 use Rattle.row_verdict.specs.declared.lines.Run.{Run}
 use Rattle.row_verdict.specs.Covering.{held_by, KeptLine, sooner, soonest, comes_by, closed, CoverKeptLaw, LineStaysLaw, LineJoinsLaw}
-
-either_least : (u v e : ℕ) → nat_le (min u v) e ≡ (nat_le u e || nat_le v e)
-either_least u v e = by (cases_lt e u) (cases_lt e v)
-  where
-    by : (e < u) ⊎ (u ≤ e) → (e < v) ⊎ (v ≤ e) → nat_le (min u v) e ≡ (nat_le u e || nat_le v e)
-    by (inr a) k = le-leb (min u v) e (omega (arith, a)) ∙ sym (ap (λ b. b || nat_le v e) (le-leb u e a))
-    by (inl a) (inr b) = le-leb (min u v) e (omega (arith, b)) ∙ sym (ap (λ c. c || nat_le v e) (lt-leb u e a) ∙ le-leb v e b)
-    by (inl a) (inl b) = lt-leb (min u v) e (omega (arith, a, b)) ∙ sym (ap (λ c. c || nat_le v e) (lt-leb u e a) ∙ lt-leb v e b)
 
 module _ {n : ℕ} where
   -- whether a write of the line is stored by a tick

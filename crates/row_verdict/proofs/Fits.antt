@@ -22,7 +22,7 @@ use Rattle.row_judging.specs.Joining.{has_pair, comes_behind}
 use Rattle.row_judging.specs.Keys.{reach}
 use Rattle.row_judging.specs.Near.{NearRoom}
 use Rattle.row_judging.proofs.Counts.{count-same, count-permuted}
-use Rattle.row_judging.proofs.Cuts.{count-cons}
+use Rattle.masked_bytes.proofs.Counting.{count-cons, one_if}
 use Rattle.row_judging.proofs.Fews.{few_is, refused_is}
 use Rattle.row_judging.proofs.Joins.{join_law}
 use Rattle.row_judging.proofs.LeastEnd.{none_before_all}
@@ -85,9 +85,6 @@ pub any-where : {X : Type 0} (w p q : X → Bool) → ((x : X) → w x ≡ true 
 any-where w p q same [] h = refl
 any-where w p q same (x ∷ xs) h =
     ap (λ b. b || list_any p xs) (same x (and_first (w x) _ h)) ∙ ap (λ b. q x || b) (any-where w p q same xs (and_second (w x) _ h))
-
-abbrev one_if : Bool → ℕ
-one_if b = cond b 1 0
 
 count-where : {X : Type 0} (w p q : X → Bool) → ((x : X) → w x ≡ true → p x ≡ q x) → (xs : List X) → list_all w xs ≡ true → count_by p xs ≡ count_by q xs
 count-where w p q same [] h = refl

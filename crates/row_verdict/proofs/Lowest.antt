@@ -1,10 +1,12 @@
 -- A verdict names the lowest row that breaks a rule.
-use Rattle.std.proofs.Common.{◌≡◌, ℕ, ◌+◌, ◌&&◌, Bool, true, false, List, [], ◌∷◌, ◌++◌, length, Option, Some, None, refl, sym, ap, ◌∙◌, subst, cond, arith, append_assoc}
+use Rattle.std.proofs.Common.{◌≡◌, ℕ, ◌+◌, ◌&&◌, Bool, true, false, List, [], ◌∷◌, ◌++◌, length, Option, Some, None, refl, sym, ap, ◌∙◌, subst, cond, arith}
 use Rattle.std.proofs.lemmas.Bool.{and_from}
 use Rattle.masked_bytes.proofs.Truth.{and_first, and_second, and_true}
 use Rattle.std.specs.Prelude.{reverse}
 use Rattle.std.specs.List.{list_all}
-use Rattle.std.proofs.lemmas.List.{append-nil, reverse-append}
+use Rattle.std.proofs.lemmas.List.{append-nil}
+use Rattle.masked_bytes.proofs.Lists.{turned}
+use Rattle.masked_bytes.proofs.Turning.{and_mid}
 use Rattle.row_rules.specs.declared.Row.{Row}
 use Rattle.row_rules.specs.declared.Rules.{Rules}
 use Rattle.row_rules.specs.Rows.{RowTest, each_row}
@@ -13,16 +15,6 @@ use Rattle.row_verdict.specs.declared.Verdict.{Verdict}
 use Rattle.row_verdict.specs.declared.Verdict.TheVariants.{Yes, No}
 use Rattle.row_verdict.specs.Verdicts.{keeps, all_rules, broken_by, or_later, verdict_from, keeps_all}
 use Rattle.row_verdict.specs.Judging.{VerdictLaw}
-
-and_turn : (a b c : Bool) → ((a && b) && c) ≡ (b && (a && c))
-and_turn true true c = refl
-and_turn true false c = refl
-and_turn false true c = refl
-and_turn false false c = refl
-
--- the rows passed, once one more is
-turned : {A : Type 0} (r : A) (rest before : List A) → reverse (r ∷ rest) ++ before ≡ reverse rest ++ r ∷ before
-turned r rest before = ap (λ rows. rows ++ before) (reverse-append (r ∷ []) rest) ∙ append_assoc (reverse rest) (r ∷ []) before
 
 module _ {n : ℕ} (test : RowTest n) where
   -- each of these rows, the oldest first, passes behind those before them
@@ -35,7 +27,7 @@ module _ {n : ℕ} (test : RowTest n) where
   all_rows (r ∷ rest) before =
       ap (λ rows. each_row test rows []) (turned r rest before)
       ∙ all_rows rest (r ∷ before)
-      ∙ and_turn (test before r rest) (each_row test before (r ∷ rest)) (forward (r ∷ before) rest)
+      ∙ and_mid (test before r rest) (each_row test before (r ∷ rest)) (forward (r ∷ before) rest)
 
 module _ {n : ℕ} (rules : Rules) (banks : List ℕ) where
   -- none of some rules is broken exactly where all are kept

@@ -1,14 +1,11 @@
 -- The next of some sorted keys.
-use Rattle.std.proofs.Common.{◌≡◌, ℕ, zero, suc, ◌+◌, ◌<◌, ◌≤◌, ◌⊎◌, inl, inr, Bool, List, [], ◌∷◌, length, refl, sym, ap, ◌∙◌, cond, arith}
+use Rattle.std.proofs.Common.{◌≡◌, ℕ, zero, suc, ◌+◌, ◌<◌, ◌≤◌, ◌⊎◌, inl, inr, List, [], ◌∷◌, length, refl, sym, ap, ◌∙◌, arith}
 use Rattle.std.specs.Prelude.{nat_le, nat_lt, slice_get, slice_index_or}
 use Rattle.std.specs.List.Sorted.{IsNonDecreasing}
 use Rattle.std.proofs.lemmas.Bool.{le-leb, lt-leb, lt-ltb, le-ltb, cases_lt}
 use Rattle.row_judging.specs.Keys.{up_to}
-use Rattle.row_judging.proofs.Cuts.{count-cons}
+use Rattle.masked_bytes.proofs.Counting.{count-cons, one_if}
 use Rattle.row_verdict.specs.Covering.{comes_by}
-
-abbrev one_if : Bool → ℕ
-one_if b = cond b 1 0
 
 -- none of these is at most e
 none_up_to : (e : ℕ) (keys : List ℕ) → ((k d : ℕ) → k < length keys → e < slice_index_or keys k d) → up_to e keys ≡ 0

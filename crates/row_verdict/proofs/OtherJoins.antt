@@ -3,6 +3,7 @@ use Rattle.std.proofs.Common.{◌≡◌, ℕ, ◌+◌, ◌&&◌, ◌||◌, ◌==
 use Rattle.masked_bytes.proofs.Truth.{and_false}
 use Rattle.std.proofs.lemmas.Bool.{and_from}
 use Rattle.std.specs.Prelude.{not, reverse, map, filter}
+use Rattle.masked_bytes.proofs.Counting.{one_if}
 use Rattle.result_rows.specs.declared.Outcome.{Outcome}
 use Rattle.result_rows.specs.declared.Outcome.TheVariants as out
 use Rattle.row_rules.specs.declared.Asks.{Asks}
@@ -18,10 +19,6 @@ use Rattle.row_judging.proofs.Steps.{step_law}
 use Rattle.row_verdict.specs.Kept.{sight_of}
 use Rattle.row_verdict.specs.Joined.{OtherKeptLaw}
 use Rattle.row_verdict.proofs.Joins.{filter-all, not_both, lost_same, no_wait, no_answer}
-
--- one where the test holds
-abbrev one_if : Bool → ℕ
-one_if b = cond b 1 0
 
 no_loss : (a : Bool) → one_if (a && false) ≡ one_if false
 no_loss true = refl

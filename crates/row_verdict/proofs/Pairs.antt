@@ -7,7 +7,7 @@ use Rattle.std.proofs.lemmas.Bool.{le-leb, leb-true, lt-leb, lt-ltb, ltb-false, 
 use Rattle.std.proofs.lemmas.List.{take_at}
 use Rattle.std.proofs.lemmas.List.Folds.{list_any-append}
 use Rattle.row_judging.specs.Few.{few_by}
-use Rattle.row_judging.proofs.Cuts.{count-cons}
+use Rattle.masked_bytes.proofs.Counting.{count-cons}
 use Rattle.row_verdict.specs.declared.members.Member.{Member}
 use Rattle.row_verdict.specs.declared.members.Twins.{Twins}
 use Rattle.row_verdict.specs.declared.members.Twins.TheVariants.{Nowhere, Only, Anywhere}

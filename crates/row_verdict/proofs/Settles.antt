@@ -5,6 +5,7 @@ use Rattle.std.specs.Prelude.{nat_le, nat_lt, not, reverse, map, filter}
 use Rattle.std.specs.List.{list_all}
 use Rattle.std.proofs.lemmas.Bool.{le-leb, lt-leb, lt-ltb, le-ltb, cases_lt}
 use Rattle.std.proofs.lemmas.List.{reverse-append, append-nil}
+use Rattle.masked_bytes.proofs.Turning.{and_turn, and_mid, and_group}
 use Rattle.result_rows.specs.declared.Outcome.{Outcome}
 use Rattle.result_rows.specs.declared.Outcome.TheVariants as out
 use Rattle.row_rules.specs.declared.Row.{Row}
@@ -49,22 +50,6 @@ filter-reverse g (x ∷ xs) =
 pub filter-same : {A : Type 0} (p q : A → Bool) → ((x : A) → p x ≡ q x) → (xs : List A) → filter p xs ≡ filter q xs
 filter-same p q same [] = refl
 filter-same p q same (x ∷ xs) = ap (λ b. cond b (x ∷ filter p xs) (filter p xs)) (same x) ∙ ap (λ ys. cond (q x) (x ∷ ys) ys) (filter-same p q same xs)
-
-and_turn : (a b c : Bool) → (a && (b && c)) ≡ (b && (a && c))
-and_turn true true c = refl
-and_turn true false c = refl
-and_turn false true c = refl
-and_turn false false c = refl
-
-and_mid : (a b c : Bool) → ((a && b) && c) ≡ (b && (a && c))
-and_mid true true c = refl
-and_mid true false c = refl
-and_mid false true c = refl
-and_mid false false c = refl
-
-and_group : (a b c : Bool) → (a && (b && c)) ≡ ((a && b) && c)
-and_group true b c = refl
-and_group false b c = refl
 
 -- a member that is stored by u is far below x
 abbrev Far : ℕ → ℕ → ℕ → ℕ → Bool

@@ -18,16 +18,12 @@ use Rattle.bank_shape.specs.declared.pace.Policy.TheVariants.{Pause, Plain, Canc
 use Rattle.row_judging.specs.Coming.{came, fourth_from}
 use Rattle.row_judging.specs.Counting.{line_stores}
 use Rattle.row_judging.specs.Keys.{key, up_to, store_keys, read_keys}
-use Rattle.row_judging.proofs.Counts.{count-same, count-filter, count-append, count-permuted, count-turned, last_by_count_law}
-use Rattle.row_judging.proofs.Cuts.{count-cons}
+use Rattle.row_judging.proofs.Counts.{count-same, count-filter, count-permuted, count-turned, last_by_count_law}
+use Rattle.masked_bytes.proofs.Counting.{count-append, count-cons, one_if}
 use Rattle.row_judging.proofs.Fourth.{fourth_law}
 use Rattle.row_judging.proofs.SortedKeys.{count_law}
 use Rattle.row_verdict.specs.Keeping.{delay_by}
 use Rattle.row_verdict.specs.Tables.{around, CountsToldLaw, LineKeysLaw, OwnLaw, four_came, DelayLaw, FourLaw}
-
--- one where the test holds
-abbrev one_if : Bool → ℕ
-one_if b = cond b 1 0
 
 -- the fourth came at v or later
 abbrev at_fourth : ℕ → Option ℕ → Bool

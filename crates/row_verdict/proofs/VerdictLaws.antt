@@ -20,8 +20,8 @@ use Rattle.row_judging.specs.Coming.{came}
 use Rattle.row_judging.specs.Cutting.{cut_ticks}
 use Rattle.row_judging.specs.Keys.{reach, is_short, key, up_to}
 use Rattle.row_judging.specs.Rising.{falling}
-use Rattle.row_judging.proofs.Counts.{count-append}
-use Rattle.row_judging.proofs.Cuts.{count-cons, first_cut_law, cuts_of_bank_law}
+use Rattle.masked_bytes.proofs.Counting.{count-append, count-cons, one_if}
+use Rattle.row_judging.proofs.Cuts.{first_cut_law, cuts_of_bank_law}
 use Rattle.row_verdict.specs.Ahead.{four_kept, bound_kept, latest_kept, at_store}
 use Rattle.row_verdict.specs.Covering.{soonest, cover_kept}
 use Rattle.row_verdict.specs.Fitting.{at_head_kept, write_fits}
@@ -39,10 +39,6 @@ use Rattle.row_verdict.proofs.Covering.{cover_kept_law}
 use Rattle.row_verdict.proofs.Judged.{judge_write_law, judge_read_law}
 use Rattle.row_verdict.proofs.Numbers.{numbers_law}
 use Rattle.row_verdict.proofs.Tables.{counts_told_law, line_keys_law, delay_law}
-
--- one where the test holds
-abbrev one_if : Bool → ℕ
-one_if b = cond b 1 0
 
 -- a row stands among those of its line's bank
 own : {A : Type 0} (b : ℕ) (x : A) (xs : List A) → cond (b == b) (x ∷ xs) xs ≡ x ∷ xs

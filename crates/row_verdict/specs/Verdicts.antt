@@ -1,10 +1,6 @@
 -- The verdict on a finished table of several banks: the lowest row that breaks a rule, and the first rule that it breaks.
-use Rattle.std.specs.Prelude.{ℕ, ◌+◌, ◌&&◌, true, IsTrue, if◌then◌else◌, List, [], ◌∷◌, reverse, replicate, Option, Some, None, slice_get, unwrap_or}
+use Rattle.std.specs.Prelude.{ℕ, ◌+◌, ◌&&◌, IsTrue, if◌then◌else◌, List, [], ◌∷◌, reverse, Option, Some, None, slice_get, unwrap_or}
 use Rattle.std.specs.List.{list_all}
-use Rattle.trace_reader.specs.declared.event.TraceEvent.{TraceEvent}
-use Rattle.trace_reader.specs.declared.event.TraceOp.{TraceOp}
-use Rattle.trace_reader.specs.declared.event.TraceOp.TheVariants.{Read, Write, Mask, Cut}
-use Rattle.result_rows.specs.declared.Outcome.{Outcome}
 use Rattle.row_rules.specs.declared.Asks.{Asks}
 use Rattle.row_rules.specs.declared.Asks.TheVariants.{Reads, Writes, Cuts}
 use Rattle.row_rules.specs.declared.Row.{Row}
@@ -81,16 +77,3 @@ module _ {n : ℕ} (rules : Rules) (banks : List ℕ) where
 
 abbrev pub no : ℕ → Rule → Verdict
 no row one = No row one
-
--- what an operation asks: a whole write gives every byte
-abbrev pub asks_of : {n : ℕ} → TraceOp n → Asks n
-asks_of (Read line) = Reads line
-asks_of {n} (Write line bytes) = Writes line bytes (replicate n true)
-asks_of (Mask line bytes given) = Writes line bytes given
-asks_of Cut = Cuts
-
--- the rows of a trace with these outcomes, the oldest first
-abbrev pub rows_with : {n : ℕ} → List (TraceEvent n) → List (Outcome n) → List (Row n)
-rows_with [] outcomes = []
-rows_with (event ∷ events) [] = []
-rows_with (event ∷ events) (outcome ∷ outcomes) = record { tick = event.tick; asks = asks_of event.op; outcome = outcome } ∷ rows_with events outcomes

@@ -16,7 +16,7 @@ ghost use Rattle.row_verdict.specs.Judged.{first_broken};
 ghost use Rattle.row_verdict.specs.Keeping.{stored_early, read_timely, write_timely};
 ghost use Rattle.row_verdict.specs.Kept.{apart_kept};
 ghost use Rattle.row_verdict.specs.Timely.{first_of_ticks};
-ghost use Rattle.row_verdict.specs.Verdicts.{asks_of};
+ghost use Rattle.trace_rows.specs.Rows.{asks_of};
 ghost use Rattle.row_verdict.specs.Within.{AreWithin};
 
 use crate::Rule;

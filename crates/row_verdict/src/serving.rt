@@ -2,7 +2,7 @@
 
 ghost use Rattle.std.specs.Prelude.{◌≡◌};
 ghost use Rattle.row_rules.specs.Serving as serving;
-ghost use Rattle.row_verdict.specs.Verdicts.{asks_of};
+ghost use Rattle.trace_rows.specs.Rows.{asks_of};
 
 use result_rows::Outcome;
 use trace_reader::TraceOp;

@@ -24,7 +24,8 @@ use Rattle.module_shape.specs.Limits.{IsShape, total_of}
 use Rattle.module_shape.specs.Addresses.{module_of, array_lines_of, bank_shape}
 use Rattle.bank_laws.specs.Whole.{WholeTableLaw, WholePlaceLaw, WholeLogLaw, WholeRoomLaw}
 use Rattle.module_laws.specs.Asking.{Asked, row_with}
-use Rattle.module_laws.specs.Serves.{BankTableLaw, ServedByBanksLaw, RoomByBankLaw, IsOfLines}
+use Rattle.module_laws.specs.Serves.{BankTableLaw, ServedByBanksLaw, RoomByBankLaw}
+use Rattle.row_rules.specs.Lines.{IsOfLines}
 use Rattle.bank_invariant.specs.Tied.{decoded}
 use Rattle.clock_laws.specs.Ending.{LeavingLaw, UntouchedLaw}
 use Rattle.clock_laws.specs.State.{ClockState}

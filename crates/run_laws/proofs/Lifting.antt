@@ -7,9 +7,9 @@ use Rattle.row_rules.specs.declared.Asks.{Asks}
 use Rattle.row_rules.specs.declared.Asks.TheVariants.{Reads, Writes, Cuts}
 use Rattle.row_rules.specs.declared.Row.{Row}
 use Rattle.row_rules.specs.Rows.{RowTest, each_row}
+use Rattle.row_rules.specs.Lines.{IsOfLines}
 use Rattle.row_rules.specs.Table.{is_of, of_bank}
 use Rattle.module_laws.specs.Asking.{asks_in, row_in, bank_table}
-use Rattle.module_laws.specs.Serves.{IsOfLines}
 
 module _ {n : ℕ} where
   -- each of these rows, the newest first, is this over the rows before it

@@ -1,10 +1,11 @@
 -- What a right run says of each row.
-use Rattle.std.proofs.Common.{◌≡◌, ℕ, ◌+◌, ◌*◌, ◌<◌, ◌≤◌, ◌||◌, Bool, true, false, List, [], ◌∷◌, ◌++◌, map, length, Some, refl, ap, ◌∙◌, subst, arith}
+use Rattle.std.proofs.Common.{◌≡◌, ℕ, ◌+◌, ◌*◌, ◌<◌, ◌||◌, Bool, true, false, List, [], ◌∷◌, ◌++◌, map, length, Some, refl, ap, ◌∙◌, subst, arith}
 use Rattle.masked_bytes.proofs.Truth.{and_second}
 use Rattle.std.specs.Prelude.{All, nat_lt}
 use Rattle.std.specs.Option.{ForSome}
 use Rattle.std.proofs.lemmas.Bool.{lt-ltb}
 use Rattle.std.proofs.lemmas.List.Elements.{All-nil, All-head, All-tail}
+use Rattle.bank_shape.proofs.Sizes.{if_array-le}
 use Rattle.pcm_cells.specs.Device.{ArrayState}
 use Rattle.result_rows.specs.declared.Op.TheVariants as op
 use Rattle.run_text.specs.Shortfall.{is_short, any_short}
@@ -14,18 +15,16 @@ use Rattle.row_rules.specs.declared.Asks.TheVariants.{Reads, Writes, Cuts}
 use Rattle.row_rules.specs.declared.Row.{Row}
 use Rattle.row_rules.specs.Answers.{accepts, is_queued, is_lost}
 use Rattle.row_rules.specs.Rows.{line_of, is_cut}
+use Rattle.row_rules.specs.Lines.{IsOfLines}
 use Rattle.row_rules.specs.Queueing.{pending, has_room, is_queue_fair}
 use Rattle.row_rules.specs.Serving.{is_served, owed}
 use Rattle.bank_laws.specs.Laws.{is_worn_at}
 use Rattle.bank_laws.specs.Places.{is_placed, is_taken, may_leave}
-use Rattle.bank_shape.specs.declared.Home.{Home}
-use Rattle.bank_shape.specs.declared.Home.TheVariants.{Guarded, Array}
-use Rattle.bank_shape.specs.Shape.{if_array, controls_of}
+use Rattle.bank_shape.specs.Shape.{controls_of}
 use Rattle.module_shape.specs.declared.raw.RawShape.{RawShape}
 use Rattle.module_shape.specs.Limits.{IsShape, total_of}
 use Rattle.module_shape.specs.Addresses.{module_of, array_lines_of, bank_shape}
 use Rattle.module_shape.proofs.Bounds.{array_lines_few, banks_apart}
-use Rattle.module_laws.specs.Serves.{IsOfLines}
 use Rattle.end_laws.specs.Ends.{BankEnd}
 use Rattle.run_laws.specs.Runs.{bank_of_line, line_in_bank, rules_in, table_in, RunsRight}
 use Rattle.run_laws.specs.RowsOfRuns.{op_asked, LinesExist, NoCuts, HasRoom, FindsPlace, OwnOutcomesLaw, PlacesExistLaw, FewArrayLinesLaw, NoneLostLaw, RoomIsTakenLaw, NoneShortLaw}
@@ -43,15 +42,10 @@ own_outcomes_law n m e raw seed rows array ends right =
     (each-passes (λ before r. IsOwn r) is_served
     (λ before r after h. own_outcome r.tick r.asks (owed before r.asks) r.outcome h) rows [] right.serves.served)
 
--- wherever registers are kept
-few_controls : (home : Home) (count : ℕ) → if_array home count ≤ count
-few_controls Guarded count = omega arith
-few_controls Array count = omega arith
-
 pub few_array_lines_law : FewArrayLinesLaw
 few_array_lines_law raw is =
     array_lines_few raw.banks raw.regions raw.lines raw.spares (controls_of (module_of raw).bank) is.few_banks is.few_regions is.few_spares is.few_in_all
-    (few_controls raw.home (raw.regions + raw.spares + 1))
+    (if_array-le raw.home (raw.regions + raw.spares + 1))
 
 module _ {n m : ℕ} (e : ℕ) (raw : RawShape) (seed : ℕ) (rows : List (Row n)) (array : ArrayState n m) (ends : ℕ → BankEnd)
     (is : IsShape raw) (exist : LinesExist raw rows) (right : RunsRight e raw seed rows array ends) where

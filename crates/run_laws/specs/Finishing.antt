@@ -11,7 +11,8 @@ use Rattle.module_shape.specs.Limits.{total_of}
 use Rattle.module_shape.specs.Addresses.{module_of, array_lines_of, bank_shape}
 use Rattle.bank_laws.specs.Laws.{log_of}
 use Rattle.module_laws.specs.Asking.{Asked, asked_of, AreAsked}
-use Rattle.module_laws.specs.Serves.{AreRecorded, TicksFall, IsOfLines}
+use Rattle.module_laws.specs.Serves.{AreRecorded, TicksFall}
+use Rattle.row_rules.specs.Lines.{IsOfLines}
 use Rattle.clock_laws.specs.State.{ClockState}
 use Rattle.clock_laws.specs.Leads.{Leads}
 use Rattle.run_laws.specs.Runs.{bank_of_line, line_in_bank, pacing_in}

@@ -11,13 +11,13 @@ use Rattle.row_rules.specs.declared.Asks.TheVariants.{Reads, Writes, Cuts}
 use Rattle.row_rules.specs.declared.Row.{Row}
 use Rattle.row_rules.specs.Answers.{accepts, is_queued, is_lost}
 use Rattle.row_rules.specs.Rows.{is_cut}
+use Rattle.row_rules.specs.Lines.{IsOfLines}
 use Rattle.row_rules.specs.Queueing.{pending, waiting}
 use Rattle.bank_laws.specs.Laws.{is_worn_at}
 use Rattle.bank_laws.specs.Places.{may_leave}
 use Rattle.module_shape.specs.declared.raw.RawShape.{RawShape}
 use Rattle.module_shape.specs.Limits.{IsShape, total_of}
 use Rattle.module_shape.specs.Addresses.{module_of, array_lines_of, bank_shape}
-use Rattle.module_laws.specs.Serves.{IsOfLines}
 use Rattle.end_laws.specs.Ends.{BankEnd}
 use Rattle.run_laws.specs.Runs.{bank_of_line, table_in, RunsRight}
 

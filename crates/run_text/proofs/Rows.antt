@@ -1,9 +1,9 @@
 -- How the rows of the results are printed, one after the other.
-use Rattle.std.proofs.Common.{◌≡◌, ℕ, suc, ◌+◌, ◌<◌, ◌≤◌, List, [], ◌∷◌, ◌++◌, length, get_or, drop, Option, Some, refl, sym, ap, ◌∙◌, arith, append_assoc}
+use Rattle.std.proofs.Common.{◌≡◌, ℕ, suc, ◌+◌, ◌≤◌, List, [], ◌∷◌, ◌++◌, length, drop, Option, Some, refl, sym, ap, ◌∙◌, arith, append_assoc}
 use Rattle.std.specs.Prelude.{slice_get}
 use Rattle.std.proofs.Math.Seq.{drop-cons}
 use Rattle.std.proofs.lemmas.List.{append-nil, drop_all}
-use Rattle.std.proofs.lemmas.Option.{get_or_from_slice_get, slice_get-get_or, slice_get_within}
+use Rattle.std.proofs.lemmas.Option.{get_or_from_slice_get, slice_get_within}
 use Rattle.pcm_io.specs.Giving.{AppendsPrefix}
 use Rattle.pcm_io.specs.Reserved.{Reserved, appended, reserved}
 use Rattle.pcm_io.proofs.ByteLemmas.{AppendsPrefix-longer}
@@ -13,10 +13,6 @@ use Rattle.result_rows.specs.RowText.{header_text, row_text}
 use Rattle.run_text.specs.ResultText.{asked, named_line, results_text, rows_text}
 use Rattle.run_text.specs.Gathering.{Printed}
 use Rattle.run_text.proofs.Gathered.{printed-first, printed-more}
-
--- what a list has at a place
-pub item-at : {A : Type 0} (xs : List A) (i : ℕ) (x : A) → i < length xs → x ≡ get_or xs i x → slice_get xs i ≡ Some x
-item-at xs i x within is = slice_get-get_or xs i x within ∙ ap Some (sym is)
 
 module _ {n : ℕ} (events : List (TraceEvent n)) (outcomes : List (Outcome n)) where
   -- the rows from this one on

@@ -28,7 +28,8 @@ use Rattle.run_laws.specs.Runs.{rules_in}
 use Rattle.run_laws.specs.RowsOfRuns.{FewArrayLinesLaw, OwnOutcomesLaw, PlacesExistLaw}
 use Rattle.row_verdict.specs.declared.Verdict.{Verdict}
 use Rattle.row_verdict.specs.declared.Verdict.TheVariants.{Yes}
-use Rattle.row_verdict.specs.Verdicts.{RowsOk, rows_with, verdict_of}
+use Rattle.row_verdict.specs.Verdicts.{RowsOk, verdict_of}
+use Rattle.trace_rows.specs.Rows.{rows_with}
 use Rattle.verdict_laws.specs.Ticks.{SoonLaw}
 use Rattle.verdict_laws.specs.Verdicts.{RulesKeptLaw, YesLaw, banks_of}
 use Rattle.text_check.specs.Checked.{HasTrace, HasVerdict, IsResultsFault, IsTextFault, IsTraceFault, ask_of, asks_in, verdict_on}
@@ -82,7 +83,7 @@ are-asks lines events some few for rows = record {
   lines = λ i ask at. omega (arith, asks-below lines 0 events i ask some for at, few);
 }
 
-some-lines : (raw : RawShape) → IsShape raw → 1 ≤ total_of raw
+pub some-lines : (raw : RawShape) → IsShape raw → 1 ≤ total_of raw
 some-lines raw is = some_product raw.banks raw.regions raw.lines is.some_banks is.some_regions (omega (arith, is.some_lines))
   where
     some_product : (a b c : ℕ) → 1 ≤ a → 1 ≤ b → 1 ≤ c → 1 ≤ a * b * c

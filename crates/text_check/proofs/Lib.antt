@@ -4,5 +4,5 @@ mod Printed
 mod Plain
 mod Breaking
 mod Behind
-mod Standing
-mod JudgedRuns
+pub mod Standing
+pub mod JudgedRuns

@@ -13,7 +13,7 @@ use Rattle.masked_bytes.proofs.Layering.{length-laid}
 use Rattle.pcm_cells.specs.Device.{ArrayState}
 use Rattle.bank_shape.specs.declared.pace.Policy.{Policy}
 use Rattle.bank_shape.specs.declared.pace.Policy.TheVariants.{Pause, Plain, Cancel}
-use Rattle.trace_reader.specs.Events.{AreEventsFor, IsOpFor}
+use Rattle.trace_reader.specs.Events.{AreEventsFor}
 use Rattle.trace_reader.specs.Rows.{latest_tick}
 use Rattle.trace_reader.specs.Trace.{most_rows}
 use Rattle.trace_reader.specs.declared.event.TraceEvent.{TraceEvent}
@@ -28,15 +28,17 @@ use Rattle.row_rules.specs.declared.Asks.TheVariants.{Reads, Writes, Cuts}
 use Rattle.row_rules.specs.declared.Row.{Row}
 use Rattle.row_rules.specs.Answers.{accepts}
 use Rattle.row_rules.specs.Rows.{each_row, newest}
+use Rattle.row_rules.specs.Lines.{IsOfLines}
 use Rattle.row_rules.specs.declared.Rules.{Rules}
 use Rattle.row_rules.specs.Serving.{is_served, may_have, owed, same_bytes}
 use Rattle.row_rules.specs.Ticking.{attempt, tries, writings}
-use Rattle.row_verdict.specs.Verdicts.{RowsOk, asks_of, rows_with}
+use Rattle.row_verdict.specs.Verdicts.{RowsOk}
+use Rattle.trace_rows.specs.Rows.{rows_with, row_of, asks_of}
+use Rattle.trace_rows.proofs.Lines.{lines-exist}
 use Rattle.run_text.specs.ResultText.{asked}
 use Rattle.module_shape.specs.declared.raw.RawShape.{RawShape}
 use Rattle.module_shape.specs.Limits.{IsShape, total_of}
 use Rattle.module_shape.specs.Addresses.{array_lines_of, module_of}
-use Rattle.module_laws.specs.Serves.{IsOfLines}
 use Rattle.end_laws.specs.Ends.{BankEnd}
 use Rattle.run_laws.specs.Runs.{RunsRight, rules_in}
 use Rattle.run_laws.specs.RowsOfRuns.{FewArrayLinesLaw, LinesExist, OwnOutcomesLaw, PlacesExistLaw, op_asked}
@@ -145,27 +147,13 @@ module _ {n : ℕ} where
   all-give (event ∷ events) [] h = tt
   all-give (event ∷ events) (outcome ∷ outcomes) h = (gives event.op h.0, all-give events outcomes h.1)
 
-  -- each line exists, and no tick is above the latest
-  of-lines : (lines : ℕ) (op : TraceOp n) → IsOpFor lines op → IsOfLines lines (asks_of op)
-  of-lines lines (Read line) h = h
-  of-lines lines (Write line bytes) h = h.0
-  of-lines lines (Mask line bytes given) h = h.0
-  of-lines lines Cut h = tt
-
-  lines-exist : (lines before : ℕ) (events : List (TraceEvent n)) (outcomes : List (Outcome n)) → AreEventsFor lines before events → All (λ r. IsOfLines lines r.asks) (rows_with events outcomes)
-  unfolding AreEventsFor
-  lines-exist lines before [] outcomes h = All-nil (λ (r : Row n). IsOfLines lines r.asks)
-  lines-exist lines before (event ∷ events) [] h = All-nil (λ (r : Row n). IsOfLines lines r.asks)
-  lines-exist lines before (event ∷ events) (outcome ∷ outcomes) h =
-      All-cons (λ (r : Row n). IsOfLines lines r.asks) (record { tick = event.tick; asks = asks_of event.op; outcome = outcome }) (rows_with events outcomes)
-      (of-lines lines event.op h.0.op) (lines-exist lines event.tick events outcomes h.1)
-
+  -- no tick is above the latest
   ticks-early : (lines before : ℕ) (events : List (TraceEvent n)) (outcomes : List (Outcome n)) → AreEventsFor lines before events → All (λ r. r.tick ≤ latest_tick) (rows_with events outcomes)
   unfolding AreEventsFor
   ticks-early lines before [] outcomes h = All-nil (λ (r : Row n). r.tick ≤ latest_tick)
   ticks-early lines before (event ∷ events) [] h = All-nil (λ (r : Row n). r.tick ≤ latest_tick)
   ticks-early lines before (event ∷ events) (outcome ∷ outcomes) h =
-      All-cons (λ (r : Row n). r.tick ≤ latest_tick) (record { tick = event.tick; asks = asks_of event.op; outcome = outcome }) (rows_with events outcomes)
+      All-cons (λ (r : Row n). r.tick ≤ latest_tick) (row_of event outcome) (rows_with events outcomes)
       h.0.in_time (ticks-early lines event.tick events outcomes h.1)
 
   rows-few : (events : List (TraceEvent n)) (outcomes : List (Outcome n)) → length (rows_with events outcomes) ≤ length events
@@ -175,7 +163,7 @@ module _ {n : ℕ} where
 
   -- ---- what a row of results may have
 
-  own-op : (op : TraceOp n) → op_asked (asks_of op) ≡ asked op
+  pub own-op : (op : TraceOp n) → op_asked (asks_of op) ≡ asked op
   own-op (Read line) = refl
   own-op (Write line bytes) = refl
   own-op (Mask line bytes given) = refl
@@ -197,7 +185,7 @@ module _ {n : ℕ} where
   each-may [] (outcome ∷ outcomes) size own short placed bytes = absurd (omega (arith, size))
   each-may (event ∷ events) [] size own short placed bytes = absurd (omega (arith, size))
   each-may (event ∷ events) (outcome ∷ outcomes) size own short placed bytes =
-      let r : Row n = record { tick = event.tick; asks = asks_of event.op; outcome = outcome } in
+      let r : Row n = row_of event outcome in
       let rest : List (Row n) = rows_with events outcomes in (
         record {
           belongs = All-head IsOwn r rest own ∙ ap Some (own-op event.op);

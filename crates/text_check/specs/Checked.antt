@@ -15,7 +15,8 @@ use Rattle.module_shape.specs.declared.raw.RawShape.{RawShape}
 use Rattle.module_shape.specs.Limits.{total_of}
 use Rattle.run_laws.specs.Runs.{rules_in}
 use Rattle.row_verdict.specs.declared.Verdict.{Verdict}
-use Rattle.row_verdict.specs.Verdicts.{rows_with, verdict_of}
+use Rattle.row_verdict.specs.Verdicts.{verdict_of}
+use Rattle.trace_rows.specs.Rows.{rows_with}
 use Rattle.verdict_laws.specs.Verdicts.{banks_of}
 use Rattle.text_check.specs.declared.fault.TextFault.{TextFault}
 use Rattle.text_check.specs.declared.fault.TextFault.TheVariants as fault

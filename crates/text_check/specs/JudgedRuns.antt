@@ -12,7 +12,7 @@ use Rattle.end_laws.specs.Ends.{BankEnd}
 use Rattle.run_laws.specs.Runs.{RunsRight}
 use Rattle.row_verdict.specs.declared.Verdict.{Verdict}
 use Rattle.row_verdict.specs.declared.Verdict.TheVariants.{Yes}
-use Rattle.row_verdict.specs.Verdicts.{rows_with}
+use Rattle.trace_rows.specs.Rows.{rows_with}
 use Rattle.text_check.specs.Checked.{HasVerdict, IsTextFault, asks_in}
 use Rattle.text_check.specs.SplitLaw.{EndsItsLine}
 use Rattle.text_check.specs.declared.fault.TextFault.{TextFault}

@@ -24,7 +24,8 @@ use Rattle.bank_laws.specs.Outcomes.{on_row, outcome_with, outcome_of, ended, ro
 use Rattle.bank_laws.specs.Standing.{has_wait}
 use Rattle.bank_laws.proofs.Entries.{either, no_wait-push}
 use Rattle.bank_laws.proofs.Answering.{IsFirst, served-first}
-use Rattle.bank_laws.proofs.Settling.{opens, above_all, rows_below-more}
+use Rattle.bank_laws.proofs.Settling.{opens, above_all}
+use Rattle.bank_model.proofs.Rising.{RowsBelow-more}
 use Rattle.bank_laws.proofs.Walking.{Passes, walk, rows_after}
 use Rattle.bank_laws.proofs.Serves.{may_at}
 use Rattle.tick_laws.specs.TickLaws.{is_apart, ApartLaw}
@@ -73,7 +74,7 @@ module _ {n m : ℕ} (shape : BankShape) (pace : Pace) (e : ℕ) where
         under : (at u p : ℕ) (b : List ℕ) → outcome_of shape xs at ≡ out.Read u p b → v.row ≡ other → (at < other) ⊎ (other ≤ at) → at < other
         under at u p b read is (inl lt) = lt
         under at u p b read is (inr le) =
-            let none : outcome_of shape xs at ≡ out.Unset = (opens shape pace e xs l).coming at (rows_below-more (core xs) row at (omega (arith, le, is, own)) below) in
+            let none : outcome_of shape xs at ≡ out.Unset = (opens shape pace e xs l).coming at (RowsBelow-more (core xs) row at (omega (arith, le, is, own)) below) in
             let both : ◌≡◌ {A = Outcome n} (out.Read u p b) out.Unset = sym read ∙ none in absurd (cc)
 
     at_serve : (answer : Served n) (ws : List Awaited) → AreSpaced pace.read (outcome_of shape xs) (since_of shape pace xs) (in_progress (core xs)) ws → Rising ws → IsFirst ws answer.row

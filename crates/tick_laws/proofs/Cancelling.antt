@@ -40,7 +40,7 @@ use Rattle.bank_laws.proofs.Later.{stored_above}
 use Rattle.bank_laws.proofs.Quiet.{ended_stored}
 use Rattle.tick_laws.proofs.Actions.{reads_of}
 use Rattle.tick_laws.proofs.Tallies.{stores_by}
-use Rattle.tick_laws.proofs.Counts.{count-cons}
+use Rattle.masked_bytes.proofs.Counting.{count-cons}
 use Rattle.tick_laws.proofs.StoreTimes.{store_event}
 
 -- what gives way to reads lets none of its line writes start while they wait

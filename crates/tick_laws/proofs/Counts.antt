@@ -2,7 +2,7 @@
 use Rattle.std.proofs.Common.{◌≡◌, ◌≢◌, ℕ, ◌+◌, ◌≤◌, ◌==◌, ◌&&◌, ◌||◌, ◌⊎◌, inl, inr, suc, Bool, true, false, List, [], ◌∷◌, ◌++◌, refl, sym, ap, ◌∙◌, subst, arith, cond, eqb, eqb-true, append_assoc}
 use Rattle.std.specs.Prelude.{nat_le, count_by}
 use Rattle.std.proofs.lemmas.Bool.{le-leb, or_right}
-use Rattle.std.proofs.lemmas.List.Sums.{sum_by-append, sum_by-cons}
+use Rattle.masked_bytes.proofs.Counting.{count-cons, count-append}
 use Rattle.result_rows.specs.declared.Outcome.{Outcome}
 use Rattle.result_rows.specs.declared.Outcome.TheVariants as out
 use Rattle.row_rules.specs.declared.Asks.TheVariants.{Reads, Writes, Cuts}
@@ -51,12 +51,6 @@ hits-new p q (x ∷ xs) c more old new there = by (eqb x c) refl there (λ k. hi
     by : (b : Bool) → eqb x c ≡ b → (b || among xs c) ≡ true → (among xs c ≡ true → hits p xs + 1 ≤ hits q xs) → cond (p x) (suc (hits p xs)) (hits p xs) + 1 ≤ cond (q x) (suc (hits q xs)) (hits q xs)
     by true is there go = let same : x ≡ c = eqb-true x c is in own (p x) (q x) (ap p same ∙ old) (ap q same ∙ new) (hits-more p q xs more)
     by false is there go = rest (p x) (q x) (more x) (go there)
-
-pub count-append : {X : Type 0} (p : X → Bool) (xs ys : List X) → count_by p (xs ++ ys) ≡ count_by p xs + count_by p ys
-count-append p xs ys = sum_by-append (λ x. cond (p x) 1 0) xs ys
-
-pub count-cons : {X : Type 0} (p : X → Bool) (x : X) (xs : List X) → count_by p (x ∷ xs) ≡ cond (p x) 1 0 + count_by p xs
-count-cons p x xs = sum_by-cons (λ x. cond (p x) 1 0) x xs
 
 count-skip : {X : Type 0} (p : X → Bool) (x : X) (xs : List X) (k : ℕ) → p x ≡ false → count_by p xs ≡ k → count_by p (x ∷ xs) ≡ k
 count-skip p x xs k no_hit is = count-cons p x xs ∙ subst (λ b. cond b 1 0 + count_by p xs ≡ k) (sym no_hit) (omega (arith, is))

@@ -49,7 +49,8 @@ use Rattle.tick_laws.proofs.Afterwards.{rows_after-append}
 use Rattle.tick_laws.proofs.Tallies.{stores_by, moves_by, retires_by, others_by, serves_by, cuts_by, cancelled_by, tally, tally_cuts}
 use Rattle.tick_laws.proofs.Moves.{moves_few, retires_few}
 use Rattle.tick_laws.proofs.Delays.{gain, Delay, delay_at, step, store_tick}
-use Rattle.tick_laws.proofs.Counts.{Sets, tallied_all, writes-counted, reads-counted, rows-counted, cuts-counted, count-append, among-later}
+use Rattle.tick_laws.proofs.Counts.{Sets, tallied_all, writes-counted, reads-counted, rows-counted, cuts-counted, among-later}
+use Rattle.masked_bytes.proofs.Counting.{count-append}
 
 -- the ticks that may have passed to an arrival at a and over some events
 abbrev allowed : {n m : ℕ} → ℕ → ℕ → ℕ → List (TimedEvent n m) → ℕ

@@ -6,7 +6,7 @@ use Rattle.std.proofs.lemmas.Bool.Decides.{nat_tests}
 use Rattle.rand_core.specs.Stream.{Stream, next_u64}
 use Rattle.rand_xoshiro.specs.SplitMix64.{splitmix_seed}
 use Rattle.rand_xoshiro.specs.Xoshiro256.{of_seed}
-use Rattle.pcm_cells.specs.Words.{xoshiro_of}
+use Rattle.seeded_words.specs.Words.{xoshiro_of}
 use Rattle.trace_reader.specs.Events.{AreEventsFor, IsEventFor, IsOpFor}
 use Rattle.trace_reader.specs.Rows.{latest_tick}
 use Rattle.trace_reader.specs.declared.event.TraceEvent.{TraceEvent}

@@ -1,17 +1,9 @@
 -- How the parts of a row are printed one behind the other.
 use Rattle.std.proofs.Common.{◌≡◌, ℕ, zero, suc, ◌+◌, ◌<◌, Bool, false, List, [], ◌∷◌, ◌++◌, length, get_or, take, refl, sym, ap, ◌∙◌, arith, append_assoc}
-use Rattle.std.specs.Prelude.{codes}
-use Rattle.std.specs.List.{join_with_byte}
 use Rattle.std.proofs.lemmas.List.{append-nil}
 use Rattle.pcm_io.specs.Reserved.{Reserved, appended}
 use Rattle.trace_reader.specs.declared.event.TraceEvent.{TraceEvent}
 use Rattle.trace_gen.specs.EventText.{event_row, event_rows, masked_text, pair_text}
-
--- four fields that were pushed one by one, with commas between and LF at the end
-pub pieces-row : (t : Reserved) (a b c d : List ℕ) →
-    appended (appended (appended (appended (appended (appended (appended (appended t a) (codes ",")) b) (codes ",")) c) (codes ",")) d) (codes "\n")
-    ≡ appended t (join_with_byte 44 (a ∷ b ∷ c ∷ d ∷ []) ++ codes "\n")
-pieces-row t a b c d = simp append_assoc
 
 -- nothing of a masked write
 pub masked-none : (bytes : List ℕ) (given : List Bool) → masked_text (take 0 bytes) (take 0 given) ≡ []

@@ -4,7 +4,7 @@ use Rattle.std.specs.Int.{w64, to_le_bytes}
 use Rattle.rand_core.specs.Stream.{Stream, next_u64, fill_bytes}
 use Rattle.rand_core.specs.Steps.{stream_of, steps_u64_high}
 use Rattle.rand_xoshiro.specs.Xoshiro256.{plus_plus}
-use Rattle.pcm_cells.specs.Words.{xoshiro_of}
+use Rattle.seeded_words.specs.Words.{xoshiro_of}
 use Rattle.trace_reader.specs.declared.event.TraceEvent.{TraceEvent}
 use Rattle.trace_reader.specs.declared.event.TraceOp.{TraceOp}
 use Rattle.trace_reader.specs.declared.event.TraceOp.TheVariants.{Read, Write, Cut}

@@ -237,3 +237,8 @@ AreEventsFor-at lines before (first ∷ rest) zero event h at =
     let same : first ≡ event = cc in
     rw (← same) (h.0.op, h.0.in_time)
 AreEventsFor-at lines before (first ∷ rest) (suc i) event h at = AreEventsFor-at lines first.tick rest i event h.1 at
+
+-- the first of lawful events, and those behind it
+pub lawful-first : {n : ℕ} (lines before : ℕ) (event : TraceEvent n) (rest : List (TraceEvent n)) → AreEventsFor lines before (event ∷ rest) → IsEventFor lines before event × AreEventsFor lines event.tick rest
+unfolding AreEventsFor
+lawful-first lines before event rest h = h

@@ -10,12 +10,13 @@ use Rattle.row_rules.specs.declared.Asks.{Asks}
 use Rattle.row_rules.specs.declared.Asks.TheVariants.{Reads, Writes, Cuts}
 use Rattle.row_rules.specs.declared.Row.{Row}
 use Rattle.row_rules.specs.Rows.{RowTest, each_row}
+use Rattle.row_rules.specs.Lines.{IsOfLines}
 use Rattle.row_rules.specs.declared.Rules.{Rules}
 use Rattle.row_rules.specs.Queueing.{has_room}
 use Rattle.row_rules.specs.Table.{is_of, of_bank}
 use Rattle.row_verdict.specs.Verdicts.{bank_in, in_bank, all_have_room}
 use Rattle.module_laws.specs.Asking.{row_in, bank_table}
-use Rattle.module_laws.specs.Serves.{AreLines, IsOfLines, finds_room_in}
+use Rattle.module_laws.specs.Serves.{AreLines, finds_room_in}
 use Rattle.module_laws.proofs.Serving.{same_line}
 use Rattle.verdict_laws.proofs.Renaming.{IsIn, AreIn, room-named}
 

@@ -1,12 +1,12 @@
 -- Each row of a right run keeps each rule.
 use Rattle.std.proofs.Common.{◌≡◌, ℕ, zero, suc, ◌+◌, ◌<◌, ◌&&◌, true, List, [], ◌∷◌, map, refl, sym, ◌∙◌, subst, arith}
-use Rattle.masked_bytes.proofs.Truth.{and_first, and_second}
 use Rattle.std.specs.Prelude.{nat_le, reverse}
 use Rattle.std.specs.List.{range_with_len}
 use Rattle.std.proofs.lemmas.List.{reverse-reverse}
 use Rattle.std.proofs.lemmas.Bool.{le-leb, and_from}
 use Rattle.std.proofs.lemmas.List.FromFn.{get_or-map-range_with_len}
 use Rattle.std.proofs.lemmas.Option.{unwrap_or-slice_get}
+use Rattle.row_rules.proofs.Passing.{passes_both}
 use Rattle.pcm_cells.specs.Device.{ArrayState}
 use Rattle.row_rules.specs.declared.Row.{Row}
 use Rattle.row_rules.specs.Rows.{RowTest, each_row}
@@ -29,15 +29,6 @@ use Rattle.verdict_laws.proofs.Timing.{wear-named, ticks-named}
 use Rattle.verdict_laws.proofs.InBanks.{Exist, exist-all, AreBanks, IsOfBank, apart, IsOfTables, all_rooms, in_tables}
 
 module _ {n : ℕ} where
-  -- a row that passes two tests passes and_from
-  passes_both : (test other : RowTest n) (rows after : List (Row n)) → each_row test rows after ≡ true → each_row other rows after ≡ true
-      → each_row (λ before r after. test before r after && other before r after) rows after ≡ true
-  passes_both test other [] after h k = refl
-  passes_both test other (r ∷ before) after h k =
-      and_from (test before r after && other before r after) _
-      (and_from (test before r after) (other before r after) (and_first (test before r after) (each_row test before (r ∷ after)) h) (and_first (other before r after) (each_row other before (r ∷ after)) k))
-      (passes_both test other before (r ∷ after) (and_second (test before r after) _ h) (and_second (other before r after) _ k))
-
   -- the test that is always passed
   passes_any : (rows after : List (Row n)) → each_row (λ before r after. true) rows after ≡ true
   passes_any [] after = refl

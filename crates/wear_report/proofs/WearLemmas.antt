@@ -1,19 +1,10 @@
 -- How long the rows of the wear report are.
 use Rattle.std.proofs.Common.{ℕ, ◌+◌, ◌^◌, ◌<◌, ◌≤◌, ◌≡◌, List, [], ◌∷◌, ◌++◌, length, length-append, append_assoc, add-zero, suc, sym, refl, arith, lit≤}
-use Rattle.std.specs.Prelude.{codes}
-use Rattle.std.specs.List.{join_with_byte}
 use Rattle.std.specs.Fmt.{decimal}
 use Rattle.pcm_io.proofs.DigitLemmas.{ten_digits, twenty_digits}
-use Rattle.pcm_io.specs.Reserved.{Reserved, appended}
 use Rattle.wear_report.specs.declared.Role.{Role}
 use Rattle.wear_report.specs.declared.Role.TheVariants.{Line, Gap, Free, Retired, Control}
 use Rattle.wear_report.specs.WearText.{role_text, wear_row_text, wear_rows_text}
-
--- four fields that were pushed one by one, with commas between and LF at the end
-pub pieces-row : (t : Reserved) (a b c d : List ℕ) →
-    appended (appended (appended (appended (appended (appended (appended (appended t a) (codes ",")) b) (codes ",")) c) (codes ",")) d) (codes "\n")
-    ≡ appended t (join_with_byte 44 (a ∷ b ∷ c ∷ d ∷ []) ++ codes "\n")
-pieces-row t a b c d = simp append_assoc
 
 -- the role of a line whose number is a u32, or any other role, is at most fifteen bytes
 pub length-role_text-le : (role : Role) → ((line : ℕ) → role ≡ Line line → line < 2 ^ 32) → length (role_text role) ≤ 15

@@ -1,5 +1,5 @@
 use Rattle.std.proofs.Common.{◌∙◌, arith}
-use Rattle.row_verdict.specs.Verdicts.{rows_with}
+use Rattle.trace_rows.specs.Rows.{rows_with}
 use Rattle.result_check.proofs.Checking.{table_of}
 use Rattle.result_check.proofs.Going.{goes_first}
 use Rattle.trace_reader.proofs.Sizes.{event_fits}

@@ -1,9 +1,8 @@
 use Rattle.std.proofs.Common.{◌≡◌, ◌-◌, suc, ◌∙◌, drop, reverse, take, Some, length, refl, sym, ap, arith}
 use Rattle.std.specs.Prelude.{slice_get}
 use Rattle.std.proofs.lemmas.Option.{slice_get_read}
-use Rattle.row_verdict.specs.Verdicts.{rows_with}
+use Rattle.trace_rows.specs.Rows.{rows_with, row_of}
 use Rattle.result_check.specs.Coming.{coming_of}
-use Rattle.result_check.specs.Finding.{row_of}
 use Rattle.result_check.specs.Tables.{IsRowOf}
 use Rattle.result_check.proofs.Finding.{rows_next, rows_length, outcome_there}
 use Rattle.result_check.proofs.Going.{cuts_below, coming_length, coming_got, meets, goes_on, goes_no, goes_yes, next_cuts, usable, piece_sorted, piece_few}

@@ -1,4 +1,4 @@
-use Rattle.row_verdict.specs.Verdicts.{rows_with}
+use Rattle.trace_rows.specs.Rows.{rows_with}
 use Rattle.result_check.specs.Going.{GoesOn}
 use Rattle.result_check.proofs.pass_rows.Given as goal
 

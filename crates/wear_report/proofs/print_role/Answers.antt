@@ -1,4 +1,4 @@
-use Rattle.wear_report.proofs.WearLemmas.{pieces-row}
+use Rattle.pcm_io.proofs.PrintLemmas.{pieces-row}
 use Rattle.wear_report.proofs.print_role.Goals as goal
 
 pub returns-clause-after : goal.returns-clause-after

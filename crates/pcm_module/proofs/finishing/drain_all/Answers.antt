@@ -2,7 +2,7 @@ use Rattle.std.proofs.Common.{arith, ◌≡◌, ℕ, ◌<◌, ◌++◌, length, 
 use Rattle.std.specs.Prelude.{slice_get}
 use Rattle.bank_clock.proofs.Sizes.{timed_fits, row_fits}
 use Rattle.pcm_module.specs.Draining.{AreDrained}
-use Rattle.pcm_module.proofs.Serving.{get_is}
+use Rattle.masked_bytes.proofs.Lists.{item-at}
 use Rattle.pcm_module.proofs.Draining.{drain_none, next_replays, drain_one, reached_bank, reached_all, time_left}
 use Rattle.pcm_module.proofs.finishing.drain_all.Goals as goal
 
@@ -19,7 +19,7 @@ drain-requires g c =
     let so_far = c.loop-bank.invariant of may in
     let exists = reached_bank bank c.len-bank-end.result (length c.args.banks.now.items) of.shape.banks c.loop-bank-test.true (c.len-bank-end.ensures ∙ c.args.banks.now.ok.0) may.count in
     let within : bank < length banks = subst (λ (k : ℕ). bank < k) (sym so_far.count) exists in
-    let is : slice_get banks bank ≡ Some clock = get_is banks bank clock within c.index_mut.ensures.value in
+    let is : slice_get banks bank ≡ Some clock = item-at banks bank clock within c.index_mut.ensures.value in
     let f = next_replays of (g.A.CellArray.state c.args.array.now) c.args.results.now bank banks (g.A.CellArray.state c.loop-bank.array) c.loop-bank.results clock so_far exists is may.led.0 may.led.1 may.led.2 in (
       timed_fits g.row.B g.row.M g.row.E c.requires.layout,
       (
@@ -45,7 +45,7 @@ loop-bank-preserved g c of may =
     let so_far = c.loop-bank.invariant of may in
     let exists = reached_bank bank c.len-bank-end.result (length c.args.banks.now.items) of.shape.banks c.loop-bank-test.true (c.len-bank-end.ensures ∙ c.args.banks.now.ok.0) may.count in
     let within : bank < length banks = subst (λ (k : ℕ). bank < k) (sym so_far.count) exists in
-    let is : slice_get banks bank ≡ Some clock = get_is banks bank clock within c.index_mut.ensures.value in
+    let is : slice_get banks bank ≡ Some clock = item-at banks bank clock within c.index_mut.ensures.value in
     drain_one of (g.A.CellArray.state c.args.array.now) c.args.results.now bank banks (g.A.CellArray.state c.loop-bank.array) c.loop-bank.results clock so_far exists is
     (g.A.CellArray.state c.drain.new.array) c.drain.new.results c.drain.new.self c.drain.ensures.drains may.led c.drain.ensures.others
 

@@ -1,8 +1,7 @@
 use Rattle.std.proofs.Common.{◌≡◌, ◌-◌, Some, length, refl, arith}
 use Rattle.std.specs.Prelude.{slice_get}
 use Rattle.std.proofs.lemmas.Option.{slice_get_read}
-use Rattle.row_verdict.specs.Verdicts.{rows_with}
-use Rattle.result_check.specs.Finding.{row_of}
+use Rattle.trace_rows.specs.Rows.{rows_with, row_of}
 use Rattle.result_check.specs.Tables.{IsRowOf}
 use Rattle.result_check.proofs.Coming.{looks_none, looks_more}
 use Rattle.result_check.proofs.Finding.{rows_next, rows_length}

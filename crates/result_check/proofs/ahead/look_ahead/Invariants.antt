@@ -1,5 +1,5 @@
 use Rattle.std.proofs.Common.{length}
-use Rattle.row_verdict.specs.Verdicts.{rows_with}
+use Rattle.trace_rows.specs.Rows.{rows_with}
 use Rattle.result_check.proofs.Coming.{LooksFrom}
 use Rattle.result_check.proofs.ahead.look_ahead.Given as goal
 

@@ -4,7 +4,8 @@ use Rattle.std.proofs.lemmas.Result.{on_err_weaker, on_ok_weaker}
 use Rattle.pcm_io.specs.Reserved.{room_in}
 use Rattle.run_text.specs.ResultText.{IsPrintable, results_text}
 use Rattle.run_text.proofs.Gathered.{on_err_any}
-use Rattle.run_text.proofs.Rows.{item-at, rows-all, rows-flushed, rows-more, rows-none, rows-part}
+use Rattle.run_text.proofs.Rows.{rows-all, rows-flushed, rows-more, rows-none, rows-part}
+use Rattle.masked_bytes.proofs.Lists.{item-at}
 use Rattle.run_text.proofs.results.print_results.Goals as goal
 
 pub loop-i-init : goal.loop-i-init

@@ -1,4 +1,4 @@
-use Rattle.trace_gen.proofs.Printed.{pieces-row}
+use Rattle.pcm_io.proofs.PrintLemmas.{pieces-row}
 use Rattle.trace_gen.proofs.print.print_event.Goals as goal
 
 pub returns-clause-after : goal.returns-clause-after

@@ -1,7 +1,8 @@
 use Rattle.std.proofs.Common.{ℕ, sym, ap, ◌∙◌, subst, arith}
+use Rattle.pcm_cells.proofs.ByteLemmas.{xor_false}
 use Rattle.pcm_cells.specs.Rows.{cell}
 use Rattle.ecp_line.specs.Layout.{Prefix, source_below}
-use Rattle.line_writer.proofs.Settling.{filled-wrong, filled-worn, filled-ready, xor-equal}
+use Rattle.line_writer.proofs.Settling.{filled-wrong, filled-worn, filled-ready}
 use Rattle.line_writer.proofs.Going.{wrong-held, fill-phase, writing-fill, lowest-held}
 use Rattle.line_writer.proofs.writer.LineWriter.filled.Goals as goal
 
@@ -35,7 +36,7 @@ returns-in-Some-2-clause-line g c line h =
       charged = h.round.charged;
       ready = filled-ready g.row.B g.row.E self.entries self.bytes _ _ f phase (omega arith);
       wrong = low.is;
-      lower = λ y l. xor-equal _ _ (low.below y l);
+      lower = λ y l. xor_false _ _ (low.below y l);
       stuck = h.stuck (source_below g.row.B f x self.entries) (sym (wrong-held self.prog line h.round.prog (source_below g.row.B f x self.entries))
           ∙ filled-wrong g.row.B g.row.E self.entries self.bytes (cell self.prog.want) (cell self.prog.which) f x phase (c.in-Some.ensures.some.0) low.is);
     })

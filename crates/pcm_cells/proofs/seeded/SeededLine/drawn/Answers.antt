@@ -5,11 +5,12 @@ use Rattle.rand_xoshiro.specs.Xoshiro256.{plus_plus}
 use Rattle.pcm_cells.specs.Rows.{cell}
 use Rattle.pcm_cells.specs.Planes.{digit}
 use Rattle.pcm_cells.specs.Counts.{count}
-use Rattle.pcm_cells.specs.Words.{xoshiro_of, word_at}
+use Rattle.seeded_words.specs.Words.{xoshiro_of, word_at}
 use Rattle.pcm_cells.specs.Seeded.{endurance, miss_limit, stuck_value}
 use Rattle.pcm_cells.specs.Pages.{drawn_line, HaveSameLife}
 use Rattle.pcm_cells.proofs.PageLemmas.{drawn_alike}
-use Rattle.pcm_cells.proofs.WordLemmas.{stream_after-zero, stream_after-more, word_at-is, cells_more, highest_bit}
+use Rattle.seeded_words.proofs.Drawn.{stream_after-zero, stream_after-more, word_at-is}
+use Rattle.pcm_cells.proofs.DrawnLemmas.{cells_more, highest_bit}
 use Rattle.pcm_cells.proofs.seeded.SeededLine.drawn.Goals as goal
 
 pub loop-cell-init : goal.loop-cell-init

@@ -4,7 +4,7 @@ use Rattle.rand_xoshiro.specs.Xoshiro256.{plus_plus}
 use Rattle.pcm_cells.specs.Rows.{cell}
 use Rattle.pcm_cells.specs.Planes.{digit}
 use Rattle.pcm_cells.specs.Counts.{count}
-use Rattle.pcm_cells.specs.Words.{xoshiro_of, stream_after, word_at}
+use Rattle.seeded_words.specs.Words.{xoshiro_of, stream_after, word_at}
 use Rattle.pcm_cells.specs.Seeded.{endurance, miss_limit, stuck_value}
 use Rattle.pcm_cells.proofs.seeded.SeededLine.drawn.Given as goal
 

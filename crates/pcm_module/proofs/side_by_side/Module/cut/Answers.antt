@@ -4,7 +4,8 @@ use Rattle.row_rules.specs.declared.Asks.TheVariants.{Cuts}
 use Rattle.bank_clock.proofs.Sizes.{timed_fits, row_fits, outcome_fits}
 use Rattle.pcm_module.specs.State.{ModuleState}
 use Rattle.pcm_module.specs.Taking.{Takes}
-use Rattle.pcm_module.proofs.Serving.{get_is, module_kept, module_at, at_above}
+use Rattle.pcm_module.proofs.Serving.{module_kept, module_at, at_above}
+use Rattle.masked_bytes.proofs.Lists.{item-at}
 use Rattle.pcm_module.proofs.Draining.{reached_all, reached_bank}
 use Rattle.pcm_module.proofs.Cuts.{cut_none, cut_replays, cut_one, cut_every, in_list}
 use Rattle.pcm_module.proofs.side_by_side.Module.cut.Goals as goal
@@ -34,7 +35,7 @@ cut_at-requires g c =
     let banks : c.loop-bank.self-inside.shape.banks ≡ old.shape.banks = ap (λ (o : ModuleState g.row.B g.row.M g.row.E). o.shape.banks) inv.same in
     let exists : c.loop-bank.bank < old.shape.banks = reached_bank c.loop-bank.bank c.banks-banks.result c.self.inside.shape.banks old.shape.banks c.loop-bank-test.true c.banks-banks.ensures.number ends in
     let within : c.loop-bank.bank < length items = in_list c.loop-bank.bank old.shape.banks c.loop-bank.self-inside.shape.banks (length items) exists banks inv.is.count in
-    let is : slice_get items c.loop-bank.bank ≡ Some c.index_mut.result.now = get_is items c.loop-bank.bank c.index_mut.result.now within c.index_mut.ensures.value in
+    let is : slice_get items c.loop-bank.bank ≡ Some c.index_mut.result.now = item-at items c.loop-bank.bank c.index_mut.result.now within c.index_mut.ensures.value in
     let led = c.requires.led in
     let xs = (inv.cuts.replays led.0 led.1 led.2).0 c.loop-bank.bank ++ led.0 c.loop-bank.bank in
     let f = cut_replays c.args.row c.args.tick old (g.A.CellArray.state c.args.array.now) c.args.results.now c.requires.forward c.requires.rises c.requires.fresh.exists c.loop-bank.bank items (g.A.CellArray.state c.loop-bank.array) c.loop-bank.results c.index_mut.result.now exists is inv.cuts led.0 led.1 led.2 in (
@@ -66,7 +67,7 @@ loop-bank-preserved g c =
     let banks : c.loop-bank.self-inside.shape.banks ≡ old.shape.banks = ap (λ (o : ModuleState g.row.B g.row.M g.row.E). o.shape.banks) inv.same in
     let exists : c.loop-bank.bank < old.shape.banks = reached_bank c.loop-bank.bank c.banks-banks.result c.self.inside.shape.banks old.shape.banks c.loop-bank-test.true c.banks-banks.ensures.number ends in
     let within : c.loop-bank.bank < length items = in_list c.loop-bank.bank old.shape.banks c.loop-bank.self-inside.shape.banks (length items) exists banks inv.is.count in
-    let is : slice_get items c.loop-bank.bank ≡ Some c.index_mut.result.now = get_is items c.loop-bank.bank c.index_mut.result.now within c.index_mut.ensures.value in
+    let is : slice_get items c.loop-bank.bank ≡ Some c.index_mut.result.now = item-at items c.loop-bank.bank c.index_mut.result.now within c.index_mut.ensures.value in
     let led = c.requires.led in
     let xs = (inv.cuts.replays led.0 led.1 led.2).0 c.loop-bank.bank ++ led.0 c.loop-bank.bank in
     let f = cut_replays c.args.row c.args.tick old (g.A.CellArray.state c.args.array.now) c.args.results.now c.requires.forward c.requires.rises c.requires.fresh.exists c.loop-bank.bank items (g.A.CellArray.state c.loop-bank.array) c.loop-bank.results c.index_mut.result.now exists is inv.cuts led.0 led.1 led.2 in

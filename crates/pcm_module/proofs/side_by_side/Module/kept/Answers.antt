@@ -9,7 +9,7 @@ use Rattle.pcm_module.specs.State.{ModuleState}
 use Rattle.pcm_module.specs.Shaped.{IsBankOf}
 use Rattle.pcm_module.proofs.Banks.{from_get}
 use Rattle.pcm_module.proofs.TakenRows.{bank_there}
-use Rattle.pcm_module.proofs.Serving.{get_is}
+use Rattle.masked_bytes.proofs.Lists.{item-at}
 use Rattle.pcm_module.proofs.side_by_side.Module.kept.Goals as goal
 
 pub bank-requires : goal.bank-requires
@@ -28,7 +28,7 @@ returns g c =
     let clock = c.index.result.now in
     let exists : bank < s.shape.banks = subst (λ (o : ModuleState g.row.B g.row.M g.row.E). bank < o.shape.banks) (sym same) c.requires in
     let within : bank < length s.banks.items = subst (λ (k : ℕ). bank < k) (sym c.self.invariant.count) exists in
-    let there : slice_get s.banks.items bank ≡ Some clock = get_is s.banks.items bank clock within c.index.ensures in
+    let there : slice_get s.banks.items bank ≡ Some clock = item-at s.banks.items bank clock within c.index.ensures in
     let is : slice_get now.banks bank ≡ Some clock = subst (λ (o : ModuleState g.row.B g.row.M g.row.E). slice_get o.banks bank ≡ Some clock) same there in
     let kept : c.kept.result.now ≡ clock.bank.kept = c.kept.ensures.kept ∙ ap (λ (b : BankState g.row.B g.row.M g.row.E). b.kept) c.bank.ensures in
     let own : IsBankOf (bank_shape (module_of s.shape) bank) clock

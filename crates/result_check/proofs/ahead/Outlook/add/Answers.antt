@@ -1,6 +1,6 @@
 use Rattle.std.proofs.Common.{◌≡◌, Some}
 use Rattle.result_check.specs.Finding.{line_written}
-use Rattle.row_verdict.specs.Verdicts.{asks_of}
+use Rattle.trace_rows.specs.Rows.{asks_of}
 use Rattle.result_check.proofs.ahead.Outlook.add.Goals as goal
 
 pub returns-in-Some : goal.returns-in-Some

@@ -4,7 +4,7 @@ use Rattle.result_rows.specs.declared.Outcome.{Outcome}
 use Rattle.result_rows.specs.declared.Outcome.TheVariants as out
 use Rattle.result_check.specs.Coming.{IsOutlook, a_row}
 use Rattle.result_check.proofs.Coming.{written_is, outlook_stored, outlook_accepted, outlook_worn}
-use Rattle.result_check.proofs.Lists.{get_is}
+use Rattle.masked_bytes.proofs.Lists.{item-at}
 use Rattle.result_check.proofs.ahead.Outlook.add_write.Goals as goal
 
 pub returns-in-Stored : goal.returns-in-Stored
@@ -16,7 +16,7 @@ returns-in-Stored g c =
     subst (λ (o : Outcome g.row.B). IsOutlook c.args.banks.now (a_row c.args.tick asks o ∷ rows) (slice_set old.next.items c.args.line (Some c.args.tick)) (slice_set old.soonest.items c.args.line c.sooner_of-soonest.result) old.worn.items) (sym c.in-Stored.is)
     (subst (λ s. IsOutlook c.args.banks.now (a_row c.args.tick asks (out.Stored c.in-Stored.at c.in-Stored.place) ∷ rows) (slice_set old.next.items c.args.line (Some c.args.tick)) (slice_set old.soonest.items c.args.line s) old.worn.items) (sym c.sooner_of-soonest.ensures)
     (outlook_stored c.args.banks.now rows c.args.tick asks c.args.line w.0 w.1 w.2 old.next.items old.soonest.items old.worn.items h c.requires.line c.in-Stored.at c.in-Stored.place c.index.result.now
-    (get_is old.soonest.items c.args.line c.index.result.now within c.index.ensures)))
+    (item-at old.soonest.items c.args.line c.index.result.now within c.index.ensures)))
 
 pub returns-in-Worn : goal.returns-in-Worn
 returns-in-Worn g c =

@@ -2,8 +2,7 @@ use Rattle.std.proofs.Common.{◌≡◌, ℕ, ◌+◌, suc, Some, length, refl, 
 use Rattle.std.specs.Prelude.{slice_get, IsPermutation}
 use Rattle.std.proofs.lemmas.Option.{slice_get_read}
 use Rattle.std.proofs.lemmas.List.Sorted.{IsNonDecreasingBy-from_sort}
-use Rattle.row_verdict.specs.Verdicts.{rows_with}
-use Rattle.result_check.specs.Finding.{row_of}
+use Rattle.trace_rows.specs.Rows.{rows_with, row_of}
 use Rattle.result_check.specs.Tables.{IsRowOf}
 use Rattle.result_check.proofs.Finding.{IsFoundTo, outcome_there, rows_next, rows_length, found_more, found_all}
 use Rattle.result_check.proofs.Rows.{one_of_all, one_of_every, short_of_brief}

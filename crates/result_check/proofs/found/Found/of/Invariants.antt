@@ -1,4 +1,4 @@
-use Rattle.row_verdict.specs.Verdicts.{rows_with}
+use Rattle.trace_rows.specs.Rows.{rows_with}
 use Rattle.result_check.proofs.Finding.{IsFoundTo}
 use Rattle.result_check.proofs.found.Found.of.Given as goal
 

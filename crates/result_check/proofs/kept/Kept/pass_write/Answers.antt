@@ -3,7 +3,8 @@ use Rattle.std.specs.Prelude.{slice_set}
 use Rattle.row_verdict.specs.States.{after_write}
 use Rattle.row_verdict.specs.declared.lines.Line.{Line}
 use Rattle.result_check.specs.Lines.{IsLineBehind}
-use Rattle.result_check.proofs.Lists.{get_is, some_same}
+use Rattle.result_check.proofs.Lists.{some_same}
+use Rattle.masked_bytes.proofs.Lists.{item-at}
 use Rattle.result_check.proofs.Keeping.{facts_got}
 use Rattle.result_rows.proofs.Sizes.{outcome_fits}
 use Rattle.result_check.proofs.Sizes.{line_fits, bytes_fit}
@@ -16,7 +17,7 @@ pub returns-clause-banks : goal.returns-clause-banks
 returns-clause-banks g c =
     let member = c.member_of-member.result in
     let old = c.args.self.now in
-    let got = facts_got old.banks.items c.args.bank c.index_mut.result.now (get_is old.banks.items c.args.bank c.index_mut.result.now c.requires.exist c.index_mut.ensures.value) in (
+    let got = facts_got old.banks.items c.args.bank c.index_mut.result.now (item-at old.banks.items c.args.bank c.index_mut.result.now c.requires.exist c.index_mut.ensures.value) in (
       member,
       c.member_of-member.ensures.sight,
       ap (slice_set old.banks.items c.args.bank)
@@ -26,7 +27,7 @@ returns-clause-banks g c =
 
 pub returns-clause-lines : goal.returns-clause-lines
 returns-clause-lines g c = λ old is.
-    let same : c.index_mut-2.result.now ≡ old = some_same c.index_mut-2.result.now old (sym (get_is c.args.self.now.lines.items c.args.line c.index_mut-2.result.now c.requires.line c.index_mut-2.ensures.value) ∙ is) in
+    let same : c.index_mut-2.result.now ≡ old = some_same c.index_mut-2.result.now old (sym (item-at c.args.self.now.lines.items c.args.line c.index_mut-2.result.now c.requires.line c.index_mut-2.ensures.value) ∙ is) in
     record {
       new = c.pass_line.new.line;
       own = subst (λ (o : Line g.row.B). IsLineBehind g.row.B c.args.tick c.args.bytes.now c.args.given.now c.args.outcome.now o c.pass_line.new.line) same c.in_ok-pass_line.ensures;

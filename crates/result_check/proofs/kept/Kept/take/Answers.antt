@@ -3,10 +3,11 @@ use Rattle.std.specs.Prelude.{IfOk, true, replicate}
 use Rattle.row_rules.specs.declared.Asks.{Asks}
 use Rattle.row_rules.specs.declared.Asks.TheVariants.{Reads, Writes}
 use Rattle.row_rules.specs.Rows.{asks_cut}
-use Rattle.row_verdict.specs.Verdicts.{asks_of, bank_in}
+use Rattle.row_rules.specs.Lines.{IsOfLines}
+use Rattle.row_verdict.specs.Verdicts.{bank_in}
+use Rattle.trace_rows.specs.Rows.{asks_of, row_of}
 use Rattle.result_check.specs.declared.ahead.Coming.{Coming}
 use Rattle.result_check.specs.Coming.{a_row, coming_at}
-use Rattle.result_check.specs.Finding.{IsBelow, row_of}
 use Rattle.result_check.specs.Keeping.{IsNext, HasPassed}
 use Rattle.result_check.proofs.Meeting.{next_of, fourth_below, few_wait}
 use Rattle.result_check.proofs.Rows.{short_of_brief}
@@ -23,7 +24,7 @@ take_read-requires g c =
     let banks = c.args.banks.now in
     let rules = c.args.rules.now in
     let asked : asks_of e.op ≡ Reads c.in-Read.line = ap asks_of c.in-Read.is in
-    let within : c.in-Read.line < length banks = subst (λ (a : Asks g.row.B). IsBelow (length banks) a) asked c.requires.line in
+    let within : c.in-Read.line < length banks = subst (λ (a : Asks g.row.B). IsOfLines (length banks) a) asked c.requires.line in
     let size = f.number in
     let long : length c.find_room-room.new.self.lines.items ≡ length c.args.self.now.lines.items = ap length f.lines in
     let k = f.knows m.from c.requires.met.0 m.passed_by (omega (arith, below)) m.knows in

@@ -4,7 +4,7 @@ use Rattle.std.proofs.Math.ListN.{length-set}
 use Rattle.row_verdict.specs.Banks.{facts_of}
 use Rattle.row_verdict.specs.declared.lines.Line.{Line}
 use Rattle.result_check.proofs.Keeping.{bank_exists, facts_got}
-use Rattle.result_check.proofs.Lists.{get_is}
+use Rattle.masked_bytes.proofs.Lists.{item-at}
 use Rattle.result_check.proofs.Taking.{read_taken}
 use Rattle.result_check.proofs.kept.Kept.take_read.Goals as goal
 
@@ -17,10 +17,10 @@ returns-in-Some-clause-passes g c = λ before after soon cuts h.
     let size : length s.banks.items ≡ length old.banks.items = ap length c.settle.ensures.banks ∙ length-set old.banks.items _ _ in
     let lines = c.requires.lines in
     let at : c.bank_of-number.result < length s.banks.items = omega (arith, size, exists, c.bank_of-number.ensures) in
-    let got = facts_got s.banks.items c.bank_of-number.result c.index.result.now (get_is s.banks.items c.bank_of-number.result c.index.result.now at c.index.ensures) in
+    let got = facts_got s.banks.items c.bank_of-number.result c.index.result.now (item-at s.banks.items c.bank_of-number.result c.index.result.now at c.index.ensures) in
     let same = c.settle.ensures.lines in
     let long : length s.lines.items ≡ length old.lines.items = ap length same in
-    let there = ap (λ (xs : List (Line g.row.B)). slice_get xs c.args.line) (sym same) ∙ get_is s.lines.items c.args.line c.index-2.result.now (omega (arith, long, lines, c.requires.line)) c.index-2.ensures in
+    let there = ap (λ (xs : List (Line g.row.B)). slice_get xs c.args.line) (sym same) ∙ item-at s.lines.items c.args.line c.index-2.result.now (omega (arith, long, lines, c.requires.line)) c.index-2.ensures in
     read_taken c.args.rules.now banks c.args.found.now before c.args.tick c.args.line c.args.outcome.now after
     old.banks.items s.banks.items s.banks.items old.joined s.joined old.lines.items s.lines.items c.args.room _ c.args.coming.soonest c.args.cuts.now
     c.deref.result.now c.deref-3.result.now c.bank_of-number.result _ (facts_of c.bank.result.now) c.index-2.result.now
@@ -37,10 +37,10 @@ returns-in_ok-pass_read-in-None-clause-passes g c = λ before after soon cuts h.
     let size : length s.banks.items ≡ length old.banks.items = ap length c.settle.ensures.banks ∙ length-set old.banks.items _ _ in
     let lines = c.requires.lines in
     let at : c.bank_of-number.result < length s.banks.items = omega (arith, size, exists, c.bank_of-number.ensures) in
-    let got = facts_got s.banks.items c.bank_of-number.result c.index.result.now (get_is s.banks.items c.bank_of-number.result c.index.result.now at c.index.ensures) in
+    let got = facts_got s.banks.items c.bank_of-number.result c.index.result.now (item-at s.banks.items c.bank_of-number.result c.index.result.now at c.index.ensures) in
     let same = c.settle.ensures.lines in
     let long : length s.lines.items ≡ length old.lines.items = ap length same in
-    let there = ap (λ (xs : List (Line g.row.B)). slice_get xs c.args.line) (sym same) ∙ get_is s.lines.items c.args.line c.index-2.result.now (omega (arith, long, lines, c.requires.line)) c.index-2.ensures in
+    let there = ap (λ (xs : List (Line g.row.B)). slice_get xs c.args.line) (sym same) ∙ item-at s.lines.items c.args.line c.index-2.result.now (omega (arith, long, lines, c.requires.line)) c.index-2.ensures in
     let p = c.in_ok-pass_read-in-None.ensures in
     read_taken c.args.rules.now banks c.args.found.now before c.args.tick c.args.line c.args.outcome.now after
     old.banks.items s.banks.items c.pass_read.new.self.banks.items old.joined c.pass_read.new.self.joined old.lines.items c.pass_read.new.self.lines.items c.args.room _ c.args.coming.soonest c.args.cuts.now

@@ -5,7 +5,7 @@ use Rattle.row_verdict.specs.declared.lines.Line.{Line}
 use Rattle.result_check.specs.Keeping.{KnowsLines}
 use Rattle.result_check.proofs.Keeping.{bank_exists, facts_got}
 use Rattle.result_check.proofs.Lines.{lines_pass}
-use Rattle.result_check.proofs.Lists.{get_is}
+use Rattle.masked_bytes.proofs.Lists.{item-at}
 use Rattle.result_check.proofs.Taking.{write_taken}
 use Rattle.result_check.proofs.kept.Kept.take_write.Goals as goal
 
@@ -18,7 +18,7 @@ returns-in-Some-clause-passes g c = λ before after next worn cuts h.
     let size : length s.banks.items ≡ length old.banks.items = ap length c.settle.ensures.banks ∙ length-set old.banks.items _ _ in
     let lines = c.requires.lines in
     let at : c.bank_of-number.result < length s.banks.items = omega (arith, size, exists, c.bank_of-number.ensures) in
-    let got = facts_got s.banks.items c.bank_of-number.result c.index.result.now (get_is s.banks.items c.bank_of-number.result c.index.result.now at c.index.ensures) in
+    let got = facts_got s.banks.items c.bank_of-number.result c.index.result.now (item-at s.banks.items c.bank_of-number.result c.index.result.now at c.index.ensures) in
     write_taken c.args.rules.now banks c.args.found.now before c.args.tick c.args.line c.args.bytes.now c.args.given.now c.args.outcome.now after
     old.banks.items s.banks.items s.banks.items old.joined s.joined old.lines.items s.lines.items c.args.room _ _ c.args.coming.next c.args.coming.worn c.args.cuts.now
     c.deref.result.now c.deref-2.result.now c.bank_of-number.result _ (facts_of c.bank.result.now)
@@ -35,11 +35,11 @@ returns-in_ok-pass_write-in-None-clause-passes g c = λ before after next worn c
     let size : length s.banks.items ≡ length old.banks.items = ap length c.settle.ensures.banks ∙ length-set old.banks.items _ _ in
     let lines = c.requires.lines in
     let at : c.bank_of-number.result < length s.banks.items = omega (arith, size, exists, c.bank_of-number.ensures) in
-    let got = facts_got s.banks.items c.bank_of-number.result c.index.result.now (get_is s.banks.items c.bank_of-number.result c.index.result.now at c.index.ensures) in
+    let got = facts_got s.banks.items c.bank_of-number.result c.index.result.now (item-at s.banks.items c.bank_of-number.result c.index.result.now at c.index.ensures) in
     let same = c.settle.ensures.lines in
     let long : length s.lines.items ≡ length old.lines.items = ap length same in
     let within : c.args.line < length s.lines.items = omega (arith, long, lines, c.requires.line) in
-    let there = get_is s.lines.items c.args.line c.index-2.result.now within c.index-2.ensures in
+    let there = item-at s.lines.items c.args.line c.index-2.result.now within c.index-2.ensures in
     let p = c.in_ok-pass_write-in-None.ensures in
     write_taken c.args.rules.now banks c.args.found.now before c.args.tick c.args.line c.args.bytes.now c.args.given.now c.args.outcome.now after
     old.banks.items s.banks.items c.pass_write.new.self.banks.items old.joined c.pass_write.new.self.joined old.lines.items c.pass_write.new.self.lines.items c.args.room _ _ c.args.coming.next c.args.coming.worn c.args.cuts.now
