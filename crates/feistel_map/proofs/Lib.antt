@@ -1,4 +1,5 @@
 pub mod Inverse
 pub mod Located
+mod Keyed
 mod Worked
 pub mod Powers
