@@ -7,6 +7,7 @@ use Rattle.std.proofs.lemmas.Nat.Bits.{bit_at-zero}
 use Rattle.std.proofs.lemmas.Bool.{cases_eq}
 use Rattle.rand_core.specs.Stream.{next_u64}
 use Rattle.rand_core.specs.Steps.{stream_of}
+use Rattle.seeded_words.specs.Words.{stream_after, word_at}
 use Rattle.pcm_cells.specs.declared.array.Sense.{Sense}
 use Rattle.ecp_line.specs.Reading.{decode}
 use Rattle.ecp_line.specs.Layout as layout
@@ -29,15 +30,15 @@ use Rattle.run_laws.specs.Runs.{bank_of_line, line_in_bank, line_named, rules_in
 use Rattle.worked_tables.specs.Runs.{small, reading, misplaced, first_bank, second_bank, senses, holding, ended, touched, forgotten, NeverRight, unmoved, hammered, strained}
 
 pub where_8_is : (bank_of_line small 0 8 ≡ 1) × (line_in_bank small 0 8 ≡ 5) × (line_named small 0 1 5 ≡ 8)
-unfolding next_u64 stream_of
+unfolding next_u64 stream_of stream_after word_at
 where_8_is = (refl, refl, refl)
 
 pub first_table : (written other : ℕ) → table_in small 0 0 (reading written other) ≡ first_bank other
-unfolding next_u64 stream_of
+unfolding next_u64 stream_of stream_after word_at
 first_table written other = refl
 
 pub second_table : (written other : ℕ) → table_in small 0 1 (reading written other) ≡ second_bank written
-unfolding next_u64 stream_of
+unfolding next_u64 stream_of stream_after word_at
 second_table written other = refl
 
 -- each of so many numbers from one on passes a test
@@ -174,7 +175,7 @@ served : each_row is_served rows [] ≡ true
 served = refl
 
 room : (bank : ℕ) → bank < 2 → each_row (finds_room_in (bank_of_line small 0) (line_in_bank small 0) (rules_in 1 small bank) bank) rows [] ≡ true
-unfolding next_u64 stream_of
+unfolding next_u64 stream_of stream_after word_at
 room = each_bank (λ bank. each_row (finds_room_in (bank_of_line small 0) (line_in_bank small 0) (rules_in 1 small bank) bank) rows [] ≡ true) refl refl
 
 -- the cells behind number 21 are unused
@@ -231,7 +232,7 @@ stale_is_wrong m e array ends right = absurd (cc (right.serves.served))
 
 -- a read of another line's place, in another bank
 pub misplaced_is_wrong : (ends : ℕ → BankEnd) → RunsRight 1 small 0 misplaced ended ends → ⊥
-unfolding next_u64 stream_of layout.width layout.some_below cells.cell cells.members lib.Count.count_trailing_zeros
+unfolding next_u64 stream_of stream_after word_at layout.width layout.some_below cells.cell cells.members lib.Count.count_trailing_zeros
 misplaced_is_wrong ends right = absurd (cc ((right.serves.places 0 (lit< tt)).placed))
 
 -- an array of which an unused check cell was pulsed
@@ -241,15 +242,15 @@ touched_is_wrong right = let held = (right.unused 3 (lit< tt) 22 (omega (arith, 
 
 -- an array that hasn't kept what was written
 pub forgotten_is_wrong : RunsRight 1 small 0 rows forgotten unmoved → ⊥
-unfolding next_u64 stream_of decode layout.number layout.source_below layout.active layout.width layout.leading layout.some_below cells.cell cells.members lib.Count.count_trailing_zeros
+unfolding next_u64 stream_of stream_after word_at decode layout.number layout.source_below layout.active layout.width layout.leading layout.some_below cells.cell cells.members lib.Count.count_trailing_zeros
 forgotten_is_wrong right = absurd (cc ((right.end 1 (lit< tt)).kept 5 (lit< tt)))
 
 -- an array line that was pulsed more often than its slot's stores account for, though not more than its bank's do
 pub hammered_is_wrong : RunsRight 1 small 0 rows hammered unmoved → ⊥
-unfolding next_u64 stream_of
+unfolding next_u64 stream_of stream_after word_at
 hammered_is_wrong right = let many : 100 ≤ 80 = (right.serves.lines 1 (lit< tt)).pulses 6 (lit< tt) in absurd (omega (arith, many))
 
 -- one with no cell stuck of which a cell changed more often than its stores account for, though it was pulsed no more often than it might be
 pub strained_is_wrong : RunsRight 1 small 0 rows strained unmoved → ⊥
-unfolding next_u64 stream_of
+unfolding next_u64 stream_of stream_after word_at
 strained_is_wrong right = let many : 10 ≤ 2 = ((right.serves.lines 1 (lit< tt)).ages 6 (lit< tt)).live (λ c. refl) 0 in absurd (omega (arith, many))

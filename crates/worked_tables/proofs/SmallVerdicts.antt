@@ -2,6 +2,7 @@
 use Rattle.std.proofs.Common.{◌≡◌, refl}
 use Rattle.rand_core.specs.Stream.{next_u64}
 use Rattle.rand_core.specs.Steps.{stream_of}
+use Rattle.seeded_words.specs.Words.{stream_after, word_at}
 use Rattle.row_verdict.specs.Verdicts.{no}
 use Rattle.row_verdict.specs.declared.Rule.TheVariants.{Serves, Tick}
 use Rattle.row_verdict.specs.declared.Verdict.TheVariants.{Yes}
@@ -9,25 +10,25 @@ use Rattle.worked_tables.specs.Runs.{reading, misplaced}
 use Rattle.worked_tables.specs.Verdicts.{verdict_on, read_at}
 
 pub right : verdict_on (reading 0x11 0) ≡ Yes
-unfolding next_u64 stream_of
+unfolding next_u64 stream_of stream_after word_at
 right = refl
 
 pub stale : verdict_on (reading 0 0) ≡ no 2 Serves
-unfolding next_u64 stream_of
+unfolding next_u64 stream_of stream_after word_at
 stale = refl
 
 pub early : verdict_on (read_at 104) ≡ no 2 Tick
-unfolding next_u64 stream_of
+unfolding next_u64 stream_of stream_after word_at
 early = refl
 
 pub latest : verdict_on (read_at 115) ≡ Yes
-unfolding next_u64 stream_of
+unfolding next_u64 stream_of stream_after word_at
 latest = refl
 
 pub late : verdict_on (read_at 116) ≡ no 2 Tick
-unfolding next_u64 stream_of
+unfolding next_u64 stream_of stream_after word_at
 late = refl
 
 pub other_place : verdict_on misplaced ≡ Yes
-unfolding next_u64 stream_of
+unfolding next_u64 stream_of stream_after word_at
 other_place = refl
