@@ -236,7 +236,7 @@ fn cancels_by_step(step: Step, cancels: u32) -> u32
     }
 }
 
-// The same after a step of the writing of a change.
+// How often the present line write was cancelled, after a step of the writing of a change.
 fn cancels_by_keep(keep: Keep, cancels: u32) -> u32
     ensures { result ≡ cancels_by_keep keep cancels }
 {

@@ -76,7 +76,7 @@ impl<const B: usize, const M: usize, const E: usize> Bank<B, M, E> {
         self.begin_next(array, tick)
     }
 
-    // The same, without what it keeps.
+    // Begins the next work, as `begin` does, whose promises on histories aren't made here.
     fn begin_next<A: CellArray<B, M>>(&mut self, array: &mut A, tick: u64) -> Step
         requires ready { IsTrue (may_begin self.old) }
         requires tied { IsTied self.old (A.state array.old) }

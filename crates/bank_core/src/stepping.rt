@@ -51,7 +51,7 @@ impl<const B: usize, const M: usize, const E: usize> Bank<B, M, E> {
         self.advance(array, tick)
     }
 
-    // The same, without what it keeps.
+    // Advances the running line write, as `iterate` does, whose promises on histories aren't made here.
     fn advance<A: CellArray<B, M>>(&mut self, array: &mut A, tick: u64) -> Step
         requires runs { IsTrue (is_some self.old.running) }
         requires tied { IsTied self.old (A.state array.old) }

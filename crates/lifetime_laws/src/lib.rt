@@ -110,7 +110,7 @@ pub fn control_pulses_are_few()
     ensures { ControlPulsesLaw }
 {}
 
-/// The same as a law of a bank's finished table and array.
+/// The bounds on pulses and changes, as a law of a bank's finished table and array.
 pub fn lines_keep_their_law()
     ensures { KeptLinesLaw }
 {}

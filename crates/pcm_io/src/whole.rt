@@ -29,7 +29,7 @@ pub fn read_all<S: Source>(
         (S.taken source.old) (S.taken source.new) bytes
         × ((fault ≡ ReadAllFault.TooLong) ↔ (limit < length bytes))) }
 
-    // The same by the count of taken bytes alone, where that is not near its end.
+    // `TooLong` by the count of taken bytes alone, where that is not near its end.
     ensures too_long { S.taken source.old + limit < 2 ^ 64 - 1 →
         ((result ≡ Err ReadAllFault.TooLong) ↔ (S.taken source.old + limit < S.taken source.new)) }
     ensures read { result ≡ Err ReadAllFault.Read → Rose (S.faults source.old) (S.faults source.new) }

@@ -1,6 +1,7 @@
 -- The image of a run that was made.
 use Rattle.std.proofs.Common.{◌≡◌, ℕ, ◌^◌, ◌<◌, List, Option, Some, None, refl, sym, subst, reverse}
 use Rattle.std.specs.Prelude.{IsSomeAnd, slice_get, unwrap_or}
+use Rattle.pcm_top.proofs.Tables.{rows-are}
 use Rattle.pcm_cells.specs.Device.{ArrayState}
 use Rattle.trace_reader.specs.declared.event.TraceEvent.{TraceEvent}
 use Rattle.result_rows.specs.declared.Outcome.{Outcome}
@@ -36,7 +37,7 @@ module _ {n m e : ℕ} (pcm : ModuleState n m e) (before array : ArrayState n m)
     banks = bank_at pcm;
     before = before;
     finished = played.finished;
-    rows_are = refl;
+    rows_are = sym (rows-are events outcomes played.one_each);
     saved = refl;
     since = since;
   }

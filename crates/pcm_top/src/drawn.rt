@@ -40,7 +40,7 @@ fn print_drawn<const B: usize, K: Sink>(
     write_all(out, rest)
 }
 
-// The same for the lines of a job.
+// Writes the events that a job draws, of lines of its size.
 fn print_job<K: Sink>(job: &GenJob, text: &mut Text, out: &mut K) -> Result<(), WriteFault>
     requires room { text.old ≡ reserved TEXT_ROOM }
     requires mix { IsMix job.now.mix }

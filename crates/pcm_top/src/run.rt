@@ -112,7 +112,7 @@ pub fn run<const B: usize, const M: usize, const E: usize, A: CellArray<B, M>, S
         Ok(taken) => taken,
         Err(_) => return Err(Fault::NoMemory),
     };
-    match play(
+    let played = play(
         job,
         &mut pcm,
         array,
@@ -120,8 +120,6 @@ pub fn run<const B: usize, const M: usize, const E: usize, A: CellArray<B, M>, S
         &mut results,
         &mut text,
         out,
-    ) {
-        Ok(done) => Ok(done),
-        Err(_) => Err(Fault::Write),
-    }
+    );
+    played.map_err(|_| Fault::Write)
 }

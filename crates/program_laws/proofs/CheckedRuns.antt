@@ -1,9 +1,8 @@
 -- What a run printed, checked behind its trace, is ok.
-use Rattle.std.proofs.Common.{◌≡◌, ℕ, ◌+◌, ◌-◌, ◌*◌, ◌≤◌, inl, inr, List, [], ◌∷◌, ◌++◌, length, map, Some, refl, sym, ap, ◌∙◌, subst, arith, append_assoc, append-nil, length-append}
-use Rattle.std.specs.Prelude.{◌⊎◌, codes, reverse, slice_get, slice_index, unwrap_or, Ok}
+use Rattle.std.proofs.Common.{◌≡◌, ℕ, ◌+◌, ◌-◌, ◌*◌, ◌≤◌, inl, inr, List, [], ◌∷◌, ◌++◌, length, Some, refl, sym, ap, ◌∙◌, subst, arith, append_assoc, append-nil, length-append}
+use Rattle.std.specs.Prelude.{◌⊎◌, codes, slice_index, Ok}
 use Rattle.std.specs.List.{join_with_byte}
-use Rattle.std.proofs.lemmas.List.{append_cancel_left, get_or_at, length_push}
-use Rattle.masked_bytes.proofs.Lists.{turned}
+use Rattle.std.proofs.lemmas.List.{append_cancel_left, get_or_at}
 use Rattle.pcm_cells.specs.Device.{ArrayState}
 use Rattle.trace_reader.specs.Trace.{most_rows, trace_of}
 use Rattle.trace_reader.specs.declared.event.TraceEvent.{TraceEvent}
@@ -13,17 +12,10 @@ use Rattle.trace_gen.specs.Generated.{IsMix, generated}
 use Rattle.trace_gen.specs.Laws.{GeneratedSizeLaw, GeneratedTextLaw}
 use Rattle.trace_gen.specs.declared.mix.Mix.{Mix}
 use Rattle.result_rows.specs.declared.Outcome.{Outcome}
-use Rattle.result_rows.specs.declared.Outcome.TheVariants.{Unset}
-use Rattle.row_rules.specs.declared.Row.{Row}
-use Rattle.trace_rows.specs.Rows.{rows_with}
 use Rattle.row_verdict.specs.declared.Verdict.{Verdict}
 use Rattle.row_verdict.specs.declared.Verdict.TheVariants.{Yes}
 use Rattle.module_shape.specs.Limits.{total_of}
-use Rattle.module_laws.specs.Asking.{Asked, row_with}
-use Rattle.run_laws.specs.Runs.{RunsRight}
 use Rattle.run_text.specs.ResultText.{results_text}
-use Rattle.bank_clock.specs.Extending.{outcome_in}
-use Rattle.pcm_module.specs.Asking.{asked_by, asked_for}
 use Rattle.text_check.specs.Checked.{HasVerdict, IsTextFault}
 use Rattle.text_check.specs.JudgedRuns.{IsJudgedOk, IsRunOf, JudgedRunsLaw, ShortLaw}
 use Rattle.text_check.specs.SplitLaw.{EndsItsLine}
@@ -44,7 +36,6 @@ use Rattle.pcm_top.specs.Checking.{IsCheckFault, TellsVerdict, TellsVerdictInPar
 use Rattle.pcm_top.specs.Inputs.{ComeFrom}
 use Rattle.pcm_top.specs.Jobs.{bytes_in}
 use Rattle.pcm_top.specs.Reading.{SourceChange, trace_room}
-use Rattle.pcm_top.specs.Rows.{rows_of}
 use Rattle.pcm_top.specs.RunText.{IsRunText}
 use Rattle.pcm_top.specs.Running.{RunIsWritten, WritesRun, status_done}
 use Rattle.pcm_top.specs.Statuses.{IsCheckStatus, status_without}
@@ -54,58 +45,6 @@ use Rattle.pcm_top.specs.declared.run.Done.{Done}
 use Rattle.pcm_top.specs.declared.run.Done.TheVariants.{Whole}
 use Rattle.pcm_top.proofs.Deciding.{more-go, reads-told}
 use Rattle.text_check.proofs.JudgedRuns.{some-lines}
-
--- ---- the rows of a run, the oldest first
-
-map-reverse : {A B : Type 0} (f : A → B) (xs ys : List A) → map f (reverse xs ++ ys) ≡ reverse (map f xs) ++ map f ys
-map-reverse f [] ys = refl
-map-reverse f (x ∷ xs) ys = ap (map f) (turned x xs ys) ∙ map-reverse f xs (x ∷ ys) ∙ sym (turned (f x) (map f xs) (map f ys))
-
-module _ {n : ℕ} where
-  -- what events ask, numbered from this row on
-  abbrev numbered : ℕ → List (TraceEvent n) → List (Asked n)
-  numbered row [] = []
-  numbered row (event ∷ events) = asked_by row event ∷ numbered (row + 1) events
-
-  asked-forwards : (events below : List (TraceEvent n)) → asked_for (reverse events ++ below) ≡ reverse (numbered (length below + 1) events) ++ asked_for below
-  asked-forwards [] below = refl
-  asked-forwards (event ∷ events) below =
-      let next : length (event ∷ below) + 1 ≡ length below + 1 + 1 = omega arith in
-      ap asked_for (turned event events below) ∙ asked-forwards events (event ∷ below)
-      ∙ ap (λ (row : ℕ). reverse (numbered row events) ++ asked_for (event ∷ below)) next
-      ∙ sym (turned (asked_by (length below + 1) event) (numbered (length below + 1 + 1) events) (asked_for below))
-
-  own-outcome : (before : List (Outcome n)) (outcome : Outcome n) (rest : List (Outcome n)) → outcome_in (before ++ outcome ∷ rest) (length before + 1) ≡ outcome
-  own-outcome before outcome rest =
-      let back : length before + 1 - 1 ≡ length before = omega arith in
-      ap (λ (i : ℕ). unwrap_or (slice_get (before ++ outcome ∷ rest) i) Unset) back ∙ at before
-    where
-      at : (before : List (Outcome n)) → unwrap_or (slice_get (before ++ outcome ∷ rest) (length before)) Unset ≡ outcome
-      at [] = refl
-      at (first ∷ before) = at before
-
-  with-outcomes : (before : List (Outcome n)) (events : List (TraceEvent n)) (outcomes : List (Outcome n)) → length outcomes ≡ length events
-      → map (row_with (outcome_in (before ++ outcomes))) (numbered (length before + 1) events) ≡ rows_with events outcomes
-  with-outcomes before [] [] size = refl
-  with-outcomes before [] (outcome ∷ outcomes) size = absurd (omega (arith, size))
-  with-outcomes before (event ∷ events) [] size = absurd (omega (arith, size))
-  with-outcomes before (event ∷ events) (outcome ∷ outcomes) size =
-      let all : List (Outcome n) = before ++ outcome ∷ outcomes in
-      let next : (before ++ outcome ∷ []) ++ outcomes ≡ all = append_assoc before (outcome ∷ []) outcomes in
-      ap (λ (o : Outcome n). record { tick = event.tick; asks = (asked_by 0 event).asks; outcome = o } ∷ map (row_with (outcome_in all)) (numbered (length before + 1 + 1) events)) (own-outcome before outcome outcomes)
-      ∙ ap (λ (rest : List (Row n)). record { tick = event.tick; asks = (asked_by 0 event).asks; outcome = outcome } ∷ rest)
-      (ap (λ (row : ℕ). map (row_with (outcome_in all)) (numbered (row + 1) events)) (sym (length_push before outcome))
-      ∙ ap (λ (all : List (Outcome n)). map (row_with (outcome_in all)) (numbered (length (before ++ outcome ∷ []) + 1) events)) (sym next)
-      ∙ with-outcomes (before ++ outcome ∷ []) events outcomes (omega (arith, size)))
-
-  -- the table of a run is that of its events and outcomes, the newest row first
-  rows-are : (events : List (TraceEvent n)) (outcomes : List (Outcome n)) → length outcomes ≡ length events → rows_of events outcomes ≡ reverse (rows_with events outcomes)
-  rows-are events outcomes size =
-      ap (λ (es : List (TraceEvent n)). map (row_with (outcome_in outcomes)) (asked_for es)) (sym (append-nil (reverse events)))
-      ∙ ap (map (row_with (outcome_in outcomes))) (asked-forwards events [])
-      ∙ map-reverse (row_with (outcome_in outcomes)) (numbered 1 events) []
-      ∙ append-nil (reverse (map (row_with (outcome_in outcomes)) (numbered 1 events)))
-      ∙ ap reverse (with-outcomes [] events outcomes size)
 
 -- ---- the trace of a run
 
@@ -242,7 +181,7 @@ module _ (texts : GeneratedTextLaw) (sizes : GeneratedSizeLaw) (judges : JudgedR
         few = few;
         reads = whole.reads;
         one_each = made.run.one_each;
-        right = subst (λ (rows : List (Row n)). RunsRight e job.shape job.seed rows array made.run.ends) (rows-are events outcomes made.run.one_each) made.run.right;
+        right = made.run.right;
       } in
       let Of : Print → Type 0 = λ p. IsRunText job.shape job.seed e events outcomes made.run.ends array p made.text in
       let printed : made.text ≡ results_text events outcomes = subst Of prints made.is_text in

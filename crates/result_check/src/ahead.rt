@@ -24,7 +24,7 @@ pub struct Coming {
     pub worn: Option<u64>,
 }
 
-/// The same of each line, and of each bank.
+/// What the rows behind a row bring to each line (`next`, `soonest`) and to each bank (`worn`).
 #[derive(Drop)]
 struct Outlook {
     next: Vec<Option<u64>>,

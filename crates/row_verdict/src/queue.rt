@@ -91,7 +91,8 @@ fn few_precede(all: &[Member], newest: &Member, others: &[Member]) -> bool
     }
 }
 
-/// The same, where this is known of the others and the newest.
+/// Whether at most one of the others is of the newest member's line, and that one precedes it; which lines may have two
+/// members, the others and the newest together, is known, so that most lines aren't counted.
 fn finds_few(all: &[Member], newest: &Member, others: &[Member], twins: Twins) -> bool
     requires { IsKnown twins (others.now ++ newest.now ∷ []) }
     ensures { result ≡ few_by (spec.is_of newest.now.line) (spec.precedes all.now newest.now) others.now }

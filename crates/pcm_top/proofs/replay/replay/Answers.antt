@@ -1,6 +1,9 @@
-use Rattle.std.proofs.Common.{◌≡◌, ◌∙◌, ◌++◌, Some, length, refl, arith}
+use Rattle.std.proofs.Common.{◌≡◌, ◌∙◌, ◌++◌, List, Some, length, refl, subst, arith}
 use Rattle.std.specs.Prelude.{slice_get}
 use Rattle.std.proofs.lemmas.Option.{slice_get_read}
+use Rattle.row_rules.specs.declared.Row.{Row}
+use Rattle.run_laws.specs.Runs.{RunsRight}
+use Rattle.pcm_top.proofs.Tables.{rows-are}
 use Rattle.pcm_top.proofs.Replaying.{next-event, next-open, replayed-all, replayed-more, replayed-none}
 use Rattle.trace_reader.proofs.Sizes.{event_fits}
 use Rattle.pcm_top.proofs.replay.replay.Goals as goal
@@ -57,7 +60,11 @@ returns-clause-right g c =
     let all =
     replayed-all c.args.pcm.now.shape c.args.pcm.now.seed c.args.events.now c.loop-i.i c.loop-i.pcm (g.A.CellArray.state c.loop-i.array) c.loop-i.results
     c.loop-i-test.false c.loop-i.invariant.0 in
-    c.finish.ensures.right all.0 _ all.1
+    let had = c.loop-i.invariant.0 in
+    let own = c.finish.ensures.right all.0 _ all.1 in
+    let size : length c.finish.new.results ≡ length c.args.events.now = c.finish.ensures.rows ∙ had.size in
+    let Right : List (Row g.row.B) → Type 0 = λ rows. RunsRight g.row.E c.finish.new.self.shape c.finish.new.self.seed rows (g.A.CellArray.state c.finish.new.array) own.0 in
+    (own.0, own.1, subst Right (rows-are c.args.events.now c.finish.new.results size) own.2)
 
 pub returns-clause-wear : goal.returns-clause-wear
 returns-clause-wear g c = c.finish.ensures.stays.wear ∙ c.loop-i.invariant.1
