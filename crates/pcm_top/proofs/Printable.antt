@@ -3,6 +3,8 @@ use Rattle.std.proofs.Common.{◌≡◌, ℕ, zero, suc, ◌+◌, ◌-◌, ◌*�
 use Rattle.std.specs.Prelude.{slice_get, All}
 use Rattle.std.specs.Option.{ForSome}
 use Rattle.std.proofs.lemmas.List.{reverse-reverse}
+use Rattle.std.proofs.lemmas.List.Elements.{All-get_or}
+use Rattle.std.proofs.lemmas.Option.{get_or_from_slice_get, slice_get_within}
 use Rattle.verdict_laws.proofs.Soon.{All-reverse}
 use Rattle.text_check.proofs.Standing.{own-op}
 use Rattle.trace_rows.proofs.Lines.{lines-exist as rows-exist}
@@ -44,7 +46,9 @@ module _ {n : ℕ} where
   row-of-event P events outcomes i event outcome at is all =
       let rows : List (Row n) = rows_with events outcomes in
       let each : All P rows = subst (All P) (reverse-reverse rows) (All-reverse P (reverse rows) all) in
-      each i (row_of event outcome) (row-at events outcomes i event outcome at is)
+      let row : Row n = row_of event outcome in
+      let here : slice_get rows i ≡ Some row = row-at events outcomes i event outcome at is in
+      subst P (get_or_from_slice_get rows i row row here) (All-get_or P rows i row (slice_get_within rows i row here) each)
 
   pub lines-exist : (raw : RawShape) (events : List (TraceEvent n)) (outcomes : List (Outcome n)) → AreEventsFor (total_of raw) 0 events
       → LinesExist raw (rows_of events outcomes)

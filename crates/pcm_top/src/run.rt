@@ -112,7 +112,7 @@ pub fn run<const B: usize, const M: usize, const E: usize, A: CellArray<B, M>, S
         Ok(taken) => taken,
         Err(_) => return Err(Fault::NoMemory),
     };
-    let played = play(
+    match play(
         job,
         &mut pcm,
         array,
@@ -120,6 +120,8 @@ pub fn run<const B: usize, const M: usize, const E: usize, A: CellArray<B, M>, S
         &mut results,
         &mut text,
         out,
-    );
-    played.map_err(|_| Fault::Write)
+    ) {
+        Ok(done) => Ok(done),
+        Err(_) => Err(Fault::Write),
+    }
 }

@@ -62,7 +62,7 @@ returns-clause-right g c =
     c.loop-i-test.false c.loop-i.invariant.0 in
     let had = c.loop-i.invariant.0 in
     let own = c.finish.ensures.right all.0 _ all.1 in
-    let size : length c.finish.new.results ≡ length c.args.events.now = c.finish.ensures.rows ∙ had.size in
+    let size : length c.finish.new.results ≡ length c.args.events.now = c.finish.ensures.table ∙ had.size in
     let Right : List (Row g.row.B) → Type 0 = λ rows. RunsRight g.row.E c.finish.new.self.shape c.finish.new.self.seed rows (g.A.CellArray.state c.finish.new.array) own.0 in
     (own.0, own.1, subst Right (rows-are c.args.events.now c.finish.new.results size) own.2)
 
@@ -75,7 +75,7 @@ returns-clause-played g c =
     replayed-all c.args.pcm.now.shape c.args.pcm.now.seed c.args.events.now c.loop-i.i c.loop-i.pcm (g.A.CellArray.state c.loop-i.array) c.loop-i.results
     c.loop-i-test.false c.loop-i.invariant.0 in
     let done = c.finish.ensures.finishes all.0 _ all.1 in
-    record { history = λ bank. done.0 bank ++ all.0 bank; finished = done.1 }
+    record { history = λ bank. done.0 bank ++ all.0 bank; one_each = c.finish.ensures.table ∙ c.loop-i.invariant.0.size; finished = done.1 }
 
 pub offset_bounds-events-i : goal.offset_bounds-events-i
 offset_bounds-events-i g c = grind arith
