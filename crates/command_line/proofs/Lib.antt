@@ -1,2 +1,3 @@
 mod Tables
 mod Reading
+mod Steps

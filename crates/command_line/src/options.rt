@@ -130,18 +130,29 @@ pub fn print(matches: &ArgMatches<'_>) -> Option<Print>
 fn raw(matches: &ArgMatches<'_>) -> Option<RawShape>
     ensures { result ≡ raw_of (rows_of (found_of matches.now)) }
 {
+    let banks = size_of(matches, "banks", 4)?;
+    let regions = size_of(matches, "regions", 2)?;
+    let lines = size_of(matches, "lines", 64)?;
+    let spares = size_of(matches, "spares", 8)?;
+    let writes = size_of(matches, "write-queue", 32)?;
+    let reads = size_of(matches, "read-queue", 32)?;
+    let psi = size_of(matches, "psi", 100)?;
+    let read_ticks = size_of(matches, "read-ticks", 5)?;
+    let iter_ticks = size_of(matches, "iter-ticks", 10)?;
+    let policy = policy(value(matches, "policy"))?;
+    let home = home(value(matches, "registers"))?;
     Some(RawShape {
-        banks: size_of(matches, "banks", 4)?,
-        regions: size_of(matches, "regions", 2)?,
-        lines: size_of(matches, "lines", 64)?,
-        spares: size_of(matches, "spares", 8)?,
-        writes: size_of(matches, "write-queue", 32)?,
-        reads: size_of(matches, "read-queue", 32)?,
-        psi: size_of(matches, "psi", 100)?,
-        read_ticks: size_of(matches, "read-ticks", 5)?,
-        iter_ticks: size_of(matches, "iter-ticks", 10)?,
-        policy: policy(value(matches, "policy"))?,
-        home: home(value(matches, "registers"))?,
+        banks,
+        regions,
+        lines,
+        spares,
+        writes,
+        reads,
+        psi,
+        read_ticks,
+        iter_ticks,
+        policy,
+        home,
     })
 }
 

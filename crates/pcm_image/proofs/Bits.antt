@@ -5,7 +5,7 @@ use Rattle.std.specs.Prelude.{slice_index_or}
 use Rattle.pcm_cells.specs.Rows.{bit_of}
 use Rattle.ecp_line.specs.Layout.{number}
 use Rattle.ecp_line.specs.Reading.{bytes_from}
-use Rattle.ecp_line.proofs.Bytes.{bytes-from, length-bytes_from, get_or-bytes_from}
+use Rattle.ecp_line.proofs.Bytes.{bytes-from, get_or-bytes_from}
 use Rattle.pcm_image.specs.Spelling.{packed}
 use Rattle.pcm_image.specs.Reading.{given_from}
 

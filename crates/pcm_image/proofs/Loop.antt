@@ -1,10 +1,25 @@
 -- Reading fields one after the other, as a loop does.
 use Rattle.std.proofs.Common.{◌≡◌, ℕ, suc, ◌-◌, ◌+◌, ◌≤◌, ◌<◌, List, [], ◌∷◌, ◌++◌, Ok, Err, refl, sym, ap, ◌∙◌, append_assoc, arith}
+use Rattle.std.specs.Prelude.{Result}
 use Rattle.std.proofs.lemmas.List.{append-nil}
+use Rattle.pcm_image.specs.declared.ImageFault.{ImageFault}
 use Rattle.pcm_image.specs.declared.fields.ReadImage.{ReadImage}
 use Rattle.pcm_image.specs.declared.fields.ReadImage.TheVariants as read
 use Rattle.pcm_image.specs.Reading.{Cursor, Got, ◌>>=◌, times}
 use Rattle.pcm_image.specs.Giving.{Fails}
+
+-- a step that fails, here or behind one that did not
+pub fails_here : {A B : Type 0} (e : ReadImage) (one : Result A ImageFault) (next : A → Result B ImageFault) → Fails e one → Fails e (one >>= next)
+fails_here read.NoMemory one next h = tt
+fails_here (read.Bad f) one next h = ap (λ r. r >>= next) h
+
+pub fails_later : {A B : Type 0} (e : ReadImage) (one : Result A ImageFault) (x : A) (next : A → Result B ImageFault) → one ≡ Ok x → Fails e (next x) → Fails e (one >>= next)
+fails_later read.NoMemory one x next is h = tt
+fails_later (read.Bad f) one x next is h = ap (λ r. r >>= next) is ∙ h
+
+-- a step that gives a value, and what the next one makes of it
+pub gives_on : {A B : Type 0} (one : Result A ImageFault) (x : A) (next : A → Result B ImageFault) (y : Result B ImageFault) → one ≡ Ok x → next x ≡ y → (one >>= next) ≡ y
+gives_on one x next y is then = ap (λ r. r >>= next) is ∙ then
 
 -- what was read before, and what is still read
 abbrev pub with_front : {T : Type 0} → List T → Got (List T) → Got (List T)

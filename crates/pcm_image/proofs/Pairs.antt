@@ -30,6 +30,11 @@ pub bind_ok : {A B : Type 0} (r : Result A ImageFault) (f : A → Result B Image
 bind_ok (Ok x) f y e = (x, refl, e)
 bind_ok (Err d) f y e = absurd cc
 
+-- what follows from the value of a step that did not fail
+pub bound : {A B : Type 0} (one : Result A ImageFault) (next : A → Result B ImageFault) (y : B) (P : Type 0) → (one >>= next) ≡ Ok y → ((x : A) → one ≡ Ok x → next x ≡ Ok y → P) → P
+bound (Ok x) next y P e then = then x refl e
+bound (Err d) next y P e then = absurd cc
+
 -- a test that did not fail
 pub failed_not : {A : Type 0} (b : Bool) (d : ImageFault) (r : Result A ImageFault) (y : A) → cond b (Err d) r ≡ Ok y → (b ≡ false) × (r ≡ Ok y)
 failed_not true d r y e = absurd cc
@@ -164,7 +169,7 @@ times_takes {T} one text fits p (suc n) c x small e =
     let second = times_takes one text fits p n a.0.1 b.0 first.0.rest_fits b.1 in
     let both = Takes-then c (text a.0.0) a.0.1 (flat_map text b.0.0) b.0.1 first.0 second.0 in
     let made : List T × Cursor = (a.0.0 ∷ b.0.0, b.0.1) in
-    subst (λ (y : List T × Cursor). Takes c (flat_map text y.0) y.1 × (length y.0 ≡ suc n) × AllByRecursion fits y.0) (ok_is made x b.2) (rw flat_map-cons both, ap suc second.1, (first.1, second.2))
+    subst (λ (y : List T × Cursor). Takes c (flat_map text y.0) y.1 × (length y.0 ≡ suc n) × AllByRecursion fits y.0) {x = made} (ok_is made x b.2) (rw flat_map-cons both, ap suc second.1, (first.1, second.2))
 
 pub times_again : {T : Type 0} (one : Cursor → Got T) (text : T → List ℕ) (fits : T → Type 0) → IsPair one text fits
     → (xs : List T) (c : Cursor) (rest : List ℕ) → AllByRecursion fits xs → c.left ≡ flat_map text xs ++ rest → (after : Cursor) × (times (length xs) one c ≡ Ok (xs, after)) × (after.left ≡ rest)

@@ -1,5 +1,5 @@
 -- The two laws: what is read is saved so, and what is saved so is read.
-use Rattle.std.proofs.Common.{◌≡◌, ℕ, suc, ◌+◌, ◌*◌, ◌/◌, ◌%◌, ◌^◌, ◌<◌, ◌≤◌, Bool, true, ◌&&◌, ◌==◌, cond, eqb, nat_le, nat_lt, List, [], ◌∷◌, ◌++◌, length, get_or, Result, Ok, Err, All, refl, sym, ap, subst, ◌∙◌, append_assoc, arith}
+use Rattle.std.proofs.Common.{◌≡◌, ℕ, suc, ◌+◌, ◌*◌, ◌/◌, ◌%◌, ◌^◌, ◌<◌, ◌≤◌, Bool, true, ◌==◌, cond, eqb, nat_le, nat_lt, List, [], ◌∷◌, ◌++◌, length, get_or, Result, Ok, Err, All, refl, sym, ap, subst, ◌∙◌, append_assoc, arith}
 use Rattle.masked_bytes.proofs.Truth.{and_first, and_second}
 use Rattle.std.specs.Prelude.{IfOk}
 use Rattle.std.specs.List.{flat_map, AllByRecursion}
@@ -24,8 +24,9 @@ use Rattle.pcm_image.specs.Reading.{Cursor, ◌>>=◌, fault, field, any, byte_a
 use Rattle.pcm_image.specs.Giving.{Gives}
 use Rattle.ecp_line.proofs.Bytes.{length-bytes_from}
 use Rattle.pcm_image.proofs.Bits.{length-given_from, packed-given, given-packed}
+use Rattle.pcm_image.proofs.Loop.{gives_on}
 use Rattle.pcm_image.proofs.Heads.{HeadFits, head-fits}
-use Rattle.pcm_image.proofs.Pairs.{IsBytes, bind_ok, ok_is, passed, Takes, Takes-then, IsPair, IsField, field_pair, Passes, number_pair, byte_pair, wide16, wide32, wide64, times_takes, times_again}
+use Rattle.pcm_image.proofs.Pairs.{IsBytes, bind_ok, bound, ok_is, passed, Takes, Takes-then, IsPair, IsField, field_pair, Passes, number_pair, byte_pair, wide16, wide32, wide64, times_takes, times_again}
 
 le_true : (a b : ℕ) → a ≤ b → nat_le a b ≡ true
 le_true a b h = grind (arith, nat_tests)
@@ -77,7 +78,13 @@ region_takes h c x small e =
     let e12 = Takes-then a.0.1 (u16 b.0.0) b.0.1 (u16 d.0.0) d.0.1 t1.0 t2.0 in
     let e02 = Takes-then c (u16 a.0.0) a.0.1 (u16 b.0.0 ++ u16 d.0.0) d.0.1 t0.0 e12 in
     let made : RegionImage × Cursor = (record { start = a.0.0; gap = b.0.0; counter = d.0.0 }, d.0.1) in
-    subst (λ (y : RegionImage × Cursor). Takes c (region_bytes y.0) y.1 × RegionFits h y.0) (ok_is made x d.2) (e02, (t0.1, (t1.1, t2.1)))
+    subst (λ (y : RegionImage × Cursor). Takes c (region_bytes y.0) y.1 × RegionFits h y.0) {x = made} (ok_is made x d.2) (e02, (t0.1, (t1.1, t2.1)))
+
+-- the fields of a region, one behind another
+region_read : (h : Head) (r : RegionImage) (c c0 c1 c2 : Cursor) → number_at w16 kind.Bank (λ n. nat_lt n h.lines) c ≡ Ok (r.start, c0)
+    → number_at w16 kind.Bank (λ n. nat_le n h.lines) c0 ≡ Ok (r.gap, c1) → number_at w16 kind.Bank any c1 ≡ Ok (r.counter, c2) → region_at h c ≡ Ok (r, c2)
+unfolding region_at
+region_read h r c c0 c1 c2 p0 p1 p2 = gives_on _ _ _ _ p0 (gives_on _ _ _ _ p1 (gives_on _ _ _ _ p2 refl))
 
 region_again : (h : Head) (r : RegionImage) (c : Cursor) (rest : List ℕ) → RegionFits h r → c.left ≡ region_bytes r ++ rest → (after : Cursor) × (region_at h c ≡ Ok (r, after)) × (after.left ≡ rest)
 unfolding region_at
@@ -88,7 +95,7 @@ region_again h r c rest fit e =
     let a = one.again r.start c (u16 r.gap ++ (u16 r.counter ++ rest)) fit.0 (e ∙ append_assoc (u16 r.start) (u16 r.gap ++ u16 r.counter) rest ∙ ap (λ t. u16 r.start ++ t) (append_assoc (u16 r.gap) (u16 r.counter) rest)) in
     let b = two.again r.gap a.0 (u16 r.counter ++ rest) fit.1.0 a.2 in
     let d = three.again r.counter b.0 rest fit.1.1 b.2 in
-    (d.0, rw (a.1, b.1, d.1) refl, d.2)
+    (d.0, region_read h r c a.0 b.0 d.0 a.1 b.1 d.1, d.2)
 
 pub region_pair : (h : Head) → IsPair (region_at h) region_bytes (RegionFits h)
 region_pair h = record { takes = region_takes h; again = region_again h }
@@ -127,7 +134,14 @@ entry_takes B whole h c x small e =
     let e12 = Takes-then a.0.1 b.0.0 b.0.1 (packed B d.0.0) d.0.1 t1.0 t2.0 in
     let e02 = Takes-then c (u32 a.0.0) a.0.1 (b.0.0 ++ packed B d.0.0) d.0.1 t0.0 e12 in
     let made : EntryImage B × Cursor = (record { line = a.0.0; bytes = b.0.0; given = d.0.0 }, d.0.1) in
-    subst (λ (y : EntryImage B × Cursor). Takes c (entry_bytes y.0) y.1 × EntryFits B h y.0) (ok_is made x d.2) (e02, (t0.1, (t1.1, t2.1)))
+    subst (λ (y : EntryImage B × Cursor). Takes c (entry_bytes y.0) y.1 × EntryFits B h y.0) {x = made} (ok_is made x d.2) (e02, (t0.1, (t1.1, t2.1)))
+
+-- the fields of an entry, one behind another
+entry_read : (B : ℕ) (h : Head) (r : EntryImage B) (c c0 c1 c2 : Cursor) → number_at w32 kind.Entry (λ n. nat_lt n (lines_in h)) c ≡ Ok (r.line, c0)
+    → field B kind.Entry any (λ bytes. bytes) c0 ≡ Ok (r.bytes, c1) → field (B / 8) kind.Entry (is_given B r.bytes) (λ bits. given_from bits 0 B) c1 ≡ Ok (r.given, c2)
+    → entry_at B h c ≡ Ok (r, c2)
+unfolding entry_at
+entry_read B h r c c0 c1 c2 p0 p1 p2 = gives_on _ _ _ _ p0 (gives_on _ _ _ _ p1 (gives_on _ _ _ _ p2 refl))
 
 entry_again : (B : ℕ) → B % 8 ≡ 0 → (h : Head) (r : EntryImage B) (c : Cursor) (rest : List ℕ) → EntryFits B h r → c.left ≡ entry_bytes r ++ rest → (after : Cursor) × (entry_at B h c ≡ Ok (r, after)) × (after.left ≡ rest)
 unfolding entry_at
@@ -138,7 +152,7 @@ entry_again B whole h r c rest fit e =
     let a = one.again r.line c (r.bytes ++ (packed B r.given ++ rest)) fit.0 (e ∙ append_assoc (u32 r.line) (r.bytes ++ packed B r.given) rest ∙ ap (λ t. u32 r.line ++ t) (append_assoc r.bytes (packed B r.given) rest)) in
     let b = two.again r.bytes a.0 (packed B r.given ++ rest) fit.1.0 a.2 in
     let d = three.again r.given b.0 rest fit.1.1 b.2 in
-    (d.0, rw (a.1, b.1, d.1) refl, d.2)
+    (d.0, entry_read B h r c a.0 b.0 d.0 a.1 b.1 d.1, d.2)
 
 entry_pair : (B : ℕ) → B % 8 ≡ 0 → (h : Head) → IsPair (entry_at B h) entry_bytes (EntryFits B h)
 entry_pair B whole h = record { takes = entry_takes B whole h; again = entry_again B whole h }
@@ -160,35 +174,52 @@ record BankFits (B : ℕ) (h : Head) (b : SavedBank B) : Type 0 where
   pub few : Passes (2 ^ 16) (λ n. nat_le n 256) (length b.entries)
   pub entries : AllByRecursion (EntryFits B h) b.entries
 
+-- a number that was read is how many there are
+counted : (test : ℕ → Bool) (before after : Cursor) (n size : ℕ) → size ≡ n → Takes before (u16 n) after × Passes (2 ^ 16) test n
+    → Takes before (u16 size) after × Passes (2 ^ 16) test size
+counted test before after n size is t = subst (λ (k : ℕ). Takes before (u16 k) after × Passes (2 ^ 16) test k) (sym is) t
+
+-- the fields of a bank that were read, one behind another
+bank_joined : (B : ℕ) (h : Head) (b : SavedBank B) (used count : ℕ) (c c0 c1 c2 c3 c4 c5 : Cursor)
+    → Takes c (u8 b.mark) c0 × Passes 256 (λ n. nat_lt n 2) b.mark
+    → Takes c0 (u16 used) c1 × Passes (2 ^ 16) (λ n. nat_le n h.spares) used
+    → Takes c1 (flat_map u32 b.replaced) c2 × (length b.replaced ≡ used) × AllByRecursion (IsSlot h) b.replaced
+    → Takes c2 (flat_map region_bytes b.regions) c3 × (length b.regions ≡ h.regions) × AllByRecursion (RegionFits h) b.regions
+    → Takes c3 (u16 count) c4 × Passes (2 ^ 16) (λ n. nat_le n 256) count
+    → Takes c4 (flat_map entry_bytes b.entries) c5 × (length b.entries ≡ count) × AllByRecursion (EntryFits B h) b.entries
+    → Takes c (bank_bytes b) c5 × BankFits B h b
+bank_joined B h b used count c c0 c1 c2 c3 c4 c5 t0 t1 t2 t3 t4 t5 =
+    let s1 = counted (λ n. nat_le n h.spares) c0 c1 used (length b.replaced) t2.1 t1 in
+    let s4 = counted (λ n. nat_le n 256) c3 c4 count (length b.entries) t5.1 t4 in
+    let m4 = Takes-then c3 _ c4 _ c5 s4.0 t5.0 in
+    let m3 = Takes-then c2 _ c3 _ c5 t3.0 m4 in
+    let m2 = Takes-then c1 _ c2 _ c5 t2.0 m3 in
+    let m1 = Takes-then c0 _ c1 _ c5 s1.0 m2 in
+    (Takes-then c _ c0 _ c5 t0.0 m1, record { mark = t0.1; used = s1.1; slots = t2.2; ones = t3.1; regions = t3.2; few = s4.1; entries = t5.2 })
+
 bank_takes : (B : ℕ) → B % 8 ≡ 0 → (h : Head) (c : Cursor) (x : SavedBank B × Cursor) → IsBytes c.left → bank_at B h c ≡ Ok x → Takes c (bank_bytes x.0) x.1 × BankFits B h x.0
 unfolding bank_at
 bank_takes B whole h c x small e =
-    let slot = number_at w32 kind.Bank (λ n. nat_lt n (slots_in h)) in
-    let p0 = byte_pair kind.Bank (λ n. nat_lt n 2) in
-    let p1 = number_pair w16 (2 ^ 16) kind.Bank (λ n. nat_le n h.spares) wide16 in
-    let p4 = number_pair w16 (2 ^ 16) kind.Bank (λ n. nat_le n 256) wide16 in
-    let r0 = bind_ok (byte_at kind.Bank (λ n. nat_lt n 2) c) (λ mark. number_at w16 kind.Bank (λ n. nat_le n h.spares) mark.1 >>= λ used. times used.0 slot used.1 >>= λ replaced. times h.regions (region_at h) replaced.1 >>= λ regions. number_at w16 kind.Bank (λ n. nat_le n 256) regions.1 >>= λ count. times count.0 (entry_at B h) count.1 >>= λ entries. Ok (record { mark = mark.0; replaced = replaced.0; regions = regions.0; entries = entries.0 }, entries.1)) x e in
-    let r1 = bind_ok (number_at w16 kind.Bank (λ n. nat_le n h.spares) r0.0.1) (λ used. times used.0 slot used.1 >>= λ replaced. times h.regions (region_at h) replaced.1 >>= λ regions. number_at w16 kind.Bank (λ n. nat_le n 256) regions.1 >>= λ count. times count.0 (entry_at B h) count.1 >>= λ entries. Ok (record { mark = r0.0.0; replaced = replaced.0; regions = regions.0; entries = entries.0 }, entries.1)) x r0.2 in
-    let r2 = bind_ok (times r1.0.0 slot r1.0.1) (λ replaced. times h.regions (region_at h) replaced.1 >>= λ regions. number_at w16 kind.Bank (λ n. nat_le n 256) regions.1 >>= λ count. times count.0 (entry_at B h) count.1 >>= λ entries. Ok (record { mark = r0.0.0; replaced = replaced.0; regions = regions.0; entries = entries.0 }, entries.1)) x r1.2 in
-    let r3 = bind_ok (times h.regions (region_at h) r2.0.1) (λ regions. number_at w16 kind.Bank (λ n. nat_le n 256) regions.1 >>= λ count. times count.0 (entry_at B h) count.1 >>= λ entries. Ok (record { mark = r0.0.0; replaced = r2.0.0; regions = regions.0; entries = entries.0 }, entries.1)) x r2.2 in
-    let r4 = bind_ok (number_at w16 kind.Bank (λ n. nat_le n 256) r3.0.1) (λ count. times count.0 (entry_at B h) count.1 >>= λ entries. Ok (record { mark = r0.0.0; replaced = r2.0.0; regions = r3.0.0; entries = entries.0 }, entries.1)) x r3.2 in
-    let r5 = bind_ok (times r4.0.0 (entry_at B h) r4.0.1) (λ entries. Ok (record { mark = r0.0.0; replaced = r2.0.0; regions = r3.0.0; entries = entries.0 }, entries.1)) x r4.2 in
-    let t0 = p0.takes c r0.0 small r0.1 in
-    let t1 = p1.takes r0.0.1 r1.0 t0.0.rest_fits r1.1 in
-    let t2 = times_takes slot u32 (IsSlot h) (slot_pair h) r1.0.0 r1.0.1 r2.0 t1.0.rest_fits r2.1 in
-    let t3 = times_takes (region_at h) region_bytes (RegionFits h) (region_pair h) h.regions r2.0.1 r3.0 t2.0.rest_fits r3.1 in
-    let t4 = p4.takes r3.0.1 r4.0 t3.0.rest_fits r4.1 in
-    let t5 = times_takes (entry_at B h) entry_bytes (EntryFits B h) (entry_pair B whole h) r4.0.0 r4.0.1 r5.0 t4.0.rest_fits r5.1 in
-    let s1 = subst (λ (k : ℕ). Takes r0.0.1 (u16 k) r1.0.1 × Passes (2 ^ 16) (λ n. nat_le n h.spares) k) (sym t2.1) t1 in
-    let s4 = subst (λ (k : ℕ). Takes r3.0.1 (u16 k) r4.0.1 × Passes (2 ^ 16) (λ n. nat_le n 256) k) (sym t5.1) t4 in
-    let m4 = Takes-then r3.0.1 _ r4.0.1 _ r5.0.1 s4.0 t5.0 in
-    let m3 = Takes-then r2.0.1 _ r3.0.1 _ r5.0.1 t3.0 m4 in
-    let m2 = Takes-then r1.0.1 _ r2.0.1 _ r5.0.1 t2.0 m3 in
-    let m1 = Takes-then r0.0.1 _ r1.0.1 _ r5.0.1 s1.0 m2 in
-    let m0 = Takes-then c _ r0.0.1 _ r5.0.1 t0.0 m1 in
-    let made : SavedBank B × Cursor = (record { mark = r0.0.0; replaced = r2.0.0; regions = r3.0.0; entries = r5.0.0 }, r5.0.1) in
-    subst (λ (y : SavedBank B × Cursor). Takes c (bank_bytes y.0) y.1 × BankFits B h y.0) (ok_is made x r5.2)
-    (m0, record { mark = t0.1; used = s1.1; slots = t2.2; ones = t3.1; regions = t3.2; few = s4.1; entries = t5.2 })
+    bound _ _ x _ e (λ x0 e0 n0. bound _ _ x _ n0 (λ x1 e1 n1. bound _ _ x _ n1 (λ x2 e2 n2. bound _ _ x _ n2 (λ x3 e3 n3. bound _ _ x _ n3 (λ x4 e4 n4. bound _ _ x _ n4 (λ x5 e5 n5.
+    let t0 = (byte_pair kind.Bank (λ n. nat_lt n 2)).takes c x0 small e0 in
+    let t1 = (number_pair w16 (2 ^ 16) kind.Bank (λ n. nat_le n h.spares) wide16).takes x0.1 x1 t0.0.rest_fits e1 in
+    let t2 = times_takes (number_at w32 kind.Bank (λ n. nat_lt n (slots_in h))) u32 (IsSlot h) (slot_pair h) x1.0 x1.1 x2 t1.0.rest_fits e2 in
+    let t3 = times_takes (region_at h) region_bytes (RegionFits h) (region_pair h) h.regions x2.1 x3 t2.0.rest_fits e3 in
+    let t4 = (number_pair w16 (2 ^ 16) kind.Bank (λ n. nat_le n 256) wide16).takes x3.1 x4 t3.0.rest_fits e4 in
+    let t5 = times_takes (entry_at B h) entry_bytes (EntryFits B h) (entry_pair B whole h) x4.0 x4.1 x5 t4.0.rest_fits e5 in
+    subst (λ (y : SavedBank B × Cursor). Takes c (bank_bytes y.0) y.1 × BankFits B h y.0) (ok_is (record { mark = x0.0; replaced = x2.0; regions = x3.0; entries = x5.0 }, x5.1) x n5)
+    (bank_joined B h (record { mark = x0.0; replaced = x2.0; regions = x3.0; entries = x5.0 }) x1.0 x4.0 c x0.1 x1.1 x2.1 x3.1 x4.1 x5.1 t0 t1 t2 t3 t4 t5)))))))
+
+-- the fields of a bank, one behind another
+bank_read : (B : ℕ) (h : Head) (b : SavedBank B) (c c0 c1 c2 c3 c4 c5 : Cursor) → byte_at kind.Bank (λ n. nat_lt n 2) c ≡ Ok (b.mark, c0)
+    → number_at w16 kind.Bank (λ n. nat_le n h.spares) c0 ≡ Ok (length b.replaced, c1)
+    → times (length b.replaced) (number_at w32 kind.Bank (λ n. nat_lt n (slots_in h))) c1 ≡ Ok (b.replaced, c2)
+    → times h.regions (region_at h) c2 ≡ Ok (b.regions, c3)
+    → number_at w16 kind.Bank (λ n. nat_le n 256) c3 ≡ Ok (length b.entries, c4)
+    → times (length b.entries) (entry_at B h) c4 ≡ Ok (b.entries, c5) → bank_at B h c ≡ Ok (b, c5)
+unfolding bank_at
+bank_read B h b c c0 c1 c2 c3 c4 c5 p0 p1 p2 p3 p4 p5 =
+    gives_on _ _ _ _ p0 (gives_on _ _ _ _ p1 (gives_on _ _ _ _ p2 (gives_on _ _ _ _ p3 (gives_on _ _ _ _ p4 (gives_on _ _ _ _ p5 refl)))))
 
 bank_again : (B : ℕ) → B % 8 ≡ 0 → (h : Head) (b : SavedBank B) (c : Cursor) (rest : List ℕ) → BankFits B h b → c.left ≡ bank_bytes b ++ rest → (after : Cursor) × (bank_at B h c ≡ Ok (b, after)) × (after.left ≡ rest)
 unfolding bank_at
@@ -215,7 +246,7 @@ bank_again B whole h b c rest fit e =
     let read3 = subst (λ (k : ℕ). times k (region_at h) a2.0 ≡ Ok (b.regions, a3.0)) fit.ones a3.1 in
     let a4 = p4.again (length b.entries) a3.0 (w5 ++ rest) fit.few a3.2 in
     let a5 = times_again (entry_at B h) entry_bytes (EntryFits B h) (entry_pair B whole h) b.entries a4.0 rest fit.entries a4.2 in
-    (a5.0, rw (a0.1, a1.1, a2.1, read3, a4.1, a5.1) refl, a5.2)
+    (a5.0, bank_read B h b c a0.0 a1.0 a2.0 a3.0 a4.0 a5.0 a0.1 a1.1 a2.1 read3 a4.1 a5.1, a5.2)
 
 bank_pair : (B : ℕ) → B % 8 ≡ 0 → (h : Head) → IsPair (bank_at B h) bank_bytes (BankFits B h)
 bank_pair B whole h = record { takes = bank_takes B whole h; again = bank_again B whole h }
@@ -292,28 +323,28 @@ head_joined B h size c c0 c1 c2 c3 c4 c5 c6 t0 t1 t2 t3 t4 t5 t6 =
 head_takes : (B : ℕ) (c : Cursor) (x : Head × Cursor) → IsBytes c.left → head_at B c ≡ Ok x → Takes c (head_bytes B x.0) x.1 × IsHead x.0
 unfolding head_at
 head_takes B c x small e =
-    let p1 = byte_pair kind.Shape (is_power_between 1 16) in
-    let p4 = number_pair w16 (2 ^ 16) kind.Shape (λ n. nat_le n 1024) wide16 in
-    let p5 = number_pair w64 (2 ^ 64) kind.Shape any wide64 in
-    let p6 = byte_pair kind.Shape (λ n. nat_lt n 2) in
-    let r0 = bind_ok (size_at (λ n. n == B) c) (λ size. byte_at kind.Shape (is_power_between 1 16) size.1 >>= λ banks. byte_at kind.Shape (is_power_between 1 16) banks.1 >>= λ regions. number_at w16 kind.Shape (is_lines banks.0 regions.0) regions.1 >>= λ lines. number_at w16 kind.Shape (λ n. nat_le n 1024) lines.1 >>= λ spares. number_at w64 kind.Shape any spares.1 >>= λ seed. byte_at kind.Shape (λ n. nat_lt n 2) seed.1 >>= λ home. Ok (record { banks = banks.0; regions = regions.0; lines = lines.0; spares = spares.0; seed = seed.0; home = home.0 }, home.1)) x e in
-    let r1 = bind_ok (byte_at kind.Shape (is_power_between 1 16) r0.0.1) (λ banks. byte_at kind.Shape (is_power_between 1 16) banks.1 >>= λ regions. number_at w16 kind.Shape (is_lines banks.0 regions.0) regions.1 >>= λ lines. number_at w16 kind.Shape (λ n. nat_le n 1024) lines.1 >>= λ spares. number_at w64 kind.Shape any spares.1 >>= λ seed. byte_at kind.Shape (λ n. nat_lt n 2) seed.1 >>= λ home. Ok (record { banks = banks.0; regions = regions.0; lines = lines.0; spares = spares.0; seed = seed.0; home = home.0 }, home.1)) x r0.2 in
-    let r2 = bind_ok (byte_at kind.Shape (is_power_between 1 16) r1.0.1) (λ regions. number_at w16 kind.Shape (is_lines r1.0.0 regions.0) regions.1 >>= λ lines. number_at w16 kind.Shape (λ n. nat_le n 1024) lines.1 >>= λ spares. number_at w64 kind.Shape any spares.1 >>= λ seed. byte_at kind.Shape (λ n. nat_lt n 2) seed.1 >>= λ home. Ok (record { banks = r1.0.0; regions = regions.0; lines = lines.0; spares = spares.0; seed = seed.0; home = home.0 }, home.1)) x r1.2 in
-    let r3 = bind_ok (number_at w16 kind.Shape (is_lines r1.0.0 r2.0.0) r2.0.1) (λ lines. number_at w16 kind.Shape (λ n. nat_le n 1024) lines.1 >>= λ spares. number_at w64 kind.Shape any spares.1 >>= λ seed. byte_at kind.Shape (λ n. nat_lt n 2) seed.1 >>= λ home. Ok (record { banks = r1.0.0; regions = r2.0.0; lines = lines.0; spares = spares.0; seed = seed.0; home = home.0 }, home.1)) x r2.2 in
-    let r4 = bind_ok (number_at w16 kind.Shape (λ n. nat_le n 1024) r3.0.1) (λ spares. number_at w64 kind.Shape any spares.1 >>= λ seed. byte_at kind.Shape (λ n. nat_lt n 2) seed.1 >>= λ home. Ok (record { banks = r1.0.0; regions = r2.0.0; lines = r3.0.0; spares = spares.0; seed = seed.0; home = home.0 }, home.1)) x r3.2 in
-    let r5 = bind_ok (number_at w64 kind.Shape any r4.0.1) (λ seed. byte_at kind.Shape (λ n. nat_lt n 2) seed.1 >>= λ home. Ok (record { banks = r1.0.0; regions = r2.0.0; lines = r3.0.0; spares = r4.0.0; seed = seed.0; home = home.0 }, home.1)) x r4.2 in
-    let r6 = bind_ok (byte_at kind.Shape (λ n. nat_lt n 2) r5.0.1) (λ home. Ok (record { banks = r1.0.0; regions = r2.0.0; lines = r3.0.0; spares = r4.0.0; seed = r5.0.0; home = home.0 }, home.1)) x r5.2 in
-    let p3 = number_pair w16 (2 ^ 16) kind.Shape (is_lines r1.0.0 r2.0.0) wide16 in
-    let t0 = size_takes (λ n. n == B) c r0.0 small r0.1 in
-    let t1 = p1.takes r0.0.1 r1.0 t0.0.rest_fits r1.1 in
-    let t2 = p1.takes r1.0.1 r2.0 t1.0.rest_fits r2.1 in
-    let t3 = p3.takes r2.0.1 r3.0 t2.0.rest_fits r3.1 in
-    let t4 = p4.takes r3.0.1 r4.0 t3.0.rest_fits r4.1 in
-    let t5 = p5.takes r4.0.1 r5.0 t4.0.rest_fits r5.1 in
-    let t6 = p6.takes r5.0.1 r6.0 t5.0.rest_fits r6.1 in
-    let h : Head = record { banks = r1.0.0; regions = r2.0.0; lines = r3.0.0; spares = r4.0.0; seed = r5.0.0; home = r6.0.0 } in
-    subst (λ (y : Head × Cursor). Takes c (head_bytes B y.0) y.1 × IsHead y.0) (ok_is (h, r6.0.1) x r6.2)
-    (head_joined B h r0.0.0 c r0.0.1 r1.0.1 r2.0.1 r3.0.1 r4.0.1 r5.0.1 r6.0.1 t0 t1 t2 t3 t4 t5 t6)
+    bound _ _ x _ e (λ x0 e0 n0. bound _ _ x _ n0 (λ x1 e1 n1. bound _ _ x _ n1 (λ x2 e2 n2. bound _ _ x _ n2 (λ x3 e3 n3. bound _ _ x _ n3 (λ x4 e4 n4. bound _ _ x _ n4 (λ x5 e5 n5. bound _ _ x _ n5 (λ x6 e6 n6.
+    let t0 = size_takes (λ n. n == B) c x0 small e0 in
+    let t1 = (byte_pair kind.Shape (is_power_between 1 16)).takes x0.1 x1 t0.0.rest_fits e1 in
+    let t2 = (byte_pair kind.Shape (is_power_between 1 16)).takes x1.1 x2 t1.0.rest_fits e2 in
+    let t3 = (number_pair w16 (2 ^ 16) kind.Shape (is_lines x1.0 x2.0) wide16).takes x2.1 x3 t2.0.rest_fits e3 in
+    let t4 = (number_pair w16 (2 ^ 16) kind.Shape (λ n. nat_le n 1024) wide16).takes x3.1 x4 t3.0.rest_fits e4 in
+    let t5 = (number_pair w64 (2 ^ 64) kind.Shape any wide64).takes x4.1 x5 t4.0.rest_fits e5 in
+    let t6 = (byte_pair kind.Shape (λ n. nat_lt n 2)).takes x5.1 x6 t5.0.rest_fits e6 in
+    subst (λ (y : Head × Cursor). Takes c (head_bytes B y.0) y.1 × IsHead y.0)
+    (ok_is (record { banks = x1.0; regions = x2.0; lines = x3.0; spares = x4.0; seed = x5.0; home = x6.0 }, x6.1) x n6)
+    (head_joined B (record { banks = x1.0; regions = x2.0; lines = x3.0; spares = x4.0; seed = x5.0; home = x6.0 }) x0.0 c x0.1 x1.1 x2.1 x3.1 x4.1 x5.1 x6.1 t0 t1 t2 t3 t4 t5 t6))))))))
+
+head_read : (B : ℕ) (h : Head) (c c0 c1 c2 c3 c4 c5 c6 : Cursor) → size_at (λ n. n == B) c ≡ Ok (B, c0)
+    → byte_at kind.Shape (is_power_between 1 16) c0 ≡ Ok (h.banks, c1)
+    → byte_at kind.Shape (is_power_between 1 16) c1 ≡ Ok (h.regions, c2)
+    → number_at w16 kind.Shape (is_lines h.banks h.regions) c2 ≡ Ok (h.lines, c3)
+    → number_at w16 kind.Shape (λ n. nat_le n 1024) c3 ≡ Ok (h.spares, c4)
+    → number_at w64 kind.Shape any c4 ≡ Ok (h.seed, c5)
+    → byte_at kind.Shape (λ n. nat_lt n 2) c5 ≡ Ok (h.home, c6) → head_at B c ≡ Ok (h, c6)
+unfolding head_at
+head_read B h c c0 c1 c2 c3 c4 c5 c6 p0 p1 p2 p3 p4 p5 p6 =
+    gives_on _ _ _ _ p0 (gives_on _ _ _ _ p1 (gives_on _ _ _ _ p2 (gives_on _ _ _ _ p3 (gives_on _ _ _ _ p4 (gives_on _ _ _ _ p5 (gives_on _ _ _ _ p6 refl))))))
 
 head_again : (B : ℕ) → B ≤ 128 → (h : Head) (c : Cursor) (rest : List ℕ) → IsHead h → c.left ≡ head_bytes B h ++ rest → (after : Cursor) × (head_at B c ≡ Ok (h, after)) × (after.left ≡ rest)
 unfolding head_at
@@ -331,7 +362,7 @@ head_again B few h c rest is e =
     let a4 = p4.again h.spares a3.0 (u64 h.seed ++ (u8 h.home ++ rest)) (omega (arith, is.spares), le_true _ _ is.spares) a3.2 in
     let a5 = p5.again h.seed a4.0 (u8 h.home ++ rest) (is.seed, refl) a4.2 in
     let a6 = p6.again h.home a5.0 rest (omega (arith, is.home), lt_true _ _ is.home) a5.2 in
-    (a6.0, rw (a0.1, a1.1, a2.1, a3.1, a4.1, a5.1, a6.1) refl, a6.2)
+    (a6.0, head_read B h c a0.0 a1.0 a2.0 a3.0 a4.0 a5.0 a6.0 a0.1 a1.1 a2.1 a3.1 a4.1 a5.1 a6.1, a6.2)
   where
     same : (n : ℕ) → eqb n n ≡ true
     same n = grind (arith, nat_tests)
@@ -381,31 +412,43 @@ bank_back B h is b k =
       entries = all_map (IsSavedEntry h) (EntryFits B h) b.entries (entry_back B h fit) (all_to (IsSavedEntry h) b.entries k.entries);
     }
 
+-- the parts of an image that were read, one behind another
+image_joined : {B M : ℕ} (s : Saved B M) (c c0 c1 c2 : Cursor) → eqb (length c2.left) 0 ≡ true → Takes c (head_bytes B s.head) c0 × IsHead s.head
+    → Takes c0 (flat_map bank_bytes s.parts) c1 × (length s.parts ≡ s.head.banks) × AllByRecursion (BankFits B s.head) s.parts
+    → Takes c1 (flat_map cells_bytes s.cells) c2 × (length s.cells ≡ s.head.banks * array_lines_in s.head) × AllByRecursion (RowFits B M) s.cells
+    → IsSaved s × (c.left ≡ image_bytes s)
+unfolding image_bytes
+image_joined {B} {M} s c c0 c1 c2 none t0 t1 t2 =
+    let m1 = Takes-then c0 _ c1 _ c2 t1.0 t2.0 in
+    let m0 = Takes-then c _ c0 _ c2 t0.0 m1 in
+    let nothing : c2.left ≡ [] = nil_from_length c2.left (eqb-true _ _ none) in (
+      record {
+        head = t0.1;
+        one_each = t1.1;
+        parts = All-from_recursion (IsSavedBank s.head) s.parts (all_map (BankFits B s.head) (IsSavedBank s.head) s.parts (bank_saved B s.head) t1.2);
+        all_lines = t2.1;
+        rows = All-from_recursion (IsSavedRow B M) s.cells (all_map (RowFits B M) (IsSavedRow B M) s.cells (λ row k. record { bits = k.0; meta = k.1 }) t2.2);
+      },
+      m0.parts ∙ ap (λ (r : List ℕ). image_bytes s ++ r) nothing ∙ append-nil (image_bytes s),
+    )
+
 pub image_takes : (B M : ℕ) → B % 8 ≡ 0 → (bytes : List ℕ) (s : Saved B M) → IsBytes bytes → image_of B M bytes ≡ Ok s → IsSaved s × (bytes ≡ image_bytes s)
-unfolding image_of image_bytes
+unfolding image_of
 image_takes B M whole bytes s small e =
-    let c : Cursor = record { at = 0; left = bytes } in
-    let r0 = bind_ok (head_at B c) (λ head. times head.0.banks (bank_at B head.0) head.1 >>= λ parts. times (head.0.banks * array_lines_in head.0) (cells_at B M) parts.1 >>= λ cells. cond (eqb (length cells.1.left) 0) (Ok (record { head = head.0; parts = parts.0; cells = cells.0 })) (fault cells.1 kind.Extra)) s e in
-    let h = r0.0.0 in
-    let r1 = bind_ok (times h.banks (bank_at B h) r0.0.1) (λ parts. times (h.banks * array_lines_in h) (cells_at B M) parts.1 >>= λ cells. cond (eqb (length cells.1.left) 0) (Ok (record { head = h; parts = parts.0; cells = cells.0 })) (fault cells.1 kind.Extra)) s r0.2 in
-    let r2 = bind_ok (times (h.banks * array_lines_in h) (cells_at B M) r1.0.1) (λ cells. cond (eqb (length cells.1.left) 0) (Ok (record { head = h; parts = r1.0.0; cells = cells.0 })) (fault cells.1 kind.Extra)) s r1.2 in
-    let made : Saved B M = record { head = h; parts = r1.0.0; cells = r2.0.0 } in
-    let g = passed (eqb (length r2.0.1.left) 0) (record { at = r2.0.1.at; kind = kind.Extra }) made s r2.2 in
-    let t0 = head_takes B c r0.0 small r0.1 in
-    let t1 = times_takes (bank_at B h) bank_bytes (BankFits B h) (bank_pair B whole h) h.banks r0.0.1 r1.0 t0.0.rest_fits r1.1 in
-    let t2 = times_takes (cells_at B M) cells_bytes (RowFits B M) (cells_pair B M) (h.banks * array_lines_in h) r1.0.1 r2.0 t1.0.rest_fits r2.1 in
-    let m1 = Takes-then r0.0.1 _ r1.0.1 _ r2.0.1 t1.0 t2.0 in
-    let m0 = Takes-then c _ r0.0.1 _ r2.0.1 t0.0 m1 in
-    let nothing : r2.0.1.left ≡ [] = nil_from_length r2.0.1.left (eqb-true _ _ g.0) in
-    let all : bytes ≡ image_bytes made = m0.parts ∙ ap (λ (r : List ℕ). image_bytes made ++ r) nothing ∙ append-nil (image_bytes made) in
-    let is : IsSaved made = record {
-      head = t0.1;
-      one_each = t1.1;
-      parts = All-from_recursion (IsSavedBank h) r1.0.0 (all_map (BankFits B h) (IsSavedBank h) r1.0.0 (bank_saved B h) t1.2);
-      all_lines = t2.1;
-      rows = All-from_recursion (IsSavedRow B M) r2.0.0 (all_map (RowFits B M) (IsSavedRow B M) r2.0.0 (λ row k. record { bits = k.0; meta = k.1 }) t2.2);
-    } in
-    subst (λ (v : Saved B M). IsSaved v × (bytes ≡ image_bytes v)) g.1 (is, all)
+    bound _ _ s _ e (λ x0 e0 n0. bound _ _ s _ n0 (λ x1 e1 n1. bound _ _ s _ n1 (λ x2 e2 n2.
+    let g = passed (eqb (length x2.1.left) 0) (record { at = x2.1.at; kind = kind.Extra }) (record { head = x0.0; parts = x1.0; cells = x2.0 }) s n2 in
+    let t0 = head_takes B (record { at = 0; left = bytes }) x0 small e0 in
+    let t1 = times_takes (bank_at B x0.0) bank_bytes (BankFits B x0.0) (bank_pair B whole x0.0) x0.0.banks x0.1 x1 t0.0.rest_fits e1 in
+    let t2 = times_takes (cells_at B M) cells_bytes (RowFits B M) (cells_pair B M) (x0.0.banks * array_lines_in x0.0) x1.1 x2 t1.0.rest_fits e2 in
+    subst (λ (v : Saved B M). IsSaved v × (bytes ≡ image_bytes v)) g.1
+    (image_joined (record { head = x0.0; parts = x1.0; cells = x2.0 }) (record { at = 0; left = bytes }) x0.1 x1.1 x2.1 g.0 t0 t1 t2))))
+
+-- the parts of an image, one behind another
+image_read : (B M : ℕ) (bytes : List ℕ) (s : Saved B M) (c0 c1 c2 : Cursor) → head_at B (record { at = 0; left = bytes }) ≡ Ok (s.head, c0)
+    → times s.head.banks (bank_at B s.head) c0 ≡ Ok (s.parts, c1) → times (s.head.banks * array_lines_in s.head) (cells_at B M) c1 ≡ Ok (s.cells, c2)
+    → eqb (length c2.left) 0 ≡ true → image_of B M bytes ≡ Ok s
+unfolding image_of
+image_read B M bytes s c0 c1 c2 p0 p1 p2 none = gives_on _ _ _ _ p0 (gives_on _ _ _ _ p1 (gives_on _ _ _ _ p2 (rw none refl)))
 
 pub image_again : (B M : ℕ) → B % 8 ≡ 0 → B ≤ 128 → (s : Saved B M) → IsSaved s → image_of B M (image_bytes s) ≡ Ok s
 unfolding image_of image_bytes
@@ -420,7 +463,7 @@ image_again B M whole few s k =
     let a2 = times_again (cells_at B M) cells_bytes (RowFits B M) (cells_pair B M) s.cells a1.0 [] (all_map (IsSavedRow B M) (RowFits B M) s.cells (λ row f. (f.bits, f.meta)) (all_to (IsSavedRow B M) s.cells k.rows)) (a1.2 ∙ sym (append-nil w2)) in
     let read2 = subst (λ (n : ℕ). times n (cells_at B M) a1.0 ≡ Ok (s.cells, a2.0)) k.all_lines a2.1 in
     let none : eqb (length a2.0.left) 0 ≡ true = rw a2.2 refl in
-    rw (a0.1, read1, read2, none) refl
+    image_read B M c.left s a0.0 a1.0 a2.0 a0.1 read1 read2 none
 
 pub is_found : {B M : ℕ} (bytes : List ℕ) (r : Result (Saved B M) ReadImage) → B % 8 ≡ 0 → IsBytes bytes → Gives (λ image. image) r (image_of B M bytes) → IfOk r (λ image. IsSaved image × (bytes ≡ image_bytes image))
 is_found {B} {M} bytes (Ok s) whole small given = image_takes B M whole bytes s small given

@@ -154,7 +154,9 @@ pub fn u32_at<'a>(fields: Fields<'a>) -> Result<(u32, Fields<'a>), ReadImage>
         return Err(bad(&fields, ImageKind::Short));
     }
     let (front, left) = fields.left.split_at(4);
-    let number = u32::from_le_bytes([front[0], front[1], front[2], front[3]]);
+    let mut bytes = [0; 4];
+    bytes.copy_from_slice(front);
+    let number = u32::from_le_bytes(bytes);
     Ok((
         number,
         Fields {
@@ -175,9 +177,9 @@ pub fn u64_at<'a>(fields: Fields<'a>) -> Result<(u64, Fields<'a>), ReadImage>
         return Err(bad(&fields, ImageKind::Short));
     }
     let (front, left) = fields.left.split_at(8);
-    let number = u64::from_le_bytes([
-        front[0], front[1], front[2], front[3], front[4], front[5], front[6], front[7],
-    ]);
+    let mut bytes = [0; 8];
+    bytes.copy_from_slice(front);
+    let number = u64::from_le_bytes(bytes);
     Ok((
         number,
         Fields {

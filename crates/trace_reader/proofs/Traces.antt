@@ -27,11 +27,14 @@ after_events-one : {n : ℕ} (events : List (TraceEvent n)) (event : TraceEvent 
 after_events-one events event (Ok behind) = ap Ok (sym (append_assoc events (event ∷ []) behind))
 after_events-one events event (Err fault) = refl
 
--- so far these events were read, up to the row before this number, whose tick is `before`
-pub record HasRead (n lines : ℕ) (bytes : List ℕ) (reader : Reader (Bor (List ℕ))) (events : List (TraceEvent n)) (number before : ℕ) : Type 0 where
+-- so far these events were read of rows that mean `total`, up to the row before this number, whose tick is `before`
+pub record HasRead (n lines : ℕ) (total : Result (List (TraceEvent n)) ParseFault) (reader : Reader (Bor (List ℕ))) (events : List (TraceEvent n)) (number before : ℕ) : Type 0 where
   pub rows : List (List (List ℕ))
   pub left : HasLeft reader rows
-  pub is : trace_of n lines bytes ≡ after_events events (rows_from n lines number before rows)
+  pub is : total ≡ after_events events (rows_from n lines number before rows)
+
+pub begins : (n lines : ℕ) (reader : Reader (Bor (List ℕ))) (rows : List (List (List ℕ))) → HasLeft reader rows → HasRead n lines (rows_from n lines 1 0 rows) reader [] 1 0
+begins n lines reader rows left = record { rows = rows; left = left; is = after_events-nil (rows_from n lines 1 0 rows) }
 
 -- the header
 trace_of-records : (n lines : ℕ) (bytes : List ℕ) (all : List (List (List ℕ))) → records default_config (strip_bom bytes) ≡ all → trace_of n lines bytes ≡ events_of n lines all
@@ -46,19 +49,16 @@ pub header-wrong : (n lines : ℕ) (bytes : List ℕ) (first : List (List ℕ)) 
 unfolding events_of
 header-wrong n lines bytes first rows e wrong = trace_of-records n lines bytes (first ∷ rows) e ∙ rw wrong refl
 
-pub header-read : (n lines : ℕ) (bytes : List ℕ) (reader : Reader (Bor (List ℕ))) (first : List (List ℕ)) (rows : List (List (List ℕ))) → records default_config (strip_bom bytes) ≡ first ∷ rows → is_header first ≡ true → HasLeft reader rows → HasRead n lines bytes reader [] 1 0
+pub header-read : (n lines : ℕ) (bytes : List ℕ) (first : List (List ℕ)) (rows : List (List (List ℕ))) → records default_config (strip_bom bytes) ≡ first ∷ rows → is_header first ≡ true
+    → trace_of n lines bytes ≡ rows_from n lines 1 0 rows
 unfolding events_of
-header-read n lines bytes reader first rows e header left = record {
-  rows = rows;
-  left = left;
-  is = trace_of-records n lines bytes (first ∷ rows) e ∙ rw header refl ∙ after_events-nil (rows_from n lines 1 0 rows);
-}
+header-read n lines bytes first rows e header = trace_of-records n lines bytes (first ∷ rows) e ∙ rw header refl
 
 -- no row more
-pub rows-end : (n lines : ℕ) (bytes : List ℕ) (reader : Reader (Bor (List ℕ))) (events : List (TraceEvent n)) (number before : ℕ)
-    → (h : HasRead n lines bytes reader events number before) → h.rows ≡ [] → trace_of n lines bytes ≡ Ok events
+pub rows-end : (n lines : ℕ) (total : Result (List (TraceEvent n)) ParseFault) (reader : Reader (Bor (List ℕ))) (events : List (TraceEvent n)) (number before : ℕ)
+    → (h : HasRead n lines total reader events number before) → h.rows ≡ [] → total ≡ Ok events
 unfolding rows_from
-rows-end n lines bytes reader events number before h none =
+rows-end n lines total reader events number before h none =
     h.is ∙ ap (λ (rows : List (List (List ℕ))). after_events events (rows_from n lines number before rows)) none ∙ ap Ok (append-nil events)
 
 -- a row more
@@ -69,36 +69,36 @@ rows_from-step n lines number before fields rest within =
     let allowed : nat_lt most_rows number ≡ false = grind (arith, nat_tests) in
     rw allowed refl
 
-rows-next : (n lines : ℕ) (bytes : List ℕ) (reader : Reader (Bor (List ℕ))) (events : List (TraceEvent n)) (number before : ℕ) (fields : List (List ℕ)) (rest : List (List (List ℕ)))
-    → (h : HasRead n lines bytes reader events number before) → h.rows ≡ fields ∷ rest → number ≤ most_rows
-    → trace_of n lines bytes ≡ after_events events (and_then_rows number (event_of n lines before fields) (λ event. rows_from n lines (number + 1) event.tick rest))
-rows-next n lines bytes reader events number before fields rest h some within =
+rows-next : (n lines : ℕ) (total : Result (List (TraceEvent n)) ParseFault) (reader : Reader (Bor (List ℕ))) (events : List (TraceEvent n)) (number before : ℕ) (fields : List (List ℕ)) (rest : List (List (List ℕ)))
+    → (h : HasRead n lines total reader events number before) → h.rows ≡ fields ∷ rest → number ≤ most_rows
+    → total ≡ after_events events (and_then_rows number (event_of n lines before fields) (λ event. rows_from n lines (number + 1) event.tick rest))
+rows-next n lines total reader events number before fields rest h some within =
     h.is ∙ ap (λ (rows : List (List (List ℕ))). after_events events (rows_from n lines number before rows)) some
     ∙ ap (after_events events) (rows_from-step n lines number before fields rest within)
 
-pub row-faulty : (n lines : ℕ) (bytes : List ℕ) (reader : Reader (Bor (List ℕ))) (events : List (TraceEvent n)) (number before : ℕ) (fields : List (List ℕ)) (rest : List (List (List ℕ))) (kind : Kind)
-    → (h : HasRead n lines bytes reader events number before) → h.rows ≡ fields ∷ rest → number ≤ most_rows
-    → event_of n lines before fields ≡ Err kind → trace_of n lines bytes ≡ fault_at number kind
-row-faulty n lines bytes reader events number before fields rest kind h some within e =
-    rows-next n lines bytes reader events number before fields rest h some within
+pub row-faulty : (n lines : ℕ) (total : Result (List (TraceEvent n)) ParseFault) (reader : Reader (Bor (List ℕ))) (events : List (TraceEvent n)) (number before : ℕ) (fields : List (List ℕ)) (rest : List (List (List ℕ))) (kind : Kind)
+    → (h : HasRead n lines total reader events number before) → h.rows ≡ fields ∷ rest → number ≤ most_rows
+    → event_of n lines before fields ≡ Err kind → total ≡ fault_at number kind
+row-faulty n lines total reader events number before fields rest kind h some within e =
+    rows-next n lines total reader events number before fields rest h some within
     ∙ ap (λ (r : Result (TraceEvent n) Kind). after_events events (and_then_rows number r (λ event. rows_from n lines (number + 1) event.tick rest))) e
 
-pub row-read : (n lines : ℕ) (bytes : List ℕ) (reader new : Reader (Bor (List ℕ))) (events : List (TraceEvent n)) (number before : ℕ) (fields : List (List ℕ)) (rest : List (List (List ℕ))) (event : TraceEvent n)
-    → (h : HasRead n lines bytes reader events number before) → h.rows ≡ fields ∷ rest → HasLeft new rest → number ≤ most_rows
-    → event_of n lines before fields ≡ Ok event → HasRead n lines bytes new (events ++ (event ∷ [])) (number + 1) event.tick
-row-read n lines bytes reader new events number before fields rest event h some left within e = record {
+pub row-read : (n lines : ℕ) (total : Result (List (TraceEvent n)) ParseFault) (reader new : Reader (Bor (List ℕ))) (events : List (TraceEvent n)) (number before : ℕ) (fields : List (List ℕ)) (rest : List (List (List ℕ))) (event : TraceEvent n)
+    → (h : HasRead n lines total reader events number before) → h.rows ≡ fields ∷ rest → HasLeft new rest → number ≤ most_rows
+    → event_of n lines before fields ≡ Ok event → HasRead n lines total new (events ++ (event ∷ [])) (number + 1) event.tick
+row-read n lines total reader new events number before fields rest event h some left within e = record {
   rows = rest;
   left = left;
   is =
-      rows-next n lines bytes reader events number before fields rest h some within
+      rows-next n lines total reader events number before fields rest h some within
       ∙ ap (λ (r : Result (TraceEvent n) Kind). after_events events (and_then_rows number r (λ event. rows_from n lines (number + 1) event.tick rest))) e
       ∙ after_events-one events event (rows_from n lines (number + 1) event.tick rest);
 }
 
 -- a row too many
-pub rows-too_many : (n lines : ℕ) (bytes : List ℕ) (reader : Reader (Bor (List ℕ))) (events : List (TraceEvent n)) (number before : ℕ) (fields : List (List ℕ)) (rest : List (List (List ℕ)))
-    → (h : HasRead n lines bytes reader events number before) → h.rows ≡ fields ∷ rest → most_rows < number → trace_of n lines bytes ≡ Err fault.TooMany
+pub rows-too_many : (n lines : ℕ) (total : Result (List (TraceEvent n)) ParseFault) (reader : Reader (Bor (List ℕ))) (events : List (TraceEvent n)) (number before : ℕ) (fields : List (List ℕ)) (rest : List (List (List ℕ)))
+    → (h : HasRead n lines total reader events number before) → h.rows ≡ fields ∷ rest → most_rows < number → total ≡ Err fault.TooMany
 unfolding rows_from
-rows-too_many n lines bytes reader events number before fields rest h some over =
+rows-too_many n lines total reader events number before fields rest h some over =
     let more : nat_lt most_rows number ≡ true = grind (arith, nat_tests) in
     h.is ∙ ap (λ (rows : List (List (List ℕ))). after_events events (rows_from n lines number before rows)) some ∙ rw more refl

@@ -2,7 +2,7 @@
 ghost use Rattle.std.specs.Prelude.{◌≡◌, ◌≤◌};
 ghost use Rattle.std.specs.Option.{ok_or};
 ghost use Rattle.csv.specs.Records.{fields_of};
-ghost use Rattle.trace_reader.specs.Rows.{text_at, line_of, op_of, event_of};
+ghost use Rattle.trace_reader.specs.Rows.{text_at, line_of, read_of, write_of, mask_of, op_of, event_of};
 
 use crate::decimal::number;
 use crate::event::{TraceEvent, TraceOp};
@@ -29,7 +29,48 @@ fn read_line(text: &[u8], lines: u32) -> Result<u32, Kind>
     Ok(line as u32)
 }
 
-#[tactic(auto, unfolding(crate::specs::Rows::op_of, crate::specs::Rows::read_of, crate::specs::Rows::write_of, crate::specs::Rows::mask_of, crate::specs::Rows::cut_of))]
+// A read has a line and no payload.
+#[tactic(auto, unfolding(crate::specs::Rows::read_of))]
+fn plain_read<const B: usize>(line: &[u8], payload: &[u8], lines: u32) -> Result<TraceOp<B>, Kind>
+    requires { 1 ≤ lines }
+    ensures { result ≡ read_of B lines line.now payload.now }
+{
+    let line = read_line(line, lines)?;
+    if payload.is_empty() {
+        Ok(TraceOp::Read(line))
+    } else {
+        Err(Kind::Payload)
+    }
+}
+
+// A write has a line and all its bytes.
+#[tactic(auto, unfolding(crate::specs::Rows::write_of))]
+fn whole_write<const B: usize>(
+    line: &[u8],
+    payload: &[u8],
+    lines: u32,
+    values: &Values,
+) -> Result<TraceOp<B>, Kind>
+    requires { 1 ≤ lines }
+    ensures { result ≡ write_of B lines line.now payload.now }
+{
+    let line = read_line(line, lines)?;
+    let bytes = bytes_from_digits(values, payload).ok_or(Kind::Payload)?;
+    Ok(TraceOp::Write(line, bytes))
+}
+
+// A masked write has a line and some of its bytes.
+#[tactic(auto, unfolding(crate::specs::Rows::mask_of))]
+fn masked_write<const B: usize>(line: &[u8], payload: &[u8], lines: u32) -> Result<TraceOp<B>, Kind>
+    requires { 1 ≤ lines }
+    ensures { result ≡ mask_of B lines line.now payload.now }
+{
+    let line = read_line(line, lines)?;
+    let masked = bytes_from_pairs(payload).ok_or(Kind::Payload)?;
+    Ok(TraceOp::Mask(line, masked.bytes, masked.given))
+}
+
+#[tactic(auto, unfolding(crate::specs::Rows::op_of, crate::specs::Rows::cut_of))]
 fn read_op<const B: usize>(
     op: &[u8],
     line: &[u8],
@@ -41,24 +82,9 @@ fn read_op<const B: usize>(
     ensures { result ≡ op_of B lines op.now line.now payload.now }
 {
     match op {
-        b"R" => {
-            let line = read_line(line, lines)?;
-            if payload.is_empty() {
-                Ok(TraceOp::Read(line))
-            } else {
-                Err(Kind::Payload)
-            }
-        }
-        b"W" => {
-            let line = read_line(line, lines)?;
-            let bytes = bytes_from_digits(values, payload).ok_or(Kind::Payload)?;
-            Ok(TraceOp::Write(line, bytes))
-        }
-        b"M" => {
-            let line = read_line(line, lines)?;
-            let masked = bytes_from_pairs(payload).ok_or(Kind::Payload)?;
-            Ok(TraceOp::Mask(line, masked.bytes, masked.given))
-        }
+        b"R" => plain_read(line, payload, lines),
+        b"W" => whole_write(line, payload, lines, values),
+        b"M" => masked_write(line, payload, lines),
         b"C" => {
             if !line.is_empty() {
                 Err(Kind::Line)

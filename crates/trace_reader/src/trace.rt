@@ -1,15 +1,16 @@
 //! A whole trace.
-ghost use Rattle.std.specs.Prelude.{◌≡◌, ◌≢◌, ◌≤◌, vec_len, Ok, Err, IfOk, IfErr};
+ghost use Rattle.std.specs.Prelude.{◌≡◌, ◌≢◌, ◌≤◌, ℕ, List, vec_len, Ok, Err, IfOk, IfErr};
 ghost use Rattle.csv.specs.Records.{fields_of};
 ghost use Rattle.trace_reader.specs.Events.{AreEventsFor};
-ghost use Rattle.trace_reader.specs.Trace.{is_header, trace_of};
+ghost use Rattle.trace_reader.specs.Records.{HasLeft, IsOpen};
+ghost use Rattle.trace_reader.specs.Trace.{is_header, rows_from, trace_of};
 
 use crate::event::TraceEvent;
 use crate::fault::{Kind, ParseFault, TraceFault};
 use crate::payload::Values;
 use crate::records::{next_row, open};
 use crate::row::{field, read_event};
-use csv::ByteRecord;
+use csv::{ByteRecord, Reader};
 use std::alloc::Global;
 
 /// The greatest number of rows behind the header.
@@ -24,6 +25,45 @@ fn is_header_row(row: &ByteRecord) -> bool
         && field(row, 1) == b"op".as_slice()
         && field(row, 2) == b"arg".as_slice()
         && field(row, 3) == b"data".as_slice()
+}
+
+// Reads the events of the rows behind the header, up to their end or the first fault.
+fn read_rows<const B: usize>(
+    alloc: Global,
+    reader: &mut Reader<&[u8]>,
+    row: &mut ByteRecord,
+    lines: u32,
+    values: &Values,
+) -> Result<Vec<TraceEvent<B>>, ParseFault>
+    requires lines { 1 ≤ lines }
+    requires small { B ≤ 128 }
+    requires open { IsOpen reader.old }
+    ensures ok { IfOk result (λ v. (rows : List (List (List ℕ))) → HasLeft reader.old rows
+        → rows_from B lines 1 0 rows ≡ Ok v.items) }
+    ensures rows { IfOk result (λ v. vec_len v ≤ MOST_ROWS) }
+    ensures err { IfErr result (λ e. e ≢ ParseFault.NoMemory
+        → (rows : List (List (List ℕ))) → HasLeft reader.old rows → rows_from B lines 1 0 rows ≡ Err e) }
+{
+    let mut events = Vec::new(alloc);
+    let mut before = 0;
+    'rows: for number in 1..MOST_ROWS + 1 {
+        if !next_row(reader, row)? {
+            return Ok(events);
+        }
+        let event = match read_event(row, lines, before, values) {
+            Ok(event) => event,
+            Err(kind) => return Err(ParseFault::Trace(TraceFault { row: number, kind })),
+        };
+        before = event.tick;
+        if events.push(event).is_err() {
+            return Err(ParseFault::NoMemory);
+        }
+    }
+    if next_row(reader, row)? {
+        Err(ParseFault::TooMany)
+    } else {
+        Ok(events)
+    }
 }
 
 /// Reads a trace for a module of so many lines of `B` bytes. The bytes were read to their end where the answer is Ok.
@@ -48,24 +88,5 @@ pub fn parse<const B: usize>(
         }));
     }
     let values = Values::new();
-    let mut events = Vec::new(alloc);
-    let mut before = 0;
-    'rows: for number in 1..MOST_ROWS + 1 {
-        if !next_row(&mut reader, &mut row)? {
-            return Ok(events);
-        }
-        let event = match read_event(&row, lines, before, &values) {
-            Ok(event) => event,
-            Err(kind) => return Err(ParseFault::Trace(TraceFault { row: number, kind })),
-        };
-        before = event.tick;
-        if events.push(event).is_err() {
-            return Err(ParseFault::NoMemory);
-        }
-    }
-    if next_row(&mut reader, &mut row)? {
-        Err(ParseFault::TooMany)
-    } else {
-        Ok(events)
-    }
+    read_rows(alloc, &mut reader, &mut row, lines, &values)
 }

@@ -1,0 +1,11 @@
+use Rattle.std.proofs.Common.{ℕ, List, ◌<◌, vec_len}
+use Rattle.trace_reader.specs.Records.{HasLeft}
+use Rattle.trace_reader.specs.Trace.{rows_from}
+use Rattle.trace_reader.proofs.Traces.{HasRead}
+use Rattle.trace_reader.proofs.trace.read_rows.Given as goal
+
+-- the rows so far were read
+abbrev pub invariant-rows : goal.invariant-rows
+invariant-rows g l =
+    ((rows : List (List (List ℕ))) → HasLeft l.initial.reader rows → HasRead g.row.B l.lines (rows_from g.row.B l.lines 1 0 rows) l.reader l.events.items l.number l.before)
+    × (vec_len l.events < l.number)
