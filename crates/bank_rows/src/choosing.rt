@@ -3,37 +3,36 @@ use bank_shape::clock::{Action, Doing, choose};
 
 #[test]
 fn a_read_goes_first_only_where_the_write_gives_way(rt: HostRuntime) {
-    assert!(rt; choose(true, true, true, false) == Some(Doing::Serving));
-    assert!(rt; choose(false, true, true, false) == Some(Doing::Iterating));
-    assert!(rt; choose(false, true, false, true) == Some(Doing::Serving));
-    assert!(rt; choose(true, false, false, true) == Some(Doing::Beginning));
-    assert!(rt; choose(true, false, false, false) == None);
+    let chosen = [
+        choose(true, true, true, false),
+        choose(false, true, true, false),
+        choose(false, true, false, true),
+        choose(true, false, false, true),
+        choose(true, false, false, false),
+    ];
+    assert_eq!(rt;
+        chosen,
+        [
+            Some(Doing::Serving),
+            Some(Doing::Iterating),
+            Some(Doing::Serving),
+            Some(Doing::Beginning),
+            None
+        ]
+    );
+}
+
+// The end of what a bank does from tick 15 on.
+fn end(doing: Doing) -> u64 {
+    Action { doing, first: 15 }.ends(5, 10)
 }
 
 #[test]
 fn a_begin_lasts_as_long_as_a_serve(rt: HostRuntime) {
-    assert_eq!(rt;
-        Action {
-            doing: Doing::Beginning,
-            first: 15
-        }
-        .ends(5, 10),
-        20
-    );
-    assert_eq!(rt;
-        Action {
-            doing: Doing::Serving,
-            first: 15
-        }
-        .ends(5, 10),
-        20
-    );
-    assert_eq!(rt;
-        Action {
-            doing: Doing::Iterating,
-            first: 15
-        }
-        .ends(5, 10),
-        25
-    );
+    let ends = [
+        end(Doing::Beginning),
+        end(Doing::Serving),
+        end(Doing::Iterating),
+    ];
+    assert_eq!(rt; ends, [20, 20, 25]);
 }

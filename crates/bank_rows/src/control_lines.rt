@@ -4,11 +4,13 @@
 ghost use Rattle.std.specs.Prelude.{◌≡◌, ◌<◌, IfOk, IfSome, IsTrue, None, is_some};
 ghost use Rattle.reg_lines.specs.Regs.{AreHeld};
 
+use crate::faults::{Fault, misses, script, sticks};
 use bank_shape::answer::Keep;
-use pcm_cells::{Act, CellArray, Script, ScriptArray, Wear};
+use pcm_cells::{CellArray, ScriptArray, Wear};
 use reg_lines::regs::RegLines;
 use reg_lines::{Change, encode, values_of};
 use std::alloc::{AllocError, Global};
+use std::process::Abort;
 use std::test::Fail;
 
 const WEAR: Wear = Wear {
@@ -29,7 +31,7 @@ enum Call {
 }
 
 // What was answered: of an item its third value. What may not be called is refused.
-#[derive(Clone, Copy, PartialEq, Eq, Debug)]
+#[derive(Clone, Copy, PartialEq, Eq)]
 enum Saw {
     Put,
     More,
@@ -175,100 +177,111 @@ fn differs<A: CellArray<64, 8>>(
     Ok(None)
 }
 
-// Acts of cells of line 3, the control line of item 1, at their first turn.
-fn acting(alloc: Global, cells: &[u16], act: Act) -> Result<Vec<Script>, AllocError> {
-    let mut script = Vec::new(alloc);
-    for cell in cells {
-        script.push(Script {
-            line: 3,
-            cell: *cell,
-            turn: 1,
-            act,
-        })?;
-    }
-    Ok(script)
+// Three control lines, over cells with these faults, answer each call as the table has it.
+fn check(
+    rt: &impl Abort,
+    alloc: Global,
+    faults: &[Fault],
+    table: &[(Call, Saw)],
+) -> Result<(), AllocError> {
+    let script = script(alloc, faults)?;
+    let mut array: ScriptArray<64, 8> = ScriptArray::new(script);
+    let other = differs(alloc, &mut array, table)?;
+    assert_eq!(rt; other, None);
+    Ok(())
 }
 
 #[test]
 fn a_line_has_three_numbers_with_their_lowest_bytes_first(rt: HostRuntime) {
-    let line = encode::<16>(&[1, 0x0102_0304, 0xffff_fffe]);
-    assert!(rt; line == [1, 0, 0, 0, 4, 3, 2, 1, 0xfe, 0xff, 0xff, 0xff, 0, 0, 0, 0]);
-    assert!(rt; values_of(&line) == [1, 0x0102_0304, 0xffff_fffe]);
-    assert!(rt; encode::<128>(&[0, 0, 0]) == [0; 128]);
+    let values = [1, 0x0102_0304, 0xffff_fffe];
+    let line = encode::<16>(&values);
+    let wide = encode::<128>(&[0, 0, 0]);
+    let wanted = [1, 0, 0, 0, 4, 3, 2, 1, 0xfe, 0xff, 0xff, 0xff, 0, 0, 0, 0];
+    assert_eq!(rt; (line, values_of(&line)), (wanted, values));
+    assert!(rt; wide == [0; 128]);
 }
 
 #[test]
 fn a_line_that_holds_the_values_is_not_pulsed(rt: HostRuntime) -> Result<(), Fail> {
-    let mut array: ScriptArray<64, 8> = ScriptArray::new(Vec::new(rt.alloc()));
-    let table = [
-        (Call::Begin, Saw::Refused),
-        (Call::Put(1, 1), Saw::Put),
-        (Call::Put(0, 1), Saw::Refused),
-        (Call::Item(1), Saw::Value(1)),
-        (Call::Item(0), Saw::Value(0)),
-        (Call::Begin, Saw::More),
-        (Call::Iterate(1), Saw::Done),
-        (Call::Item(1), Saw::Value(1)),
-        (Call::Put(2, 0), Saw::Put),
-        (Call::Begin, Saw::Done),
-        (Call::Item(2), Saw::Value(0)),
-    ];
-    assert_eq!(rt; differs(rt.alloc(), &mut array, &table)?, None);
+    check(
+        &rt,
+        rt.alloc(),
+        &[],
+        &[
+            (Call::Begin, Saw::Refused),
+            (Call::Put(1, 1), Saw::Put),
+            (Call::Put(0, 1), Saw::Refused),
+            (Call::Item(1), Saw::Value(1)),
+            (Call::Item(0), Saw::Value(0)),
+            (Call::Begin, Saw::More),
+            (Call::Iterate(1), Saw::Done),
+            (Call::Item(1), Saw::Value(1)),
+            (Call::Put(2, 0), Saw::Put),
+            (Call::Begin, Saw::Done),
+            (Call::Item(2), Saw::Value(0)),
+        ],
+    )?;
     Ok(())
 }
 
 #[test]
 fn a_cell_that_misses_takes_one_iteration_more(rt: HostRuntime) -> Result<(), Fail> {
-    let misses = acting(rt.alloc(), &[64], Act::Miss)?;
-    let mut array: ScriptArray<64, 8> = ScriptArray::new(misses);
-    let table = [
-        (Call::Put(1, 1), Saw::Put),
-        (Call::Begin, Saw::More),
-        (Call::Iterate(1), Saw::More),
-        (Call::Iterate(1), Saw::Done),
-        (Call::Item(1), Saw::Value(1)),
-    ];
-    assert_eq!(rt; differs(rt.alloc(), &mut array, &table)?, None);
+    check(
+        &rt,
+        rt.alloc(),
+        &[misses(3, &[64], 1)],
+        &[
+            (Call::Put(1, 1), Saw::Put),
+            (Call::Begin, Saw::More),
+            (Call::Iterate(1), Saw::More),
+            (Call::Iterate(1), Saw::Done),
+            (Call::Item(1), Saw::Value(1)),
+        ],
+    )?;
     Ok(())
 }
 
 #[test]
 fn a_torn_line_is_written_again(rt: HostRuntime) -> Result<(), Fail> {
-    let misses = acting(rt.alloc(), &[64], Act::Miss)?;
-    let mut array: ScriptArray<64, 8> = ScriptArray::new(misses);
-    let table = [
-        (Call::Put(1, 1), Saw::Put),
-        (Call::Cut(true), Saw::Refused),
-        (Call::Begin, Saw::More),
-        (Call::Cut(true), Saw::Cut),
-        (Call::Iterate(1), Saw::Refused),
-        (Call::Item(1), Saw::Value(1)),
-        (Call::Begin, Saw::More),
-        (Call::Cut(false), Saw::Cut),
-        (Call::Begin, Saw::More),
-        (Call::Cut(true), Saw::Cut),
-        (Call::Begin, Saw::Done),
-        (Call::Item(1), Saw::Value(1)),
-    ];
-    assert_eq!(rt; differs(rt.alloc(), &mut array, &table)?, None);
+    check(
+        &rt,
+        rt.alloc(),
+        &[misses(3, &[64], 1)],
+        &[
+            (Call::Put(1, 1), Saw::Put),
+            (Call::Cut(true), Saw::Refused),
+            (Call::Begin, Saw::More),
+            (Call::Cut(true), Saw::Cut),
+            (Call::Iterate(1), Saw::Refused),
+            (Call::Item(1), Saw::Value(1)),
+            (Call::Begin, Saw::More),
+            (Call::Cut(false), Saw::Cut),
+            (Call::Begin, Saw::More),
+            (Call::Cut(true), Saw::Cut),
+            (Call::Begin, Saw::Done),
+            (Call::Item(1), Saw::Value(1)),
+        ],
+    )?;
     Ok(())
 }
 
 // The cell of the third value and that which switches its first pointer on.
 #[test]
 fn a_change_halts_at_a_worn_line(rt: HostRuntime) -> Result<(), Fail> {
-    let sticks = acting(rt.alloc(), &[64, 562], Act::Stick(false))?;
-    let mut array: ScriptArray<64, 8> = ScriptArray::new(sticks);
-    let table = [
-        (Call::Put(1, 1), Saw::Put),
-        (Call::Begin, Saw::More),
-        (Call::Iterate(17), Saw::Halted),
-        (Call::Begin, Saw::Refused),
-        (Call::Cut(false), Saw::Cut),
-        (Call::Begin, Saw::Refused),
-        (Call::Item(1), Saw::Value(1)),
-        (Call::Item(0), Saw::Value(0)),
-    ];
-    assert_eq!(rt; differs(rt.alloc(), &mut array, &table)?, None);
+    check(
+        &rt,
+        rt.alloc(),
+        &[sticks(3, &[64, 562])],
+        &[
+            (Call::Put(1, 1), Saw::Put),
+            (Call::Begin, Saw::More),
+            (Call::Iterate(17), Saw::Halted),
+            (Call::Begin, Saw::Refused),
+            (Call::Cut(false), Saw::Cut),
+            (Call::Begin, Saw::Refused),
+            (Call::Item(1), Saw::Value(1)),
+            (Call::Item(0), Saw::Value(0)),
+        ],
+    )?;
     Ok(())
 }

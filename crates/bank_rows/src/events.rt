@@ -7,13 +7,16 @@ ghost use Rattle.pcm_cells.specs.Device.{ArrayState};
 ghost use Rattle.power_recovery.specs.Slots.{bank_lines};
 ghost use Rattle.bank_invariant.specs.Tied.{IsTied};
 
+use crate::entries::first_byte;
+use crate::faults::{Fault, misses, script, sticks};
 use bank_core::arriving::Arrived;
 use bank_core::bank::Bank;
 use bank_shape::answer::{ReadAnswer, Step};
 use bank_shape::{BankShape, Home};
 use masked_bytes::entry::Entry;
-use pcm_cells::{Act, CellArray, Script, ScriptArray, Wear};
+use pcm_cells::{CellArray, ScriptArray, Wear};
 use std::alloc::{AllocError, Global};
+use std::process::Abort;
 use std::test::Fail;
 
 const WEAR: Wear = Wear {
@@ -37,7 +40,7 @@ enum Call {
 }
 
 // What an event answered: of bytes the first and the second. What may not be called is refused.
-#[derive(Clone, Copy, PartialEq, Eq, Debug)]
+#[derive(Clone, Copy, PartialEq, Eq)]
 enum Saw {
     Accepted,
     Merged(u32),
@@ -118,45 +121,17 @@ fn has_line(bank: &Bank<64, 8, 6>, line: u32) -> bool
     line < shape.lines
 }
 
-fn write(bank: &mut Bank<64, 8, 6>, row: u32, line: u32, bytes: [u8; 64], given: [bool; 64]) -> Saw
-    requires masked { IsMasked 64 bytes given }
-    requires rises { bank.old.rows_below ≤ row }
-    ensures rows { bank.new.rows_below ≤ row + 1 }
+fn write(bank: &mut Bank<64, 8, 6>, entry: Entry<64>) -> Saw
+    requires masked { IsMasked 64 entry.bytes entry.given }
+    requires rises { bank.old.rows_below ≤ entry.row }
+    ensures rows { bank.new.rows_below ≤ entry.row + 1 }
     ensures tied { (array : ArrayState 64 8) → IsTied bank.old array → IsTied bank.new array }
 {
-    if has_line(bank, line) {
-        let entry = Entry {
-            row,
-            line,
-            bytes,
-            given,
-        };
+    if has_line(bank, entry.line) {
         wrote(bank.write(entry))
     } else {
         Saw::Refused
     }
-}
-
-// A write that gives every byte, each the same.
-fn write_all(bank: &mut Bank<64, 8, 6>, row: u32, line: u32, byte: u8) -> Saw
-    requires rises { bank.old.rows_below ≤ row }
-    ensures rows { bank.new.rows_below ≤ row + 1 }
-    ensures tied { (array : ArrayState 64 8) → IsTied bank.old array → IsTied bank.new array }
-{
-    write(bank, row, line, [byte; 64], [true; 64])
-}
-
-// A write that gives the first byte alone.
-fn write_first(bank: &mut Bank<64, 8, 6>, row: u32, line: u32, byte: u8) -> Saw
-    requires rises { bank.old.rows_below ≤ row }
-    ensures rows { bank.new.rows_below ≤ row + 1 }
-    ensures tied { (array : ArrayState 64 8) → IsTied bank.old array → IsTied bank.new array }
-{
-    let mut bytes = [0; 64];
-    let mut given = [false; 64];
-    bytes[0] = byte;
-    given[0] = true;
-    write(bank, row, line, bytes, given)
 }
 
 fn read(bank: &mut Bank<64, 8, 6>, row: u32, line: u32) -> Saw
@@ -256,8 +231,8 @@ fn play<A: CellArray<64, 8>>(bank: &mut Bank<64, 8, 6>, array: &mut A, row: u32,
     ensures tied { IsTied bank.new (A.state array.new) }
 {
     match call {
-        Call::Write(line, byte) => write_all(bank, row, line, byte),
-        Call::Mask(line, byte) => write_first(bank, row, line, byte),
+        Call::Write(line, byte) => write(bank, Entry::whole(row, line, &[byte; 64])),
+        Call::Mask(line, byte) => write(bank, first_byte(row, line, byte)),
         Call::Read(line) => read(bank, row, line),
         Call::Serve => serve(bank, array),
         Call::Begin => begin(bank, array),
@@ -267,7 +242,29 @@ fn play<A: CellArray<64, 8>>(bank: &mut Bank<64, 8, 6>, array: &mut A, row: u32,
     }
 }
 
-// Plays the events from row 1 on, over a bank of its own, and answers the row of the first that saw something else.
+// Plays the events from row 1 on, and answers the row of the first that saw something else.
+fn plays<A: CellArray<64, 8>>(
+    bank: &mut Bank<64, 8, 6>,
+    array: &mut A,
+    table: &[(Call, Saw)],
+) -> Option<u32>
+    requires rows { bank.old.rows_below ≡ 0 }
+    requires tied { IsTied bank.old (A.state array.old) }
+{
+    let mut row = 0u32;
+    for (call, saw) in table {
+        if row >= 100 {
+            return Some(row);
+        }
+        row += 1;
+        if play(bank, array, row, *call) != *saw {
+            return Some(row);
+        }
+    }
+    None
+}
+
+// Plays them over a bank of its own.
 fn differs<A: CellArray<64, 8>>(
     alloc: Global,
     array: &mut A,
@@ -278,92 +275,96 @@ fn differs<A: CellArray<64, 8>>(
     requires few { psi ≤ 65535 }
 {
     let mut bank = powered(alloc, array, psi)?;
-    let mut row = 0u32;
-    for (call, saw) in table {
-        if row >= 100 {
-            return Ok(Some(row));
-        }
-        row += 1;
-        if play(&mut bank, array, row, *call) != *saw {
-            return Ok(Some(row));
-        }
-    }
-    Ok(None)
+    Ok(plays(&mut bank, array, table))
+}
+
+// A bank whose region's gap moves after so many stores, over cells with these faults, answers each event as the table has it.
+fn check(
+    rt: &impl Abort,
+    alloc: Global,
+    psi: u32,
+    faults: &[Fault],
+    table: &[(Call, Saw)],
+) -> Result<(), AllocError>
+    requires some { 1 ≤ psi }
+    requires few { psi ≤ 65535 }
+{
+    let script = script(alloc, faults)?;
+    let mut array: ScriptArray<64, 8> = ScriptArray::new(script);
+    let other = differs(alloc, &mut array, psi, table)?;
+    assert_eq!(rt; other, None);
+    Ok(())
 }
 
 #[test]
 fn a_store_a_move_and_a_store_of_what_is_there(rt: HostRuntime) -> Result<(), Fail> {
-    let mut array: ScriptArray<64, 8> = ScriptArray::new(Vec::new(rt.alloc()));
-    let table = [
-        (Call::Write(3, 0xff), Saw::Accepted),
-        (Call::Read(3), Saw::Forwarded(0xff, 0xff)),
-        (Call::Begin, Saw::More),
-        (Call::Iterate(1), Saw::Stored(1, 3)),
-        (Call::Begin, Saw::More),
-        (Call::Iterate(1), Saw::Moved(3, 3, 4)),
-        (Call::Read(3), Saw::Waiting),
-        (Call::Serve, Saw::Served(7, 4, 0xff, 0xff)),
-        (Call::Write(2, 0), Saw::Accepted),
-        (Call::Begin, Saw::Stored(9, 2)),
-    ];
-    assert_eq!(rt; differs(rt.alloc(), &mut array, 1, &table)?, None);
+    check(
+        &rt,
+        rt.alloc(),
+        1,
+        &[],
+        &[
+            (Call::Write(3, 0xff), Saw::Accepted),
+            (Call::Read(3), Saw::Forwarded(0xff, 0xff)),
+            (Call::Begin, Saw::More),
+            (Call::Iterate(1), Saw::Stored(1, 3)),
+            (Call::Begin, Saw::More),
+            (Call::Iterate(1), Saw::Moved(3, 3, 4)),
+            (Call::Read(3), Saw::Waiting),
+            (Call::Serve, Saw::Served(7, 4, 0xff, 0xff)),
+            (Call::Write(2, 0), Saw::Accepted),
+            (Call::Begin, Saw::Stored(9, 2)),
+        ],
+    )?;
     Ok(())
 }
 
 #[test]
 fn a_store_is_torn_and_done_again(rt: HostRuntime) -> Result<(), Fail> {
-    let mut script = Vec::new(rt.alloc());
-    for turn in 1..3 {
-        script.push(Script {
-            line: 3,
-            cell: 0,
-            turn,
-            act: Act::Miss,
-        })?;
-    }
-    let mut array: ScriptArray<64, 8> = ScriptArray::new(script);
-    let table = [
-        (Call::Write(3, 0xff), Saw::Accepted),
-        (Call::Begin, Saw::More),
-        (Call::Iterate(1), Saw::More),
-        (Call::Read(0), Saw::Waiting),
-        (Call::Cut(true), Saw::Cut),
-        (Call::TakeLost, Saw::Lost(4)),
-        (Call::TakeLost, Saw::NoneLost),
-        (Call::Read(3), Saw::Forwarded(0xff, 0xff)),
-        (Call::Begin, Saw::More),
-        (Call::Iterate(1), Saw::Stored(1, 3)),
-    ];
-    assert_eq!(rt; differs(rt.alloc(), &mut array, 100, &table)?, None);
+    check(
+        &rt,
+        rt.alloc(),
+        100,
+        &[misses(3, &[0], 1), misses(3, &[0], 2)],
+        &[
+            (Call::Write(3, 0xff), Saw::Accepted),
+            (Call::Begin, Saw::More),
+            (Call::Iterate(1), Saw::More),
+            (Call::Read(0), Saw::Waiting),
+            (Call::Cut(true), Saw::Cut),
+            (Call::TakeLost, Saw::Lost(4)),
+            (Call::TakeLost, Saw::NoneLost),
+            (Call::Read(3), Saw::Forwarded(0xff, 0xff)),
+            (Call::Begin, Saw::More),
+            (Call::Iterate(1), Saw::Stored(1, 3)),
+        ],
+    )?;
     Ok(())
 }
 
 #[test]
 fn a_move_is_torn_and_done_again(rt: HostRuntime) -> Result<(), Fail> {
-    let mut script = Vec::new(rt.alloc());
-    script.push(Script {
-        line: 4,
-        cell: 0,
-        turn: 1,
-        act: Act::Miss,
-    })?;
-    let mut array: ScriptArray<64, 8> = ScriptArray::new(script);
-    let table = [
-        (Call::Write(3, 0xff), Saw::Accepted),
-        (Call::Begin, Saw::More),
-        (Call::Iterate(1), Saw::Stored(1, 3)),
-        (Call::Begin, Saw::More),
-        (Call::Cut(true), Saw::Cut),
-        (Call::Read(3), Saw::Waiting),
-        (Call::Serve, Saw::Served(6, 3, 0xff, 0xff)),
-        (Call::Begin, Saw::More),
-        (Call::Iterate(1), Saw::Moved(3, 3, 4)),
-        (Call::Read(3), Saw::Waiting),
-        (Call::Read(2), Saw::Waiting),
-        (Call::Serve, Saw::Served(10, 4, 0xff, 0xff)),
-        (Call::Serve, Saw::Served(11, 2, 0, 0)),
-    ];
-    assert_eq!(rt; differs(rt.alloc(), &mut array, 1, &table)?, None);
+    check(
+        &rt,
+        rt.alloc(),
+        1,
+        &[misses(4, &[0], 1)],
+        &[
+            (Call::Write(3, 0xff), Saw::Accepted),
+            (Call::Begin, Saw::More),
+            (Call::Iterate(1), Saw::Stored(1, 3)),
+            (Call::Begin, Saw::More),
+            (Call::Cut(true), Saw::Cut),
+            (Call::Read(3), Saw::Waiting),
+            (Call::Serve, Saw::Served(6, 3, 0xff, 0xff)),
+            (Call::Begin, Saw::More),
+            (Call::Iterate(1), Saw::Moved(3, 3, 4)),
+            (Call::Read(3), Saw::Waiting),
+            (Call::Read(2), Saw::Waiting),
+            (Call::Serve, Saw::Served(10, 4, 0xff, 0xff)),
+            (Call::Serve, Saw::Served(11, 2, 0, 0)),
+        ],
+    )?;
     Ok(())
 }
 
@@ -371,143 +372,145 @@ fn a_move_is_torn_and_done_again(rt: HostRuntime) -> Result<(), Fail> {
 fn the_last_pointer_of_a_line_is_torn_and_the_store_done_again(
     rt: HostRuntime,
 ) -> Result<(), Fail> {
-    let mut script = Vec::new(rt.alloc());
-    for cell in [0, 1, 2, 3, 4, 11] {
-        script.push(Script {
-            line: 3,
-            cell,
-            turn: 1,
-            act: Act::Stick(false),
-        })?;
-    }
-    script.push(Script {
-        line: 3,
-        cell: 566,
-        turn: 2,
-        act: Act::Miss,
-    })?;
-    let mut array: ScriptArray<64, 8> = ScriptArray::new(script);
-    let table = [
-        (Call::Write(3, 0xff), Saw::Accepted),
-        (Call::Begin, Saw::More),
-        (Call::Iterate(57), Saw::More),
-        (Call::Cut(true), Saw::Cut),
-        (Call::Begin, Saw::More),
-        (Call::Iterate(39), Saw::Stored(1, 3)),
-        (Call::Read(3), Saw::Waiting),
-        (Call::Serve, Saw::Served(7, 3, 0xff, 0xff)),
-    ];
-    assert_eq!(rt; differs(rt.alloc(), &mut array, 100, &table)?, None);
+    check(
+        &rt,
+        rt.alloc(),
+        100,
+        &[sticks(3, &[0, 1, 2, 3, 4, 11]), misses(3, &[566], 2)],
+        &[
+            (Call::Write(3, 0xff), Saw::Accepted),
+            (Call::Begin, Saw::More),
+            (Call::Iterate(57), Saw::More),
+            (Call::Cut(true), Saw::Cut),
+            (Call::Begin, Saw::More),
+            (Call::Iterate(39), Saw::Stored(1, 3)),
+            (Call::Read(3), Saw::Waiting),
+            (Call::Serve, Saw::Served(7, 3, 0xff, 0xff)),
+        ],
+    )?;
     Ok(())
 }
 
 #[test]
 fn a_worn_line_gets_the_next_spare_until_none_is_left(rt: HostRuntime) -> Result<(), Fail> {
-    let mut script = Vec::new(rt.alloc());
-    for line in [3, 5, 6] {
-        for cell in 0..7 {
-            script.push(Script {
-                line,
-                cell,
-                turn: 1,
-                act: Act::Stick(false),
-            })?;
-        }
-    }
-    let mut array: ScriptArray<64, 8> = ScriptArray::new(script);
-    let table = [
-        (Call::Write(3, 0xff), Saw::Accepted),
-        (Call::Begin, Saw::More),
-        (Call::Iterate(67), Saw::Retired(3, 5)),
-        (Call::Begin, Saw::More),
-        (Call::Iterate(67), Saw::Retired(3, 6)),
-        (Call::Begin, Saw::More),
-        (Call::Iterate(67), Saw::Exhausted),
-        (Call::Begin, Saw::Refused),
-        (Call::Write(1, 0x11), Saw::Exhausted),
-        (Call::Read(3), Saw::Forwarded(0xff, 0xff)),
-        (Call::Read(1), Saw::Waiting),
-        (Call::Serve, Saw::Served(11, 1, 0, 0)),
-    ];
-    assert_eq!(rt; differs(rt.alloc(), &mut array, 100, &table)?, None);
+    check(
+        &rt,
+        rt.alloc(),
+        100,
+        &[
+            sticks(3, &[0, 1, 2, 3, 4, 5, 6]),
+            sticks(5, &[0, 1, 2, 3, 4, 5, 6]),
+            sticks(6, &[0, 1, 2, 3, 4, 5, 6]),
+        ],
+        &[
+            (Call::Write(3, 0xff), Saw::Accepted),
+            (Call::Begin, Saw::More),
+            (Call::Iterate(67), Saw::Retired(3, 5)),
+            (Call::Begin, Saw::More),
+            (Call::Iterate(67), Saw::Retired(3, 6)),
+            (Call::Begin, Saw::More),
+            (Call::Iterate(67), Saw::Exhausted),
+            (Call::Begin, Saw::Refused),
+            (Call::Write(1, 0x11), Saw::Exhausted),
+            (Call::Read(3), Saw::Forwarded(0xff, 0xff)),
+            (Call::Read(1), Saw::Waiting),
+            (Call::Serve, Saw::Served(11, 1, 0, 0)),
+        ],
+    )?;
     Ok(())
 }
 
 #[test]
 fn a_full_queue_refuses_a_write_and_a_busy_bank_a_read(rt: HostRuntime) -> Result<(), Fail> {
-    let mut array: ScriptArray<64, 8> = ScriptArray::new(Vec::new(rt.alloc()));
-    let table = [
-        (Call::Write(0, 0x11), Saw::Accepted),
-        (Call::Begin, Saw::More),
-        (Call::Write(0, 0x22), Saw::Accepted),
-        (Call::Write(1, 0x33), Saw::Accepted),
-        (Call::Write(2, 0x44), Saw::Accepted),
-        (Call::Write(3, 0x55), Saw::Full),
-        (Call::Write(0, 0x66), Saw::Merged(3)),
-        (Call::Read(0), Saw::Forwarded(0x66, 0x66)),
-        (Call::Read(3), Saw::Waiting),
-        (Call::Read(3), Saw::Waiting),
-        (Call::Read(3), Saw::Waiting),
-        (Call::Read(3), Saw::Waiting),
-        (Call::Read(3), Saw::Busy),
-        (Call::Read(0), Saw::Forwarded(0x66, 0x66)),
-    ];
-    assert_eq!(rt; differs(rt.alloc(), &mut array, 100, &table)?, None);
+    check(
+        &rt,
+        rt.alloc(),
+        100,
+        &[],
+        &[
+            (Call::Write(0, 0x11), Saw::Accepted),
+            (Call::Begin, Saw::More),
+            (Call::Write(0, 0x22), Saw::Accepted),
+            (Call::Write(1, 0x33), Saw::Accepted),
+            (Call::Write(2, 0x44), Saw::Accepted),
+            (Call::Write(3, 0x55), Saw::Full),
+            (Call::Write(0, 0x66), Saw::Merged(3)),
+            (Call::Read(0), Saw::Forwarded(0x66, 0x66)),
+            (Call::Read(3), Saw::Waiting),
+            (Call::Read(3), Saw::Waiting),
+            (Call::Read(3), Saw::Waiting),
+            (Call::Read(3), Saw::Waiting),
+            (Call::Read(3), Saw::Busy),
+            (Call::Read(0), Saw::Forwarded(0x66, 0x66)),
+        ],
+    )?;
     Ok(())
 }
 
 #[test]
 fn a_write_behind_a_torn_one_of_its_line_is_merged_into(rt: HostRuntime) -> Result<(), Fail> {
-    let mut array: ScriptArray<64, 8> = ScriptArray::new(Vec::new(rt.alloc()));
-    let table = [
-        (Call::Write(3, 0x11), Saw::Accepted),
-        (Call::Begin, Saw::More),
-        (Call::Write(3, 0x22), Saw::Accepted),
-        (Call::Cut(true), Saw::Cut),
-        (Call::Write(3, 0x33), Saw::Merged(3)),
-        (Call::Read(3), Saw::Forwarded(0x33, 0x33)),
-        (Call::Begin, Saw::Stored(1, 3)),
-        (Call::Begin, Saw::More),
-        (Call::Iterate(1), Saw::Stored(5, 3)),
-    ];
-    assert_eq!(rt; differs(rt.alloc(), &mut array, 100, &table)?, None);
+    check(
+        &rt,
+        rt.alloc(),
+        100,
+        &[],
+        &[
+            (Call::Write(3, 0x11), Saw::Accepted),
+            (Call::Begin, Saw::More),
+            (Call::Write(3, 0x22), Saw::Accepted),
+            (Call::Cut(true), Saw::Cut),
+            (Call::Write(3, 0x33), Saw::Merged(3)),
+            (Call::Read(3), Saw::Forwarded(0x33, 0x33)),
+            (Call::Begin, Saw::Stored(1, 3)),
+            (Call::Begin, Saw::More),
+            (Call::Iterate(1), Saw::Stored(5, 3)),
+        ],
+    )?;
     Ok(())
 }
 
 #[test]
 fn a_masked_write_waits_for_the_reads_of_its_line(rt: HostRuntime) -> Result<(), Fail> {
-    let mut array: ScriptArray<64, 8> = ScriptArray::new(Vec::new(rt.alloc()));
-    let table = [
-        (Call::Write(3, 0x11), Saw::Accepted),
-        (Call::Begin, Saw::More),
-        (Call::Iterate(1), Saw::Stored(1, 3)),
-        (Call::Mask(3, 0xee), Saw::Accepted),
-        (Call::Cut(false), Saw::Cut),
-        (Call::Read(3), Saw::Waiting),
-        (Call::Begin, Saw::Refused),
-        (Call::Serve, Saw::Served(6, 3, 0xee, 0x11)),
-        (Call::Begin, Saw::More),
-        (Call::Iterate(1), Saw::Stored(4, 3)),
-        (Call::Read(3), Saw::Waiting),
-        (Call::Serve, Saw::Served(11, 3, 0xee, 0x11)),
-    ];
-    assert_eq!(rt; differs(rt.alloc(), &mut array, 100, &table)?, None);
+    check(
+        &rt,
+        rt.alloc(),
+        100,
+        &[],
+        &[
+            (Call::Write(3, 0x11), Saw::Accepted),
+            (Call::Begin, Saw::More),
+            (Call::Iterate(1), Saw::Stored(1, 3)),
+            (Call::Mask(3, 0xee), Saw::Accepted),
+            (Call::Cut(false), Saw::Cut),
+            (Call::Read(3), Saw::Waiting),
+            (Call::Begin, Saw::Refused),
+            (Call::Serve, Saw::Served(6, 3, 0xee, 0x11)),
+            (Call::Begin, Saw::More),
+            (Call::Iterate(1), Saw::Stored(4, 3)),
+            (Call::Read(3), Saw::Waiting),
+            (Call::Serve, Saw::Served(11, 3, 0xee, 0x11)),
+        ],
+    )?;
     Ok(())
 }
 
 #[test]
 fn a_masked_write_is_completed_as_its_store_begins(rt: HostRuntime) -> Result<(), Fail> {
-    let mut array: ScriptArray<64, 8> = ScriptArray::new(Vec::new(rt.alloc()));
-    let table = [
-        (Call::Write(3, 0x11), Saw::Accepted),
-        (Call::Begin, Saw::More),
-        (Call::Iterate(1), Saw::Stored(1, 3)),
-        (Call::Mask(3, 0xee), Saw::Accepted),
-        (Call::Begin, Saw::More),
-        (Call::Cut(true), Saw::Cut),
-        (Call::Read(3), Saw::Forwarded(0xee, 0x11)),
-        (Call::Begin, Saw::Stored(4, 3)),
-    ];
-    assert_eq!(rt; differs(rt.alloc(), &mut array, 100, &table)?, None);
+    check(
+        &rt,
+        rt.alloc(),
+        100,
+        &[],
+        &[
+            (Call::Write(3, 0x11), Saw::Accepted),
+            (Call::Begin, Saw::More),
+            (Call::Iterate(1), Saw::Stored(1, 3)),
+            (Call::Mask(3, 0xee), Saw::Accepted),
+            (Call::Begin, Saw::More),
+            (Call::Cut(true), Saw::Cut),
+            (Call::Read(3), Saw::Forwarded(0xee, 0x11)),
+            (Call::Begin, Saw::Stored(4, 3)),
+        ],
+    )?;
     Ok(())
 }

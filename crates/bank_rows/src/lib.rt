@@ -7,7 +7,11 @@ mod choosing;
 #[cfg(test)]
 mod control_lines;
 #[cfg(test)]
+mod entries;
+#[cfg(test)]
 mod events;
+#[cfg(test)]
+mod faults;
 #[cfg(test)]
 mod recovering;
 #[cfg(test)]

@@ -1,59 +1,22 @@
 //! A bank that is read back from the control lines that another one wrote.
 #![tactic(auto, using(ecp_line::proofs::Sizes::layout_64))]
 
-ghost use Rattle.std.specs.Prelude.{◌≡◌, ◌+◌, ◌≤◌, List, IfOk};
+ghost use Rattle.std.specs.Prelude.{◌+◌, ◌≤◌, List};
 ghost use Rattle.bank_shape.specs.Shape.{IsBankShape, lines_in};
 ghost use Rattle.bank_model.specs.Timing.{TimedEvent};
 ghost use Rattle.clock_laws.specs.Leads.{Leads};
 
-use crate::rows::{end, powered, write_all};
+use crate::rows::{end, powered, write};
 use bank_clock::clocked::ClockedBank;
 use bank_clock::recover;
 use bank_core::bank::Bank;
 use bank_shape::{BankShape, Home, Policy};
+use masked_bytes::entry::Entry;
 use pcm_cells::{CellArray, ScriptArray};
 use reg_lines::regs::RegLines;
 use result_rows::Results;
 use std::alloc::{AllocError, Global};
 use std::test::Fail;
-
-// A bank with a write of its last line, whose region's gap has moved behind it.
-fn written<A: CellArray<64, 8>>(
-    alloc: Global,
-    array: &mut A,
-    shape: BankShape,
-) -> Result<ClockedBank<64, 8, 6>, AllocError>
-    requires limits { IsBankShape shape }
-    requires room { shape.base + lines_in shape ≤ 11 }
-    ensures { IfOk result (λ timed. (xs : List (TimedEvent 64 8)) × Leads xs timed (A.state array.new)) }
-{
-    let mut timed = powered(alloc, array, shape, Policy::Pause)?;
-    let mut results = Results::new(alloc, 1)?;
-    let _came = write_all(&mut timed, array, &mut results, 1, 3, 0xff);
-    let _ended = end(&mut timed, array, &mut results);
-    Ok(timed)
-}
-
-// A new bank that is read back from the control lines, if the one that wrote them has nothing left to write.
-fn reread<A: CellArray<64, 8>>(
-    alloc: Global,
-    timed: &ClockedBank<64, 8, 6>,
-    array: &mut A,
-) -> Result<Option<Bank<64, 8, 6>>, AllocError>
-    requires { (xs : List (TimedEvent 64 8)) × Leads xs timed.now (A.state array.old) }
-{
-    let shape = *timed.bank().kept().shape();
-    if let Home::Guarded = shape.home {
-        return Ok(None);
-    }
-    if timed.regs().change().is_some() || !timed.bank().kept().is_empty() {
-        return Ok(None);
-    }
-    let mut bank = Bank::new(alloc, shape)?;
-    let regs = RegLines::new(shape.first_control(), shape.controls());
-    recover(&mut bank, &regs, array, timed.now());
-    Ok(Some(bank))
-}
 
 // Start, gap and counter of the first region, and the slot of the last of four lines.
 fn registers(bank: &Bank<64, 8, 6>) -> Option<[u32; 4]> {
@@ -71,6 +34,45 @@ fn registers(bank: &Bank<64, 8, 6>) -> Option<[u32; 4]> {
     ])
 }
 
+// The registers of a new bank that is read back from the control lines, if the one that wrote them has nothing left to write.
+fn reread<A: CellArray<64, 8>>(
+    alloc: Global,
+    timed: &ClockedBank<64, 8, 6>,
+    array: &mut A,
+) -> Result<Option<[u32; 4]>, AllocError>
+    requires { (xs : List (TimedEvent 64 8)) × Leads xs timed.now (A.state array.old) }
+{
+    let shape = *timed.bank().kept().shape();
+    if let Home::Guarded = shape.home {
+        return Ok(None);
+    }
+    if timed.regs().change().is_some() || !timed.bank().kept().is_empty() {
+        return Ok(None);
+    }
+    let mut bank = Bank::new(alloc, shape)?;
+    let regs = RegLines::new(shape.first_control(), shape.controls());
+    recover(&mut bank, &regs, array, timed.now());
+    Ok(registers(&bank))
+}
+
+// The registers of a new bank that is read back from the control lines of another, of which the last line was written, so that
+// its region's gap has moved behind it.
+fn reread_after_a_write<A: CellArray<64, 8>>(
+    alloc: Global,
+    array: &mut A,
+    shape: BankShape,
+) -> Result<Option<[u32; 4]>, AllocError>
+    requires limits { IsBankShape shape }
+    requires room { shape.base + lines_in shape ≤ 11 }
+{
+    let mut results = Results::new(alloc, 1)?;
+    let mut timed = powered(alloc, array, shape, Policy::Pause)?;
+    let entry = Entry::whole(1, 3, &[0xff; 64]);
+    let _came = write(&mut timed, array, &mut results, entry);
+    let _ended = end(&mut timed, array, &mut results);
+    reread(alloc, &timed, array)
+}
+
 #[test]
 fn a_new_bank_has_the_registers_that_the_control_lines_hold(rt: HostRuntime) -> Result<(), Fail> {
     let shape = BankShape {
@@ -84,11 +86,7 @@ fn a_new_bank_has_the_registers_that_the_control_lines_hold(rt: HostRuntime) -> 
         home: Home::Array,
     };
     let mut array: ScriptArray<64, 8> = ScriptArray::new(Vec::new(rt.alloc()));
-    let timed = written(rt.alloc(), &mut array, shape)?;
-    let bank = reread(rt.alloc(), &timed, &mut array)?;
-    assert_eq!(rt;
-        bank.as_ref().and_then(|bank| registers(bank)),
-        Some([0, 3, 0, 4])
-    );
+    let registers = reread_after_a_write(rt.alloc(), &mut array, shape)?;
+    assert_eq!(rt; registers, Some([0, 3, 0, 4]));
     Ok(())
 }

@@ -1,6 +1,6 @@
 use Rattle.std.proofs.Common.{◌+◌, ◌≤◌}
 use Rattle.bank_invariant.specs.Tied.{IsTied}
-use Rattle.bank_rows.proofs.events.differs.Given as goal
+use Rattle.bank_rows.proofs.events.plays.Given as goal
 
 -- the bank is tied to its array, and may take the next row
 abbrev pub invariant-loop-call : goal.invariant-loop-call
