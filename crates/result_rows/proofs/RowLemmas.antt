@@ -15,10 +15,10 @@ use Rattle.result_rows.specs.Outcomes.{outcome_word, tick_of, place_of, bytes_of
 use Rattle.result_rows.specs.RowText.{op_letter, line_of, decimal_or_empty, hex_or_empty, row_text, rows_text}
 use Rattle.pcm_io.proofs.DigitLemmas.{five_digits, six_digits, twenty_digits}
 
--- seven fields that were pushed one by one, with commas between and LF at the end
+-- seven fields that were pushed one by one, with a comma behind each but the last, and LF at the end
 pub pieces-row : (t : Reserved) (a b c d e f g : List ℕ) →
-    appended (appended (appended (appended (appended (appended (appended (appended (appended (appended (appended (appended (appended (appended t a)
-    (codes ",")) b) (codes ",")) c) (codes ",")) d) (codes ",")) e) (codes ",")) f) (codes ",")) g) (codes "\n")
+    appended (appended (appended (appended (appended (appended (appended (appended t (a ++ codes ",")) (b ++ codes ",")) (c ++ codes ","))
+    (d ++ codes ",")) (e ++ codes ",")) (f ++ codes ",")) g) (codes "\n")
     ≡ appended t (join_with_byte 44 (a ∷ b ∷ c ∷ d ∷ e ∷ f ∷ g ∷ []) ++ codes "\n")
 pieces-row t a b c d e f g = simp append_assoc
 

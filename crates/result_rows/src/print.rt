@@ -1,5 +1,5 @@
 // The bytes of the results.
-ghost use Rattle.std.specs.Prelude.{◌≡◌, ◌+◌, ◌*◌, ◌≤◌, Some, length, decimal};
+ghost use Rattle.std.specs.Prelude.{◌≡◌, ◌+◌, ◌*◌, ◌≤◌, ◌++◌, Some, length, codes, decimal};
 ghost use Rattle.std.specs.Option.{ForSome};
 ghost use Rattle.pcm_io.specs.Reserved.{room_in, appended};
 ghost use Rattle.hex.specs.Hex.{encode_lower};
@@ -28,18 +28,12 @@ pub fn print_row<const B: usize>(row: u32, op: Op, line: u32, outcome: &Outcome<
     ensures after { text.new ≡ appended text.old (row_text row op line outcome.now) }
     ensures room { room_in text.old ≤ room_in text.new + (64 + 2 * B) }
 {
-    text.push_number(row as u64);
-    text.push(b",");
-    text.push(letter(op));
-    text.push(b",");
-    push_optional(line_if_any(op, line), text);
-    text.push(b",");
-    text.push(word(outcome));
-    text.push(b",");
-    push_optional(tick(outcome), text);
-    text.push(b",");
-    push_optional(place(outcome), text);
-    text.push(b",");
+    push_number_field(Some(row as u64), text);
+    push_field(letter(op), text);
+    push_number_field(line_if_any(op, line), text);
+    push_field(word(outcome), text);
+    push_number_field(tick(outcome), text);
+    push_number_field(place(outcome), text);
     push_bytes(outcome, text);
     text.push(b"\n");
 }
@@ -119,6 +113,16 @@ fn place<const B: usize>(outcome: &Outcome<B>) -> Option<u64>
     }
 }
 
+// Appends a field, and the comma behind it.
+fn push_field(field: &[u8], text: &mut Text)
+    requires { length field.now + 1 ≤ room_in text.old }
+    ensures after { text.new ≡ appended text.old (field.now ++ codes ",") }
+    ensures room { room_in text.new + length field.now + 1 ≡ room_in text.old }
+{
+    text.push(field);
+    text.push(b",");
+}
+
 fn push_optional(number: Option<u64>, text: &mut Text)
     requires { length (decimal_or_empty number) ≤ room_in text.old }
     ensures after { text.new ≡ appended text.old (decimal_or_empty number) }
@@ -127,6 +131,16 @@ fn push_optional(number: Option<u64>, text: &mut Text)
     if let Some(number) = number {
         text.push_number(number);
     }
+}
+
+// Appends a number or nothing, and the comma behind it.
+fn push_number_field(number: Option<u64>, text: &mut Text)
+    requires { length (decimal_or_empty number) + 1 ≤ room_in text.old }
+    ensures after { text.new ≡ appended text.old (decimal_or_empty number ++ codes ",") }
+    ensures room { room_in text.new + length (decimal_or_empty number) + 1 ≡ room_in text.old }
+{
+    push_optional(number, text);
+    text.push(b",");
 }
 
 fn push_bytes<const B: usize>(outcome: &Outcome<B>, text: &mut Text)
