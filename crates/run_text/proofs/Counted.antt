@@ -1,7 +1,8 @@
 -- What one more row does to the counts of a table, and to whether some row falls short.
-use Rattle.std.proofs.Common.{ℕ, get_or, ◌+◌, ◌-◌, ◌<◌, ◌≡◌, Bool, true, false, ◌||◌, cond, List, length, take, Some, ap, sym, ◌∙◌, refl, arith}
+use Rattle.std.proofs.Common.{ℕ, get_or, ◌+◌, ◌-◌, ◌^◌, ◌<◌, ◌≤◌, ◌≡◌, Bool, true, false, ◌||◌, cond, List, length, take, Some, ap, sym, ◌∙◌, refl, arith}
 use Rattle.std.specs.List.{count_by, list_any}
-use Rattle.std.proofs.lemmas.List.Sums.{count_by_more_yes, count_by_more_no}
+use Rattle.std.proofs.lemmas.List.{length-take}
+use Rattle.std.proofs.lemmas.List.Sums.{count_by-le-length, count_by_more_yes, count_by_more_no}
 use Rattle.std.proofs.lemmas.List.Folds.{list_any_more, list_any_at}
 use Rattle.std.proofs.lemmas.Option.{get_or_from_slice_get}
 use Rattle.result_rows.specs.declared.Outcome.{Outcome}
@@ -22,6 +23,12 @@ count-row p xs row x has at =
     by : (b : Bool) → b ≡ p (get_or xs (row - 1) x) → count_by p (take ((row - 1) + 1) xs) ≡ cond b (count_by p (take (row - 1) xs) + 1) (count_by p (take (row - 1) xs))
     by true is = count_by_more_yes p xs (row - 1) x (omega (arith, has.above, has.within)) (sym is)
     by false is = count_by_more_no p xs (row - 1) x (omega (arith, has.above, has.within)) (sym is)
+
+-- a count of the rows before one can be raised
+pub count-fits : {X : Type 0} (p : X → Bool) (xs : List X) (row count : ℕ) → count ≡ count_by p (take (row - 1) xs) → 1 ≤ row → row < 2 ^ 32 → count + 1 < 2 ^ 32
+count-fits p xs row count is some below =
+    let least = count_by-le-length p (take (row - 1) xs) in
+    omega (arith, is, least, length-take (row - 1) xs, some, below)
 
 -- the counts with one more row
 abbrev pub with_row : {n : ℕ} → Counts → Outcome n → Counts
