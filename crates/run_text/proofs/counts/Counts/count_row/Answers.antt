@@ -1,5 +1,8 @@
 use Rattle.result_rows.specs.declared.Outcome.TheVariants as out
-use Rattle.run_text.proofs.Counted.{counts-row}
+use Rattle.std.proofs.Common.{ap, arith}
+use Rattle.row_rules.specs.Answers.{is_stored, is_merged, is_queued, is_full, is_worn, is_answered, is_forwarded, is_busy, is_lost}
+use Rattle.run_text.specs.Counting.{is_cut}
+use Rattle.run_text.proofs.Counted.{count-fits, counts-row}
 use Rattle.run_text.proofs.counts.Counts.count_row.Goals as goal
 
 pub returns-in-Unset : goal.returns-in-Unset
@@ -45,3 +48,43 @@ returns-in-Lost g c =
 pub returns-in-Cut : goal.returns-in-Cut
 returns-in-Cut g c =
     counts-row c.args.self.now c.args.results.now c.args.row c.get.result.now (out.Cut c.in-Cut.tick) c.requires.exists c.get.ensures c.requires.before c.in-Cut.is
+
+pub overflow_add-self : goal.overflow_add-self
+overflow_add-self g c =
+    omega (arith, count-fits is_stored c.args.results.now c.args.row c.args.self.now.stored (ap (λ k. k.stored) c.requires.before) c.requires.exists.above (omega arith))
+
+pub overflow_add-self-in-Merged : goal.overflow_add-self-in-Merged
+overflow_add-self-in-Merged g c =
+    omega (arith, count-fits is_merged c.args.results.now c.args.row c.args.self.now.merged (ap (λ k. k.merged) c.requires.before) c.requires.exists.above (omega arith))
+
+pub overflow_add-self-in-Queued : goal.overflow_add-self-in-Queued
+overflow_add-self-in-Queued g c =
+    omega (arith, count-fits is_queued c.args.results.now c.args.row c.args.self.now.queued (ap (λ k. k.queued) c.requires.before) c.requires.exists.above (omega arith))
+
+pub overflow_add-self-in-Full : goal.overflow_add-self-in-Full
+overflow_add-self-in-Full g c =
+    omega (arith, count-fits is_full c.args.results.now c.args.row c.args.self.now.full (ap (λ k. k.full) c.requires.before) c.requires.exists.above (omega arith))
+
+pub overflow_add-self-in-Worn : goal.overflow_add-self-in-Worn
+overflow_add-self-in-Worn g c =
+    omega (arith, count-fits is_worn c.args.results.now c.args.row c.args.self.now.worn (ap (λ k. k.worn) c.requires.before) c.requires.exists.above (omega arith))
+
+pub overflow_add-self-in-Read : goal.overflow_add-self-in-Read
+overflow_add-self-in-Read g c =
+    omega (arith, count-fits is_answered c.args.results.now c.args.row c.args.self.now.read (ap (λ k. k.read) c.requires.before) c.requires.exists.above (omega arith))
+
+pub overflow_add-self-in-Forwarded : goal.overflow_add-self-in-Forwarded
+overflow_add-self-in-Forwarded g c =
+    omega (arith, count-fits is_forwarded c.args.results.now c.args.row c.args.self.now.forwarded (ap (λ k. k.forwarded) c.requires.before) c.requires.exists.above (omega arith))
+
+pub overflow_add-self-in-Busy : goal.overflow_add-self-in-Busy
+overflow_add-self-in-Busy g c =
+    omega (arith, count-fits is_busy c.args.results.now c.args.row c.args.self.now.busy (ap (λ k. k.busy) c.requires.before) c.requires.exists.above (omega arith))
+
+pub overflow_add-self-in-Lost : goal.overflow_add-self-in-Lost
+overflow_add-self-in-Lost g c =
+    omega (arith, count-fits is_lost c.args.results.now c.args.row c.args.self.now.lost (ap (λ k. k.lost) c.requires.before) c.requires.exists.above (omega arith))
+
+pub overflow_add-self-in-Cut : goal.overflow_add-self-in-Cut
+overflow_add-self-in-Cut g c =
+    omega (arith, count-fits is_cut c.args.results.now c.args.row c.args.self.now.cut (ap (λ k. k.cut) c.requires.before) c.requires.exists.above (omega arith))
