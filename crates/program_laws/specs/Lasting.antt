@@ -47,5 +47,5 @@ SeededTraceLaw =
     (run : Runs n m e job s (seeded_state array)) (hot : List ℕ) (bank : ℕ)
     → IsRun job → IsLayout n m e → bank < job.shape.banks
     → OutlastsAsked (bounds_of (Some job.wear)) e job.shape job.seed
-      (rows_of run.events run.outcomes) bank hot
+    (rows_of run.events run.outcomes) bank hot
     → IsAlive e job.shape job.seed (rows_of run.events run.outcomes) (seeded_state array) (run.ends bank) bank
