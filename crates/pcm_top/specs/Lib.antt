@@ -1,5 +1,6 @@
 pub mod Jobs
 pub mod FaultLines
+pub mod Causes
 pub mod Reading
 pub mod Calls
 pub mod Inputs

@@ -10,9 +10,9 @@ ghost use Rattle.pcm_top.specs.Ends.{EndsCheck, EndsText, Gives};
 use crate::fault::Fault;
 use crate::run::Done;
 use command_line::{CheckJob, LineSize};
-use pcm_io::{ReadAllFault, Sink, Source, Text, read_all, write_all};
+use pcm_io::{Sink, Source, Text, read_all, write_all};
 use std::alloc::Global;
-use text_check::{TextFault, Verdict, check_text, print_verdict};
+use text_check::{Verdict, check_text, print_verdict};
 
 /// Bytes that a trace and its results may have together, whatever the size of their lines.
 pub const CHECK_ROOM: usize = 268_435_456;
@@ -29,19 +29,9 @@ fn read_verdict<const B: usize, const E: usize, S: Source>(
     ensures { let s = source_change S.left S.taken S.faults source.old source.new in
         Gives (ReadsVerdict B E job.now s) (λ fault. IsCheckFault B job.now fault s) s result }
 {
-    let bytes = match read_all(alloc, source, CHECK_ROOM) {
-        Ok(bytes) => bytes,
-        Err(ReadAllFault::Read) => return Err(Fault::Read),
-        Err(ReadAllFault::TooLong) => return Err(Fault::TooLong),
-        Err(ReadAllFault::NoMemory) => return Err(Fault::NoMemory),
-    };
-    match check_text::<B, E>(alloc, bytes.as_slice(), &job.shape, job.seed) {
-        Ok(verdict) => Ok(verdict),
-        Err(TextFault::Trace(fault)) => Err(Fault::Trace(fault)),
-        Err(TextFault::TooMany) => Err(Fault::TooLong),
-        Err(TextFault::Results(row)) => Err(Fault::Results(row)),
-        Err(TextFault::NoMemory) => Err(Fault::NoMemory),
-    }
+    let bytes = read_all(alloc, source, CHECK_ROOM)?;
+    let verdict = check_text::<B, E>(alloc, bytes.as_slice(), &job.shape, job.seed)?;
+    Ok(verdict)
 }
 
 // How a check was done, by its verdict.
@@ -58,15 +48,10 @@ fn ending(verdict: Verdict) -> Done
 fn write_verdict<K: Sink>(alloc: Global, verdict: Verdict, out: &mut K) -> Result<(), Fault>
     ensures { EndsText (verdict_text verdict) (lent_sink K.written K.faults out.old out.new) result }
 {
-    let mut text = match Text::new(alloc, 32) {
-        Ok(text) => text,
-        Err(_) => return Err(Fault::NoMemory),
-    };
+    let mut text = Text::new(alloc, 32)?;
     print_verdict(verdict, &mut text);
-    match write_all(out, text.bytes()) {
-        Ok(()) => Ok(()),
-        Err(_) => Err(Fault::Write),
-    }
+    write_all(out, text.bytes())?;
+    Ok(())
 }
 
 // Reads a trace over lines of `B` bytes, and its results, and writes the verdict on them.

@@ -58,12 +58,7 @@ pub fn write_drawn<K: Sink>(alloc: Global, job: GenJob, out: &mut K) -> Result<(
     requires { IsMix job.mix }
     ensures { EndsText (gen_text job) (lent_sink K.written K.faults out.old out.new) result }
 {
-    let mut text = match Text::new(alloc, TEXT_ROOM) {
-        Ok(text) => text,
-        Err(_) => return Err(Fault::NoMemory),
-    };
-    match print_job(&job, &mut text, out) {
-        Ok(()) => Ok(()),
-        Err(_) => Err(Fault::Write),
-    }
+    let mut text = Text::new(alloc, TEXT_ROOM)?;
+    print_job(&job, &mut text, out)?;
+    Ok(())
 }

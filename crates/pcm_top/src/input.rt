@@ -10,10 +10,10 @@ ghost use Rattle.pcm_top.specs.Inputs.{ComeFrom, IsFaultOf, is_source};
 
 use crate::fault::Fault;
 use command_line::{Input, RunJob};
-use pcm_io::{ReadAllFault, Source, read_all};
+use pcm_io::{Source, read_all};
 use std::alloc::Global;
 use trace_gen::{Mix, generate};
-use trace_reader::{MOST_ROWS, ParseFault, TraceEvent, parse};
+use trace_reader::{MOST_ROWS, TraceEvent, parse};
 
 /// Bytes that a trace may have, for each byte of a line: 67,108,864 over lines of 64 bytes, 134,217,728 over
 /// lines of 128.
@@ -32,18 +32,9 @@ fn read_trace<const B: usize, S: Source>(
     ensures events { IfOk result (λ events. AreEventsFor lines 0 events.items) }
     ensures rows { IfOk result (λ events. vec_len events ≤ MOST_ROWS) }
 {
-    let bytes = match read_all(alloc, source, B * TRACE_ROOM) {
-        Ok(bytes) => bytes,
-        Err(ReadAllFault::Read) => return Err(Fault::Read),
-        Err(ReadAllFault::TooLong) => return Err(Fault::TooLong),
-        Err(ReadAllFault::NoMemory) => return Err(Fault::NoMemory),
-    };
-    match parse(alloc, bytes.as_slice(), lines) {
-        Ok(events) => Ok(events),
-        Err(ParseFault::Trace(fault)) => Err(Fault::Trace(fault)),
-        Err(ParseFault::TooMany) => Err(Fault::TooLong),
-        Err(ParseFault::NoMemory) => Err(Fault::NoMemory),
-    }
+    let bytes = read_all(alloc, source, B * TRACE_ROOM)?;
+    let events = parse(alloc, bytes.as_slice(), lines)?;
+    Ok(events)
 }
 
 // Draws the trace of a seed for so many lines of `B` bytes.
@@ -62,10 +53,8 @@ fn draw_trace<const B: usize>(
     ensures rows { IfOk result (λ events. vec_len events ≤ MOST_ROWS) }
     ensures fault { IfErr result (λ fault. fault ≡ Fault.NoMemory) }
 {
-    match generate(alloc, seed, lines, mix) {
-        Ok(events) => Ok(events),
-        Err(_) => Err(Fault::NoMemory),
-    }
+    let events = generate(alloc, seed, lines, mix)?;
+    Ok(events)
 }
 
 /// The events of a run, from where its job takes them.

@@ -3,6 +3,7 @@
 //! means.
 #![tactic(auto)]
 
+mod cause;
 mod check;
 mod drawn;
 mod fault;

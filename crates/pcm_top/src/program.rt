@@ -33,11 +33,8 @@ fn read_words(alloc: Global, words: &[String]) -> Result<Job, Fault>
     ensures err { IfErr result (λ fault. IsRefused (job_of (map string_bytes words.now)) fault) }
     ensures in_range { IfOk result IsJob }
 {
-    match read_job(alloc, words) {
-        Ok(job) => Ok(job),
-        Err(Refusal::Usage) => Err(Fault::Usage),
-        Err(Refusal::NoMemory) => Err(Fault::NoMemory),
-    }
+    let job = read_job(alloc, words)?;
+    Ok(job)
 }
 
 // Makes a run on the array of its lines; the other one stays as it is.

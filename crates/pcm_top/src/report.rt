@@ -73,14 +73,9 @@ fn print_moves<K: Sink>(
 pub fn report_map<K: Sink>(alloc: Global, job: MapJob, out: &mut K) -> Result<(), Fault>
     ensures { EndsText (map_text (map_options job)) (lent_sink K.written K.faults out.old out.new) result }
 {
-    let mut text = match Text::new(alloc, TEXT_ROOM) {
-        Ok(text) => text,
-        Err(_) => return Err(Fault::NoMemory),
-    };
-    match print_map(options_of(&job), &mut text, out) {
-        Ok(()) => Ok(()),
-        Err(_) => Err(Fault::Write),
-    }
+    let mut text = Text::new(alloc, TEXT_ROOM)?;
+    print_map(options_of(&job), &mut text, out)?;
+    Ok(())
 }
 
 /// Writes the report `moves`.
@@ -88,12 +83,7 @@ pub fn report_moves<K: Sink>(alloc: Global, job: MovesJob, out: &mut K) -> Resul
     requires { IsMoves job }
     ensures { EndsText (moves_text job.lines job.from) (lent_sink K.written K.faults out.old out.new) result }
 {
-    let mut text = match Text::new(alloc, TEXT_ROOM) {
-        Ok(text) => text,
-        Err(_) => return Err(Fault::NoMemory),
-    };
-    match print_moves(job.lines, job.from, &mut text, out) {
-        Ok(()) => Ok(()),
-        Err(_) => Err(Fault::Write),
-    }
+    let mut text = Text::new(alloc, TEXT_ROOM)?;
+    print_moves(job.lines, job.from, &mut text, out)?;
+    Ok(())
 }

@@ -13,8 +13,8 @@ ghost use Rattle.pcm_top.specs.Showing.{IsImageFault, IsShowFault, shown_as, sho
 
 use crate::fault::Fault;
 use crate::input::TRACE_ROOM;
-use pcm_image::{Image, ReadImage, read_image, size_of_line};
-use pcm_io::{ReadAllFault, Sink, Source, Text, WriteFault, read_all, write_all};
+use pcm_image::{Image, read_image, size_of_line};
+use pcm_io::{Sink, Source, Text, WriteFault, read_all, write_all};
 use run_text::{TEXT_ROOM, make_room};
 use std::alloc::Global;
 
@@ -64,11 +64,8 @@ fn read_saved<const B: usize, const M: usize>(
     ensures fault { IfErr result (λ fault. fault ≢ Fault.Write) }
     ensures cause { (e : ℕ) → IfErr result (λ fault. IsImageFault fault (shown_as B M e bytes.now)) }
 {
-    match read_image(alloc, bytes) {
-        Ok(image) => Ok(image),
-        Err(ReadImage::Bad(fault)) => Err(Fault::Image(fault)),
-        Err(ReadImage::NoMemory) => Err(Fault::NoMemory),
-    }
+    let image = read_image(alloc, bytes)?;
+    Ok(image)
 }
 
 // Shows the module that the bytes spell over lines of `B` bytes.
@@ -82,14 +79,9 @@ fn show_lines<const B: usize, const M: usize, const E: usize, K: Sink>(
     ensures { EndsShown (shown_as B M E bytes.now) (lent_sink K.written K.faults out.old out.new) result }
 {
     let image = read_saved::<B, M>(alloc, bytes)?;
-    let mut text = match Text::new(alloc, TEXT_ROOM) {
-        Ok(text) => text,
-        Err(_) => return Err(Fault::NoMemory),
-    };
-    match print_lines::<B, M, E, K>(&image, &mut text, out) {
-        Ok(()) => Ok(()),
-        Err(_) => Err(Fault::Write),
-    }
+    let mut text = Text::new(alloc, TEXT_ROOM)?;
+    print_lines::<B, M, E, K>(&image, &mut text, out)?;
+    Ok(())
 }
 
 // Shows the module that the bytes spell, whatever the size of its lines.
@@ -97,10 +89,9 @@ fn show_lines<const B: usize, const M: usize, const E: usize, K: Sink>(
 fn show_bytes<K: Sink>(alloc: Global, bytes: &[u8], out: &mut K) -> Result<(), Fault>
     ensures { EndsShown (shown_of bytes.now) (lent_sink K.written K.faults out.old out.new) result }
 {
-    match size_of_line(bytes) {
-        Ok(64) => show_lines::<64, 8, 6, K>(alloc, bytes, out),
-        Ok(_) => show_lines::<128, 16, 8, K>(alloc, bytes, out),
-        Err(fault) => Err(Fault::Image(fault)),
+    match size_of_line(bytes)? {
+        64 => show_lines::<64, 8, 6, K>(alloc, bytes, out),
+        _ => show_lines::<128, 16, 8, K>(alloc, bytes, out),
     }
 }
 
@@ -111,12 +102,8 @@ fn read_whole<S: Source>(alloc: Global, source: &mut S) -> Result<Vec<u8>, Fault
     ensures reads { let s = source_change S.left S.taken S.faults source.old source.new in
         Reads (trace_room 64) s result }
 {
-    match read_all(alloc, source, 64 * TRACE_ROOM) {
-        Ok(bytes) => Ok(bytes),
-        Err(ReadAllFault::Read) => Err(Fault::Read),
-        Err(ReadAllFault::TooLong) => Err(Fault::TooLong),
-        Err(ReadAllFault::NoMemory) => Err(Fault::NoMemory),
-    }
+    let bytes = read_all(alloc, source, 64 * TRACE_ROOM)?;
+    Ok(bytes)
 }
 
 /// Reads an image from the source, and writes the newest bytes of every line of the module that it saves.

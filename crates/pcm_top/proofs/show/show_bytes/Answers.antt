@@ -5,8 +5,8 @@ use Rattle.pcm_top.proofs.show.show_bytes.Goals as goal
 pub show_lines-requires-clause-layout : goal.show_lines-requires-clause-layout
 show_lines-requires-clause-layout g c = layout_64
 
-pub show_lines-requires-in-Ok-clause-layout : goal.show_lines-requires-in-Ok-clause-layout
-show_lines-requires-in-Ok-clause-layout g c = layout_128
+pub show_lines-requires-in_default-clause-layout : goal.show_lines-requires-in_default-clause-layout
+show_lines-requires-in_default-clause-layout g c = layout_128
 
 pub size_of_line-requires : goal.size_of_line-requires
 size_of_line-requires g c = grind arith
@@ -14,5 +14,5 @@ size_of_line-requires g c = grind arith
 pub show_lines-requires-clause-size : goal.show_lines-requires-clause-size
 show_lines-requires-clause-size g c = grind arith
 
-pub show_lines-requires-in-Ok-clause-size : goal.show_lines-requires-in-Ok-clause-size
-show_lines-requires-in-Ok-clause-size g c = grind arith
+pub show_lines-requires-in_default-clause-size : goal.show_lines-requires-in_default-clause-size
+show_lines-requires-in_default-clause-size g c = grind arith
