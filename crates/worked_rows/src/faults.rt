@@ -20,9 +20,7 @@ fn a_trace_may_be_too_long(rt: HostRuntime) -> Result<(), Fail> {
     let bytes = vec![in alloc; b'a'; 67_108_865]?;
     let source = MemSource::new(bytes, Vec::new(alloc));
     let answer = run_small(alloc, source, &[])?;
-    assert_eq!(rt; answer.err(), "trace too long\n");
-    assert_eq!(rt; answer.out(), "");
-    assert_eq!(rt; answer.status, 6);
+    assert_eq!(rt; answer.told(), (6, "", "trace too long\n"));
     Ok(())
 }
 
@@ -50,14 +48,14 @@ fn a_fault_amid_the_output_leaves_its_beginning(rt: HostRuntime) -> Result<(), F
     let (trace, results) = long_run(alloc)?;
     let source = source_of(alloc, trace.as_bytes())?;
     let whole = run_small(alloc, source, &[])?;
-    assert_eq!(rt; whole.out(), results.as_str());
-    assert_eq!(rt; whole.status, 0);
     let source = source_of(alloc, trace.as_bytes())?;
     let broken = run_small(alloc, source, &[2])?;
-    assert_eq!(rt; broken.err(), "write fault\n");
-    assert_eq!(rt; broken.status, 5);
-    assert!(rt; results.as_str().starts_with(broken.out()));
-    assert!(rt; !broken.out().is_empty() && broken.out().len() < results.len());
+    let (status, out, err) = broken.told();
+    let begins = results.as_str().starts_with(out);
+    let len = out.len();
+    assert_eq!(rt; whole.told(), (0, results.as_str(), ""));
+    assert_eq!(rt; (status, err, begins), (5, "write fault\n", true));
+    assert!(rt; 0 < len && len < results.len());
     Ok(())
 }
 

@@ -27,9 +27,15 @@ impl Answer {
         str::from_utf8(self.out.written()).unwrap_or("no text")
     }
 
-    /// What was said of faults.
-    pub fn err(&self) -> &str {
-        str::from_utf8(self.err.written()).unwrap_or("no text")
+    /// The status, the output, and what was said of faults.
+    pub fn told(&self) -> (u8, &str, &str) {
+        let err = str::from_utf8(self.err.written()).unwrap_or("no text");
+        (self.status, self.out(), err)
+    }
+
+    /// How many lines the output has.
+    pub fn lines(&self) -> usize {
+        self.out().lines().count()
     }
 }
 
