@@ -1,11 +1,13 @@
 -- Lines and their pages.
-use Rattle.std.proofs.Common.{◌≡◌, ◌≢◌, ℕ, zero, suc, ◌+◌, ◌<◌, ◌≤◌, Bool, cond, List, [], ◌∷◌, ◌++◌, length, replicate, get_or, set, refl, sym, ◌∙◌, ap, subst, inl, inr, arith, slice_index, length-set, get_or-set_same, get_or-set_other}
+use Rattle.std.proofs.Common.{◌≡◌, ◌≢◌, ℕ, zero, suc, ◌+◌, ◌*◌, ◌^◌, ◌<◌, ◌≤◌, Bool, cond, List, [], ◌∷◌, ◌++◌, length, replicate, get_or, set, refl, sym, ◌∙◌, ap, subst, inl, inr, arith, slice_index, length-set, get_or-set_same, get_or-set_other}
 use Rattle.std.proofs.Math.ListN.{get_or-append}
 use Rattle.std.proofs.lemmas.Bool.{cases_eq, cases_lt}
 use Rattle.std.proofs.lemmas.List.{get_or_push, get_or_past, get_or_default, get_or-replicate, length-append, length-replicate}
 use Rattle.std.proofs.lemmas.List.FromFn.{get_or-map-range_with_len, length-map-range_with_len}
 use Rattle.std.proofs.lemmas.Grind.{get_or_default_zero}
+use Rattle.std.proofs.lemmas.List.Folds.{sum_by-replicate}
 use Rattle.std.proofs.lemmas.List.Sums.{sum_by-set}
+use Rattle.std.specs.List.{sum_by}
 use Rattle.pcm_cells.specs.declared.array.Wear.{Wear}
 use Rattle.pcm_cells.specs.declared.row.Cells.{Cells}
 use Rattle.pcm_cells.specs.declared.pages.Pages.{Pages}
@@ -16,6 +18,28 @@ use Rattle.pcm_cells.specs.Seeded.{LifeLine, SeededArray, IsDrawn, Wears, lifele
 use Rattle.pcm_cells.specs.Pages.{IsPaging, free, page_seen, line_seen, drawn_line}
 use Rattle.pcm_cells.specs.Paging.{seen, lines_seen}
 use Rattle.pcm_cells.proofs.PageLemmas.{drawn_is}
+
+zero_at : (k n : ℕ) → slice_index (replicate k 0) n ≡ 0
+zero_at zero zero = refl
+zero_at zero (suc n) = refl
+zero_at (suc k) zero = refl
+zero_at (suc k) (suc n) = zero_at k n
+
+-- at first no line has a page
+pub paging_blank : {X : Type 0} (table : List ℕ) (pages : List X) (capacity lines : ℕ) → table ≡ replicate lines 0
+    → pages ≡ [] → lines < 2 ^ 32 → lines ≤ capacity → IsPaging table pages capacity
+paging_blank table pages capacity lines zeros none few room =
+    let size : length table ≡ lines = ap length zeros ∙ length-replicate {A = ℕ} lines 0 in
+    let empty : length pages ≡ 0 = ap length none in
+    let blank : (n : ℕ) → slice_index table n ≡ 0 = λ n. ap (λ xs. slice_index xs n) zeros ∙ zero_at lines n in
+    let all_free : sum_by free table ≡ lines * 1 = ap (sum_by free) zeros ∙ sum_by-replicate free lines 0 in
+    record {
+      few = omega (arith, size, few);
+      made = λ l. omega (arith, blank l);
+      apart = λ k l e some. absurd (some (blank k));
+      all = omega (arith, size, empty, all_free);
+      room = omega (arith, size, room);
+    }
 
 -- where a line has no page, there are fewer pages than lines
 pub paging_room : {X : Type 0} (table : List ℕ) (pages : List X) (capacity line : ℕ) → IsPaging table pages capacity → line < length table

@@ -1,5 +1,6 @@
 -- A scripted array keeps what every array keeps.
-use Rattle.std.proofs.Common.{◌≡◌, ℕ, ◌+◌, ◌≤◌, Bool, true, false, cond, List, slice_index, refl, ◌∙◌, ap, inl, inr, arith, Option, Some, None}
+use Rattle.std.proofs.Common.{◌≡◌, ℕ, ◌+◌, ◌<◌, ◌≤◌, Bool, true, false, cond, List, length, get_or, set, length-set, get_or-set_same, get_or-set_other, slice_index, refl, ◌∙◌, ap, inl, inr, arith, Option, Some, None}
+use Rattle.std.proofs.lemmas.List.{get_or_default}
 use Rattle.std.specs.Prelude.{nat_lt}
 use Rattle.pcm_cells.specs.declared.row.Cells.{Cells}
 use Rattle.pcm_cells.specs.declared.line.CellState.{CellState}
@@ -10,7 +11,7 @@ use Rattle.pcm_cells.specs.Rows.{cell}
 use Rattle.pcm_cells.specs.Device.{DeviceStep, TornStep, counted}
 use Rattle.pcm_cells.specs.Cell.{line_state, cell_state}
 use Rattle.pcm_cells.specs.Follows.{Follows}
-use Rattle.pcm_cells.specs.Scripted.{scripted_bounds, act_at, acted, next_turn, ScriptedCell, ScriptedLine, scripted, scripted_cell}
+use Rattle.pcm_cells.specs.Scripted.{scripted_bounds, act_at, acted, next_turn, ScriptedCell, ScriptedLine, ScriptedArray, Turns, blank_scripted, scripted, scripted_cell, scripted_line}
 use Rattle.pcm_cells.proofs.LineLemmas.{IsPulsed, IsTorn, device_step, torn_step}
 
 missed_pulsed : (few want : Bool) (old new : CellState) → old.stuck ≡ false
@@ -73,3 +74,22 @@ scripted_torn_step mask want script line old new follows few pulses =
     (unmasked_stays mask want script line true old new follows) (λ n h. refl) (stuck_stays mask want script line true old new follows)
     (λ n masked live. any_torn (cell new.line.stuck n) (cell_state (line_state new.line) n) refl)
     (λ n masked. record { misses = few n; endures = λ is. omega arith }) pulses
+
+-- an array one of whose lines took its turn
+pub line_turned : {B M : ℕ} (line : ℕ) (tearing : Bool) (mask want : Cells B M) (old : ScriptedArray B M) (was row : ScriptedLine B M)
+    → line < length old.lines → was ≡ get_or old.lines line was
+    → Follows (cell mask) (scripted old.script line tearing (cell want)) (scripted_cell was) (scripted_cell row)
+    → row.line.pulses ≡ counted was.line.pulses
+    → Turns line tearing mask want old (record old { lines = set old.lines line row })
+line_turned {B} {M} line tearing mask want old was row within is follows pulses =
+    let before : was ≡ scripted_line old line = is ∙ get_or_default old.lines line was (blank_scripted B M) within in
+    let after : get_or (set old.lines line row) line (blank_scripted B M) ≡ row = get_or-set_same old.lines line row (blank_scripted B M) within in
+    record {
+      cells = λ n.
+          ap (λ l. scripted_cell l n) after ∙ follows n
+          ∙ ap (λ l. cond (cell mask n) (scripted old.script line tearing (cell want) n (scripted_cell l n)) (scripted_cell l n)) before;
+      pulses = ap (λ l. l.line.pulses) after ∙ pulses ∙ ap (λ l. counted l.line.pulses) before;
+      others = λ n apart. get_or-set_other old.lines line n row (blank_scripted B M) apart;
+      lines = length-set old.lines line row;
+      script = refl;
+    }

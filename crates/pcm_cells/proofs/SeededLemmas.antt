@@ -13,6 +13,7 @@ use Rattle.pcm_cells.specs.declared.counts.Counts.{Counts}
 use Rattle.pcm_cells.specs.Counts.{count}
 use Rattle.pcm_cells.specs.Rows.{cell}
 use Rattle.pcm_cells.specs.Device.{CellBounds, DeviceStep, TornStep, IsBlank, counted}
+use Rattle.pcm_cells.specs.Shape.{IsWhole}
 use Rattle.pcm_cells.specs.Planes.{PlaneLine, plane_cell, digit}
 use Rattle.pcm_cells.specs.Follows.{Follows}
 use Rattle.seeded_words.specs.Words.{xoshiro_of, word_at}
@@ -242,6 +243,16 @@ left_kept {B} {M} spent spent_new counts counts_new n same spent_same =
           get_or_past (left_of spent_new counts_new) n 0 (omega (arith, left_size spent_new counts_new))
           ∙ sym (get_or_past (left_of spent counts) n 0 (omega (arith, left_size spent counts)))
     ]
+
+-- a cell of a block is one of the row, and the block's
+pub in_row : (B M block i : ℕ) → IsWhole B M → 8 * block < B + M → i < 64 → 64 * block + i < 8 * (B + M)
+in_row B M block i (bits, meta) exists low = omega (arith, bits, meta, exists, low)
+
+pub none_few : 0 < 7
+none_few = omega arith
+
+pub in_block : (block i : ℕ) → i < 64 → (64 * block + i) / 64 ≡ block
+in_block block i low = omega (arith, low)
 
 many_left : (x : ℕ) → 2 ≤ x → nat_le x 1 ≡ false
 many_left x h = lt-leb x 1 (omega (arith, h))

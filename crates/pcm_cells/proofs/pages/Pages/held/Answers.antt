@@ -18,3 +18,22 @@ returns-in_default g c =
     let page = c.index.result.now in
     let at : slice_index p.table.items line ≡ page - 1 + 1 = told p.table.items line page c.requires.exists c.index.ensures ∙ omega arith in
     c.held.ensures ∙ sym (ap (λ l. l.line.held) (seen_at p.wear p.table.items p.pages.items _ line (page - 1) c.index-in_default.result.now p.paging at c.index-in_default.ensures))
+
+pub index-requires : goal.index-requires
+index-requires g c = grind arith
+
+pub zero-requires : goal.zero-requires
+zero-requires g c = grind arith
+
+pub overflow_sub-page : goal.overflow_sub-page
+overflow_sub-page g c = grind arith
+
+pub held-requires : goal.held-requires
+held-requires g c = grind arith
+
+pub index-requires-in_default : goal.index-requires-in_default
+index-requires-in_default g c =
+    let p = c.args.self.now in
+    let line = c.args.line in
+    let page = told p.table.items line c.index.result.now c.requires.exists c.index.ensures in
+    omega (arith, page, p.paging.made line)

@@ -35,3 +35,15 @@ invariant_of-self g c =
           rw (c.push_reserved.ensures.items, c.push_reserved.ensures.capacity, index)
           (paging_more old.table.items old.pages.items c.drawn.result _ c.args.line old.paging c.requires.exists c.requires.none);
     }
+
+pub drawn-requires : goal.drawn-requires
+drawn-requires g c = grind arith
+
+pub overflow_cast-index : goal.overflow_cast-index
+overflow_cast-index g c = grind arith
+
+pub index_mut-requires : goal.index_mut-requires
+index_mut-requires g c = grind arith
+
+pub returns-clause-wear : goal.returns-clause-wear
+returns-clause-wear g c = grind arith

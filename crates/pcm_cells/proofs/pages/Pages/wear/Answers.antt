@@ -48,3 +48,18 @@ invariant_of-self g c =
       wears = p.wears;
       paging = paging_kept p.table.items p.pages.items _ _ p.paging (length-set p.pages.items c.page-index.result c.wear.new.self);
     }
+
+pub page-index-requires : goal.page-index-requires
+page-index-requires g c = grind arith
+
+pub index_mut-page-requires : goal.index_mut-page-requires
+index_mut-page-requires g c = grind arith
+
+pub wear-requires : goal.wear-requires
+wear-requires g c = grind arith
+
+pub returns-clause-lines : goal.returns-clause-lines
+returns-clause-lines g c = grind arith
+
+pub returns-clause-wear : goal.returns-clause-wear
+returns-clause-wear g c = grind arith

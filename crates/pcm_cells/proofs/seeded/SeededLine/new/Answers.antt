@@ -1,16 +1,62 @@
-use Rattle.std.proofs.Common.{◌/◌, ◌∙◌, refl, arith, rules}
+use Rattle.std.proofs.Common.{◌≡◌, ℕ, ◌+◌, ◌*◌, ◌≤◌, ◌/◌, ◌∙◌, false, length, refl, arith}
+use Rattle.pcm_cells.specs.declared.row.Cells.{Cells}
+use Rattle.pcm_cells.specs.Rows.{cell}
 use Rattle.pcm_cells.proofs.RowLemmas.{cell_past}
 use Rattle.pcm_cells.proofs.PlaneLemmas.{digit-is}
 use Rattle.pcm_cells.proofs.SeededLemmas.{never_calm}
+use Rattle.pcm_cells.proofs.seeded.SeededLine.new.Given.{Over}
+use Rattle.pcm_cells.proofs.seeded.SeededLine.new.Goals.{Start}
 use Rattle.pcm_cells.proofs.seeded.SeededLine.new.Goals as goal
 
+-- a row of its sizes
+abbrev IsSized : {B M : ℕ} → Cells B M → Type 0
+IsSized {B} {M} row = (length row.bits ≡ B) × (length row.meta ≡ M)
+
+-- the rows that are handed over have theirs
+sized_ends : (g : Over) (c : Start g) → IsSized c.args.ends
+sized_ends g c = (omega arith, omega arith)
+
+sized_low : (g : Over) (c : Start g) → IsSized c.args.limits.low
+sized_low g c = (omega arith, omega arith)
+
+sized_middle : (g : Over) (c : Start g) → IsSized c.args.limits.middle
+sized_middle g c = (omega arith, omega arith)
+
+sized_high : (g : Over) (c : Start g) → IsSized c.args.limits.high
+sized_high g c = (omega arith, omega arith)
+
+past_row : {B M : ℕ} (row : Cells B M) (n : ℕ) → IsSized row → 8 * (B + M) ≤ n → cell row n ≡ false
+past_row row n (bits, meta) past = cell_past row n bits meta past
+
 pub invariant_of-result : goal.invariant_of-result
-invariant_of-result g c = (search rules, λ n is live. never_calm g.row.B (n / 64) _ is)
+invariant_of-result g c = (c.requires, λ n is live. never_calm g.row.B (n / 64) _ is)
 
 pub returns-clause-no_limits : goal.returns-clause-no_limits
 returns-clause-no_limits g c n past =
-    digit-is c.args.limits n
-    ∙ rw (cell_past c.args.limits.low n (omega arith) (omega arith) past, cell_past c.args.limits.middle n (omega arith) (omega arith) past, cell_past c.args.limits.high n (omega arith) (omega arith) past) refl
+    let was = (goal.at.returns-clause-no_limits g c).Start in
+    let limits = c.args.limits in
+    digit-is limits n
+    ∙ rw (
+      past_row limits.low n (sized_low g was) past,
+      past_row limits.middle n (sized_middle g was) past,
+      past_row limits.high n (sized_high g was) past,
+    ) refl
 
 pub returns-clause-no_ends : goal.returns-clause-no_ends
-returns-clause-no_ends g c n past = cell_past c.args.ends n (omega arith) (omega arith) past
+returns-clause-no_ends g c n past =
+    past_row c.args.ends n (sized_ends g (goal.at.returns-clause-no_ends g c).Start) past
+
+pub zero-requires : goal.zero-requires
+zero-requires g c = grind arith
+
+pub zero-requires-2 : goal.zero-requires-2
+zero-requires-2 g c = grind arith
+
+pub zero-requires-3 : goal.zero-requires-3
+zero-requires-3 g c = grind arith
+
+pub zero-requires-4 : goal.zero-requires-4
+zero-requires-4 g c = grind arith
+
+pub returns-clause-is : goal.returns-clause-is
+returns-clause-is g c = grind arith

@@ -5,7 +5,7 @@ use Rattle.pcm_cells.specs.Rows.{cell}
 use Rattle.pcm_cells.specs.Planes.{bit_in, digit}
 use Rattle.pcm_cells.specs.Counts.{count}
 use Rattle.pcm_cells.proofs.ByteLemmas.{digit_and}
-use Rattle.pcm_cells.proofs.SeededLemmas.{left_is, left_kept, calm_last, calm_here, calm_level, less_none, level_here, calm_kept, both_false}
+use Rattle.pcm_cells.proofs.SeededLemmas.{left_is, left_kept, calm_last, calm_here, calm_level, less_none, level_here, calm_kept, both_false, in_row, in_block, none_few}
 use Rattle.pcm_cells.proofs.seeded.SeededLine.spend.Goals as goal
 
 pub advance-requires : goal.advance-requires
@@ -28,21 +28,22 @@ advance-requires g c =
 pub returns-then-full-changing-eq0-clause-last : goal.returns-then-full-changing-eq0-clause-last
 returns-then-full-changing-eq0-clause-last g c i low =
     let n : ℕ = 64 * c.args.block + i in
+    let within : n < 8 * (g.row.B + g.row.M) = in_row g.row.B g.row.M c.args.block i c.requires.whole c.requires.exists low in
     let none : bit_in 0 i ≡ false = ap (λ x. eqb x 1) (bit_at-zero i) in
-    let row : n / 64 ≡ c.args.block = omega arith in
+    let row : n / 64 ≡ c.args.block = in_block c.args.block i low in
     let clear : (bit_in c.full.result i && bit_in c.args.changing i) ≡ false =
     sym (digit_and c.full.result c.args.changing i) ∙ ap (λ x. bit_in x i) c.if-full-changing-eq0.true ∙ none in
-    rw (← c.self.view_is)
-    (none ∙ calm_last (bit_in c.args.changing i) (count c.self.inside.left n) (digit c.self.inside.spent n)
+    none ∙ calm_last (bit_in c.args.changing i) (count c.self.inside.left n) (digit c.self.inside.spent n)
     (λ more. c.self.invariant.1 n (rw row c.if-self-block.true) (ap (λ s. cell s.line.stuck n) c.self.view_is ∙ c.requires.live i low more))
     (λ more. c.full.ensures i low (both_false _ _ clear more))
-    ∙ ap (λ k. bit_in c.args.changing i && nat_le k 1) (sym (left_is c.self.inside.spent c.self.inside.left n (omega arith))))
+    ∙ ap (λ k. bit_in c.args.changing i && nat_le k 1) (sym (left_is c.self.inside.spent c.self.inside.left n within))
+    ∙ ap (λ s. bit_in c.args.changing i && nat_le (slice_index s.left n) 1) c.self.view_is
 
 pub returns-then-full-changing-eq0-clause-here : goal.returns-then-full-changing-eq0-clause-here
 returns-then-full-changing-eq0-clause-here g c i low =
     let n : ℕ = 64 * c.args.block + i in
     let none : bit_in 0 i ≡ false = ap (λ x. eqb x 1) (bit_at-zero i) in
-    let within : n < 8 * (g.row.B + g.row.M) = omega arith in
+    let within : n < 8 * (g.row.B + g.row.M) = in_row g.row.B g.row.M c.args.block i c.requires.whole c.requires.exists low in
     let grown : digit c.advance.new.self n ≡ cond (bit_in c.args.changing i) (digit c.self.inside.spent n + 1) (digit c.self.inside.spent n) =
     c.advance.ensures.here i low ∙ ap (λ b. cond b 0 (cond (bit_in c.args.changing i) (digit c.self.inside.spent n + 1) (digit c.self.inside.spent n))) none in
     rw (← c.self.view_is)
@@ -52,44 +53,45 @@ returns-then-full-changing-eq0-clause-here g c i low =
 
 pub returns-then-full-changing-eq0-clause-others : goal.returns-then-full-changing-eq0-clause-others
 returns-then-full-changing-eq0-clause-others g c n apart =
-    rw (← c.self.view_is)
-    (left_kept c.self.inside.spent c.advance.new.self c.self.inside.left c.self.inside.left n refl (c.advance.ensures.others n apart))
+    left_kept c.self.inside.spent c.advance.new.self c.self.inside.left c.self.inside.left n refl (c.advance.ensures.others n apart)
+    ∙ ap (λ s. slice_index s.left n) c.self.view_is
 
 pub returns-then-calm-clause-last : goal.returns-then-calm-clause-last
 returns-then-calm-clause-last g c i low =
     let n : ℕ = 64 * c.args.block + i in
+    let within : n < 8 * (g.row.B + g.row.M) = in_row g.row.B g.row.M c.args.block i c.requires.whole c.requires.exists low in
     let none : bit_in 0 i ≡ false = ap (λ x. eqb x 1) (bit_at-zero i) in
     let levelled : slice_index c.level.new.left i ≡ count c.self.inside.left n - digit c.self.inside.spent n =
     c.level.ensures i low ∙ rw (c.planes-low.ensures i low, c.block.ensures i low) refl in
-    rw (← c.self.view_is)
-    (none ∙ calm_last (bit_in c.args.changing i) (slice_index c.level.new.left i) 0
+    none ∙ calm_last (bit_in c.args.changing i) (slice_index c.level.new.left i) 0
     (λ more.
     c.are_many-calm.ensures c.if-calm.true i low
     (c.block-stuck.ensures i low ∙ ap (λ s. cell s.line.stuck n) c.self.view_is ∙ c.requires.live i low more))
-    (λ more. omega arith)
-    ∙ ap (λ k. bit_in c.args.changing i && nat_le k 1) (less_none (slice_index c.level.new.left i) ∙ levelled ∙ sym (left_is c.self.inside.spent c.self.inside.left n (omega arith))))
+    (λ more. none_few)
+    ∙ ap (λ k. bit_in c.args.changing i && nat_le k 1) (less_none (slice_index c.level.new.left i) ∙ levelled ∙ sym (left_is c.self.inside.spent c.self.inside.left n within))
+    ∙ ap (λ s. bit_in c.args.changing i && nat_le (slice_index s.left n) 1) c.self.view_is
 
 pub returns-then-calm-clause-here : goal.returns-then-calm-clause-here
 returns-then-calm-clause-here g c i low =
     let n : ℕ = 64 * c.args.block + i in
     let none : bit_in 0 i ≡ false = ap (λ x. eqb x 1) (bit_at-zero i) in
-    let within : n < 8 * (g.row.B + g.row.M) = omega arith in
+    let within : n < 8 * (g.row.B + g.row.M) = in_row g.row.B g.row.M c.args.block i c.requires.whole c.requires.exists low in
     let levelled : slice_index c.level.new.left i ≡ count c.self.inside.left n - digit c.self.inside.spent n =
     c.level.ensures i low ∙ rw (c.planes-low.ensures i low, c.block.ensures i low) refl in
     let grown : digit c.advance-then-calm.new.self n ≡ cond (bit_in c.args.changing i) (digit c.clear.new.self n + 1) (digit c.clear.new.self n) =
     c.advance-then-calm.ensures.here i low ∙ ap (λ b. cond b 0 (cond (bit_in c.args.changing i) (digit c.clear.new.self n + 1) (digit c.clear.new.self n))) none in
-    rw (← c.self.view_is)
-    (left_is c.advance-then-calm.new.self c.set_block.new.self n within
+    left_is c.advance-then-calm.new.self c.set_block.new.self n within
     ∙ calm_level (bit_in c.args.changing i) (count c.self.inside.left n) (digit c.self.inside.spent n)
     (count c.set_block.new.self n) (digit c.clear.new.self n) (digit c.advance-then-calm.new.self n)
     (c.set_block.ensures.here i low ∙ levelled) (c.clear.ensures.here i low) grown
-    ∙ ap (λ k. cond (bit_in c.args.changing i) (k - 1) k) (sym (left_is c.self.inside.spent c.self.inside.left n within)))
+    ∙ ap (λ k. cond (bit_in c.args.changing i) (k - 1) k) (sym (left_is c.self.inside.spent c.self.inside.left n within))
+    ∙ ap (λ s. cond (bit_in c.args.changing i) (slice_index s.left n - 1) (slice_index s.left n)) c.self.view_is
 
 pub returns-then-calm-clause-others : goal.returns-then-calm-clause-others
 returns-then-calm-clause-others g c n apart =
-    rw (← c.self.view_is)
-    (left_kept c.self.inside.spent c.advance-then-calm.new.self c.self.inside.left c.set_block.new.self n (c.set_block.ensures.others n apart)
-    (c.advance-then-calm.ensures.others n apart ∙ c.clear.ensures.others n apart))
+    left_kept c.self.inside.spent c.advance-then-calm.new.self c.self.inside.left c.set_block.new.self n (c.set_block.ensures.others n apart)
+    (c.advance-then-calm.ensures.others n apart ∙ c.clear.ensures.others n apart)
+    ∙ ap (λ s. slice_index s.left n) c.self.view_is
 
 pub invariant_of-self-2 : goal.invariant_of-self-2
 invariant_of-self-2 g c = (
@@ -103,47 +105,48 @@ invariant_of-self-2 g c = (
 pub returns-clause-last : goal.returns-clause-last
 returns-clause-last g c i low =
     let n : ℕ = 64 * c.args.block + i in
+    let within : n < 8 * (g.row.B + g.row.M) = in_row g.row.B g.row.M c.args.block i c.requires.whole c.requires.exists low in
     let levelled : slice_index c.level.new.left i ≡ count c.self.inside.left n - digit c.self.inside.spent n =
     c.level.ensures i low ∙ rw (c.planes-low.ensures i low, c.block.ensures i low) refl in
-    rw (← c.self.view_is)
-    (c.spend-last.ensures.last i low
-    ∙ ap (λ k. bit_in c.args.changing i && nat_le k 1) (levelled ∙ sym (left_is c.self.inside.spent c.self.inside.left n (omega arith))))
+    c.spend-last.ensures.last i low
+    ∙ ap (λ k. bit_in c.args.changing i && nat_le k 1) (levelled ∙ sym (left_is c.self.inside.spent c.self.inside.left n within))
+    ∙ ap (λ s. bit_in c.args.changing i && nat_le (slice_index s.left n) 1) c.self.view_is
 
 pub returns-clause-here : goal.returns-clause-here
 returns-clause-here g c i low =
     let n : ℕ = 64 * c.args.block + i in
-    let within : n < 8 * (g.row.B + g.row.M) = omega arith in
+    let within : n < 8 * (g.row.B + g.row.M) = in_row g.row.B g.row.M c.args.block i c.requires.whole c.requires.exists low in
     let levelled : slice_index c.level.new.left i ≡ count c.self.inside.left n - digit c.self.inside.spent n =
     c.level.ensures i low ∙ rw (c.planes-low.ensures i low, c.block.ensures i low) refl in
-    rw (← c.self.view_is)
-    (left_is c.clear.new.self c.set_block-2.new.self n within
+    left_is c.clear.new.self c.set_block-2.new.self n within
     ∙ level_here (bit_in c.args.changing i) (count c.self.inside.left n) (slice_index c.level.new.left i)
     (count c.set_block-2.new.self n) (digit c.self.inside.spent n) (digit c.clear.new.self n)
     levelled (c.set_block-2.ensures.here i low ∙ c.spend-last.ensures.here i low) (c.clear.ensures.here i low)
-    ∙ ap (λ k. cond (bit_in c.args.changing i) (k - 1) k) (sym (left_is c.self.inside.spent c.self.inside.left n within)))
+    ∙ ap (λ k. cond (bit_in c.args.changing i) (k - 1) k) (sym (left_is c.self.inside.spent c.self.inside.left n within))
+    ∙ ap (λ s. cond (bit_in c.args.changing i) (slice_index s.left n - 1) (slice_index s.left n)) c.self.view_is
 
 pub returns-clause-others : goal.returns-clause-others
 returns-clause-others g c n apart =
-    rw (← c.self.view_is)
-    (left_kept c.self.inside.spent c.clear.new.self c.self.inside.left c.set_block-2.new.self n (c.set_block-2.ensures.others n apart) (c.clear.ensures.others n apart))
+    left_kept c.self.inside.spent c.clear.new.self c.self.inside.left c.set_block-2.new.self n (c.set_block-2.ensures.others n apart) (c.clear.ensures.others n apart)
+    ∙ ap (λ s. slice_index s.left n) c.self.view_is
 
 pub invariant_of-self : goal.invariant_of-self
 invariant_of-self g c = c.self.invariant
 
 pub returns-then-full-changing-eq0-clause-line : goal.returns-then-full-changing-eq0-clause-line
-returns-then-full-changing-eq0-clause-line g c = rw (← c.self.view_is) refl
+returns-then-full-changing-eq0-clause-line g c = ap (λ s. s.line) c.self.view_is
 
 pub returns-then-full-changing-eq0-clause-limits : goal.returns-then-full-changing-eq0-clause-limits
-returns-then-full-changing-eq0-clause-limits g c = rw (← c.self.view_is) refl
+returns-then-full-changing-eq0-clause-limits g c = ap (λ s. s.limits) c.self.view_is
 
 pub returns-then-full-changing-eq0-clause-ends : goal.returns-then-full-changing-eq0-clause-ends
-returns-then-full-changing-eq0-clause-ends g c = rw (← c.self.view_is) refl
+returns-then-full-changing-eq0-clause-ends g c = ap (λ s. s.ends) c.self.view_is
 
 pub advance-requires-then-calm : goal.advance-requires-then-calm
 advance-requires-then-calm g c =
     let few_bytes : g.row.B ≤ 128 = c.requires.shape.1 in
     let few_check : g.row.M ≤ 16 = c.requires.shape.3 in
-    (search rules, (c.requires.whole, (c.requires.exists, λ i low more. rw (c.clear.ensures.here i low) (omega arith))))
+    (search rules, (c.requires.whole, (c.requires.exists, λ i low more. rw (c.clear.ensures.here i low) none_few)))
 
 pub invariant_of-self-then-calm : goal.invariant_of-self-then-calm
 invariant_of-self-then-calm g c = (
@@ -155,19 +158,55 @@ invariant_of-self-then-calm g c = (
 )
 
 pub returns-then-calm-clause-line : goal.returns-then-calm-clause-line
-returns-then-calm-clause-line g c = rw (← c.self.view_is) refl
+returns-then-calm-clause-line g c = ap (λ s. s.line) c.self.view_is
 
 pub returns-then-calm-clause-limits : goal.returns-then-calm-clause-limits
-returns-then-calm-clause-limits g c = rw (← c.self.view_is) refl
+returns-then-calm-clause-limits g c = ap (λ s. s.limits) c.self.view_is
 
 pub returns-then-calm-clause-ends : goal.returns-then-calm-clause-ends
-returns-then-calm-clause-ends g c = rw (← c.self.view_is) refl
+returns-then-calm-clause-ends g c = ap (λ s. s.ends) c.self.view_is
 
 pub returns-clause-line : goal.returns-clause-line
-returns-clause-line g c = rw (← c.self.view_is) refl
+returns-clause-line g c = ap (λ s. s.line) c.self.view_is
 
 pub returns-clause-limits : goal.returns-clause-limits
-returns-clause-limits g c = rw (← c.self.view_is) refl
+returns-clause-limits g c = ap (λ s. s.limits) c.self.view_is
 
 pub returns-clause-ends : goal.returns-clause-ends
-returns-clause-ends g c = rw (← c.self.view_is) refl
+returns-clause-ends g c = ap (λ s. s.ends) c.self.view_is
+
+pub bounds-self-inside-block : goal.bounds-self-inside-block
+bounds-self-inside-block g c = grind arith
+
+pub full-requires : goal.full-requires
+full-requires g c = grind arith
+
+pub block-stuck-requires : goal.block-stuck-requires
+block-stuck-requires g c = grind arith
+
+pub planes-low-requires : goal.planes-low-requires
+planes-low-requires g c = grind arith
+
+pub block-requires : goal.block-requires
+block-requires g c = grind arith
+
+pub level-requires : goal.level-requires
+level-requires g c = grind arith
+
+pub clear-requires : goal.clear-requires
+clear-requires g c = grind arith
+
+pub are_many-calm-requires : goal.are_many-calm-requires
+are_many-calm-requires g c = grind arith
+
+pub bounds-self-inside-block-2 : goal.bounds-self-inside-block-2
+bounds-self-inside-block-2 g c = grind arith
+
+pub set_block-requires : goal.set_block-requires
+set_block-requires g c = grind arith
+
+pub spend-last-requires : goal.spend-last-requires
+spend-last-requires g c = grind arith
+
+pub set_block-requires-2 : goal.set_block-requires-2
+set_block-requires-2 g c = grind arith
