@@ -1,5 +1,5 @@
-//! A bank and what it is made of, event by event and row by row: over lines whose cells do as a script says. What each table must
-//! answer was worked out by hand from the rules of the device.
+//! A bank and what it is made of, event by event and row by row, and two banks side by side: over lines whose cells do as a script
+//! says. What each table must answer was worked out by hand from the rules of the device.
 #![tactic(auto)]
 
 #[cfg(test)]
@@ -12,7 +12,12 @@ mod entries;
 mod events;
 #[cfg(test)]
 mod faults;
+pub mod playing;
 #[cfg(test)]
 mod recovering;
 #[cfg(test)]
+mod roles;
+#[cfg(test)]
 mod rows;
+#[cfg(test)]
+mod two_banks;

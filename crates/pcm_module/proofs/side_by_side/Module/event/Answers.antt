@@ -170,3 +170,6 @@ write-requires-in-Mask g c = grind arith
 
 pub cut-requires : goal.cut-requires
 cut-requires g c = grind arith
+
+pub whole-entry-requires : goal.whole-entry-requires
+whole-entry-requires g c = grind arith

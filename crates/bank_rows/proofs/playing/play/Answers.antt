@@ -1,5 +1,5 @@
 use Rattle.std.proofs.Common.{◌++◌}
-use Rattle.module_rows.proofs.playing.play.Goals as goal
+use Rattle.bank_rows.proofs.playing.play.Goals as goal
 
 pub returns-clause-replayed : goal.returns-clause-replayed
 returns-clause-replayed g c =

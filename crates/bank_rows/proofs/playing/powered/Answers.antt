@@ -1,6 +1,6 @@
 use Rattle.std.proofs.Common.{ℕ, [], subst}
 use Rattle.pcm_cells.specs.Device.{IsFresh}
-use Rattle.module_rows.proofs.playing.powered.Goals as goal
+use Rattle.bank_rows.proofs.playing.powered.Goals as goal
 
 pub returns-clause-replayed : goal.returns-clause-replayed
 returns-clause-replayed g c results =

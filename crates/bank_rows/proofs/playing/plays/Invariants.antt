@@ -1,6 +1,6 @@
 use Rattle.std.proofs.Common.{◌≡◌, ◌+◌, ◌≤◌, false}
 use Rattle.pcm_module.specs.Replaying.{IsReplayed}
-use Rattle.module_rows.proofs.playing.plays.Given as goal
+use Rattle.bank_rows.proofs.playing.plays.Given as goal
 
 -- the module may take the next row
 abbrev pub invariant-loop-tick : goal.invariant-loop-tick

@@ -1,5 +1,5 @@
 use Rattle.bank_clock.proofs.Sizes.{bank_fits}
-use Rattle.module_rows.proofs.bank_clock++clocked++ClockedBank+Destruct.drop.Goals as goal
+use Rattle.bank_rows.proofs.bank_clock++clocked++ClockedBank+Destruct.drop.Goals as goal
 
 pub drop-requires : goal.drop-requires
 drop-requires g c = bank_fits g.row.B g.row.M g.row.E c.drop.invariant.layout
