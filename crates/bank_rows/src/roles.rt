@@ -21,13 +21,23 @@ const SHAPE: BankShape = BankShape {
 #[test]
 fn each_array_line_has_its_role(rt: HostRuntime) -> Result<(), Fail> {
     let mut kept = Kept::new(rt.alloc(), SHAPE)?;
-    assert_eq!(rt; role_in(&kept, 24), Role::Line(3));
-    assert_eq!(rt; used_in(&kept), 0);
+    let new = (role_in(&kept, 24), used_in(&kept));
     let _ = kept.accept(Entry::whole(1, 2, &[7; 8]), false);
     assert_eq!(rt; kept.stored(), 1);
     kept.moved();
-    assert_eq!(rt; kept.retire(0), Ok(6));
-    assert_eq!(rt; kept.retire(0), Ok(7));
+    let spares = [kept.retire(0), kept.retire(0)];
+    let used = used_in(&kept);
+    let roles = [
+        role_in(&kept, 20),
+        role_in(&kept, 21),
+        role_in(&kept, 22),
+        role_in(&kept, 23),
+        role_in(&kept, 24),
+        role_in(&kept, 25),
+        role_in(&kept, 26),
+        role_in(&kept, 27),
+        role_in(&kept, 28),
+    ];
     let wanted = [
         Role::Retired,
         Role::Line(1),
@@ -39,10 +49,11 @@ fn each_array_line_has_its_role(rt: HostRuntime) -> Result<(), Fail> {
         Role::Line(0),
         Role::Free,
     ];
-    for (i, role) in wanted.iter().enumerate() {
-        assert_eq!(rt; role_in(&kept, 20 + i as u32), *role);
-    }
-    assert_eq!(rt; used_in(&kept), 2);
+    assert_eq!(rt;
+        (new, spares, used),
+        ((Role::Line(3), 0), [Ok(6), Ok(7)], 2)
+    );
+    assert_eq!(rt; roles, wanted);
     Ok(())
 }
 
@@ -54,8 +65,7 @@ fn control_lines_are_behind_the_spares(rt: HostRuntime) -> Result<(), Fail> {
         ..SHAPE
     };
     let kept: Kept<8> = Kept::new(rt.alloc(), shape)?;
-    assert_eq!(rt; role_in(&kept, 28), Role::Free);
-    assert_eq!(rt; role_in(&kept, 29), Role::Control);
-    assert_eq!(rt; role_in(&kept, 34), Role::Control);
+    let roles = [role_in(&kept, 28), role_in(&kept, 29), role_in(&kept, 34)];
+    assert_eq!(rt; roles, [Role::Free, Role::Control, Role::Control]);
     Ok(())
 }
