@@ -7,3 +7,7 @@ pub mod Losing
 pub mod Touched
 pub mod Waits
 pub mod Begun
+mod Restored
+mod Within
+mod Sizes
+mod Heads

@@ -1,5 +1,4 @@
-use Rattle.ecp_line.specs.Layout.{IsLayout}
-use Rattle.std.proofs.Common.{arith, rules, ◌≡◌, ◌<◌, ◌≤◌, Some, sym, ap, subst, ◌∙◌}
+use Rattle.std.proofs.Common.{arith, ◌≡◌, ◌<◌, Some, sym, ap, subst, ◌∙◌}
 use Rattle.bank_shape.specs.Shape.{slots_of}
 use Rattle.power_recovery.specs.Kept.{target_slot}
 use Rattle.bank_shape.specs.declared.Work.{Work}
@@ -8,51 +7,46 @@ use Rattle.bank_core.specs.Running.{running_of, operation_of}
 use Rattle.bank_core.specs.Steps.{is_some_work}
 use Rattle.std.specs.Prelude.{ℕ, IsTrue}
 use Rattle.bank_core.proofs.Keeping.{ready}
+use Rattle.bank_core.proofs.Sizes.{bank_fits, running_fits}
 use Rattle.bank_core.proofs.bank.Bank.advance.Goals as goal
 
 pub step-progress-requires : goal.step-progress-requires
 step-progress-requires g c =
-    let few : g.row.B ≤ 128 = c.self.invariant.few_bytes in
-    let layout : IsLayout g.row.B g.row.M g.row.E = c.self.invariant.layout in
     let view : BankState g.row.B g.row.M g.row.E = record { kept = c.self.inside.kept; running = operation_of c.self.inside.running; waiting = c.self.inside.waiting.items; lost = c.self.inside.lost.items; rows_below = c.self.inside.rows_below } in
     let same : c.args.self.now ≡ view = cc in
     let value : c.self.inside.running ≡ Some c.in-Some.running = cc in
     let is : view.running ≡ Some (running_of c.in-Some.running) = ap (λ r. operation_of r) value in
     let start = ready c.args.self.now view (g.A.CellArray.state c.args.array.now) (running_of c.in-Some.running) same c.self.invariant.in_range c.requires.tied is in
-    (search rules, (c.self.invariant.layout, (start.exists, (start.writing.more, start.writing.writes))))
+    let layout = c.self.invariant.layout in
+    (running_fits layout, (layout, (start.exists, (start.writing.more, start.writing.writes))))
 
 pub done-requires : goal.done-requires
 done-requires g c =
-    let few : g.row.B ≤ 128 = c.self.invariant.few_bytes in
-    let layout : IsLayout g.row.B g.row.M g.row.E = c.self.invariant.layout in
     let view : BankState g.row.B g.row.M g.row.E = record { kept = c.self.inside.kept; running = operation_of c.self.inside.running; waiting = c.self.inside.waiting.items; lost = c.self.inside.lost.items; rows_below = c.self.inside.rows_below } in
     let same : c.args.self.now ≡ view = cc in
     let value : c.self.inside.running ≡ Some c.in-Some.running = cc in
     let is : view.running ≡ Some (running_of c.in-Some.running) = ap (λ r. operation_of r) value in
     let start = ready c.args.self.now view (g.A.CellArray.state c.args.array.now) (running_of c.in-Some.running) same c.self.invariant.in_range c.requires.tied is in
-    (search rules, (subst (λ (w : Work). IsTrue (is_some_work w)) (sym c.step-progress.ensures.step.work) start.some, c.step-progress.ensures.step.work ∙ start.next))
+    let some = subst (λ (w : Work). IsTrue (is_some_work w)) (sym c.step-progress.ensures.step.work) start.some in
+    (bank_fits c.self.invariant.layout, (some, c.step-progress.ensures.step.work ∙ start.next))
 
 pub slot_written-slot-requires : goal.slot_written-slot-requires
 slot_written-slot-requires g c =
-    let few : g.row.B ≤ 128 = c.self.invariant.few_bytes in
-    let layout : IsLayout g.row.B g.row.M g.row.E = c.self.invariant.layout in
     let view : BankState g.row.B g.row.M g.row.E = record { kept = c.self.inside.kept; running = operation_of c.self.inside.running; waiting = c.self.inside.waiting.items; lost = c.self.inside.lost.items; rows_below = c.self.inside.rows_below } in
     let same : c.args.self.now ≡ view = cc in
     let value : c.self.inside.running ≡ Some c.in-Some.running = cc in
     let is : view.running ≡ Some (running_of c.in-Some.running) = ap (λ r. operation_of r) value in
     let start = ready c.args.self.now view (g.A.CellArray.state c.args.array.now) (running_of c.in-Some.running) same c.self.invariant.in_range c.requires.tied is in
-    (search rules, c.step-progress.ensures.step.work ∙ start.next)
+    (bank_fits c.self.invariant.layout, c.step-progress.ensures.step.work ∙ start.next)
 
 pub worn-requires : goal.worn-requires
 worn-requires g c =
-    let few : g.row.B ≤ 128 = c.self.invariant.few_bytes in
-    let layout : IsLayout g.row.B g.row.M g.row.E = c.self.invariant.layout in
     let view : BankState g.row.B g.row.M g.row.E = record { kept = c.self.inside.kept; running = operation_of c.self.inside.running; waiting = c.self.inside.waiting.items; lost = c.self.inside.lost.items; rows_below = c.self.inside.rows_below } in
     let same : c.args.self.now ≡ view = cc in
     let value : c.self.inside.running ≡ Some c.in-Some.running = cc in
     let is : view.running ≡ Some (running_of c.in-Some.running) = ap (λ r. operation_of r) value in
     let start = ready c.args.self.now view (g.A.CellArray.state c.args.array.now) (running_of c.in-Some.running) same c.self.invariant.in_range c.requires.tied is in (
-      search rules,
+      bank_fits c.self.invariant.layout,
       subst (λ (s : ℕ). s < slots_of view.kept.shape)
           (sym (c.slot_written-slot.ensures ∙ ap (λ w. target_slot view.kept w) c.step-progress.ensures.step.work)) start.slot,
     )

@@ -1,5 +1,6 @@
 use Rattle.std.proofs.Common.{◌≡◌, arith, slice_get, Some, ap, sym, ◌∙◌}
 use Rattle.std.specs.Option.{option_copied}
+use Rattle.bank_core.proofs.Within.{none-within}
 use Rattle.bank_core.proofs.Waits.{found_one, none_yet, none_at_all}
 use Rattle.bank_core.proofs.bank.Bank.awaits.Goals as goal
 
@@ -27,3 +28,9 @@ unreachable-unreachable g c = grind arith
 
 pub loop-index-smaller : goal.loop-index-smaller
 loop-index-smaller g c = grind arith
+
+pub unreachable-requires : goal.unreachable-requires
+unreachable-requires g c =
+    none-within c.self.inside.waiting.items c.loop-index.index
+    (sym (ap (λ o. option_copied o) c.in_default.is) ∙ c.get.ensures)
+    (omega (arith, c.len-index-end.ensures.len, c.loop-index-test.true))

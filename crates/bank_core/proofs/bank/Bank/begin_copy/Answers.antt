@@ -1,4 +1,4 @@
-use Rattle.std.proofs.Common.{arith, rules, ◌≡◌, ℕ, ◌∷◌, [], ◌≤◌, ◌<◌, None, false, sym, ap, subst, ◌∙◌}
+use Rattle.std.proofs.Common.{arith, ◌≡◌, ℕ, ◌∷◌, [], ◌≤◌, ◌<◌, None, false, sym, ap, subst, ◌∙◌}
 use Rattle.pcm_cells.specs.Device.{ArrayState, LineState}
 use Rattle.bank_shape.specs.declared.BankShape.{BankShape}
 use Rattle.bank_shape.specs.Shape.{slots_of, slot_at}
@@ -10,50 +10,31 @@ use Rattle.bank_core.specs.Running.{operation_of}
 use Rattle.bank_core.specs.Beginning.{IsOfSoundLine}
 use Rattle.bank_core.proofs.Begun.{copy-within, place-so, slot-sound}
 use Rattle.bank_model.proofs.Touched.{touches-sense, touches-both}
+use Rattle.bank_core.proofs.Sizes.{bank_fits, cells_fits}
 use Rattle.bank_core.proofs.bank.Bank.begin_copy.Goals as goal
 
 pub start_copy-requires : goal.start_copy-requires
 start_copy-requires g c =
-    let few : g.row.B ≤ 128 = c.self.invariant.few_bytes in
-    let few_check : g.row.M ≤ 16 = c.self.invariant.layout.shape.3 in (
-      search rules,
-      (
-        search rules,
-        (
-          c.self.invariant.layout,
-          (
-            c.requires.idle,
-            (
-              c.requires.next,
-              (
-                (
-                    let target : c.array_line-target.result ≡ array_line c.self.inside.kept (slot_at c.self.inside.kept.shape c.args.region c.args.step.to) =
-                    place-so c.self.inside.kept c.shape-2.result.now c.args.region c.args.step.to c.slot-2.result c.array_line-target.result
-                    c.shape-2.ensures.shape c.slot-2.ensures.exact c.array_line-target.ensures.line in
-                    let place : c.array_line-target.result ≡ array_line c.args.self.now.kept (slot_at c.args.self.now.kept.shape c.args.region c.args.step.to) =
-                    rw (← c.self.view_is) target in
-                    place),
-                (
-                    let bank : BankState g.row.B g.row.M g.row.E = (record {
-                      kept = c.self.inside.kept;
-                      running = operation_of c.self.inside.running;
-                      waiting = c.self.inside.waiting.items;
-                      lost = c.self.inside.lost.items;
-                      rows_below = c.self.inside.rows_below;
-                    }) in
-                    let sound : IsSoundLine g.row.E ((g.A.CellArray.state c.args.array.now).line c.array_line-target.result) =
-                    slot-sound bank (g.A.CellArray.state c.args.array.now) c.slot-2.result c.array_line-target.result (rw (← c.self.view_is) at c.requires.tied)
-                    (subst (λ (s : BankShape). c.slot-2.result < slots_of s) c.shape-2.ensures.shape c.slot-2.ensures.within) c.array_line-target.ensures.line in
-                    let held : ((g.A.CellArray.state c.args.array.now).line c.array_line-target.result).held ≡ c.sense-seen.result =
-                    ap (λ (l : LineState g.row.B g.row.M). l.held) (sym (c.sense-copied.ensures.step.line c.array_line-target.result)) ∙ sym c.sense-seen.ensures.cells in
-                    let of_sound : IsOfSoundLine g.row.E c.sense-seen.result = ((g.A.CellArray.state c.args.array.now).line c.array_line-target.result, held, sound) in
-                    of_sound),
-              ),
-            ),
-          ),
-        ),
-      ),
-    )
+    let target : c.array_line-target.result ≡ array_line c.self.inside.kept (slot_at c.self.inside.kept.shape c.args.region c.args.step.to) =
+    place-so c.self.inside.kept c.shape-2.result.now c.args.region c.args.step.to c.slot-2.result c.array_line-target.result
+    c.shape-2.ensures.shape c.slot-2.ensures.exact c.array_line-target.ensures.line in
+    let place : c.array_line-target.result ≡ array_line c.args.self.now.kept (slot_at c.args.self.now.kept.shape c.args.region c.args.step.to) =
+    rw (← c.self.view_is) target in
+    let bank : BankState g.row.B g.row.M g.row.E = (record {
+      kept = c.self.inside.kept;
+      running = operation_of c.self.inside.running;
+      waiting = c.self.inside.waiting.items;
+      lost = c.self.inside.lost.items;
+      rows_below = c.self.inside.rows_below;
+    }) in
+    let sound : IsSoundLine g.row.E ((g.A.CellArray.state c.args.array.now).line c.array_line-target.result) =
+    slot-sound bank (g.A.CellArray.state c.args.array.now) c.slot-2.result c.array_line-target.result (rw (← c.self.view_is) at c.requires.tied)
+    (subst (λ (s : BankShape). c.slot-2.result < slots_of s) c.shape-2.ensures.shape c.slot-2.ensures.within) c.array_line-target.ensures.line in
+    let held : ((g.A.CellArray.state c.args.array.now).line c.array_line-target.result).held ≡ c.sense-seen.result =
+    ap (λ (l : LineState g.row.B g.row.M). l.held) (sym (c.sense-copied.ensures.step.line c.array_line-target.result)) ∙ sym c.sense-seen.ensures.cells in
+    let of_sound : IsOfSoundLine g.row.E c.sense-seen.result = ((g.A.CellArray.state c.args.array.now).line c.array_line-target.result, held, sound) in
+    let layout = c.self.invariant.layout in
+    (bank_fits layout, (cells_fits layout, (layout, (c.requires.idle, (c.requires.next, (place, of_sound))))))
 
 pub returns-clause-begins : goal.returns-clause-begins
 returns-clause-begins g c =

@@ -1,4 +1,4 @@
-use Rattle.std.proofs.Common.{arith, rules, ◌≡◌, ℕ, ◌∷◌, [], ◌≤◌, None, false, sym, subst}
+use Rattle.std.proofs.Common.{arith, ◌≡◌, ℕ, ◌∷◌, [], None, false, sym, subst}
 use Rattle.power_recovery.specs.Kept.{array_line}
 use Rattle.bank_model.specs.Touching.{Touches}
 use Rattle.bank_invariant.specs.State.{BankState}
@@ -7,11 +7,13 @@ use Rattle.bank_core.specs.Running.{operation_of}
 use Rattle.bank_core.specs.Beginning.{IsOfSoundLine}
 use Rattle.bank_core.proofs.Begun.{store-slot, store-sound}
 use Rattle.bank_model.proofs.Touched.{touches-sense}
+use Rattle.bank_core.proofs.Sizes.{bank_fits, cells_fits, kept_fits}
 use Rattle.bank_core.proofs.bank.Bank.begin_store.Goals as goal
 
 pub array_line-target-requires : goal.array_line-target-requires
 array_line-target-requires g c =
-    (search rules, store-slot c.self.inside.kept c.args.line c.args.slot c.self.invariant.in_range (rw (← c.self.view_is) at c.requires.next))
+    let next = rw (← c.self.view_is) at c.requires.next in
+    (kept_fits, store-slot c.self.inside.kept c.args.line c.args.slot c.self.invariant.in_range next)
 
 pub start_store-requires : goal.start_store-requires
 start_store-requires g c =
@@ -25,12 +27,11 @@ start_store-requires g c =
     let sound : IsSoundLine g.row.E ((g.A.CellArray.state c.args.array.now).line c.array_line-target.result) =
     store-sound bank (g.A.CellArray.state c.args.array.now) c.args.line c.args.slot c.array_line-target.result c.self.invariant.in_range
     (rw (← c.self.view_is) at c.requires.tied) (rw (← c.self.view_is) at c.requires.next) c.array_line-target.ensures.line in
-    let few : g.row.B ≤ 128 = c.self.invariant.few_bytes in
-    let few_check : g.row.M ≤ 16 = c.self.invariant.layout.shape.3 in
     let place : c.array_line-target.result ≡ array_line c.args.self.now.kept c.args.slot = rw (← c.self.view_is) c.array_line-target.ensures.line in
     let held : IsOfSoundLine g.row.E c.sense-seen.result =
     ((g.A.CellArray.state c.args.array.now).line c.array_line-target.result, sym c.sense-seen.ensures.cells, sound) in
-    (search rules, (search rules, (c.self.invariant.layout, (c.requires.idle, (c.requires.next, (place, held))))))
+    let layout = c.self.invariant.layout in
+    (bank_fits layout, (cells_fits layout, (layout, (c.requires.idle, (c.requires.next, (place, held))))))
 
 pub returns-clause-begins : goal.returns-clause-begins
 returns-clause-begins g c =

@@ -38,3 +38,9 @@ returns-clause-quiet g c = grind arith
 
 pub returns-clause-torn : goal.returns-clause-torn
 returns-clause-torn g c = grind arith
+
+pub returns-clause-bank : goal.returns-clause-bank
+returns-clause-bank g c =
+    c.lose_reads.ensures
+    ∙ ap (λ (b : BankState g.row.B g.row.M g.row.E). reads_lost b) c.stop.ensures.bank
+    ∙ cut-is c.args.self.now c.requires.taken

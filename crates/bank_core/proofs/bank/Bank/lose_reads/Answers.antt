@@ -1,6 +1,6 @@
-use Rattle.std.proofs.Common.{◌≡◌, ◌∷◌, [], None, arith, ap, ◌∙◌, length, slice_get, length-append}
+use Rattle.std.proofs.Common.{◌≡◌, ◌∷◌, [], None, arith, refl, ap, ◌∙◌, length, slice_get, length-append}
 use Rattle.bank_core.proofs.Answering.{IsBank-drop}
-use Rattle.bank_core.proofs.Losing.{rows_with, lose-fewer, lose-one, lose-some, lose-none}
+use Rattle.bank_core.proofs.Losing.{rows_with, lose-fewer, lose-one, lose-some, lose-none, lose-all}
 use Rattle.bank_core.proofs.bank.Bank.lose_reads.Goals as goal
 use Rattle.bank_core.proofs.bank.Bank.lose_reads.Goals.{in-Some+in-Ok, in_default}
 
@@ -53,3 +53,10 @@ unreachable-unreachable g c = grind arith
 
 pub loop-smaller : goal.loop-smaller
 loop-smaller g c = grind arith
+
+pub returns : goal.returns
+returns g c =
+    let inv = c.loop.invariant in
+    let all = lose-all c.loop.self-inside.waiting.items c.loop.self-inside.lost.items
+    (omega (arith, inv.fewer, c.loop-test.false, c.len-end.ensures.len)) in
+    rw (← c.self.view_is, inv.kept, inv.running, inv.rows_below, all.0, all.1 ∙ inv.rows) refl

@@ -1,14 +1,18 @@
-use Rattle.std.proofs.Common.{arith, rules, ◌≡◌, ℕ, ◌≤◌, List, drop, slice_get, Some, ap, ◌∙◌}
+use Rattle.std.proofs.Common.{arith, ◌≡◌, ℕ, ◌<◌, List, drop, slice_get, Some, sym, ap, ◌∙◌}
 use Rattle.masked_bytes.specs.Masked.{laid}
 use Rattle.pcm_cells.specs.declared.row.Cells.{Cells}
 use Rattle.pcm_cells.specs.Device.{ArrayState}
 use Rattle.ecp_line.specs.Reading.{decode}
+use Rattle.power_recovery.specs.Slots.{bank_lines}
 use Rattle.power_recovery.specs.Kept.{array_line, stands_at}
+use Rattle.bank_shape.specs.declared.waiting.Waiting.{Waiting}
 use Rattle.bank_invariant.specs.State.{BankState}
 use Rattle.bank_invariant.proofs.Awaiting.{StandsAs-sensed}
 use Rattle.bank_core.specs.Running.{operation_of}
 use Rattle.bank_core.proofs.Answering.{IsBank-drop, serve_tied, serve_law, first_of, answers}
+use Rattle.bank_core.proofs.Within.{All-found}
 use Rattle.bank_model.proofs.Touched.{touches-sense}
+use Rattle.bank_core.proofs.Sizes.{bytes_fits, cells_fits, kept_fits}
 use Rattle.bank_core.proofs.bank.Bank.serve.Goals as goal
 
 pub invariant_of-self : goal.invariant_of-self
@@ -57,9 +61,7 @@ returns-clause-holds g c =
 
 pub read_as-bytes-requires : goal.read_as-bytes-requires
 read_as-bytes-requires g c =
-    let few : g.row.B ≤ 128 = c.self.invariant.few_bytes in
-    let few_check : g.row.M ≤ 16 = c.self.invariant.layout.shape.3 in
-    (search rules, (search rules, c.self.invariant.layout))
+    (cells_fits c.self.invariant.layout, (bytes_fits c.self.invariant.layout, c.self.invariant.layout))
 
 pub unreachable-requires : goal.unreachable-requires
 unreachable-requires g c = grind arith
@@ -81,3 +83,10 @@ returns-clause-answer g c = grind arith
 
 pub returns-clause-bank : goal.returns-clause-bank
 returns-clause-bank g c = grind arith
+
+pub slot_of-requires : goal.slot_of-requires
+slot_of-requires g c =
+    let ws = c.self.inside.waiting.items in
+    let first : Some c.in-Some.read ≡ slice_get ws 0 = sym c.in-Some.is ∙ c.pop_front.ensures.value in
+    let below = λ (w : Waiting g.row.B). w.line < bank_lines c.self.inside.kept.shape in
+    (kept_fits, All-found below ws 0 c.in-Some.read first c.self.invariant.known)

@@ -1,5 +1,6 @@
-use Rattle.std.proofs.Common.{rules, ◌≤◌, refl, sym}
+use Rattle.std.proofs.Common.{refl, sym}
 use Rattle.bank_core.proofs.Begun.{begins-copy}
+use Rattle.bank_core.proofs.Sizes.{bank_fits, bytes_fits, cells_fits, running_fits, writer_fits}
 use Rattle.bank_core.proofs.bank.Bank.start_copy.Goals as goal
 
 pub returns : goal.returns
@@ -12,19 +13,15 @@ returns g c =
 
 pub decode-bytes-requires : goal.decode-bytes-requires
 decode-bytes-requires g c =
-    let few : g.row.B ≤ 128 = c.requires.layout.shape.1 in
-    let few_check : g.row.M ≤ 16 = c.requires.layout.shape.3 in
-    (search rules, (search rules, c.requires.layout))
+    (cells_fits c.requires.layout, (bytes_fits c.requires.layout, c.requires.layout))
 
 pub begin-writer-requires : goal.begin-writer-requires
 begin-writer-requires g c =
-    let few : g.row.B ≤ 128 = c.requires.layout.shape.1 in
-    let few_check : g.row.M ≤ 16 = c.requires.layout.shape.3 in
-    (search rules, (search rules, (search rules, c.requires.layout)))
+    let layout = c.requires.layout in
+    (cells_fits layout, (bytes_fits layout, (writer_fits layout, layout)))
 
 pub start-requires : goal.start-requires
 start-requires g c =
-    let few : g.row.B ≤ 128 = c.requires.layout.shape.1 in
-    let few_check : g.row.M ≤ 16 = c.requires.layout.shape.3 in
     let begun = c.begin-writer.ensures.begun c.requires.sound.0 c.requires.sound.1 c.requires.sound.2 in
-    (search rules, (search rules, (c.requires.idle, (refl, (sym c.requires.next, begun)))))
+    let layout = c.requires.layout in
+    (bank_fits layout, (running_fits layout, (c.requires.idle, (refl, (sym c.requires.next, begun)))))

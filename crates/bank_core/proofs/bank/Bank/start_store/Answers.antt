@@ -1,9 +1,11 @@
-use Rattle.std.proofs.Common.{arith, rules, ◌≡◌, ◌≤◌, refl, sym, ap, ◌∙◌}
+use Rattle.std.proofs.Common.{arith, ◌≡◌, refl, sym, ap, ◌∙◌}
 use Rattle.power_recovery.specs.Kept.{KeptState, next_work}
 use Rattle.power_recovery.proofs.Frames.{next_work-completed}
 use Rattle.bank_core.specs.Running.{operation_of}
 use Rattle.bank_core.proofs.Answering.{IsBank-completed}
 use Rattle.bank_core.proofs.Begun.{begins-store}
+use Rattle.bank_core.proofs.Heads.{store-head-completed}
+use Rattle.bank_core.proofs.Sizes.{bank_fits, bytes_fits, cells_fits, running_fits, writer_fits}
 use Rattle.bank_core.proofs.bank.Bank.start_store.Goals as goal
 
 pub invariant_of-self : goal.invariant_of-self
@@ -30,26 +32,32 @@ returns g c =
 
 pub decode-under-requires : goal.decode-under-requires
 decode-under-requires g c =
-    let few : g.row.B ≤ 128 = c.requires.layout.shape.1 in
-    let few_check : g.row.M ≤ 16 = c.requires.layout.shape.3 in
-    (search rules, (search rules, c.requires.layout))
+    (cells_fits c.requires.layout, (bytes_fits c.requires.layout, c.requires.layout))
 
 pub begin-writer-requires : goal.begin-writer-requires
 begin-writer-requires g c =
-    let few : g.row.B ≤ 128 = c.requires.layout.shape.1 in
-    let few_check : g.row.M ≤ 16 = c.requires.layout.shape.3 in
-    (search rules, (search rules, (search rules, c.requires.layout)))
+    let layout = c.requires.layout in
+    (cells_fits layout, (bytes_fits layout, (writer_fits layout, layout)))
 
 pub start-requires : goal.start-requires
 start-requires g c =
-    let few : g.row.B ≤ 128 = c.requires.layout.shape.1 in
-    let few_check : g.row.M ≤ 16 = c.requires.layout.shape.3 in
     let begun = c.begin-writer.ensures.begun c.requires.sound.0 c.requires.sound.1 c.requires.sound.2 in
     let idle = rw (← c.self.view_is) at c.requires.idle in
     let next = rw (← c.self.view_is) at c.requires.next in
     let still : next_work c.complete.new.self ≡ next_work c.self.inside.kept =
     ap (λ (k : KeptState g.row.B). next_work k) c.complete.ensures.kept ∙ next_work-completed c.self.inside.kept c.decode-under.result in
-    (search rules, (search rules, (idle, (refl, (sym next ∙ sym still, begun)))))
+    let layout = c.requires.layout in
+    (bank_fits layout, (running_fits layout, (idle, (refl, (sym next ∙ sym still, begun)))))
 
 pub complete-requires : goal.complete-requires
 complete-requires g c = grind arith
+
+pub head_bytes-bytes-requires : goal.head_bytes-bytes-requires
+head_bytes-bytes-requires g c = (
+  bank_fits c.requires.layout,
+  (
+    bytes_fits c.requires.layout,
+    store-head-completed c.self.inside.kept c.complete.new.self c.decode-under.result c.args.line c.args.slot
+        (rw (← c.self.view_is) at c.requires.next) c.complete.ensures.kept,
+  ),
+)

@@ -1,24 +1,23 @@
-use Rattle.std.proofs.Common.{arith, rules, ◌≡◌, Option, None, Some, ap, sym, subst}
-use Rattle.ecp_line.specs.Layout.{IsLayout}
+use Rattle.std.proofs.Common.{arith, ◌≡◌, Option, None, Some, ap, sym, subst}
 use Rattle.bank_invariant.specs.State.{BankState, Operation}
 use Rattle.bank_core.specs.Running.{operation_of}
 use Rattle.bank_core.proofs.Cuts.{tearable}
-use Rattle.std.specs.Prelude.{◌≤◌, IfSome}
+use Rattle.std.specs.Prelude.{IfSome}
 use Rattle.bank_core.specs.Cutting.{IsTorn}
+use Rattle.bank_core.proofs.Sizes.{writer_fits}
 use Rattle.bank_core.proofs.bank.Bank.stop.Goals.{in-Some+then-tearing, in-Some+else-tearing, in_default}
 use Rattle.bank_core.proofs.bank.Bank.stop.Goals as goal
 
 pub tear-requires : goal.tear-requires
 tear-requires g c =
-    let few : g.row.B ≤ 128 = c.self.invariant.few_bytes in
-    let layout : IsLayout g.row.B g.row.M g.row.E = c.self.invariant.layout in
     let view : BankState g.row.B g.row.M g.row.E = record { kept = c.self.inside.kept; running = operation_of c.self.inside.running; waiting = c.self.inside.waiting.items; lost = c.self.inside.lost.items; rows_below = c.self.inside.rows_below } in
     let same : c.args.self.now ≡ view = cc in
     let op : Operation g.row.B g.row.M g.row.E = record { work = c.in-Some.running.work; target = c.in-Some.running.target; writer = c.in-Some.running.writer } in
     let value : c.self.inside.running ≡ Some c.in-Some.running = cc in
     let is : view.running ≡ Some op = ap (λ r. operation_of r) value in
     let start = tearable c.args.self.now view (g.A.CellArray.state c.args.array.now) op same c.self.invariant.in_range c.requires.tied is in
-    (search rules, (c.self.invariant.layout, (start.exists, (start.writing.more, start.writing.writes))))
+    let layout = c.self.invariant.layout in
+    (writer_fits layout, (layout, (start.exists, (start.writing.more, start.writing.writes))))
 
 pub returns-clause-torn : goal.returns-clause-torn
 returns-clause-torn g c =

@@ -4,6 +4,7 @@ use Rattle.bank_shape.specs.declared.answer.WriteAnswer.TheVariants as wrote
 use Rattle.bank_invariant.specs.State.{BankState}
 use Rattle.bank_core.specs.Running.{operation_of}
 use Rattle.bank_core.proofs.Writing.{write_law, write_worn, taken_law, taken_holds, taken_tied, merged_there}
+use Rattle.bank_core.proofs.Sizes.{bank_fits}
 use Rattle.bank_core.proofs.bank.Bank.write.Goals as goal
 
 pub returns-then-exhausted-clause-holds : goal.returns-then-exhausted-clause-holds
@@ -105,3 +106,12 @@ invariant_of-self-3 g c = grind arith
 
 pub returns-clause-answer : goal.returns-clause-answer
 returns-clause-answer g c = grind arith
+
+pub returns-then-exhausted-clause-index : goal.returns-then-exhausted-clause-index
+returns-then-exhausted-clause-index g c = tt
+
+pub storing-busy-requires : goal.storing-busy-requires
+storing-busy-requires g c = bank_fits c.self.invariant.layout
+
+pub overflow_cast-self : goal.overflow_cast-self
+overflow_cast-self g c = grind arith
