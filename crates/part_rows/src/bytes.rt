@@ -1,3 +1,4 @@
+use crate::comparing::compare;
 use masked_bytes::entry::Entry;
 use masked_bytes::layers::{fill_under, has_all, join_given, lay_over};
 use std::test::*;
@@ -11,7 +12,7 @@ fn lays_the_given_bytes_over_others(rt: HostRuntime) {
     let mut bytes = [11, 0, 0, 14, 0, 0, 0, 18];
     fill_under(&mut bytes, &GIVEN, &[1, 2, 3, 4, 5, 6, 7, 8]);
     let laid = [11, 2, 3, 14, 5, 6, 7, 18];
-    assert_eq!(rt; [under, bytes], [laid, laid]);
+    compare(&rt, [under, bytes], [laid, laid]);
 }
 
 #[test]
@@ -19,7 +20,7 @@ fn what_either_write_gives_is_given(rt: HostRuntime) {
     let mut other = [false, true, true, false, true, true, true, false];
     let before = has_all(&other);
     join_given(&GIVEN, &mut other);
-    assert!(rt; !before && has_all(&other));
+    compare(&rt, [before, has_all(&other)], [false, true]);
 }
 
 // A write of line 3 that gives one byte.
@@ -52,14 +53,18 @@ fn a_newer_write_wins_byte_by_byte(rt: HostRuntime) {
     let laid = first_three(&entry);
     entry.complete(&[7; 128]);
     let complete = first_three(&entry);
-    assert_eq!(rt; laid, (2, [10, 21, 0], [true, true, false]));
-    assert_eq!(rt; complete, (2, [10, 21, 7], [true, true, true]));
-    assert!(rt; has_all(&entry.given));
+    compare(&rt, laid, (2, [10, 21, 0], [true, true, false]));
+    compare(&rt, complete, (2, [10, 21, 7], [true, true, true]));
+    compare(&rt, has_all(&entry.given), true);
 }
 
 #[test]
 fn a_whole_write_gives_each_byte(rt: HostRuntime) {
     let entry = Entry::whole(4, 9, &[0xab; 64]);
-    assert_eq!(rt; (entry.row, entry.line), (4, 9));
-    assert!(rt; has_all(&entry.given) && entry.bytes == [0xab; 64]);
+    compare(&rt, (entry.row, entry.line), (4, 9));
+    compare(
+        &rt,
+        (has_all(&entry.given), entry.bytes),
+        (true, [0xab; 64]),
+    );
 }

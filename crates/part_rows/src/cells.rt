@@ -1,6 +1,7 @@
 ghost use Rattle.std.specs.Prelude.{◌≡◌, ◌<◌};
 ghost use Rattle.pcm_cells.specs.Device.{IsShape};
 
+use crate::comparing::compare;
 use pcm_cells::{Act, CellArray, Cells, LoggedArray, MemArray, Script, ScriptArray, Sense, Wear};
 use std::alloc::{AllocError, Global};
 use std::test::Fail;
@@ -73,11 +74,14 @@ fn cells_are_bits_of_both_halves(rt: HostRuntime) {
     let mut row: Cells<64, 8> = Cells::zero();
     row.set(0, true);
     row.set(515, true);
-    assert_eq!(rt; (row.bits[0], row.meta[0]), (1, 8));
-    assert_eq!(rt; (row.get(515), row.get(514), row.count()), (true, false, 2));
-    let none = (row.differ(&row).is_none(), row.is_none());
+    let ends = [row.bits[0], row.meta[0]];
+    let held = (row.get(515), row.get(514), row.count());
+    let none = [row.differ(&row).is_none(), row.is_none()];
     row.set(0, false);
-    assert_eq!(rt; (none, row.meet(&row).count()), ((true, false), 1));
+    let left = row.meet(&row).count();
+    compare(&rt, ends, [1, 8]);
+    compare(&rt, held, (true, false, 2));
+    compare(&rt, (none, left), ([true, false], 1));
 }
 
 #[test]
@@ -85,24 +89,43 @@ fn wide_cells_are_bits_of_both_halves(rt: HostRuntime) {
     let mut row: Cells<128, 16> = Cells::zero();
     row.set(1151, true);
     let held = (row.meta[15], row.get(1151), row.get(1150), row.count());
-    let none = (row.differ(&row).is_none(), row.meet(&row).is_none());
-    assert_eq!(rt; held, (128, true, false, 1));
-    assert_eq!(rt; none, (true, false));
+    let none = [row.differ(&row).is_none(), row.meet(&row).is_none()];
+    compare(&rt, held, (128, true, false, 1));
+    compare(&rt, none, [true, false]);
 }
 
-// Of each sense of a log its line, its tick, the first of its data and of its check bytes, and how often the line was pulsed.
-fn told(alloc: Global, log: &[Sense<64, 8>]) -> Result<Vec<(u32, u64, u8, u8, u64)>, AllocError> {
-    let mut rows = Vec::new(alloc);
-    for sense in log {
-        rows.push((
-            sense.line,
-            sense.tick,
-            sense.cells.bits[0],
-            sense.cells.meta[0],
-            sense.pulses,
-        ))?;
+// Ones in the data alone.
+const DATA: Cells<64, 8> = Cells {
+    bits: [0xff; 64],
+    meta: [0; 8],
+};
+
+// Of a sense its line, its tick, the first of its data and of its check bytes, and how often the line was pulsed.
+fn told(sense: &Sense<64, 8>) -> (u32, u64, u8, u8, u64) {
+    let cells = &sense.cells;
+    (
+        sense.line,
+        sense.tick,
+        cells.bits[0],
+        cells.meta[0],
+        sense.pulses,
+    )
+}
+
+// The senses of a log that has three.
+fn three(log: Option<&[Sense<64, 8>]>) -> Option<[(u32, u64, u8, u8, u64); 3]> {
+    match log {
+        Some([first, second, third]) => Some([told(first), told(second), told(third)]),
+        _ => None,
     }
-    Ok(rows)
+}
+
+// How many senses a log has.
+fn len(log: Option<&[Sense<64, 8>]>) -> Option<usize> {
+    match log {
+        Some(senses) => Some(senses.len()),
+        None => None,
+    }
 }
 
 #[test]
@@ -114,125 +137,142 @@ fn a_log_has_each_sense(rt: HostRuntime) -> Result<(), Fail> {
         3,
     )?;
     array.power_up(rt.alloc(), 7, LONG)?;
-    let want = Cells {
-        bits: [0xff; 64],
-        meta: [0; 8],
-    };
-    overwrite(&mut array, 3, &want, 5);
+    overwrite(&mut array, 3, &DATA, 5);
     seen(&mut array, 3, 15);
     seen(&mut array, 3, 105);
-    let rows = told(rt.alloc(), array.log().ok_or("a log")?)?;
-    assert_eq!(rt;
-        rows.as_slice(),
-        [(3, 5, 0, 0, 0), (3, 15, 0xff, 0, 1), (3, 105, 0xff, 0, 1)].as_slice()
-    );
+    let senses = three(array.log());
     seen(&mut array, 0, 106);
-    assert!(rt; array.log().is_none());
+    let full = len(array.log());
     array.power_up(rt.alloc(), 7, LONG)?;
-    assert_eq!(rt; array.log().ok_or("a log")?.len(), 0);
+    let new = len(array.log());
+    let expected = [(3, 5, 0, 0, 0), (3, 15, 0xff, 0, 1), (3, 105, 0xff, 0, 1)];
+    compare(&rt, senses, Some(expected));
+    compare(&rt, [full, new], [None, Some(0)]);
     Ok(())
 }
 
-#[test]
-fn a_script_misses_and_sticks(rt: HostRuntime) -> Result<(), Fail> {
-    let mut script = Vec::new(rt.alloc());
-    script.push(Script {
+// Cell 3 misses its first pulse, and cell 4 sticks at 0 in it.
+const SCRIPT: [Script; 2] = [
+    Script {
         line: 0,
         cell: 3,
         turn: 1,
         act: Act::Miss,
-    })?;
-    script.push(Script {
+    },
+    Script {
         line: 0,
         cell: 4,
         turn: 1,
         act: Act::Stick(false),
-    })?;
+    },
+];
+
+const WIDE_DATA: Cells<128, 16> = Cells {
+    bits: [0xff; 128],
+    meta: [0; 16],
+};
+
+#[test]
+fn a_script_misses_and_sticks(rt: HostRuntime) -> Result<(), Fail> {
+    let script = Vec::from_array(rt.alloc(), SCRIPT)?;
     let mut array: ScriptArray<128, 16> = ScriptArray::new(script);
     array.power_up(rt.alloc(), 1, LONG)?;
-    let want = Cells {
-        bits: [0xff; 128],
-        meta: [0; 16],
-    };
     let differ = [
-        overwrite(&mut array, 0, &want, 0),
-        overwrite(&mut array, 0, &want, 1),
+        overwrite(&mut array, 0, &WIDE_DATA, 0),
+        overwrite(&mut array, 0, &WIDE_DATA, 1),
     ];
     let written = seen(&mut array, 0, 2).bits[0];
-    tear(&mut array, 0, &want, 3);
+    tear(&mut array, 0, &WIDE_DATA, 3);
     let torn = seen(&mut array, 0, 4).bits[0];
-    assert_eq!(rt; (differ, array.pulses(0)), ([1024, 2], 3));
-    assert_eq!(rt; (written, torn), (0xef, 0xef));
+    compare(&rt, (differ, array.pulses(0)), ([1024, 2], 3));
+    compare(&rt, [written, torn], [0xef, 0xef]);
     Ok(())
 }
+
+const ONES: Cells<64, 8> = Cells {
+    bits: [0xff; 64],
+    meta: [0xff; 8],
+};
 
 // Whether two rows hold the same.
 fn is_same(one: &Cells<64, 8>, other: &Cells<64, 8>) -> bool {
     one.differ(other).is_none()
 }
 
+// Whether a count is about half of 576.
+fn is_about_half(count: u32) -> bool {
+    200 < count && count < 376
+}
+
 #[test]
 fn short_lives_end_in_the_first_change(rt: HostRuntime) -> Result<(), Fail> {
     let mut array: MemArray<64, 8> = MemArray::new();
     array.power_up(rt.alloc(), 2, SHORT)?;
-    let ones = Cells {
-        bits: [0xff; 64],
-        meta: [0xff; 8],
-    };
-    let first = overwrite(&mut array, 1, &ones, 0);
+    let first = overwrite(&mut array, 1, &ONES, 0);
     let stuck = seen(&mut array, 1, 1);
-    let opposite = stuck.differ(&ones);
+    let opposite = stuck.differ(&ONES);
     let second = overwrite(&mut array, 1, &opposite, 2);
     let same = is_same(&seen(&mut array, 1, 3), &stuck);
-    assert_eq!(rt; (array.lines(), first, second, same), (2, 576, 576, true));
-    let count = stuck.count();
-    assert!(rt; 200 < count && count < 376);
+    compare(
+        &rt,
+        (array.lines(), first, second, same),
+        (2, 576, 576, true),
+    );
+    compare(&rt, is_about_half(stuck.count()), true);
     Ok(())
 }
+
+const WIDE_ONES: Cells<128, 16> = Cells {
+    bits: [0xff; 128],
+    meta: [0xff; 16],
+};
 
 #[test]
 fn a_tear_reaches_even_cells_alone(rt: HostRuntime) -> Result<(), Fail> {
     let mut array: MemArray<128, 16> = MemArray::new();
     array.power_up(rt.alloc(), 1, Wear { misses: 0, ..LONG })?;
-    let ones = Cells {
-        bits: [0xff; 128],
-        meta: [0xff; 16],
-    };
-    tear(&mut array, 0, &ones, 0);
+    tear(&mut array, 0, &WIDE_ONES, 0);
     let torn = seen(&mut array, 0, 1).bits[127];
-    overwrite(&mut array, 0, &ones, 2);
+    overwrite(&mut array, 0, &WIDE_ONES, 2);
     let written = seen(&mut array, 0, 3).meta[15];
-    assert_eq!(rt; (torn, written, array.pulses(0)), (0x55, 0xff, 2));
+    compare(&rt, (torn, written, array.pulses(0)), (0x55, 0xff, 2));
     Ok(())
+}
+
+// Writes ones to one of three lines and then to another: what the other held before, what the lines hold in the end, and the
+// pulses of line 1.
+fn drawn(
+    alloc: Global,
+    first: u32,
+    second: u32,
+) -> Result<(Cells<64, 8>, [Cells<64, 8>; 3], u64), AllocError>
+    requires first { first < 3 }
+    requires second { second < 3 }
+{
+    let mut array: MemArray<64, 8> = MemArray::new();
+    array.power_up(alloc, 3, SHORT)?;
+    overwrite(&mut array, first, &ONES, 0);
+    let before = seen(&mut array, second, 1);
+    overwrite(&mut array, second, &ONES, 2);
+    let lines = [
+        seen(&mut array, 0, 3),
+        seen(&mut array, 1, 3),
+        seen(&mut array, 2, 3),
+    ];
+    Ok((before, lines, array.pulses(1)))
 }
 
 #[test]
 fn a_line_is_drawn_by_its_number_whichever_is_pulsed_first(rt: HostRuntime) -> Result<(), Fail> {
-    let mut array: MemArray<64, 8> = MemArray::new();
-    let mut other: MemArray<64, 8> = MemArray::new();
-    array.power_up(rt.alloc(), 3, SHORT)?;
-    other.power_up(rt.alloc(), 3, SHORT)?;
-    let ones = Cells {
-        bits: [0xff; 64],
-        meta: [0xff; 8],
-    };
-    overwrite(&mut array, 0, &ones, 0);
-    overwrite(&mut array, 2, &ones, 0);
-    overwrite(&mut other, 2, &ones, 0);
-    let before = seen(&mut other, 0, 1);
-    overwrite(&mut other, 0, &ones, 2);
-    let lines = [seen(&mut array, 0, 3), seen(&mut array, 2, 3)];
-    let others = [seen(&mut other, 0, 3), seen(&mut other, 2, 3)];
-    assert_eq!(rt;
-        [
-            is_same(&lines[0], &others[0]),
-            is_same(&lines[1], &others[1]),
-            is_same(&lines[0], &lines[1])
-        ],
-        [true, true, false]
-    );
-    let unpulsed = seen(&mut other, 1, 3);
-    assert!(rt; before.is_none() && unpulsed.is_none());
-    assert_eq!(rt; other.pulses(1), 0);
+    let (_, lines, _) = drawn(rt.alloc(), 0, 2)?;
+    let (before, others, pulses) = drawn(rt.alloc(), 2, 0)?;
+    let same = [
+        is_same(&lines[0], &others[0]),
+        is_same(&lines[2], &others[2]),
+        is_same(&lines[0], &lines[2]),
+    ];
+    let none = [before.is_none(), others[1].is_none()];
+    compare(&rt, same, [true, true, false]);
+    compare(&rt, (none, pulses), ([true, true], 0));
     Ok(())
 }

@@ -1,3 +1,4 @@
+use crate::comparing::compare;
 use bank_shape::{BankShape, Home, Work};
 use masked_bytes::entry::Entry;
 use power_recovery::kept::Kept;
@@ -23,13 +24,14 @@ fn a_full_queue_refuses_or_merges(rt: HostRuntime) -> Result<(), Fail> {
     let first = kept.accept(Entry::whole(1, 0, &[0x11; 128]), false);
     let in_flight = kept.accept(Entry::whole(2, 0, &[0x22; 128]), true);
     let behind = kept.accept(Entry::whole(2, 0, &[0x22; 128]), false);
-    assert_eq!(rt;
+    compare(
+        &rt,
         [first, in_flight, behind],
         [
             Accept::Pushed,
             Accept::Full,
-            Accept::Merged { row: 1, index: 0 }
-        ]
+            Accept::Merged { row: 1, index: 0 },
+        ],
     );
     Ok(())
 }
@@ -39,8 +41,9 @@ fn a_store_makes_a_move_due(rt: HostRuntime) -> Result<(), Fail> {
     let mut kept = Kept::new(rt.alloc(), SMALL)?;
     let _ = kept.accept(Entry::whole(1, 0, &[0x11; 128]), false);
     let _ = kept.accept(Entry::whole(2, 0, &[0x22; 128]), false);
+    // the macro, here and before the move: from it the check knows that there is such work to do
     assert_eq!(rt; kept.next_work(), Work::Store { line: 0, slot: 0 });
-    assert_eq!(rt; kept.stored(), 2);
+    let row = kept.stored();
     let step = Move {
         line: 3,
         from: 3,
@@ -48,22 +51,27 @@ fn a_store_makes_a_move_due(rt: HostRuntime) -> Result<(), Fail> {
     };
     assert_eq!(rt; kept.next_work(), Work::Copy { region: 0, step });
     kept.moved();
-    assert_eq!(rt; (kept.next_work(), kept.slot_of(3)), (Work::Nothing, 4));
+    compare(
+        &rt,
+        (row, kept.next_work(), kept.slot_of(3)),
+        (2, Work::Nothing, 4),
+    );
     Ok(())
 }
 
 #[test]
 fn the_third_retirement_finds_no_spare(rt: HostRuntime) -> Result<(), Fail> {
     let mut kept: Kept<64> = Kept::new(rt.alloc(), SMALL)?;
-    assert!(rt; *kept.shape() == SMALL && kept.is_empty());
-    let two = [kept.retire(4), kept.retire(4)];
+    let new = [*kept.shape() == SMALL, kept.is_empty()];
+    let (first, second) = (kept.retire(4), kept.retire(4));
     let spent = kept.exhausted();
     let third = kept.retire(0);
-    assert_eq!(rt; (two, spent), ([Ok(5), Ok(6)], false));
-    assert_eq!(rt; (third, kept.exhausted()), (Err(NoSpare), true));
-    let lines = (kept.array_line(0), kept.array_line(4));
-    let counts = (kept.remap().used(), kept.region(0).counter());
-    assert_eq!(rt; (lines, counts), ((0, 6), (2, 0)));
+    let lines = [kept.array_line(0), kept.array_line(4)];
+    let counts = [kept.remap().used(), kept.region(0).counter()];
+    compare(&rt, new, [true, true]);
+    compare(&rt, [first, second, third], [Ok(5), Ok(6), Err(NoSpare)]);
+    compare(&rt, [spent, kept.exhausted()], [false, true]);
+    compare(&rt, [lines, counts], [[0, 6], [2, 0]]);
     Ok(())
 }
 
@@ -111,12 +119,13 @@ fn masked_writes_merge(rt: HostRuntime) -> Result<(), Fail> {
     let mut kept = Kept::new(rt.alloc(), MASKS)?;
     let first = kept.accept(FIRST, false);
     let second = kept.accept(SECOND, false);
-    assert_eq!(rt;
+    compare(
+        &rt,
         [first, second],
-        [Accept::Pushed, Accept::Merged { row: 1, index: 0 }]
+        [Accept::Pushed, Accept::Merged { row: 1, index: 0 }],
     );
     kept.complete(&[90, 91, 92, 93, 94, 95, 96, 97]);
-    assert_eq!(rt; head(&kept), Some((2, COMPLETE)));
+    compare(&rt, head(&kept), Some((2, COMPLETE)));
     Ok(())
 }
 
@@ -128,12 +137,13 @@ fn masked_writes_merge_behind_a_head_in_flight(rt: HostRuntime) -> Result<(), Fa
     kept.complete(&[90, 91, 92, 93, 94, 95, 96, 97]);
     let third = kept.accept(Entry { row: 3, ..FIRST }, true);
     let fourth = kept.accept(Entry { row: 4, ..SECOND }, true);
-    assert_eq!(rt;
+    compare(
+        &rt,
         [third, fourth],
-        [Accept::Pushed, Accept::Merged { row: 3, index: 1 }]
+        [Accept::Pushed, Accept::Merged { row: 3, index: 1 }],
     );
-    assert_eq!(rt; (kept.len(), second_row(&kept)), (2, Some(4)));
+    compare(&rt, (kept.len(), second_row(&kept)), (2, Some(4)));
     let (bytes, _) = kept.newest(3);
-    assert_eq!(rt; (bytes, kept.array_line(3)), (COMPLETE, 23));
+    compare(&rt, (bytes, kept.array_line(3)), (COMPLETE, 23));
     Ok(())
 }

@@ -6,6 +6,8 @@ mod bytes;
 #[cfg(test)]
 mod cells;
 #[cfg(test)]
+mod comparing;
+#[cfg(test)]
 mod keeping;
 #[cfg(test)]
 mod line_writes;

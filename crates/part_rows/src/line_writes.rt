@@ -5,6 +5,7 @@ ghost use Rattle.std.specs.Prelude.{◌<◌};
 ghost use Rattle.pcm_cells.specs.Rows.{cell};
 ghost use Rattle.ecp_line.specs.Layout.{IsLayout, Sound};
 
+use crate::comparing::compare;
 use ecp_line::Ecp;
 use line_writer::{Cause, LineWriter, Progress};
 use pcm_cells::{Act, CellArray, Cells, Script, ScriptArray, Wear};
@@ -104,8 +105,9 @@ fn told(alloc: Global, stuck: &[u16]) -> Result<(u32, Progress, u8, [u8; 8]), Al
 #[test]
 fn a_perfect_line_takes_one_step(rt: HostRuntime) -> Result<(), Fail> {
     let (steps, progress, cells) = written::<64, 8, 6>(rt.alloc(), &[])?;
-    assert_eq!(rt; (steps, progress), (1, Progress::Stored));
-    assert!(rt; cells.bits == [0xff; 64] && cells.meta == [0; 8]);
+    compare(&rt, (steps, progress), (1, Progress::Stored));
+    compare(&rt, cells.bits, [0xff; 64]);
+    compare(&rt, cells.meta, [0; 8]);
     Ok(())
 }
 
@@ -127,9 +129,10 @@ fn a_stuck_cell_takes_an_entry_and_those_of_an_entry_take_another(
         ),
     ];
     for (stuck, steps, first, check) in cases {
-        assert_eq!(rt;
+        compare(
+            &rt,
             told(rt.alloc(), stuck)?,
-            (steps, Progress::Stored, first, check)
+            (steps, Progress::Stored, first, check),
         );
     }
     Ok(())
@@ -143,9 +146,10 @@ fn ending(alloc: Global, stuck: &[u16]) -> Result<(u32, Progress), AllocError> {
 
 #[test]
 fn seven_stuck_cells_are_too_many(rt: HostRuntime) -> Result<(), Fail> {
-    assert_eq!(rt;
+    compare(
+        &rt,
         ending(rt.alloc(), &[0, 1, 2, 3, 4, 5, 6])?,
-        (67, Progress::Worn(Cause::TooMany))
+        (67, Progress::Worn(Cause::TooMany)),
     );
     Ok(())
 }
@@ -153,15 +157,19 @@ fn seven_stuck_cells_are_too_many(rt: HostRuntime) -> Result<(), Fail> {
 #[test]
 fn a_stuck_activity_cell_wears_a_line(rt: HostRuntime) -> Result<(), Fail> {
     let (_, progress) = ending(rt.alloc(), &[0, 562])?;
-    assert_eq!(rt; progress, Progress::Worn(Cause::Activity(562)));
+    compare(&rt, progress, Progress::Worn(Cause::Activity(562)));
     Ok(())
 }
 
 #[test]
 fn lines_of_128_bytes_have_eight_entries(rt: HostRuntime) -> Result<(), Fail> {
     let (steps, progress, cells) = written::<128, 16, 8>(rt.alloc(), &[0])?;
-    assert_eq!(rt; (steps, progress), (10, Progress::Stored));
-    assert!(rt; cells.meta == [0, 4, 0, 0, 0, 0, 0, 0, 0, 0x20, 0, 0, 0, 0, 0, 0]);
+    compare(&rt, (steps, progress), (10, Progress::Stored));
+    compare(
+        &rt,
+        cells.meta,
+        [0, 4, 0, 0, 0, 0, 0, 0, 0, 0x20, 0, 0, 0, 0, 0, 0],
+    );
     let cases: [(&[u16], u32, Progress); 2] = [
         (&[0, 1, 2, 3, 4, 5, 6, 7], 80, Progress::Stored),
         (
@@ -172,7 +180,7 @@ fn lines_of_128_bytes_have_eight_entries(rt: HostRuntime) -> Result<(), Fail> {
     ];
     for (stuck, steps, end) in cases {
         let (took, progress, _) = written::<128, 16, 8>(rt.alloc(), stuck)?;
-        assert_eq!(rt; (took, progress), (steps, end));
+        compare(&rt, (took, progress), (steps, end));
     }
     Ok(())
 }
@@ -190,11 +198,12 @@ fn a_tear_of_the_last_pointer_leaves_a_line_that_can_be_written(
     })?;
     let mut array: ScriptArray<64, 8> = ScriptArray::new(script);
     array.power_up(rt.alloc(), 7, WEAR)?;
-    assert!(rt; tear_after::<_, 64, 8, 6>(&mut array, &[0xff; 64], 57));
+    let is_torn = tear_after::<_, 64, 8, 6>(&mut array, &[0xff; 64], 57);
     let torn = array.sense(3, 0);
     let active = Ecp::<64, 8, 6>::active(&torn);
-    assert_eq!(rt; (active, array.pulses(3)), (2, 58));
+    let pulses = array.pulses(3);
     let end = write::<_, 64, 8, 6>(&mut array, &[0xff; 64]);
-    assert_eq!(rt; end, (39, Progress::Stored));
+    compare(&rt, (is_torn, active, pulses), (true, 2, 58));
+    compare(&rt, end, (39, Progress::Stored));
     Ok(())
 }

@@ -1,6 +1,7 @@
 ghost use Rattle.std.specs.Prelude.{◌<◌};
 ghost use Rattle.pcm_cells.specs.Device.{IsShape};
 
+use crate::comparing::compare;
 use pcm_cells::{Act, CellArray, Cells, Script, ScriptArray, Wear};
 use program_verify::{Prog, Turn};
 use std::test::Fail;
@@ -47,8 +48,7 @@ fn seven_misses_settle_at_the_eighth_step(rt: HostRuntime) -> Result<(), Fail> {
     let mut want = Cells::zero();
     want.set(3, true);
     let (steps, wrong) = settle(&mut array, &want);
-    assert_eq!(rt; (steps, array.pulses(0)), (8, 8));
-    assert!(rt; wrong.is_none());
+    compare(&rt, (steps, array.pulses(0), wrong.is_none()), (8, 8, true));
     Ok(())
 }
 
@@ -66,7 +66,7 @@ fn a_stuck_cell_is_left_wrong(rt: HostRuntime) -> Result<(), Fail> {
     let mut want = Cells::zero();
     want.set(3, true);
     let (steps, wrong) = settle(&mut array, &want);
-    assert_eq!(rt; (steps, wrong.get(3), wrong.count()), (8, true, 1));
+    compare(&rt, (steps, wrong.get(3), wrong.count()), (8, true, 1));
     Ok(())
 }
 
@@ -77,10 +77,10 @@ fn a_torn_round_counts_as_a_pulse(rt: HostRuntime) -> Result<(), Fail> {
     let mut want = Cells::zero();
     want.set(3, true);
     let prog = Prog::new(array.sense(0, 0), want, want);
-    assert!(rt; prog.seen().is_none());
+    compare(&rt, prog.seen().is_none(), true);
     if let Turn::Going = prog.status() {
         prog.tear(&mut array, 0, 1);
     }
-    assert_eq!(rt; (array.sense(0, 2).get(3), array.pulses(0)), (true, 1));
+    compare(&rt, (array.sense(0, 2).get(3), array.pulses(0)), (true, 1));
     Ok(())
 }

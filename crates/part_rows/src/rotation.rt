@@ -1,6 +1,7 @@
 // How lines go round the places of a region, and when they do.
 ghost use Rattle.std.specs.Prelude.{◌≡◌};
 
+use crate::comparing::compare;
 use region_regs::Region;
 use start_gap::{Move, Registers, find_move};
 
@@ -29,10 +30,10 @@ fn four_lines_turn_round_five_places(rt: HostRuntime) {
     registers.advance();
     registers.advance();
     let round = seen(&registers);
-    assert_eq!(rt; new, ([0, 1, 2, 3], 0, 4));
-    assert_eq!(rt; once, ([0, 1, 2, 4], 0, 3));
-    assert_eq!(rt; lines, (None, Some(3)));
-    assert_eq!(rt; round, ([1, 2, 3, 0], 1, 4));
+    compare(&rt, new, ([0, 1, 2, 3], 0, 4));
+    compare(&rt, once, ([0, 1, 2, 4], 0, 3));
+    compare(&rt, lines, (None, Some(3)));
+    compare(&rt, round, ([1, 2, 3, 0], 1, 4));
 }
 
 #[test]
@@ -41,18 +42,19 @@ fn registers_are_made_as_they_stand_after_a_turn(rt: HostRuntime) {
     for _ in 0..5 {
         registers.advance();
     }
-    assert_eq!(rt; registers, Registers::at(4, 1, 4));
+    compare(&rt, registers, Registers::at(4, 1, 4));
 }
 
 #[test]
 fn a_move_follows_the_gap(rt: HostRuntime) {
-    assert_eq!(rt;
+    compare(
+        &rt,
         Registers::at(4, 1, 4).next_move(),
         Move {
             line: 2,
             from: 3,
-            to: 4
-        }
+            to: 4,
+        },
     );
 }
 
@@ -63,7 +65,7 @@ fn each_move_of_a_turn_is_found(rt: HostRuntime) {
         find_move(4, 7, 3, 2),
         find_move(4, 7, 1, 2),
     ];
-    assert_eq!(rt; found, [7, 12, 22]);
+    compare(&rt, found, [7, 12, 22]);
 }
 
 #[test]
@@ -72,10 +74,11 @@ fn a_move_is_due_at_the_second_of_two_writes(rt: HostRuntime) {
     region.stored();
     let once = region.due();
     region.stored();
-    assert!(rt; region.due());
-    let twice = region.counter();
+    let twice = region.due();
+    let counter = region.counter();
     region.moved();
     let moved = (region.due(), region.counter(), region.registers().gap());
-    assert_eq!(rt; (once, twice, moved), (false, 2, (false, 0, 3)));
-    assert_eq!(rt; Region::at(4, 2, 1, 3, 0).registers().start(), 3);
+    compare(&rt, (once, twice, counter), (false, true, 2));
+    compare(&rt, moved, (false, 0, 3));
+    compare(&rt, Region::at(4, 2, 1, 3, 0).registers().start(), 3);
 }

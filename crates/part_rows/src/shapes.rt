@@ -1,3 +1,4 @@
+use crate::comparing::compare;
 use bank_shape::BankShape;
 use module_shape::{BadShape, BankLine, Field, Home, Policy, RawShape, Shape};
 
@@ -79,8 +80,8 @@ fn refused(raw: RawShape) -> Option<Field> {
 
 #[test]
 fn a_shape_has_its_sizes(rt: HostRuntime) {
-    assert_eq!(rt; sizes(RAW), Some([2, 64, 6, 78]));
-    assert_eq!(rt; second_bank(RAW), Some((39, 36, Home::Guarded)));
+    compare(&rt, sizes(RAW), Some([2, 64, 6, 78]));
+    compare(&rt, second_bank(RAW), Some((39, 36, Home::Guarded)));
 }
 
 #[test]
@@ -94,25 +95,26 @@ fn a_shape_keeps_what_it_was_made_of(rt: HostRuntime) {
 /// Each bank has a control line for each of its four regions and three spares, and one for the mark.
 #[test]
 fn registers_in_the_array_take_lines(rt: HostRuntime) {
-    assert_eq!(rt; sizes(IN_ARRAY), Some([2, 64, 6, 94]));
-    assert_eq!(rt; second_bank(IN_ARRAY), Some((47, 36, Home::Array)));
+    compare(&rt, sizes(IN_ARRAY), Some([2, 64, 6, 94]));
+    compare(&rt, second_bank(IN_ARRAY), Some((47, 36, Home::Array)));
 }
 
 #[test]
 fn a_line_is_located(rt: HostRuntime) {
-    assert_eq!(rt;
+    compare(
+        &rt,
         [located(RAW, 45), located(RAW, 63), located(RAW, 64)],
         [
             Some(BankLine { bank: 1, line: 13 }),
             Some(BankLine { bank: 1, line: 31 }),
-            None
-        ]
+            None,
+        ],
     );
 }
 
 #[test]
 fn the_largest_shape_is_accepted(rt: HostRuntime) {
-    assert_eq!(rt; sizes(LARGEST), Some([16, 65_536, 16, 98_832]));
+    compare(&rt, sizes(LARGEST), Some([16, 65_536, 16, 98_832]));
 }
 
 #[test]
@@ -133,14 +135,15 @@ fn the_first_size_out_of_range_is_named(rt: HostRuntime) {
         iter_ticks: 256,
         ..RAW
     };
-    assert_eq!(rt;
+    compare(
+        &rt,
         [refused(banks), refused(total), refused(ticks), refused(RAW)],
         [
             Some(Field::Banks),
             Some(Field::Total),
             Some(Field::IterTicks),
-            None
-        ]
+            None,
+        ],
     );
 }
 
@@ -161,10 +164,11 @@ fn counts_slots_and_lines(rt: HostRuntime) {
         home: Home::Array,
         ..shape
     };
-    assert_eq!(rt; (shape.slots(), shape.array_lines()), (10, 11));
-    assert_eq!(rt; (array.array_lines(), array.first_control()), (15, 22));
-    assert_eq!(rt;
+    compare(&rt, (shape.slots(), shape.array_lines()), (10, 11));
+    compare(&rt, (array.array_lines(), array.first_control()), (15, 22));
+    compare(
+        &rt,
         [shape.slot(0, 4), shape.slot(1, 0), shape.slot(1, 4)],
-        [4, 5, 9]
+        [4, 5, 9],
     );
 }
