@@ -1,6 +1,8 @@
+use crate::expected::assert_text;
 use bank_shape::Home;
 use pcm_io::Text;
 use rotation_reports::{Map, MapOptions, print_map_header, print_move_row, print_moves_header};
+use std::alloc::{AllocError, Global};
 use std::test::Fail;
 
 #[test]
@@ -20,16 +22,17 @@ fn a_small_module_is_mapped_after_five_moves(rt: HostRuntime) -> Result<(), Fail
     map.print_row(1, &mut text);
     map.print_row(2, &mut text);
     map.print_row(3, &mut text);
-    assert_eq!(rt;
+    assert_text(
+        &rt,
         text.bytes(),
-        b"line,bank,region,offset,place,array\n0,0,0,3,0,0\n1,0,0,1,2,2\n2,0,0,2,3,3\n3,0,0,0,1,1\n".as_slice()
+        b"line,bank,region,offset,place,array\n0,0,0,3,0,0\n1,0,0,1,2,2\n2,0,0,2,3,3\n3,0,0,0,1,1\n",
     );
     Ok(())
 }
 
-#[test]
-fn a_larger_module_has_two_banks_of_eleven_array_lines(rt: HostRuntime) -> Result<(), Fail> {
-    let mut text = Text::new(rt.alloc(), 192)?;
+// The rows of some lines of a module of two banks with two regions each.
+fn larger(alloc: Global, home: Home) -> Result<Text, AllocError> {
+    let mut text = Text::new(alloc, 192)?;
     let map = Map::new(MapOptions {
         banks: 2,
         regions: 2,
@@ -37,36 +40,32 @@ fn a_larger_module_has_two_banks_of_eleven_array_lines(rt: HostRuntime) -> Resul
         spares: 1,
         seed: 0,
         moves: 0,
-        home: Home::Guarded,
+        home,
     });
     map.print_row(0, &mut text);
     map.print_row(8, &mut text);
     map.print_row(15, &mut text);
-    assert_eq!(rt;
+    Ok(text)
+}
+
+#[test]
+fn a_larger_module_has_two_banks_of_eleven_array_lines(rt: HostRuntime) -> Result<(), Fail> {
+    let text = larger(rt.alloc(), Home::Guarded)?;
+    assert_text(
+        &rt,
         text.bytes(),
-        b"0,0,1,1,1,6\n8,1,1,1,1,17\n15,1,0,2,2,13\n".as_slice()
+        b"0,0,1,1,1,6\n8,1,1,1,1,17\n15,1,0,2,2,13\n",
     );
     Ok(())
 }
 
 #[test]
 fn registers_in_the_array_take_four_lines_more_of_each_bank(rt: HostRuntime) -> Result<(), Fail> {
-    let mut text = Text::new(rt.alloc(), 192)?;
-    let map = Map::new(MapOptions {
-        banks: 2,
-        regions: 2,
-        lines: 4,
-        spares: 1,
-        seed: 0,
-        moves: 0,
-        home: Home::Array,
-    });
-    map.print_row(0, &mut text);
-    map.print_row(8, &mut text);
-    map.print_row(15, &mut text);
-    assert_eq!(rt;
+    let text = larger(rt.alloc(), Home::Array)?;
+    assert_text(
+        &rt,
         text.bytes(),
-        b"0,0,1,1,1,6\n8,1,1,1,1,21\n15,1,0,2,2,17\n".as_slice()
+        b"0,0,1,1,1,6\n8,1,1,1,1,21\n15,1,0,2,2,17\n",
     );
     Ok(())
 }
@@ -78,9 +77,10 @@ fn moves_go_round_the_end(rt: HostRuntime) -> Result<(), Fail> {
     print_move_row(4, 7, &mut text);
     print_move_row(4, 8, &mut text);
     print_move_row(4, 9, &mut text);
-    assert_eq!(rt;
+    assert_text(
+        &rt,
         text.bytes(),
-        b"move,line,from,to\n7,0,1,2\n8,3,0,1\n9,2,4,0\n".as_slice()
+        b"move,line,from,to\n7,0,1,2\n8,3,0,1\n9,2,4,0\n",
     );
     Ok(())
 }

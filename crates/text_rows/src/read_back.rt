@@ -26,42 +26,45 @@ fn what_a_run_prints_is_read(rt: HostRuntime) -> Result<(), Fail> {
     Ok(())
 }
 
+fn fault_of(rt: HostRuntime, text: &[u8]) -> Option<ResultFault> {
+    both(rt, text).err()
+}
+
+// Texts, and the first row of each that is none of results.
+static FAULTS: [(&[u8], u32); 9] = [
+    (b"", 0),
+    (b"row,op,line,outcome,tick,place,data", 0),
+    (b"row,op,line,outcome,tick,place,data\n", 1),
+    (
+        b"row,op,line,outcome,tick,place,data\n1,W,0,stored,015,3,\n",
+        1,
+    ),
+    (
+        b"row,op,line,outcome,tick,place,data\n1,W,0,stored,15,98832,\n",
+        1,
+    ),
+    (
+        b"row,op,line,outcome,tick,place,data\n1,W,1,stored,15,3,\n",
+        1,
+    ),
+    (
+        b"row,op,line,outcome,tick,place,data\n1,W,0,stored,15,3,\n2,R,0,read,20,3,0F\n",
+        2,
+    ),
+    (
+        b"row,op,line,outcome,tick,place,data\n1,W,0,full,0,,\n2,R,0,busy,1,,",
+        2,
+    ),
+    (
+        b"row,op,line,outcome,tick,place,data\n1,W,0,full,0,,\n2,R,0,busy,1,,\n\n",
+        3,
+    ),
+];
+
 #[test]
 fn the_first_row_that_is_none_is_told(rt: HostRuntime) {
-    let cases: [(&[u8], u32); 9] = [
-        (b"", 0),
-        (b"row,op,line,outcome,tick,place,data", 0),
-        (b"row,op,line,outcome,tick,place,data\n", 1),
-        (
-            b"row,op,line,outcome,tick,place,data\n1,W,0,stored,015,3,\n",
-            1,
-        ),
-        (
-            b"row,op,line,outcome,tick,place,data\n1,W,0,stored,15,98832,\n",
-            1,
-        ),
-        (
-            b"row,op,line,outcome,tick,place,data\n1,W,1,stored,15,3,\n",
-            1,
-        ),
-        (
-            b"row,op,line,outcome,tick,place,data\n1,W,0,stored,15,3,\n2,R,0,read,20,3,0F\n",
-            2,
-        ),
-        (
-            b"row,op,line,outcome,tick,place,data\n1,W,0,full,0,,\n2,R,0,busy,1,,",
-            2,
-        ),
-        (
-            b"row,op,line,outcome,tick,place,data\n1,W,0,full,0,,\n2,R,0,busy,1,,\n\n",
-            3,
-        ),
-    ];
-    for (text, row) in cases {
-        let Err(fault) = both(rt, text) else {
-            panic!(rt; "row {row} has no fault");
-        };
-        assert_eq!(rt; fault, ResultFault::Row(row));
+    for (text, row) in &FAULTS {
+        assert_eq!(rt; fault_of(rt, text), Some(ResultFault::Row(*row)));
     }
 }
 

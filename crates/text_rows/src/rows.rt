@@ -2,6 +2,7 @@ ghost use Rattle.std.specs.Prelude.{◌≡◌, ◌≤◌, Some};
 ghost use Rattle.std.specs.Option.{ForSome};
 ghost use Rattle.result_rows.specs.Outcomes.{op_of, place_of};
 
+use crate::expected::assert_text;
 use pcm_io::Text;
 use result_rows::{Op, Outcome, Results, header, print_row};
 use std::test::Fail;
@@ -34,7 +35,7 @@ fn a_row_of_each_outcome_of_a_write(rt: HostRuntime) -> Result<(), Fail> {
     print(&mut text, 2, Op::Write, 1, &worn);
     let wanted =
         b"1,W,0,stored,15,3,\n1,W,0,merged,0,,\n1,W,0,queued,0,,\n4,W,0,full,6,,\n2,W,1,worn,700,,\n";
-    assert_eq!(rt; text.bytes(), wanted.as_slice());
+    assert_text(&rt, text.bytes(), wanted);
     Ok(())
 }
 
@@ -58,7 +59,7 @@ fn a_row_of_each_outcome_of_a_read_and_of_a_cut(rt: HostRuntime) -> Result<(), F
     print(&mut text, 2, Op::Cut, 7, &cut);
     let wanted =
         b"1,R,0,read,5,3,0123456789abcdef\n2,R,0,forwarded,0,,0123456789abcdef\n2,R,1,busy,0,,\n2,R,1,lost,19,,\n2,C,,cut,20,,\n";
-    assert_eq!(rt; text.bytes(), wanted.as_slice());
+    assert_text(&rt, text.bytes(), wanted);
     Ok(())
 }
 
@@ -88,18 +89,15 @@ fn a_row_is_set_once_and_the_others_stay(rt: HostRuntime) -> Result<(), Fail> {
     let mut results = Results::<64>::new(rt.alloc(), 3)?;
     let cut = Outcome::Cut { tick: 7 };
     results.set(2, cut);
-    assert_eq!(rt; results.rows(), 3);
+    let rows = [*results.get(1), *results.get(2), *results.get(3)];
     assert_eq!(rt;
-        [*results.get(1), *results.get(2), *results.get(3)],
-        [Outcome::Unset, cut, Outcome::Unset]
+        (results.rows(), rows),
+        (3, [Outcome::Unset, cut, Outcome::Unset])
     );
     Ok(())
 }
 
 #[test]
 fn the_header_names_the_fields(rt: HostRuntime) {
-    assert_eq!(rt;
-        header(),
-        b"row,op,line,outcome,tick,place,data\n".as_slice()
-    );
+    assert_text(&rt, header(), b"row,op,line,outcome,tick,place,data\n");
 }

@@ -1,27 +1,40 @@
+use crate::expected::assert_text;
 use pcm_io::{
     MemSink, MemSource, NeverFailSink, NeverFailSource, ReadAllFault, StdSink, StdSource, Text,
     WriteFault, read_all, write_all,
 };
+use std::alloc::{AllocError, Global};
+use std::process::Abort;
 use std::test::Fail;
+
+// Reads three bytes up to a limit, from a source whose call with this number fails.
+fn read(alloc: Global, limit: usize, fails: u32) -> Result<Vec<u8>, ReadAllFault> {
+    let bytes = Vec::from_slice(alloc, b"pcm")?;
+    let fails = Vec::from_slice(alloc, &[fails])?;
+    read_all(alloc, &mut MemSource::new(bytes, fails), limit)
+}
+
+fn fault(alloc: Global, limit: usize, fails: u32) -> Option<ReadAllFault> {
+    read(alloc, limit, fails).err()
+}
 
 #[test]
 fn reads_up_to_the_limit_and_no_further(rt: HostRuntime) -> Result<(), Fail> {
-    for (limit, fails, wanted) in [
-        (3, 9, None),
-        (2, 9, Some(ReadAllFault::TooLong)),
-        (3, 1, Some(ReadAllFault::Read)),
-        (3, 2, Some(ReadAllFault::Read)),
-    ] {
-        let bytes = Vec::from_slice(rt.alloc(), b"pcm")?;
-        let mut source = MemSource::new(bytes, Vec::from_slice(rt.alloc(), &[fails])?);
-        match read_all(rt.alloc(), &mut source, limit) {
-            Ok(read) => {
-                assert_eq!(rt; wanted, None);
-                assert_eq!(rt; read.as_slice(), b"pcm".as_slice());
-            }
-            Err(fault) => assert_eq!(rt; wanted, Some(fault), "at {limit} and {fails}"),
-        }
-    }
+    let whole = read(rt.alloc(), 3, 9)?;
+    assert_text(&rt, whole.as_slice(), b"pcm");
+    let faults = [
+        fault(rt.alloc(), 2, 9),
+        fault(rt.alloc(), 3, 1),
+        fault(rt.alloc(), 3, 2),
+    ];
+    assert_eq!(rt;
+        faults,
+        [
+            Some(ReadAllFault::TooLong),
+            Some(ReadAllFault::Read),
+            Some(ReadAllFault::Read)
+        ]
+    );
     Ok(())
 }
 
@@ -30,30 +43,33 @@ fn reads_more_than_one_piece(rt: HostRuntime) -> Result<(), Fail> {
     let bytes = vec![in rt.alloc(); 7u8; 10_000]?;
     let mut source = NeverFailSource::new(bytes);
     let read = read_all(rt.alloc(), &mut source, 10_000)?;
-    assert_eq!(rt; read.len(), 10_000);
-    assert_eq!(rt; read[9_999], 7);
+    assert_eq!(rt; (read.len(), read.last()), (10_000, Some(&7)));
+    Ok(())
+}
+
+// Two writes into a sink of so much room, whose call with this number fails: what they answer, and what is written.
+fn assert_writes(
+    rt: &impl Abort,
+    alloc: Global,
+    room: usize,
+    fails: u32,
+    answers: [Result<(), WriteFault>; 2],
+    written: &[u8],
+) -> Result<(), AllocError> {
+    let fails = Vec::from_slice(alloc, &[fails])?;
+    let mut sink = MemSink::new(alloc, room, fails)?;
+    let first = write_all(&mut sink, b"pcm");
+    let second = write_all(&mut sink, b"row");
+    assert_eq!(rt; [first, second], answers);
+    assert_text(rt, sink.written(), written);
     Ok(())
 }
 
 #[test]
 fn writes_all_or_stops_at_a_fault(rt: HostRuntime) -> Result<(), Fail> {
-    for (room, fails, wanted) in [
-        (6, 9, (Ok(()), Ok(()))),
-        (5, 9, (Ok(()), Err(WriteFault))),
-        (6, 1, (Err(WriteFault), Ok(()))),
-    ] {
-        let fails = Vec::from_slice(rt.alloc(), &[fails])?;
-        let mut sink = MemSink::new(rt.alloc(), room, fails)?;
-        let first = write_all(&mut sink, b"pcm");
-        let second = write_all(&mut sink, b"row");
-        assert_eq!(rt; (first, second), wanted);
-        let written = match wanted {
-            (Ok(()), Ok(())) => b"pcmrow".as_slice(),
-            (Ok(()), Err(_)) => b"pcm".as_slice(),
-            _ => b"row".as_slice(),
-        };
-        assert_eq!(rt; sink.written(), written);
-    }
+    assert_writes(&rt, rt.alloc(), 6, 9, [Ok(()), Ok(())], b"pcmrow")?;
+    assert_writes(&rt, rt.alloc(), 5, 9, [Ok(()), Err(WriteFault)], b"pcm")?;
+    assert_writes(&rt, rt.alloc(), 6, 1, [Err(WriteFault), Ok(())], b"row")?;
     Ok(())
 }
 
@@ -71,10 +87,10 @@ fn a_text_holds_what_was_pushed(rt: HostRuntime) -> Result<(), Fail> {
     let new = text.room();
     text.push(b"row,");
     text.push_number(17);
-    assert_eq!(rt; text.bytes(), b"row,17".as_slice());
+    assert_text(&rt, text.bytes(), b"row,17");
     let left = text.room();
     text.clear();
-    assert_eq!(rt; text.bytes(), b"".as_slice());
+    assert_text(&rt, text.bytes(), b"");
     assert_eq!(rt; [new, left, text.room()], [8, 2, 8]);
     Ok(())
 }
@@ -83,7 +99,7 @@ fn a_text_holds_what_was_pushed(rt: HostRuntime) -> Result<(), Fail> {
 fn a_reader_of_std_is_adapted(rt: HostRuntime) -> Result<(), Fail> {
     let mut source = StdSource::new(b"0,R,0,".as_slice());
     let read = read_all(rt.alloc(), &mut source, 100)?;
-    assert_eq!(rt; read.as_slice(), b"0,R,0,".as_slice());
+    assert_text(&rt, read.as_slice(), b"0,R,0,");
     Ok(())
 }
 

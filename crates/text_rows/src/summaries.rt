@@ -1,10 +1,12 @@
 ghost use Rattle.std.specs.Prelude.{◌≡◌, ◌<◌};
 ghost use Rattle.pcm_cells.specs.Device.{IsShape};
 
+use crate::expected::assert_text;
 use pcm_cells::{CellArray, Cells, MemArray, ScriptArray, Wear};
 use pcm_io::Text;
 use result_rows::{Outcome, Results};
 use run_text::{Counts, add_pulses, any_short, is_short, print_summary, sum_pulses};
+use std::alloc::{AllocError, Global};
 use std::test::Fail;
 
 // Pulses the cells of the line that differ, if any do.
@@ -30,20 +32,27 @@ const LASTING: Wear = Wear {
     misses: 0,
 };
 
-#[test]
-fn a_write_and_a_read_forwarded_from_the_queue(rt: HostRuntime) -> Result<(), Fail> {
-    let mut results = Results::<64>::new(rt.alloc(), 2)?;
+// The summary of a write and a read that was forwarded from the queue, and whether a row of them falls short.
+fn forwarded(alloc: Global) -> Result<(Text, bool), AllocError> {
+    let mut results = Results::<64>::new(alloc, 2)?;
     results.set(1, Outcome::Stored { tick: 15, place: 3 });
     let bytes = [0xff; 64];
     results.set(2, Outcome::Forwarded { tick: 0, bytes });
     let counts = Counts::of(&results);
-    let mut text = Text::new(rt.alloc(), 512)?;
+    let mut text = Text::new(alloc, 512)?;
     print_summary(results.rows(), &counts, 0, 1, &mut text);
-    assert_eq!(rt;
+    Ok((text, any_short(&results)))
+}
+
+#[test]
+fn a_write_and_a_read_forwarded_from_the_queue(rt: HostRuntime) -> Result<(), Fail> {
+    let (text, short) = forwarded(rt.alloc())?;
+    assert_text(
+        &rt,
         text.bytes(),
-        b"rows 2\nstored 1\nmerged 0\nqueued 0\nfull 0\nworn 0\nread 0\nforwarded 1\nbusy 0\nlost 0\ncut 0\nretired 0\npulses 1\n".as_slice()
+        b"rows 2\nstored 1\nmerged 0\nqueued 0\nfull 0\nworn 0\nread 0\nforwarded 1\nbusy 0\nlost 0\ncut 0\nretired 0\npulses 1\n",
     );
-    assert!(rt; !any_short(&results));
+    assert!(rt; !short);
     Ok(())
 }
 
@@ -63,9 +72,10 @@ fn each_outcome_has_its_own_line(rt: HostRuntime) -> Result<(), Fail> {
     };
     let mut text = Text::new(rt.alloc(), 512)?;
     print_summary(400_000, &counts, 16_384, u64::MAX, &mut text);
-    assert_eq!(rt;
+    assert_text(
+        &rt,
         text.bytes(),
-        b"rows 400000\nstored 1\nmerged 2\nqueued 3\nfull 4\nworn 5\nread 6\nforwarded 7\nbusy 8\nlost 9\ncut 4294967295\nretired 16384\npulses 18446744073709551615\n".as_slice()
+        b"rows 400000\nstored 1\nmerged 2\nqueued 3\nfull 4\nworn 5\nread 6\nforwarded 7\nbusy 8\nlost 9\ncut 4294967295\nretired 16384\npulses 18446744073709551615\n",
     );
     Ok(())
 }
@@ -75,16 +85,20 @@ fn a_refused_write_and_a_queued_one_fall_short(rt: HostRuntime) -> Result<(), Fa
     let mut results = Results::<128>::new(rt.alloc(), 3)?;
     results.set(1, Outcome::Merged { tick: 0 });
     results.set(3, Outcome::Cut { tick: 9 });
-    assert!(rt; !any_short(&results), "a row that isn't set");
+    let unset = any_short(&results);
     results.set(2, Outcome::Full { tick: 0 });
     let counts = Counts::of(&results);
+    let counted = [counts.merged, counts.full, counts.cut, counts.lost];
+    let short = [
+        unset,
+        any_short(&results),
+        is_short(&Outcome::<64>::Queued { tick: 7 }),
+        is_short(&Outcome::<64>::Merged { tick: 7 }),
+    ];
     assert_eq!(rt;
-        (counts.merged, counts.full, counts.cut, counts.lost),
-        (1, 1, 1, 0)
+        (counted, short),
+        ([1, 1, 1, 0], [false, true, true, false])
     );
-    let queued = is_short(&Outcome::<64>::Queued { tick: 7 });
-    let merged = is_short(&Outcome::<64>::Merged { tick: 7 });
-    assert_eq!(rt; (any_short(&results), queued, merged), (true, true, false));
     Ok(())
 }
 

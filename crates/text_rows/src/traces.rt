@@ -1,58 +1,70 @@
+use crate::expected::assert_events;
+use std::alloc::Global;
 use std::test::Fail;
 use trace_reader::{Kind, MOST_ROWS, ParseFault, TraceEvent, TraceFault, TraceOp, number, parse};
 
 #[test]
 fn a_number_has_its_digits_and_its_bound(rt: HostRuntime) {
-    let small = [
+    let numbers = [
         number(b"0042", 5, 63),
         number(b"64", 5, 63),
         number(b"", 5, 63),
         number(b"+7", 5, 63),
-    ];
-    let greatest = [
         number(b"18446744073709551615", 20, u64::MAX),
         number(b"18446744073709551616", 20, u64::MAX),
     ];
-    assert_eq!(rt; small, [Some(42), None, None, None]);
-    assert_eq!(rt; greatest, [Some(u64::MAX), None]);
+    assert_eq!(rt; numbers, [Some(42), None, None, None, Some(u64::MAX), None]);
 }
+
+// The fault of a trace over so many lines, of which there is one.
+fn fault_of(alloc: Global, text: &[u8], lines: u32) -> Option<TraceFault> {
+    if lines == 0 {
+        return None;
+    }
+    match parse::<64>(alloc, text, lines) {
+        Err(ParseFault::Trace(fault)) => Some(fault),
+        _ => None,
+    }
+}
+
+// A trace, the lines that it may name, and the row and the kind of its fault.
+static FAULTS: [(&[u8], u32, u32, Kind); 11] = [
+    (b"", 4, 0, Kind::Header),
+    (b"tick,op,arg,payload\n", 4, 0, Kind::Header),
+    (
+        b"tick,op,arg,data\n5,R,0,\n6,R,0,\n4,R,0,\n",
+        4,
+        3,
+        Kind::Order,
+    ),
+    (
+        b"tick,op,arg,data\n0,W,0,aaaaaaaaaaaaaaaaaaaaaaaaaaaaaaaaaaaaaaaaaaaaaaaaaaaaaaaaaaaaaaaaaaaaaaaaaaaaaaaaaaaaaaaaaaaaaaaaaaaaaaaaaaaaaaaaaaaaaaaaaaaaaaa\n",
+        4,
+        1,
+        Kind::Payload,
+    ),
+    (b"tick,op,arg,data\n0,R,4,\n", 4, 1, Kind::Line),
+    (b"tick,op,arg,data\n0,R,64,\n", 64, 1, Kind::Line),
+    (b"tick,op,arg,data\n0,R,0,\n7,R,1", 4, 2, Kind::Fields),
+    (b"tick,op,arg,data\n0,X,0,\n", 4, 1, Kind::Op),
+    (b"tick,op,arg,data\n1099511627777,R,0,\n", 4, 1, Kind::Tick),
+    (
+        b"tick,op,arg,data\n0,M,0,................................................................................................................................\n",
+        4,
+        1,
+        Kind::Payload,
+    ),
+    (b"tick,op,arg,data\nx,X,x\n", 4, 1, Kind::Fields),
+];
 
 #[test]
 fn the_first_fault_is_told_with_its_row(rt: HostRuntime) {
-    let cases: [(&[u8], u32, u32, Kind); 11] = [
-        (b"", 4, 0, Kind::Header),
-        (b"tick,op,arg,payload\n", 4, 0, Kind::Header),
-        (
-            b"tick,op,arg,data\n5,R,0,\n6,R,0,\n4,R,0,\n",
-            4,
-            3,
-            Kind::Order,
-        ),
-        (
-            b"tick,op,arg,data\n0,W,0,aaaaaaaaaaaaaaaaaaaaaaaaaaaaaaaaaaaaaaaaaaaaaaaaaaaaaaaaaaaaaaaaaaaaaaaaaaaaaaaaaaaaaaaaaaaaaaaaaaaaaaaaaaaaaaaaaaaaaaaaaaaaaaa\n",
-            4,
-            1,
-            Kind::Payload,
-        ),
-        (b"tick,op,arg,data\n0,R,4,\n", 4, 1, Kind::Line),
-        (b"tick,op,arg,data\n0,R,64,\n", 64, 1, Kind::Line),
-        (b"tick,op,arg,data\n0,R,0,\n7,R,1", 4, 2, Kind::Fields),
-        (b"tick,op,arg,data\n0,X,0,\n", 4, 1, Kind::Op),
-        (b"tick,op,arg,data\n1099511627777,R,0,\n", 4, 1, Kind::Tick),
-        (
-            b"tick,op,arg,data\n0,M,0,................................................................................................................................\n",
-            4,
-            1,
-            Kind::Payload,
-        ),
-        (b"tick,op,arg,data\nx,X,x\n", 4, 1, Kind::Fields),
-    ];
-    for (text, lines, row, kind) in cases {
-        assert!(rt; lines > 0);
-        let Err(ParseFault::Trace(fault)) = parse::<64>(rt.alloc(), text, lines) else {
-            panic!(rt; "row {row} has no fault");
+    for (text, lines, row, kind) in &FAULTS {
+        let wanted = TraceFault {
+            row: *row,
+            kind: *kind,
         };
-        assert_eq!(rt; fault, TraceFault { row, kind });
+        assert_eq!(rt; fault_of(rt.alloc(), text, *lines), Some(wanted));
     }
 }
 
@@ -84,15 +96,15 @@ fn rows_become_events(rt: HostRuntime) -> Result<(), Fail> {
             op: TraceOp::Read(2),
         },
     ];
-    assert_eq!(rt; events.as_slice(), want.as_slice());
+    assert_events(&rt, events.as_slice(), &want);
     Ok(())
 }
 
 #[test]
 fn the_header_alone_has_no_events(rt: HostRuntime) -> Result<(), Fail> {
-    let events = parse::<64>(rt.alloc(), b"tick,op,arg,data\n", 64)?;
-    let wide = parse::<128>(rt.alloc(), b"tick,op,arg,data\n", 65_536)?;
-    assert_eq!(rt; (events.len(), wide.len()), (0, 0));
+    let narrow = parse::<64>(rt.alloc(), b"tick,op,arg,data\n", 64)?.len();
+    let wide = parse::<128>(rt.alloc(), b"tick,op,arg,data\n", 65_536)?.len();
+    assert_eq!(rt; [narrow, wide], [0, 0]);
     Ok(())
 }
 
@@ -102,12 +114,12 @@ fn one_row_more_than_allowed_is_too_many(rt: HostRuntime) -> Result<(), Fail> {
     for _ in 0..MOST_ROWS {
         text.push_str("0,C,,\n")?;
     }
-    assert_eq!(rt; parse::<8>(rt.alloc(), text.as_bytes(), 4)?.len(), 400_000);
+    let most = parse::<8>(rt.alloc(), text.as_bytes(), 4)?.len();
     text.push_str("faulty\n")?;
     let too_many = matches!(
         parse::<8>(rt.alloc(), text.as_bytes(), 4),
         Err(ParseFault::TooMany)
     );
-    assert!(rt; too_many);
+    assert_eq!(rt; (most, too_many), (400_000, true));
     Ok(())
 }

@@ -1,3 +1,4 @@
+use crate::expected::assert_text;
 use pcm_io::Text;
 use std::test::Fail;
 use wear_report::{Role, header, print_role};
@@ -13,7 +14,7 @@ fn a_row_of_each_role(rt: HostRuntime) -> Result<(), Fail> {
     print_role(7, 0, 1, Role::Control, &mut text);
     let wanted =
         b"array,bank,pulses,role\n3,0,67,retired\n4,0,0,gap\n5,0,1,line 0\n6,0,0,free\n7,0,1,control\n";
-    assert_eq!(rt; text.bytes(), wanted.as_slice());
+    assert_text(&rt, text.bytes(), wanted);
     Ok(())
 }
 
@@ -21,9 +22,10 @@ fn a_row_of_each_role(rt: HostRuntime) -> Result<(), Fail> {
 fn the_longest_row(rt: HostRuntime) -> Result<(), Fail> {
     let mut text = Text::new(rt.alloc(), 64)?;
     print_role(98_831, 15, u64::MAX, Role::Line(65_535), &mut text);
-    assert_eq!(rt;
+    assert_text(
+        &rt,
         text.bytes(),
-        b"98831,15,18446744073709551615,line 65535\n".as_slice()
+        b"98831,15,18446744073709551615,line 65535\n",
     );
     Ok(())
 }

@@ -1,6 +1,7 @@
 use command_line::{Input, Job, LineSize, MovesJob, Print, Refusal, RunJob, read_job};
-use module_shape::{Home, Policy, RawShape};
+use module_shape::{Home, Policy, RawShape, Shape};
 use std::alloc::{AllocError, Global};
+use std::process::Abort;
 use std::test::Fail;
 use trace_gen::Mix;
 
@@ -14,10 +15,10 @@ fn read(alloc: Global, line: &str) -> Result<Result<Job, Refusal>, AllocError> {
 }
 
 // The run that a line of words asks for.
-fn run(alloc: Global, line: &str) -> Result<Option<RunJob>, AllocError> {
+fn run(alloc: Global, line: &str) -> Result<RunJob, Fail> {
     match read(alloc, line)? {
-        Ok(Job::Run(job)) => Ok(Some(job)),
-        _ => Ok(None),
+        Ok(Job::Run(job)) => Ok(job),
+        _ => Err(Fail::new("no run")),
     }
 }
 
@@ -35,18 +36,31 @@ const DEFAULTS: RawShape = RawShape {
     home: Home::Guarded,
 };
 
+// Compares the size of a line, the sizes of a module and a seed.
+fn assert_sizes(rt: &impl Abort, told: (LineSize, &Shape, u64), wanted: (LineSize, RawShape, u64)) {
+    let (line, shape, seed) = told;
+    assert_eq!(rt; (line, *shape.raw(), seed), wanted);
+}
+
+// Compares how the cells of a run wear out, what it prints and where its rows come from.
+fn assert_cells_and_rows(
+    rt: &impl Abort,
+    job: &RunJob,
+    cells: (u64, u32, u32, u8),
+    rows: (Print, Input),
+) {
+    let wear = &job.wear;
+    assert_eq!(rt; (wear.seed, wear.lo, wear.hi, wear.misses), cells);
+    assert_eq!(rt; (job.print, job.input), rows);
+}
+
 #[test]
 fn a_run_has_defaults(rt: HostRuntime) -> Result<(), Fail> {
-    let job = run(rt.alloc(), "run")?.ok_or("no run")?;
-    assert_eq!(rt; *job.shape.raw(), DEFAULTS);
-    assert_eq!(rt;
-        (job.line, job.seed, job.print, job.input),
-        (LineSize::Bytes64, 0, Print::Results, Input::Source)
-    );
-    assert_eq!(rt;
-        (job.wear.lo, job.wear.hi, job.wear.misses),
-        (100_000_000, 100_000_000, 0)
-    );
+    let job = run(rt.alloc(), "run")?;
+    let wanted = (LineSize::Bytes64, DEFAULTS, 0);
+    assert_sizes(&rt, (job.line, &job.shape, job.seed), wanted);
+    let cells = (0, 100_000_000, 100_000_000, 0);
+    assert_cells_and_rows(&rt, &job, cells, (Print::Results, Input::Source));
     Ok(())
 }
 
@@ -54,7 +68,7 @@ fn a_run_has_defaults(rt: HostRuntime) -> Result<(), Fail> {
 fn the_sizes_of_a_run_are_options(rt: HostRuntime) -> Result<(), Fail> {
     let line =
         "run --banks 2 --regions 1 --lines=16 --line=128 --spares 3 --write-queue 7 --read-queue 6 --psi 9 --read-ticks 4 --iter-ticks 8 --policy plain --registers=array";
-    let job = run(rt.alloc(), line)?.ok_or("no run")?;
+    let job = run(rt.alloc(), line)?;
     let shape = RawShape {
         banks: 2,
         regions: 1,
@@ -68,7 +82,8 @@ fn the_sizes_of_a_run_are_options(rt: HostRuntime) -> Result<(), Fail> {
         policy: Policy::Plain,
         home: Home::Array,
     };
-    assert_eq!(rt; (*job.shape.raw(), job.line), (shape, LineSize::Bytes128));
+    let wanted = (LineSize::Bytes128, shape, 0);
+    assert_sizes(&rt, (job.line, &job.shape, job.seed), wanted);
     Ok(())
 }
 
@@ -76,12 +91,7 @@ fn the_sizes_of_a_run_are_options(rt: HostRuntime) -> Result<(), Fail> {
 fn the_cells_and_the_rows_of_a_run_are_options(rt: HostRuntime) -> Result<(), Fail> {
     let line =
         "run --seed 18446744073709551615 --lo 10 --hi 0020 --misses 7 --print wear --input drawn --rows 5 --write-percent 100 --cuts 5 --step 0 --hot 3";
-    let job = run(rt.alloc(), line)?.ok_or("no run")?;
-    assert_eq!(rt;
-        (job.seed, job.wear.seed),
-        (18_446_744_073_709_551_615, 18_446_744_073_709_551_615)
-    );
-    assert_eq!(rt; (job.wear.lo, job.wear.hi, job.wear.misses), (10, 20, 7));
+    let job = run(rt.alloc(), line)?;
     let mix = Mix {
         rows: 5,
         write_percent: 100,
@@ -89,50 +99,79 @@ fn the_cells_and_the_rows_of_a_run_are_options(rt: HostRuntime) -> Result<(), Fa
         step: 0,
         hot: 3,
     };
-    assert_eq!(rt; (job.print, job.input), (Print::Wear, Input::Drawn(mix)));
+    assert_sizes(
+        &rt,
+        (job.line, &job.shape, job.seed),
+        (LineSize::Bytes64, DEFAULTS, u64::MAX),
+    );
+    let cells = (u64::MAX, 10, 20, 7);
+    assert_cells_and_rows(&rt, &job, cells, (Print::Wear, Input::Drawn(mix)));
     Ok(())
 }
 
+// The size of a line, the lines of the module, the seed and the rows that a line of words asks for.
+fn generated(alloc: Global, line: &str) -> Result<(LineSize, u32, u64, Mix), Fail> {
+    match read(alloc, line)? {
+        Ok(Job::Gen(job)) => Ok((job.line, job.shape.total(), job.seed, job.mix)),
+        _ => Err(Fail::new("no gen")),
+    }
+}
+
 #[test]
-fn two_dashes_end_the_options(rt: HostRuntime) -> Result<(), Fail> {
-    let Ok(Job::Gen(job)) = read(rt.alloc(), "gen --")? else {
-        panic!(rt; "no gen");
-    };
-    let mix = Mix {
+fn a_generated_trace_has_defaults_and_options(rt: HostRuntime) -> Result<(), Fail> {
+    let defaults = Mix {
         rows: 1000,
         write_percent: 50,
         cuts: 0,
         step: 10,
         hot: 0,
     };
-    assert_eq!(rt;
-        (job.line, job.shape.total(), job.seed),
-        (LineSize::Bytes64, 512, 0)
-    );
-    assert_eq!(rt; job.mix, mix);
+    let mix = Mix {
+        rows: 2,
+        cuts: 2,
+        step: 0,
+        ..defaults
+    };
+    // Two dashes end the options.
+    let told = [
+        generated(rt.alloc(), "gen --")?,
+        generated(
+            rt.alloc(),
+            "gen --banks 1 --regions 1 --lines 4 --rows 2 --cuts 2 --step 0",
+        )?,
+    ];
+    let wanted = [
+        (LineSize::Bytes64, 512, 0, defaults),
+        (LineSize::Bytes64, 4, 0, mix),
+    ];
+    assert_eq!(rt; told, wanted);
     Ok(())
 }
 
-#[test]
-fn a_generated_trace_has_its_options(rt: HostRuntime) -> Result<(), Fail> {
-    let line = "gen --banks 1 --regions 1 --lines 4 --rows 2 --cuts 2 --step 0";
-    let Ok(Job::Gen(job)) = read(rt.alloc(), line)? else {
-        panic!(rt; "no gen");
-    };
-    let mix = (job.mix.rows, job.mix.cuts, job.mix.step);
-    assert_eq!(rt; (job.shape.total(), mix), (4, (2, 2, 0)));
-    Ok(())
+// The registers' home, the array lines, the seed and the moves of the map that a line of words asks for.
+fn map(alloc: Global, line: &str) -> Result<(Home, u32, u64, u64), Fail> {
+    match read(alloc, line)? {
+        Ok(Job::Map(job)) => Ok((
+            job.shape.raw().home,
+            job.shape.array_lines(),
+            job.seed,
+            job.from,
+        )),
+        _ => Err(Fail::new("no map")),
+    }
 }
 
 #[test]
-fn a_map_is_told(rt: HostRuntime) -> Result<(), Fail> {
-    let Ok(Job::Map(job)) = read(rt.alloc(), "map --spares 2 --seed 7 --from 16781312")? else {
-        panic!(rt; "no map");
-    };
-    assert_eq!(rt;
-        (job.shape.array_lines(), job.seed, job.from),
-        (528, 7, 16_781_312)
-    );
+fn a_map_is_told_and_may_have_its_registers_in_the_array(rt: HostRuntime) -> Result<(), Fail> {
+    let told = [
+        map(rt.alloc(), "map --spares 2 --seed 7 --from 16781312")?,
+        map(rt.alloc(), "map --spares 2 --registers array")?,
+    ];
+    let wanted = [
+        (Home::Guarded, 528, 7, 16_781_312),
+        (Home::Array, 548, 0, 0),
+    ];
+    assert_eq!(rt; told, wanted);
     Ok(())
 }
 
@@ -151,7 +190,7 @@ fn moves_are_told(rt: HostRuntime) -> Result<(), Fail> {
 
 #[test]
 fn a_run_may_print_its_image(rt: HostRuntime) -> Result<(), Fail> {
-    let job = run(rt.alloc(), "run --print image")?.ok_or("no run")?;
+    let job = run(rt.alloc(), "run --print image")?;
     assert_eq!(rt; job.print, Print::Image);
     Ok(())
 }
@@ -169,21 +208,14 @@ fn a_saved_module_is_shown(rt: HostRuntime) -> Result<(), Fail> {
 #[test]
 fn policies_and_homes_are_named(rt: HostRuntime) -> Result<(), Fail> {
     let line = "run --policy cancel --registers guarded --spares 2";
-    let job = run(rt.alloc(), line)?.ok_or("no run")?;
-    let shape = job.shape.raw();
-    assert_eq!(rt; (shape.policy, shape.home), (Policy::Cancel, Home::Guarded));
-    Ok(())
-}
-
-#[test]
-fn a_map_has_its_registers_in_the_array(rt: HostRuntime) -> Result<(), Fail> {
-    let Ok(Job::Map(job)) = read(rt.alloc(), "map --spares 2 --registers array")? else {
-        panic!(rt; "no map");
+    let job = run(rt.alloc(), line)?;
+    let shape = RawShape {
+        spares: 2,
+        policy: Policy::Cancel,
+        ..DEFAULTS
     };
-    assert_eq!(rt;
-        (job.shape.raw().home, job.shape.array_lines()),
-        (Home::Array, 548)
-    );
+    let wanted = (LineSize::Bytes64, shape, 0);
+    assert_sizes(&rt, (job.line, &job.shape, job.seed), wanted);
     Ok(())
 }
 
@@ -250,7 +282,7 @@ fn a_check_has_the_defaults_of_a_run(rt: HostRuntime) -> Result<(), Fail> {
         policy: Policy::Cancel,
         ..DEFAULTS
     };
-    assert_eq!(rt; *job.shape.raw(), shape);
-    assert_eq!(rt; (job.line, job.seed), (LineSize::Bytes128, 7));
+    let wanted = (LineSize::Bytes128, shape, 7);
+    assert_sizes(&rt, (job.line, &job.shape, job.seed), wanted);
     Ok(())
 }
