@@ -1,9 +1,11 @@
 -- That all control lines are sensed, one after another, and what a sense of one reads.
 use Rattle.std.proofs.Common.{◌≡◌, ℕ, ◌+◌, ◌<◌, false, List, [], ◌∷◌, ◌++◌, zero, suc, None, refl, sym, ap, subst, ◌∙◌, arith}
 use Rattle.pcm_cells.specs.Device.{ArrayState}
-use Rattle.bank_shape.specs.Shape.{controls_of}
+use Rattle.bank_shape.specs.declared.Home.{Home}
+use Rattle.bank_shape.specs.declared.Home.TheVariants.{Guarded}
+use Rattle.bank_shape.specs.Shape.{controls_from, controls_of, if_array}
 use Rattle.bank_model.specs.Touching.{Touches}
-use Rattle.bank_model.proofs.Touched.{touches-both}
+use Rattle.bank_model.proofs.Touched.{touches-both, touches-nothing}
 use Rattle.bank_model.specs.Changes.{numbers_from, all_controls}
 use Rattle.power_recovery.specs.Kept.{KeptState}
 use Rattle.reg_lines.specs.Regs.{RegsState, values_held}
@@ -14,6 +16,14 @@ use Rattle.register_laws.proofs.Holding.{values-stay, read-same}
 use Rattle.register_laws.proofs.Determining.{all-items}
 use Rattle.register_laws.proofs.Staying.{queue_law}
 use Rattle.bank_clock.specs.Reading.{IsOnLines}
+
+-- a bank whose registers are guarded has no control line to sense
+pub senses-none : {n m : ℕ} (tick : ℕ) (shape : BankShape) (array : ArrayState n m) → shape.home ≡ Guarded
+    → Touches tick (all_controls shape) None false array array
+senses-none tick shape array home =
+    let count : Home → ℕ = λ at. if_array at (shape.regions + shape.spares + 1) in
+    let none : all_controls shape ≡ [] = ap (λ (at : Home). numbers_from (controls_from shape) (count at)) home in
+    subst (λ (xs : List ℕ). Touches tick xs None false array array) (sym none) (touches-nothing tick array array refl)
 
 -- one number more
 pub numbers-more : (from i : ℕ) → numbers_from from i ++ (from + i) ∷ [] ≡ numbers_from from (suc i)

@@ -1,4 +1,4 @@
-use Rattle.std.proofs.Common.{rules, ◌≡◌, ◌≤◌, None, false, sym, ap, subst, ◌∙◌}
+use Rattle.std.proofs.Common.{◌≡◌, None, false, sym, ap, subst, ◌∙◌}
 use Rattle.pcm_cells.specs.Device.{ArrayState}
 use Rattle.bank_model.specs.Touching.{Touches}
 use Rattle.bank_model.specs.Changes.{all_controls}
@@ -9,7 +9,7 @@ use Rattle.bank_invariant.specs.Tied.{IsTied}
 use Rattle.bank_core.specs.Stepping.{with_kept}
 use Rattle.register_laws.specs.Recovering.{IsReadable}
 use Rattle.bank_clock.specs.Reading.{IsOnLines, spares_back, mark_back}
-use Rattle.bank_clock.proofs.Sizes.{bank_fits}
+use Rattle.bank_clock.proofs.Sizes.{bank_fits, regs_fits}
 use Rattle.bank_clock.proofs.Sensing.{on-lines, on-after, touches-all}
 use Rattle.bank_clock.proofs.recovery.recover.Given.{Over}
 use Rattle.bank_clock.proofs.recovery.recover.Goals.{After-recover_regions, After-recover_spares}
@@ -36,20 +36,20 @@ spares g c kept is on = (
 
 pub recover_spares-requires : goal.recover_spares-requires
 recover_spares-requires g c =
-    let few : g.row.B ≤ 128 = c.requires.layout.shape.1 in
-    let few_check : g.row.M ≤ 16 = c.requires.layout.shape.3 in
     let kept = c.requires.readable.0 in
-    let now = regions g (goal.at.recover_spares-requires g c).After-recover_regions kept c.requires.readable.1 in
-    (bank_fits g.row.B g.row.M g.row.E c.requires.layout, (search rules, (c.requires.layout, (kept, now.0, now.1))))
+    let now = regions g (goal.at.recover_spares-requires g c).After-recover_regions kept c.requires.readable.1 in (
+      bank_fits g.row.B g.row.M g.row.E c.requires.layout,
+      (regs_fits g.row.B g.row.M g.row.E c.requires.layout, (c.requires.layout, (kept, now.0, now.1))),
+    )
 
 pub recover_mark-requires : goal.recover_mark-requires
 recover_mark-requires g c =
-    let few : g.row.B ≤ 128 = c.requires.layout.shape.1 in
-    let few_check : g.row.M ≤ 16 = c.requires.layout.shape.3 in
     let kept = c.requires.readable.0 in
     let first = regions g (goal.at.recover_mark-requires g c).After-recover_regions kept c.requires.readable.1 in
-    let now = spares g (goal.at.recover_mark-requires g c).After-recover_spares kept first.0 first.1 in
-    (bank_fits g.row.B g.row.M g.row.E c.requires.layout, (search rules, (c.requires.layout, (kept, now.0, now.1))))
+    let now = spares g (goal.at.recover_mark-requires g c).After-recover_spares kept first.0 first.1 in (
+      bank_fits g.row.B g.row.M g.row.E c.requires.layout,
+      (regs_fits g.row.B g.row.M g.row.E c.requires.layout, (c.requires.layout, (kept, now.0, now.1))),
+    )
 
 pub returns-clause-kept : goal.returns-clause-kept
 returns-clause-kept g c = λ kept readable.

@@ -5,7 +5,7 @@ use Rattle.bank_core.specs.Stepping.{with_kept}
 use Rattle.register_laws.specs.Items.{item_values, mark_values}
 use Rattle.register_laws.proofs.Items.{item-mark}
 use Rattle.bank_clock.specs.Reading.{IsOnLines, mark_back}
-use Rattle.bank_clock.proofs.Sizes.{bank_fits, kept_fits}
+use Rattle.bank_clock.proofs.Sizes.{bank_fits, kept_fits, regs_fits}
 use Rattle.bank_clock.proofs.Sensing.{item-read}
 use Rattle.bank_clock.proofs.Restoring.{restores-mark, passes-mark}
 use Rattle.bank_clock.proofs.recovery.recover_mark.Given.{Over}
@@ -49,13 +49,13 @@ returns-else-values-ne0-clause-kept g c = λ kept is on.
     (passes-mark kept on.in_range c.args.bank.now.kept c.read_item-values.result is values c.if-values-ne0.false)
 
 pub shape-shape-requires : goal.shape-shape-requires
-shape-shape-requires g c = grind arith
+shape-shape-requires g c = kept_fits
 
 pub overflow_add-shape : goal.overflow_add-shape
 overflow_add-shape g c = grind arith
 
 pub read_item-values-requires : goal.read_item-values-requires
-read_item-values-requires g c = grind arith
+read_item-values-requires g c = (regs_fits g.row.B g.row.M g.row.E c.requires.layout, grind arith)
 
 pub bounds-values-0 : goal.bounds-values-0
 bounds-values-0 g c = grind arith

@@ -2,14 +2,14 @@ use Rattle.std.proofs.Common.{◌≡◌, ℕ, ◌+◌, ◌<◌, ◌∷◌, ◌++
 use Rattle.bank_shape.specs.declared.BankShape.{BankShape}
 use Rattle.bank_model.specs.Touching.{Touches}
 use Rattle.bank_model.specs.Changes.{numbers_from}
-use Rattle.bank_model.proofs.Touched.{touches-both}
+use Rattle.bank_model.proofs.Touched.{touches-both, touches-nothing}
 use Rattle.power_recovery.specs.Kept.{KeptState}
 use Rattle.bank_invariant.specs.State.{BankState}
 use Rattle.bank_core.specs.Stepping.{with_kept}
 use Rattle.register_laws.specs.Recovering.{IsReadable}
 use Rattle.register_laws.proofs.Items.{item-region}
 use Rattle.bank_clock.specs.Reading.{regions_back}
-use Rattle.bank_clock.proofs.Sizes.{bank_fits, kept_fits}
+use Rattle.bank_clock.proofs.Sizes.{bank_fits, kept_fits, regs_fits}
 use Rattle.bank_clock.proofs.Sensing.{on-lines, item-read, numbers-more}
 use Rattle.bank_clock.proofs.Restoring.{RestoresRegion, restores-region, regions-all}
 use Rattle.bank_clock.proofs.recovery.recover_regions.Given.{Over}
@@ -88,3 +88,27 @@ returns-clause-touches g c =
     let shape : c.shape-shape.result.now ≡ c.args.bank.now.kept.shape = c.shape-shape.ensures.shape ∙ ap (λ (k : KeptState g.row.B). k.shape) c.kept.ensures.kept in
     let end : c.loop-i.i ≡ c.args.bank.now.kept.shape.regions = omega (arith, c.loop-i-test.false, c.loop-i.auto.i-end, ap (λ (s : BankShape). s.regions) shape) in
     subst (λ (k : ℕ). Touches c.args.tick (numbers_from c.args.regs.now.base k) None false (g.A.CellArray.state c.args.array.now) (g.A.CellArray.state c.loop-i.array)) end c.loop-i.invariant.1
+
+pub shape-shape-requires : goal.shape-shape-requires
+shape-shape-requires g c = kept_fits
+
+pub loop-i-init : goal.loop-i-init
+loop-i-init g c = (
+  λ kept readable. ap (λ (k : KeptState g.row.B). with_kept c.args.bank.now k) readable.stripped,
+  touches-nothing c.args.tick _ _ refl,
+)
+
+pub read_item-values-requires : goal.read_item-values-requires
+read_item-values-requires g c = (regs_fits g.row.B g.row.M g.row.E c.requires.layout, grind arith)
+
+pub bounds-values-0 : goal.bounds-values-0
+bounds-values-0 g c = grind arith
+
+pub bounds-values-1 : goal.bounds-values-1
+bounds-values-1 g c = grind arith
+
+pub bounds-values-2 : goal.bounds-values-2
+bounds-values-2 g c = grind arith
+
+pub loop-i-smaller : goal.loop-i-smaller
+loop-i-smaller g c = grind arith

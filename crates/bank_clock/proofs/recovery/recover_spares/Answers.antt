@@ -9,7 +9,7 @@ use Rattle.bank_core.specs.Stepping.{with_kept}
 use Rattle.register_laws.specs.Items.{spare_values, item_values}
 use Rattle.register_laws.proofs.Items.{item-spare}
 use Rattle.bank_clock.specs.Reading.{IsOnLines, spares_back}
-use Rattle.bank_clock.proofs.Sizes.{bank_fits, kept_fits}
+use Rattle.bank_clock.proofs.Sizes.{bank_fits, kept_fits, regs_fits}
 use Rattle.bank_clock.proofs.Sensing.{item-read, numbers-more}
 use Rattle.bank_clock.proofs.Restoring.{restores-spare, passes-spare, spares-all}
 use Rattle.bank_clock.proofs.recovery.recover_spares.Given.{Over}
@@ -87,13 +87,13 @@ returns-clause-touches g c =
     subst (λ (k : ℕ). Touches c.args.tick (numbers_from (c.args.regs.now.base + c.args.bank.now.kept.shape.regions) k) None false (g.A.CellArray.state c.args.array.now) (g.A.CellArray.state c.loop-j.array)) end c.loop-j.invariant.1
 
 pub shape-shape-requires : goal.shape-shape-requires
-shape-shape-requires g c = grind arith
+shape-shape-requires g c = kept_fits
 
 pub overflow_add-shape : goal.overflow_add-shape
 overflow_add-shape g c = grind arith
 
 pub read_item-values-requires : goal.read_item-values-requires
-read_item-values-requires g c = grind arith
+read_item-values-requires g c = (regs_fits g.row.B g.row.M g.row.E c.requires.layout, grind arith)
 
 pub bounds-values-0 : goal.bounds-values-0
 bounds-values-0 g c = grind arith

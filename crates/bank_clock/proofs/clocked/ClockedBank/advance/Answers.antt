@@ -1,6 +1,6 @@
-use Rattle.std.proofs.Common.{arith, sym, ◌∙◌}
+use Rattle.std.proofs.Common.{arith, sym, ◌∙◌, le_antisymm, ◌≤◌}
 use Rattle.clock_laws.specs.State.{ClockState}
-use Rattle.bank_clock.proofs.Sizes.{timed_fits}
+use Rattle.bank_clock.proofs.Sizes.{timed_fits, row_fits}
 use Rattle.bank_clock.proofs.Acting.{begun-before}
 use Rattle.bank_clock.proofs.Running.{le-same, ends-by, first-fits, ran-none, ran-more, ran-pass, ran-others}
 use Rattle.bank_clock.proofs.clocked.ClockedBank.advance.Goals as goal
@@ -60,7 +60,10 @@ pub loop-self-smaller-in-None : goal.loop-self-smaller-in-None
 loop-self-smaller-in-None g c = grind arith
 
 pub complete-requires : goal.complete-requires
-complete-requires g c = grind arith
+complete-requires g c =
+    let next = sym c.next_action.ensures ∙ c.in-Some.is in
+    let ran = c.loop-self.invariant.0 in
+    (timed_fits g.row.B g.row.M g.row.E c.self.invariant.layout, (row_fits, (ran.led, (next, (grind arith, ran.unset)))))
 
 pub loop-self-smaller-then-end-to : goal.loop-self-smaller-then-end-to
 loop-self-smaller-then-end-to g c = grind arith
@@ -69,13 +72,24 @@ pub loop-self-smaller : goal.loop-self-smaller
 loop-self-smaller g c = grind arith
 
 pub returns-clause-now : goal.returns-clause-now
-returns-clause-now g c = grind arith
+returns-clause-now g c =
+    let reached : c.args.to ≤ c.loop-self.self.tick = rw (← c.self.view_is) c.loop-self-test.false in
+    le_antisymm c.loop-self.invariant.1 reached
 
 pub returns-clause-going : goal.returns-clause-going
-returns-clause-going g c = grind arith
+returns-clause-going g c = c.loop-self.invariant.2
 
 pub returns-clause-extends : goal.returns-clause-extends
-returns-clause-extends g c = grind arith
+returns-clause-extends g c = c.loop-self.invariant.0.extends
 
 pub returns-clause-unset : goal.returns-clause-unset
-returns-clause-unset g c = grind arith
+returns-clause-unset g c = c.loop-self.invariant.0.unset
+
+pub next_action-requires : goal.next_action-requires
+next_action-requires g c = timed_fits g.row.B g.row.M g.row.E c.self.invariant.layout
+
+pub pass-requires : goal.pass-requires
+pass-requires g c = (
+  timed_fits g.row.B g.row.M g.row.E c.self.invariant.layout,
+  (sym c.in-None.is ∙ c.next_action.ensures, (rw (← c.self.view_is) c.loop-self-test.true, tt)),
+)

@@ -1,5 +1,17 @@
-use Rattle.std.proofs.Common.{arith}
+use Rattle.std.proofs.Common.{refl}
+use Rattle.bank_clock.proofs.Queued.{not-past}
 use Rattle.bank_clock.proofs.clocked.ClockedBank.arrive_again.Goals as goal
 
 pub invariant_of-self : goal.invariant_of-self
-invariant_of-self g c = grind arith
+invariant_of-self g c = c.self.invariant
+
+pub unreachable-requires : goal.unreachable-requires
+unreachable-requires g c =
+    let there = rw (← c.self.view_is) at c.requires.there in
+    not-past c.self.inside.arrivals.items c.args.index there (rw c.in_default.is at c.get_mut.follows)
+
+pub unreachable-unreachable : goal.unreachable-unreachable
+unreachable-unreachable g c = c.unreachable.result
+
+pub returns : goal.returns
+returns g c = rw (← c.self.view_is) refl

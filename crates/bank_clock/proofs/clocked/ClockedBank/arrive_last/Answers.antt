@@ -9,7 +9,7 @@ unreachable-requires g c =
     false≢true (c.in-Err.ensures.variant.1 few)
 
 pub unreachable-unreachable : goal.unreachable-unreachable
-unreachable-unreachable g c = grind arith
+unreachable-unreachable g c = c.unreachable.result
 
 pub invariant_of-self : goal.invariant_of-self
 invariant_of-self g c = grind arith

@@ -1,4 +1,4 @@
-use Rattle.std.proofs.Common.{arith, rules, List, ◌∷◌, sym, subst, ◌∙◌}
+use Rattle.std.proofs.Common.{List, ◌∷◌, sym, subst, ◌∙◌, refl}
 use Rattle.bank_model.specs.Events.{Read}
 use Rattle.bank_model.specs.Timing.{TimedEvent}
 use Rattle.bank_invariant.specs.Serving.{read_from}
@@ -10,7 +10,7 @@ use Rattle.bank_clock.proofs.clocked.ClockedBank.arrive_read.Goals as goal
 
 pub take_read-requires : goal.take_read-requires
 take_read-requires g c =
-    (search rules, (row_fits, ((c.requires.led.0, g.A.CellArray.state c.args.array.now, c.requires.led.1), (c.requires.exists, (c.requires.rises, (sym c.cancels_for.ensures ∙ c.if-cancels_for.false, (c.requires.unset, c.requires.fresh)))))))
+    (assumption, (row_fits, ((c.requires.led.0, g.A.CellArray.state c.args.array.now, c.requires.led.1), (c.requires.exists, (c.requires.rises, (sym c.cancels_for.ensures ∙ c.if-cancels_for.false, (c.requires.unset, c.requires.fresh)))))))
 
 pub returns-then-cancels_for-clause-extends : goal.returns-then-cancels_for-clause-extends
 returns-then-cancels_for-clause-extends g c =
@@ -30,34 +30,37 @@ returns-else-cancels_for-clause-extends g c =
     (c.take_read.ensures.extends xs (g.A.CellArray.state c.args.array.now) leads)
 
 pub cancels_for-requires : goal.cancels_for-requires
-cancels_for-requires g c = grind arith
+cancels_for-requires g c = assumption
 
 pub read_cancelled-requires : goal.read_cancelled-requires
-read_cancelled-requires g c = grind arith
+read_cancelled-requires g c = (
+  assumption,
+  (c.requires.led, (c.requires.exists, (c.requires.rises, sym c.cancels_for.ensures ∙ c.if-cancels_for.true))),
+)
 
 pub returns-then-cancels_for-clause-now : goal.returns-then-cancels_for-clause-now
-returns-then-cancels_for-clause-now g c = grind arith
+returns-then-cancels_for-clause-now g c = c.read_cancelled.ensures.now
 
 pub returns-then-cancels_for-clause-going : goal.returns-then-cancels_for-clause-going
-returns-then-cancels_for-clause-going g c = grind arith
+returns-then-cancels_for-clause-going g c = c.read_cancelled.ensures.drained ∙ c.requires.going
 
 pub returns-then-cancels_for-clause-rows : goal.returns-then-cancels_for-clause-rows
-returns-then-cancels_for-clause-rows g c = grind arith
+returns-then-cancels_for-clause-rows g c = c.read_cancelled.ensures.rows
 
 pub returns-then-cancels_for-clause-others : goal.returns-then-cancels_for-clause-others
-returns-then-cancels_for-clause-others g c = grind arith
+returns-then-cancels_for-clause-others g c = λ row there other queued waits. refl
 
 pub returns-else-cancels_for-clause-now : goal.returns-else-cancels_for-clause-now
-returns-else-cancels_for-clause-now g c = grind arith
+returns-else-cancels_for-clause-now g c = c.take_read.ensures.now
 
 pub returns-else-cancels_for-clause-going : goal.returns-else-cancels_for-clause-going
-returns-else-cancels_for-clause-going g c = grind arith
+returns-else-cancels_for-clause-going g c = c.take_read.ensures.drained ∙ c.requires.going
 
 pub returns-else-cancels_for-clause-rows : goal.returns-else-cancels_for-clause-rows
-returns-else-cancels_for-clause-rows g c = grind arith
+returns-else-cancels_for-clause-rows g c = c.take_read.ensures.rows
 
 pub returns-else-cancels_for-clause-unset : goal.returns-else-cancels_for-clause-unset
-returns-else-cancels_for-clause-unset g c = grind arith
+returns-else-cancels_for-clause-unset g c = c.take_read.ensures.unset
 
 pub returns-else-cancels_for-clause-others : goal.returns-else-cancels_for-clause-others
-returns-else-cancels_for-clause-others g c = grind arith
+returns-else-cancels_for-clause-others g c = c.take_read.ensures.others

@@ -1,4 +1,4 @@
-use Rattle.std.proofs.Common.{arith, ◌≡◌, sym, ap, ◌∙◌}
+use Rattle.std.proofs.Common.{◌≡◌, sym, ap, ◌∙◌, refl}
 use Rattle.bank_core.specs.Arriving.{answer_of}
 use Rattle.bank_core.specs.declared.arriving.Arrived.{Arrived}
 use Rattle.bank_core.specs.declared.arriving.Arrived.TheVariants as arrived
@@ -109,25 +109,29 @@ pub returns-in-Exhausted-clause-rows : goal.returns-in-Exhausted-clause-rows
 returns-in-Exhausted-clause-rows g c = write-bound (taken g (goal.at.returns-in-Exhausted-clause-rows g c).After-write arrived.Exhausted c.in-Exhausted.is)
 
 pub returns-in-Accepted-clause-now : goal.returns-in-Accepted-clause-now
-returns-in-Accepted-clause-now g c = grind arith
+returns-in-Accepted-clause-now g c = rw (c.arrive_last.ensures, ← c.self.view_is) refl
 
 pub returns-in-Accepted-clause-going : goal.returns-in-Accepted-clause-going
-returns-in-Accepted-clause-going g c = grind arith
+returns-in-Accepted-clause-going g c =
+    let going = rw (← c.self.view_is) at c.requires.going in
+    rw c.arrive_last.ensures going
 
 pub returns-in-Merged-clause-now : goal.returns-in-Merged-clause-now
-returns-in-Merged-clause-now g c = grind arith
+returns-in-Merged-clause-now g c = rw (c.arrive_again.ensures, ← c.self.view_is) refl
 
 pub returns-in-Merged-clause-going : goal.returns-in-Merged-clause-going
-returns-in-Merged-clause-going g c = grind arith
+returns-in-Merged-clause-going g c =
+    let going = rw (← c.self.view_is) at c.requires.going in
+    rw c.arrive_again.ensures going
 
 pub returns-in-Full-clause-now : goal.returns-in-Full-clause-now
-returns-in-Full-clause-now g c = grind arith
+returns-in-Full-clause-now g c = rw (← c.self.view_is) refl
 
 pub returns-in-Full-clause-going : goal.returns-in-Full-clause-going
-returns-in-Full-clause-going g c = grind arith
+returns-in-Full-clause-going g c = rw (← c.self.view_is) at c.requires.going
 
 pub returns-in-Exhausted-clause-now : goal.returns-in-Exhausted-clause-now
-returns-in-Exhausted-clause-now g c = grind arith
+returns-in-Exhausted-clause-now g c = rw (← c.self.view_is) refl
 
 pub returns-in-Exhausted-clause-going : goal.returns-in-Exhausted-clause-going
-returns-in-Exhausted-clause-going g c = grind arith
+returns-in-Exhausted-clause-going g c = rw (← c.self.view_is) at c.requires.going

@@ -1,12 +1,12 @@
 use Rattle.std.proofs.Common.{arith}
-use Rattle.bank_clock.proofs.Sizes.{timed_fits}
+use Rattle.bank_clock.proofs.Sizes.{timed_fits, regs_fits}
 use Rattle.bank_clock.proofs.clocked.ClockedBank.begins_store_of.Goals as goal
 
 pub begins_work_of-requires : goal.begins_work_of-requires
 begins_work_of-requires g c = timed_fits g.row.B g.row.M g.row.E c.self.invariant.layout
 
 pub change-requires : goal.change-requires
-change-requires g c = grind arith
+change-requires g c = regs_fits g.row.B g.row.M g.row.E c.self.invariant.layout
 
 pub returns-in-Some : goal.returns-in-Some
 returns-in-Some g c = grind arith

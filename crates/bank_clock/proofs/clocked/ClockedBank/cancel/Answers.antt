@@ -48,10 +48,10 @@ returns-in-None-clause-reaches g c =
     rw (← c.self.view_is, c.cut-in-None.ensures.bank) goes
 
 pub is_iterating-tearing-requires : goal.is_iterating-tearing-requires
-is_iterating-tearing-requires g c = grind arith
+is_iterating-tearing-requires g c = tt
 
 pub change-requires : goal.change-requires
-change-requires g c = grind arith
+change-requires g c = regs_fits g.row.B g.row.M g.row.E c.self.invariant.layout
 
 pub invariant_of-self : goal.invariant_of-self
 invariant_of-self g c = grind arith

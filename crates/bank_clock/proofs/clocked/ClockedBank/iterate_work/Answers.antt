@@ -72,4 +72,4 @@ returns g c =
     (iterated-whole (clock_of c.self.inside) c.args.action d.next d.doing d.fit alone (g.A.CellArray.state c.args.array.now) (g.A.CellArray.state c.iterate-step.new.array) c.args.results.now c.iterate-step.result c.iterate-step.new.self d.led d.unset c.self.invariant.paced.some_read c.self.invariant.paced.some_iter (rw c.ends-self-inside.ensures at c.iterate-step.ensures.step) touches c.iterate-step.ensures.holds)
 
 pub changes_next-region-requires : goal.changes_next-region-requires
-changes_next-region-requires g c = grind arith
+changes_next-region-requires g c = (kept_fits, c.self.invariant.layout.shape.1)

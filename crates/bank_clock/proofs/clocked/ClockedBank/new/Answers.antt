@@ -26,7 +26,7 @@ pub returns-in_err-bank-clause-leads : goal.returns-in_err-bank-clause-leads
 returns-in_err-bank-clause-leads g c = grind arith
 
 pub overflow_cast-shape : goal.overflow_cast-shape
-overflow_cast-shape g c = grind arith
+overflow_cast-shape g c = omega (arith, c.requires.limits.few_writes)
 
 pub returns-in_err-arrivals-clause-first : goal.returns-in_err-arrivals-clause-first
 returns-in_err-arrivals-clause-first g c = grind arith
@@ -35,10 +35,10 @@ pub returns-in_err-arrivals-clause-leads : goal.returns-in_err-arrivals-clause-l
 returns-in_err-arrivals-clause-leads g c = grind arith
 
 pub first_control-requires : goal.first_control-requires
-first_control-requires g c = grind arith
+first_control-requires g c = c.requires.limits
 
 pub controls-requires : goal.controls-requires
-controls-requires g c = grind arith
+controls-requires g c = c.requires.limits
 
 pub invariant_of-result : goal.invariant_of-result
 invariant_of-result g c = grind arith

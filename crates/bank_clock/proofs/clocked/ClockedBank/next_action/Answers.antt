@@ -15,10 +15,10 @@ pub returns-in-Some : goal.returns-in-Some
 returns-in-Some g c = grind arith
 
 pub gives_way-requires : goal.gives_way-requires
-gives_way-requires g c = grind arith
+gives_way-requires g c = tt
 
 pub choose-chosen-requires : goal.choose-chosen-requires
-choose-chosen-requires g c = grind arith
+choose-chosen-requires g c = tt
 
 pub returns-in-None : goal.returns-in-None
 returns-in-None g c = grind arith

@@ -85,28 +85,30 @@ returns-clause-others g c =
     (third g (goal.at.returns-clause-others g c).After-read_back) (holds_on g (goal.at.returns-clause-others g c).After-lose) c.cut.ensures.torn)
 
 pub change-requires : goal.change-requires
-change-requires g c = grind arith
+change-requires g c = regs_fits g.row.B g.row.M g.row.E c.self.invariant.layout
 
 pub tears_work-work-requires : goal.tears_work-work-requires
-tears_work-work-requires g c = grind arith
+tears_work-work-requires g c = tt
 
 pub tears_change-change-requires : goal.tears_change-change-requires
-tears_change-change-requires g c = grind arith
+tears_change-change-requires g c = tt
 
 pub invariant_of-self : goal.invariant_of-self
 invariant_of-self g c = grind arith
 
 pub returns-clause-now : goal.returns-clause-now
-returns-clause-now g c = grind arith
+returns-clause-now g c = rw (c.read_back.ensures.clock, c.lose.ensures.clock, ← c.self.view_is) refl
 
 pub returns-clause-going : goal.returns-clause-going
-returns-clause-going g c = grind arith
+returns-clause-going g c =
+    let going = rw (← c.self.view_is) at c.requires.going in
+    rw (c.read_back.ensures.clock, c.lose.ensures.clock) going
 
 pub returns-clause-rows : goal.returns-clause-rows
-returns-clause-rows g c = grind arith
+returns-clause-rows g c = rw (c.read_back.ensures.clock, c.lose.ensures.clock, c.cut.ensures.bank, ← c.self.view_is) refl
 
 pub returns-clause-kept : goal.returns-clause-kept
-returns-clause-kept g c = grind arith
+returns-clause-kept g c = rw (c.read_back.ensures.clock, c.lose.ensures.clock, c.cut.ensures.bank, ← c.self.view_is) refl
 
 pub returns-clause-regs : goal.returns-clause-regs
-returns-clause-regs g c = grind arith
+returns-clause-regs g c = rw (c.read_back.ensures.clock, c.lose.ensures.clock, c.cut-2.ensures.regs, ← c.self.view_is) refl

@@ -3,6 +3,7 @@ use Rattle.bank_invariant.specs.State.{BankState}
 use Rattle.register_laws.specs.Recovering.{IsReadable}
 use Rattle.bank_clock.proofs.Sizes.{bank_fits, regs_fits, kept_fits}
 use Rattle.bank_clock.proofs.Recovers.{same-bank}
+use Rattle.bank_clock.proofs.Sensing.{senses-none}
 use Rattle.bank_clock.proofs.clocked.ClockedBank.read_back.Given.{Over}
 use Rattle.bank_clock.proofs.clocked.ClockedBank.read_back.Goals.{After-strip, After-recover}
 use Rattle.bank_clock.proofs.clocked.ClockedBank.read_back.Goals as goal
@@ -57,10 +58,15 @@ pub returns-in-Array-clause-clock : goal.returns-in-Array-clause-clock
 returns-in-Array-clause-clock g c = rw (← c.self.view_is, back g (goal.at.returns-in-Array-clause-clock g c).After-recover) refl
 
 pub shape-requires : goal.shape-requires
-shape-requires g c = grind arith
+shape-requires g c = kept_fits
 
 pub returns-in-Guarded-clause-clock : goal.returns-in-Guarded-clause-clock
-returns-in-Guarded-clause-clock g c = grind arith
+returns-in-Guarded-clause-clock g c = rw (← c.self.view_is) refl
 
 pub returns-in-Array-clause-touches : goal.returns-in-Array-clause-touches
 returns-in-Array-clause-touches g c = grind arith
+
+pub returns-in-Guarded-clause-touches : goal.returns-in-Guarded-clause-touches
+returns-in-Guarded-clause-touches g c =
+    let shape = rw (c.shape.ensures.shape, c.kept.ensures.kept) at c.in-Guarded.is in
+    rw (← c.self.view_is) (senses-none c.self.inside.tick c.self.inside.bank.kept.shape _ shape)

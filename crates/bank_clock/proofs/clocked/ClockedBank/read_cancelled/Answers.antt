@@ -1,4 +1,4 @@
-use Rattle.std.proofs.Common.{arith, [], ◌∷◌, sym, ap, subst, ◌∙◌}
+use Rattle.std.proofs.Common.{[], ◌∷◌, sym, ap, subst, ◌∙◌}
 use Rattle.bank_model.specs.Events.{Read}
 use Rattle.bank_invariant.specs.Serving.{read_from}
 use Rattle.clock_laws.specs.State.{ClockState}
@@ -59,4 +59,4 @@ returns-clause-extends g c =
     (cancel-extends (reads g (goal.at.returns-clause-extends g c).After-read) results xs leads)
 
 pub cancel-requires : goal.cancel-requires
-cancel-requires g c = grind arith
+cancel-requires g c = (assumption, (c.requires.led, c.requires.cancels))

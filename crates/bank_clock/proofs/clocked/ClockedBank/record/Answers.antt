@@ -8,7 +8,7 @@ set-requires g c =
     (row_fits, (outcome_fits g.row.B g.row.M g.row.E c.self.invariant.layout, (own.exists, own.unset)))
 
 pub cancels_by_step-self-inside-requires : goal.cancels_by_step-self-inside-requires
-cancels_by_step-self-inside-requires g c = grind arith
+cancels_by_step-self-inside-requires g c = tt
 
 pub invariant_of-self : goal.invariant_of-self
 invariant_of-self g c = grind arith

@@ -1,4 +1,4 @@
-use Rattle.std.proofs.Common.{◌≤◌, arith, refl, subst, sym, ◌∙◌}
+use Rattle.std.proofs.Common.{◌≤◌, refl, subst, sym, ◌∙◌}
 use Rattle.clock_laws.specs.State.{ClockState}
 use Rattle.clock_laws.specs.Remaining.{actions_left}
 use Rattle.bank_clock.proofs.Sizes.{timed_fits, row_fits}
@@ -53,10 +53,10 @@ pub loop-action-smaller : goal.loop-action-smaller
 loop-action-smaller g c = c.complete.ensures.less
 
 pub returns-clause-ran : goal.returns-clause-ran
-returns-clause-ran g c = grind arith
+returns-clause-ran g c = c.loop-action.invariant.0
 
 pub returns-clause-rests : goal.returns-clause-rests
-returns-clause-rests g c = grind arith
+returns-clause-rests g c = sym c.next_action.ensures ∙ c.in_default.is
 
 pub next_action-requires : goal.next_action-requires
 next_action-requires g c = timed_fits g.row.B g.row.M g.row.E c.self.invariant.layout

@@ -1,4 +1,4 @@
-use Rattle.std.proofs.Common.{arith, ◌≡◌, sym, ◌∙◌}
+use Rattle.std.proofs.Common.{◌≡◌, sym, ◌∙◌, refl}
 use Rattle.bank_shape.specs.declared.answer.ReadAnswer.{ReadAnswer}
 use Rattle.bank_shape.specs.declared.answer.ReadAnswer.TheVariants as came
 use Rattle.bank_clock.proofs.Sizes.{bank_fits, outcome_fits, read_fits, row_fits, timed_fits}
@@ -80,25 +80,25 @@ pub invariant_of-self-in-Busy : goal.invariant_of-self-in-Busy
 invariant_of-self-in-Busy g c = read-clock (taken g (goal.at.invariant_of-self-in-Busy g c).After-read came.Busy c.in-Busy.is) c.self.invariant
 
 pub unless-self-inside-requires : goal.unless-self-inside-requires
-unless-self-inside-requires g c = grind arith
+unless-self-inside-requires g c = tt
 
 pub returns-in-Forwarded-clause-now : goal.returns-in-Forwarded-clause-now
-returns-in-Forwarded-clause-now g c = grind arith
+returns-in-Forwarded-clause-now g c = rw (← c.self.view_is) refl
 
 pub returns-in-Forwarded-clause-drained : goal.returns-in-Forwarded-clause-drained
-returns-in-Forwarded-clause-drained g c = grind arith
+returns-in-Forwarded-clause-drained g c = rw (← c.self.view_is) refl
 
 pub returns-in-Waiting-clause-now : goal.returns-in-Waiting-clause-now
-returns-in-Waiting-clause-now g c = grind arith
+returns-in-Waiting-clause-now g c = rw (← c.self.view_is) refl
 
 pub returns-in-Waiting-clause-drained : goal.returns-in-Waiting-clause-drained
-returns-in-Waiting-clause-drained g c = grind arith
+returns-in-Waiting-clause-drained g c = rw (← c.self.view_is) refl
 
 pub returns-in-Busy-clause-now : goal.returns-in-Busy-clause-now
-returns-in-Busy-clause-now g c = grind arith
+returns-in-Busy-clause-now g c = rw (← c.self.view_is) refl
 
 pub returns-in-Busy-clause-drained : goal.returns-in-Busy-clause-drained
-returns-in-Busy-clause-drained g c = grind arith
+returns-in-Busy-clause-drained g c = rw (← c.self.view_is) refl
 
 pub begins_store_of-drops-requires : goal.begins_store_of-drops-requires
 begins_store_of-drops-requires g c = timed_fits g.row.B g.row.M g.row.E c.self.invariant.layout
