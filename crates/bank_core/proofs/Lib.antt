@@ -9,5 +9,5 @@ pub mod Waits
 pub mod Begun
 mod Restored
 mod Within
-mod Sizes
+pub mod Sizes
 mod Heads

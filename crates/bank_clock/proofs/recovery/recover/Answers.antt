@@ -38,7 +38,7 @@ pub recover_spares-requires : goal.recover_spares-requires
 recover_spares-requires g c =
     let kept = c.requires.readable.0 in
     let now = regions g (goal.at.recover_spares-requires g c).After-recover_regions kept c.requires.readable.1 in (
-      bank_fits g.row.B g.row.M g.row.E c.requires.layout,
+      bank_fits c.requires.layout,
       (regs_fits g.row.B g.row.M g.row.E c.requires.layout, (c.requires.layout, (kept, now.0, now.1))),
     )
 
@@ -47,7 +47,7 @@ recover_mark-requires g c =
     let kept = c.requires.readable.0 in
     let first = regions g (goal.at.recover_mark-requires g c).After-recover_regions kept c.requires.readable.1 in
     let now = spares g (goal.at.recover_mark-requires g c).After-recover_spares kept first.0 first.1 in (
-      bank_fits g.row.B g.row.M g.row.E c.requires.layout,
+      bank_fits c.requires.layout,
       (regs_fits g.row.B g.row.M g.row.E c.requires.layout, (c.requires.layout, (kept, now.0, now.1))),
     )
 

@@ -13,7 +13,7 @@ use Rattle.bank_clock.proofs.recovery.recover_mark.Goals.{After-read_item-values
 use Rattle.bank_clock.proofs.recovery.recover_mark.Goals as goal
 
 pub kept-requires : goal.kept-requires
-kept-requires g c = (bank_fits g.row.B g.row.M g.row.E c.requires.layout, kept_fits)
+kept-requires g c = (bank_fits c.requires.layout, kept_fits)
 
 -- what was read is the mark
 read : (g : Over) (c : After-read_item-values g) (kept : KeptState g.row.B) → c.args.bank.now.kept ≡ mark_back kept
@@ -32,7 +32,7 @@ pub restore_mark-requires : goal.restore_mark-requires
 restore_mark-requires g c =
     let kept = c.requires.readable.0 in
     let values = read g (goal.at.restore_mark-requires g c).After-read_item-values kept c.requires.readable.1 c.requires.readable.2 in (
-      bank_fits g.row.B g.row.M g.row.E c.requires.layout,
+      bank_fits c.requires.layout,
       (restores-mark kept (c.requires.readable.2).in_range c.args.bank.now.kept c.read_item-values.result c.requires.readable.1 values c.if-values-ne0.true).0,
     )
 

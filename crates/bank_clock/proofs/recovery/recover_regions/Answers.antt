@@ -17,7 +17,7 @@ use Rattle.bank_clock.proofs.recovery.recover_regions.Goals.{After-read_item-val
 use Rattle.bank_clock.proofs.recovery.recover_regions.Goals as goal
 
 pub kept-requires : goal.kept-requires
-kept-requires g c = (bank_fits g.row.B g.row.M g.row.E c.requires.layout, kept_fits)
+kept-requires g c = (bank_fits c.requires.layout, kept_fits)
 
 -- the region is restored from what was read
 restores : (g : Over) (c : After-read_item-values g) (kept : KeptState g.row.B)
@@ -54,7 +54,7 @@ restore_region-requires g c =
     let after = (goal.at.restore_region-requires g c).After-read_item-values in
     let step = restores g after c.requires.readable.0 c.requires.readable.1 in
     let same : c.shape-shape.result.now ≡ c.loop-i.bank.kept.shape = same_shape g after in (
-      bank_fits g.row.B g.row.M g.row.E c.requires.layout,
+      bank_fits c.requires.layout,
       (step.exists, (step.start, (rw same step.gap, (step.counter, rw same step.one_due)))),
     )
 

@@ -17,7 +17,7 @@ use Rattle.bank_clock.proofs.recovery.recover_spares.Goals.{After-read_item-valu
 use Rattle.bank_clock.proofs.recovery.recover_spares.Goals as goal
 
 pub kept-requires : goal.kept-requires
-kept-requires g c = (bank_fits g.row.B g.row.M g.row.E c.requires.layout, kept_fits)
+kept-requires g c = (bank_fits c.requires.layout, kept_fits)
 
 -- what was read is the spare's
 read : (g : Over) (c : After-read_item-values g) (kept : KeptState g.row.B) → c.args.bank.now.kept ≡ spares_back 0 kept
@@ -41,7 +41,7 @@ restore_spare-requires g c =
     let on = c.requires.readable.2 in
     let step = restores-spare kept on.in_range c.loop-j.bank.kept c.loop-j.j c.read_item-values.result
     (ap (λ (b : BankState g.row.B g.row.M g.row.E). b.kept) (c.loop-j.invariant.0 kept is on)) (read g (goal.at.restore_spare-requires g c).After-read_item-values kept is on) c.if-values-ne0.true in
-    (bank_fits g.row.B g.row.M g.row.E c.requires.layout, (step.exists, step.free))
+    (bank_fits c.requires.layout, (step.exists, step.free))
 
 pub loop-j-preserved : goal.loop-j-preserved
 loop-j-preserved g c =

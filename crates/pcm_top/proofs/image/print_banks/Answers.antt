@@ -18,10 +18,10 @@ timed-requires g c =
     (omega arith, (timed_fits g.row.B g.row.M g.row.E c.requires.layout, omega (arith, c.banks-bank-end.ensures.number, ap (λ (r : RawShape). r.banks) c.shape.ensures.shape)))
 
 pub bank-requires : goal.bank-requires
-bank-requires g c = (timed_fits g.row.B g.row.M g.row.E c.requires.layout, bank_fits g.row.B g.row.M g.row.E c.requires.layout)
+bank-requires g c = (timed_fits g.row.B g.row.M g.row.E c.requires.layout, bank_fits c.requires.layout)
 
 pub kept-requires : goal.kept-requires
-kept-requires g c = (bank_fits g.row.B g.row.M g.row.E c.requires.layout, omega arith)
+kept-requires g c = (bank_fits c.requires.layout, omega arith)
 
 pub returns-in_err-print_bank-clause-part : goal.returns-in_err-print_bank-clause-part
 returns-in_err-print_bank-clause-part g c =

@@ -13,7 +13,7 @@ pub write-requires : goal.write-requires
 write-requires g c =
     let exists = rw (← c.self.view_is) at c.requires.exists in
     let rises = rw (← c.self.view_is) at c.requires.rises in (
-      bank_fits g.row.B g.row.M g.row.E c.self.invariant.layout,
+      bank_fits c.self.invariant.layout,
       (entry_fits g.row.B c.self.invariant.layout.shape.1, (exists, (rises, c.requires.masked))),
     )
 

@@ -16,13 +16,13 @@ pub ends-self-inside-requires : goal.ends-self-inside-requires
 ends-self-inside-requires g c = omega (arith, due-begun c.self.inside c.self.view_is c.self.invariant c.requires.next, c.requires.within)
 
 pub kept-requires : goal.kept-requires
-kept-requires g c = (bank_fits g.row.B g.row.M g.row.E c.self.invariant.layout, kept_fits)
+kept-requires g c = (bank_fits c.self.invariant.layout, kept_fits)
 
 pub begin-step-requires : goal.begin-step-requires
 begin-step-requires g c =
     let d = due c.self.inside c.self.view_is c.self.invariant c.requires.next c.requires.doing c.requires.led c.requires.unset in
     let alone = rw (← c.self.view_is) at c.requires.alone in
-    (bank_fits g.row.B g.row.M g.row.E c.self.invariant.layout, (begin-ready (clock_of c.self.inside) c.args.action d.next d.doing d.fit alone, d.led.1.holds.tied))
+    (bank_fits c.self.invariant.layout, (begin-ready (clock_of c.self.inside) c.args.action d.next d.doing d.fit alone, d.led.1.holds.tied))
 
 -- the bank takes the step
 steps : (g : Over) (c : After-begin-step g) → Steps c.self.inside.bank c.self.inside.regs c.begin-step.new.self c.begin-step.result (ends c.self.inside.pace c.args.action) c.args.results.now

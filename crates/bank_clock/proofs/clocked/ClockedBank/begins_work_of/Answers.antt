@@ -3,7 +3,7 @@ use Rattle.bank_clock.proofs.Sizes.{bank_fits, kept_fits}
 use Rattle.bank_clock.proofs.clocked.ClockedBank.begins_work_of.Goals as goal
 
 pub kept-requires : goal.kept-requires
-kept-requires g c = (bank_fits g.row.B g.row.M g.row.E c.self.invariant.layout, kept_fits)
+kept-requires g c = (bank_fits c.self.invariant.layout, kept_fits)
 
 pub next_work-requires : goal.next_work-requires
 next_work-requires g c = grind arith

@@ -23,7 +23,7 @@ cut-requires-in-None g c =
     let would = rw (← c.self.view_is) at c.requires.cancels in
     let led = rw (← c.self.view_is) at c.requires.led in
     let none = sym c.change.ensures ∙ c.in-None.is in (
-      bank_fits g.row.B g.row.M g.row.E c.self.invariant.layout,
+      bank_fits c.self.invariant.layout,
       (ap length led.1.taken, (cancel-ready (clock_of c.self.inside) c.args.line would c.self.invariant.fit c.is_iterating-tearing.result c.is_iterating-tearing.ensures none, led.1.holds.tied)),
     )
 

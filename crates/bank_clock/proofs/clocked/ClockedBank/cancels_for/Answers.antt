@@ -3,10 +3,10 @@ use Rattle.bank_clock.proofs.Sizes.{bank_fits, kept_fits, bytes_fits}
 use Rattle.bank_clock.proofs.clocked.ClockedBank.cancels_for.Goals as goal
 
 pub waiting-requires : goal.waiting-requires
-waiting-requires g c = bank_fits g.row.B g.row.M g.row.E c.self.invariant.layout
+waiting-requires g c = bank_fits c.self.invariant.layout
 
 pub kept-requires : goal.kept-requires
-kept-requires g c = (bank_fits g.row.B g.row.M g.row.E c.self.invariant.layout, kept_fits)
+kept-requires g c = (bank_fits c.self.invariant.layout, kept_fits)
 
 pub cancels-requires : goal.cancels-requires
 cancels-requires g c = tt
@@ -22,11 +22,11 @@ returns-then-self-ge4 g c = grind arith
 
 pub newest-bytes-requires : goal.newest-bytes-requires
 newest-bytes-requires g c =
-    let fits = bytes_fits g.row.B g.row.M g.row.E c.self.invariant.layout in
+    let fits = bytes_fits c.self.invariant.layout in
     (kept_fits, (fits, fits))
 
 pub has_all-requires : goal.has_all-requires
-has_all-requires g c = bytes_fits g.row.B g.row.M g.row.E c.self.invariant.layout
+has_all-requires g c = bytes_fits c.self.invariant.layout
 
 pub returns : goal.returns
 returns g c = grind arith

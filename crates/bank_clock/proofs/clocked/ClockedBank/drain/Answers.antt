@@ -7,7 +7,7 @@ use Rattle.bank_clock.proofs.Lawful.{keeps-laws}
 use Rattle.bank_clock.proofs.clocked.ClockedBank.drain.Goals as goal
 
 pub kept-requires : goal.kept-requires
-kept-requires g c = (bank_fits g.row.B g.row.M g.row.E c.self.invariant.layout, kept_fits)
+kept-requires g c = (bank_fits c.self.invariant.layout, kept_fits)
 
 pub leave_queued-requires : goal.leave_queued-requires
 leave_queued-requires g c =

@@ -3,7 +3,7 @@ use Rattle.bank_clock.proofs.Sizes.{bank_fits, regs_fits}
 use Rattle.bank_clock.proofs.clocked.ClockedBank.is_busy.Goals as goal
 
 pub running-requires-in-None : goal.running-requires-in-None
-running-requires-in-None g c = bank_fits g.row.B g.row.M g.row.E c.self.invariant.layout
+running-requires-in-None g c = bank_fits c.self.invariant.layout
 
 pub change-requires : goal.change-requires
 change-requires g c = regs_fits g.row.B g.row.M g.row.E c.self.invariant.layout

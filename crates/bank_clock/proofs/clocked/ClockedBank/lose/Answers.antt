@@ -14,7 +14,7 @@ loop-row-init g c =
     (unset, refl, refl, λ h array holds. holds)
 
 pub take_lost-requires : goal.take_lost-requires
-take_lost-requires g c = bank_fits g.row.B g.row.M g.row.E c.self.invariant.layout
+take_lost-requires g c = bank_fits c.self.invariant.layout
 
 pub set-requires : goal.set-requires
 set-requires g c =

@@ -3,7 +3,7 @@ use Rattle.bank_clock.proofs.Sizes.{bank_fits, regs_fits}
 use Rattle.bank_clock.proofs.clocked.ClockedBank.may_start.Goals as goal
 
 pub may_begin-requires : goal.may_begin-requires
-may_begin-requires g c = bank_fits g.row.B g.row.M g.row.E c.self.invariant.layout
+may_begin-requires g c = bank_fits c.self.invariant.layout
 
 pub change-requires : goal.change-requires
 change-requires g c = regs_fits g.row.B g.row.M g.row.E c.self.invariant.layout

@@ -6,7 +6,7 @@ use Rattle.bank_clock.proofs.Firsts.{first_leads, wide-controls, controls-fit}
 use Rattle.bank_clock.proofs.clocked.ClockedBank.new.Goals as goal
 
 pub new-requires : goal.new-requires
-new-requires g c = (bank_fits g.row.B g.row.M g.row.E c.requires.layout, (c.requires.layout, c.requires.limits))
+new-requires g c = (bank_fits c.requires.layout, (c.requires.layout, c.requires.limits))
 
 pub new-regs-requires : goal.new-regs-requires
 new-regs-requires g c =

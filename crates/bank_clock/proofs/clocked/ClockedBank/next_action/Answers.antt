@@ -3,7 +3,7 @@ use Rattle.bank_clock.proofs.Sizes.{bank_fits, timed_fits}
 use Rattle.bank_clock.proofs.clocked.ClockedBank.next_action.Goals as goal
 
 pub waiting-read_waits-requires : goal.waiting-read_waits-requires
-waiting-read_waits-requires g c = bank_fits g.row.B g.row.M g.row.E c.self.invariant.layout
+waiting-read_waits-requires g c = bank_fits c.self.invariant.layout
 
 pub is_busy-in_progress-requires : goal.is_busy-in_progress-requires
 is_busy-in_progress-requires g c = timed_fits g.row.B g.row.M g.row.E c.self.invariant.layout

@@ -28,7 +28,7 @@ change-is g c = rw (c.is_some-stands.ensures, c.change.ensures) at c.tears_chang
 pub cut-requires : goal.cut-requires
 cut-requires g c =
     let m = meets c.self.view_is c.self.invariant.fit c.requires.led c.requires.unset in
-    (bank_fits g.row.B g.row.M g.row.E c.self.invariant.layout, (ap length m.led.1.taken, (cut-ready m c.tears_work-work.result (work-is g (goal.at.cut-requires g c).After-tears_change-change), m.led.1.holds.tied)))
+    (bank_fits c.self.invariant.layout, (ap length m.led.1.taken, (cut-ready m c.tears_work-work.result (work-is g (goal.at.cut-requires g c).After-tears_change-change), m.led.1.holds.tied)))
 
 pub cut-requires-2 : goal.cut-requires-2
 cut-requires-2 g c =

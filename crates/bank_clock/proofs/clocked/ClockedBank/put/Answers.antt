@@ -4,10 +4,10 @@ use Rattle.bank_clock.proofs.Acting.{some-of}
 use Rattle.bank_clock.proofs.clocked.ClockedBank.put.Goals as goal
 
 pub kept-requires : goal.kept-requires
-kept-requires g c = (bank_fits g.row.B g.row.M g.row.E c.self.invariant.layout, kept_fits)
+kept-requires g c = (bank_fits c.self.invariant.layout, kept_fits)
 
 pub kept-requires-in-Some : goal.kept-requires-in-Some
-kept-requires-in-Some g c = (bank_fits g.row.B g.row.M g.row.E c.self.invariant.layout, kept_fits)
+kept-requires-in-Some g c = (bank_fits c.self.invariant.layout, kept_fits)
 
 pub put-requires : goal.put-requires
 put-requires g c =

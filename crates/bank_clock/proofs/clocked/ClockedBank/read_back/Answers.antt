@@ -9,14 +9,14 @@ use Rattle.bank_clock.proofs.clocked.ClockedBank.read_back.Goals.{After-strip, A
 use Rattle.bank_clock.proofs.clocked.ClockedBank.read_back.Goals as goal
 
 pub kept-requires : goal.kept-requires
-kept-requires g c = (bank_fits g.row.B g.row.M g.row.E c.self.invariant.layout, kept_fits)
+kept-requires g c = (bank_fits c.self.invariant.layout, kept_fits)
 
 pub strip-requires : goal.strip-requires
 strip-requires g c =
     let idle = rw (← c.self.view_is) at c.requires.idle in
     let served = rw (← c.self.view_is) at c.requires.served in
     let taken = rw (← c.self.view_is) at c.requires.taken in
-    (bank_fits g.row.B g.row.M g.row.E c.self.invariant.layout, (idle, (served, taken)))
+    (bank_fits c.self.invariant.layout, (idle, (served, taken)))
 
 -- what was kept can be read back
 readable : (g : Over) (c : After-strip g) → IsReadable c.self.inside.bank.kept c.strip.new.self.kept c.self.inside.regs (g.A.CellArray.state c.args.array.now)
@@ -33,7 +33,7 @@ recover-requires g c =
     let idle = rw (← c.self.view_is) at c.requires.idle in
     let served = rw (← c.self.view_is) at c.requires.served in
     let taken = rw (← c.self.view_is) at c.requires.taken in (
-      bank_fits g.row.B g.row.M g.row.E c.self.invariant.layout,
+      bank_fits c.self.invariant.layout,
       (
         regs_fits g.row.B g.row.M g.row.E c.self.invariant.layout,
         (c.self.invariant.layout, (rw c.strip.ensures.bank idle, (rw c.strip.ensures.bank served, (rw c.strip.ensures.bank taken, (c.self.inside.bank.kept, readable g (goal.at.recover-requires g c).After-strip))))),

@@ -20,7 +20,7 @@ read-requires g c =
     let behind = behind-cancel c.args.self.now c.args.line c.requires.cancels c.args.self.now.regs.change in
     let kept = ap (λ (k : ClockState g.row.B g.row.M g.row.E). k.bank.kept) same ∙ behind.kept in
     let bound = ap (λ (k : ClockState g.row.B g.row.M g.row.E). k.bank.rows_below) same ∙ behind.bound in
-    (bank_fits g.row.B g.row.M g.row.E c.self.invariant.layout, (read_fits g.row.B g.row.M g.row.E c.self.invariant.layout, (rw kept c.requires.exists, rw bound c.requires.rises)))
+    (bank_fits c.self.invariant.layout, (read_fits g.row.B g.row.M g.row.E c.self.invariant.layout, (rw kept c.requires.exists, rw bound c.requires.rises)))
 
 -- the read is one that cancels
 reads : (g : Over) (c : After-read g) → CancelsRead c.args.row c.args.line c.args.self.now (g.A.CellArray.state c.args.array.now) (g.A.CellArray.state c.cancel.new.array) c.read.new.self

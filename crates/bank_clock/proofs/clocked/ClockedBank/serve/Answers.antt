@@ -11,7 +11,7 @@ ends-self-inside-requires g c = omega (arith, due-begun c.self.inside c.self.vie
 pub serve-row-requires : goal.serve-row-requires
 serve-row-requires g c =
     let d = due c.self.inside c.self.view_is c.self.invariant c.requires.next c.requires.doing c.requires.led c.requires.unset in
-    (bank_fits g.row.B g.row.M g.row.E c.self.invariant.layout, (served_fits g.row.B g.row.M g.row.E c.self.invariant.layout, (serve-ready (clock_of c.self.inside) c.args.action d.next d.doing d.fit, d.led.1.holds.tied)))
+    (bank_fits c.self.invariant.layout, (served_fits g.row.B g.row.M g.row.E c.self.invariant.layout, (serve-ready (clock_of c.self.inside) c.args.action d.next d.doing d.fit, d.led.1.holds.tied)))
 
 pub set-requires : goal.set-requires
 set-requires g c =

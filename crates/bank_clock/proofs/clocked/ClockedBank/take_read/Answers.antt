@@ -12,7 +12,7 @@ pub read-requires : goal.read-requires
 read-requires g c =
     let exists = rw (← c.self.view_is) at c.requires.exists in
     let rises = rw (← c.self.view_is) at c.requires.rises in
-    (bank_fits g.row.B g.row.M g.row.E c.self.invariant.layout, (read_fits g.row.B g.row.M g.row.E c.self.invariant.layout, (exists, rises)))
+    (bank_fits c.self.invariant.layout, (read_fits g.row.B g.row.M g.row.E c.self.invariant.layout, (exists, rises)))
 
 pub set-requires : goal.set-requires
 set-requires g c = (row_fits, (outcome_fits g.row.B g.row.M g.row.E c.self.invariant.layout, (c.requires.fresh.exists, c.requires.fresh.unset)))

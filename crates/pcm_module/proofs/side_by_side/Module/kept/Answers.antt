@@ -13,10 +13,10 @@ use Rattle.masked_bytes.proofs.Lists.{item-at}
 use Rattle.pcm_module.proofs.side_by_side.Module.kept.Goals as goal
 
 pub bank-requires : goal.bank-requires
-bank-requires g c = (timed_fits g.row.B g.row.M g.row.E c.self.invariant.layout, bank_fits g.row.B g.row.M g.row.E c.self.invariant.layout)
+bank-requires g c = (timed_fits g.row.B g.row.M g.row.E c.self.invariant.layout, bank_fits c.self.invariant.layout)
 
 pub kept-requires : goal.kept-requires
-kept-requires g c = (bank_fits g.row.B g.row.M g.row.E c.self.invariant.layout, omega arith)
+kept-requires g c = (bank_fits c.self.invariant.layout, omega arith)
 
 pub returns : goal.returns
 returns g c =
